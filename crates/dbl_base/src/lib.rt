@@ -1,6 +1,7 @@
 //! Texts and their lines, lists and byte streams: the base of every other crate.
 #![tactic(auto)]
 
+mod copies;
 mod failed;
 mod fault_plan;
 mod input;
@@ -12,6 +13,7 @@ mod seq;
 mod standard;
 mod text;
 
+pub use copies::{DeepCopy, copy_items};
 pub use failed::Failed;
 pub use fault_plan::FaultPlan;
 pub use input::{INPUT_LIMIT, Input, InputError, read_all};

@@ -1,5 +1,7 @@
 ghost use Rattle.std.specs.Prelude.{◌≡◌, IfOk};
 
+use crate::copies::{DeepCopy, copy_items};
+use std::alloc::{AllocError, Global};
 use std::cmp::Ordering;
 use std::marker::Model;
 
@@ -40,6 +42,17 @@ impl<T> Seq<T> {
         ensures { result.items ≡ self }
     {
         self.vec
+    }
+}
+
+impl<T: DeepCopy> Seq<T> {
+    /// Makes an equal list, with memory of its own.
+    pub fn copy(&self, alloc: Global) -> Result<Seq<T>, AllocError>
+        ensures { IfOk result (λ copy. copy ≡ self.now) }
+    {
+        Ok(Seq {
+            vec: copy_items(alloc, self.vec.as_slice())?,
+        })
     }
 }
 

@@ -115,19 +115,17 @@ fn begin_session<S: Source, K: Sink, D: Disk>(
     requires store_live { IsLive store.old }
     requires config { IsGoodConfig config.now }
     ensures begun { (tell : Bool) (entry : SpecEntry) → entry.config ≡ config.now →
-        IsFound tell S.stands K.holds D.seen D.may_leave entry src.old sink.now store.old →
-        S.honest src.new →
+        IsFound tell S.stands K.holds D.Disk entry src.old sink.now store.old → S.honest src.new →
         HadOwnTables entry →
-        IfOk result (λ offset. BeganAt tell S.stands K.holds D.seen D.may_leave entry
+        IfOk result (λ offset. BeganAt tell S.stands K.holds D.Disk entry
         offset src.new sink.now store.new) }
     ensures left { (tell : Bool) (entry : SpecEntry) → entry.config ≡ config.now →
-        IsFound tell S.stands K.holds D.seen D.may_leave entry src.old sink.now store.old →
-        S.honest src.new →
+        IsFound tell S.stands K.holds D.Disk entry src.old sink.now store.old → S.honest src.new →
         HadOwnTables entry →
-        OnErr result (LeavesBy tell S.may_leave K.may_leave D.may_leave entry
+        OnErr result (LeavesBy tell S.may_leave K.may_leave D.Disk entry
         src.new sink.now store.new) }
     ensures loads { IfOk result (λ offset. store.new.offset ≡ Some offset) }
-    ensures held { CacheMatchesDisk D.seen D.may_leave store.old store.new result }
+    ensures held { CacheMatchesDisk D.Disk store.old store.new result }
     ensures offset { IfOk result IsOffset }
     ensures of { IfOk result (IsOffsetFor config.now store.old.offset) }
     ensures keeps { OnErr result (store.new.offset ≡ store.old.offset) }
@@ -135,7 +133,7 @@ fn begin_session<S: Source, K: Sink, D: Disk>(
     ensures store_live { OnOk result (IsLive store.new) }
     ensures honest { S.honest src.new → S.honest src.old }
     ensures source_comes { S.comes_of src.old src.new }
-    ensures store_comes { ExtendsOffsets D.seen D.may_leave store.old store.new }
+    ensures store_comes { ExtendsOffsets D.Disk store.old store.new }
     ensures source { FailsOnlyIfCounted (result ≡ Err Halt.Source) (S.faults src.old) (S.faults src.new) }
     ensures sink { result ≢ Err Halt.Sink }
     ensures never { (value at : _) → result ≢ Err (Halt.WatermarkMissing value at) }
@@ -167,7 +165,7 @@ fn begin_session<S: Source, K: Sink, D: Disk>(
         IfErr result (IsLongBy config.now s.history) }
     ensures content { (entry : SpecEntry) (stored : Option SpecOffset) (report : SpecReport) →
         entry.config ≡ config.now →
-        IsFound true S.stands K.holds D.seen D.may_leave entry src.old sink.now store.old →
+        IsFound true S.stands K.holds D.Disk entry src.old sink.now store.old →
         S.honest src.new → WasFaithful entry →
         IfErr result (IsFaithfulHalt entry stored report (S.stands src.new) (K.holds sink.now)) }
 {
@@ -192,22 +190,20 @@ fn open_session<S: Source, K: Sink, D: Disk>(
     requires config { IsGoodConfig config.now }
     ensures opened { (tell : Bool) (entry : SpecEntry) → entry.config ≡ config.now →
         entry.now ≡ now_ms →
-        IsFound tell S.stands K.holds D.seen D.may_leave entry src.old sink.now store.old →
-        S.honest src.new →
+        IsFound tell S.stands K.holds D.Disk entry src.old sink.now store.old → S.honest src.new →
         HadOwnTables entry →
-        IfOk result (λ work. InSession tell S.stands K.holds D.seen D.may_leave entry
+        IfOk result (λ work. InSession tell S.stands K.holds D.Disk entry
         work src.new sink.now store.new) }
     ensures left { (tell : Bool) (entry : SpecEntry) → entry.config ≡ config.now →
-        IsFound tell S.stands K.holds D.seen D.may_leave entry src.old sink.now store.old →
-        S.honest src.new →
+        IsFound tell S.stands K.holds D.Disk entry src.old sink.now store.old → S.honest src.new →
         HadOwnTables entry →
-        OnErr result (LeavesBy tell S.may_leave K.may_leave D.may_leave entry
+        OnErr result (LeavesBy tell S.may_leave K.may_leave D.Disk entry
         src.new sink.now store.new) }
     ensures begun { IfOk result (λ work. (offset : SpecOffset) × (store.new.offset ≡ Some offset)
         × BeginsWithOffset offset now_ms config.now.chunk config.now.every work
         × IsOffsetFor config.now store.old.offset offset) }
     ensures at { OnOk result (IsAtPosition store.new.offset report.new) }
-    ensures held { CacheMatchesDisk D.seen D.may_leave store.old store.new result }
+    ensures held { CacheMatchesDisk D.Disk store.old store.new result }
     ensures stored { OnErr result ((store.new.offset ≡ store.old.offset)
         ⊎ HasStored config.now store.old.offset store.new.offset) }
     ensures position { report.old.position ≡ 0 →
@@ -232,7 +228,7 @@ fn open_session<S: Source, K: Sink, D: Disk>(
     ensures store_live { OnOk result (IsLive store.new) }
     ensures honest { S.honest src.new → S.honest src.old }
     ensures source_comes { S.comes_of src.old src.new }
-    ensures store_comes { ExtendsOffsets D.seen D.may_leave store.old store.new }
+    ensures store_comes { ExtendsOffsets D.Disk store.old store.new }
     ensures source { FailsOnlyIfCounted (result ≡ Err Halt.Source) (S.faults src.old) (S.faults src.new) }
     ensures sink { result ≢ Err Halt.Sink }
     ensures never { (value at : _) → result ≢ Err (Halt.WatermarkMissing value at) }
@@ -272,7 +268,7 @@ fn open_session<S: Source, K: Sink, D: Disk>(
     ensures long { (s : SourceState) → S.stands src.old s → store.old.offset ≡ None →
         IfErr result (IsLongBy config.now s.history) }
     ensures content { (entry : SpecEntry) → entry.config ≡ config.now →
-        IsFound true S.stands K.holds D.seen D.may_leave entry src.old sink.now store.old →
+        IsFound true S.stands K.holds D.Disk entry src.old sink.now store.old →
         S.honest src.new → WasFaithful entry →
         IfErr result (IsFaithfulHalt entry store.new.offset report.new (S.stands src.new)
         (K.holds sink.now)) }
@@ -306,47 +302,47 @@ pub fn session<S: Source, K: Sink, D: Disk>(
     requires config { IsGoodConfig config.now }
     requires asked { IsOfConfig config.now offsets.old.offset }
 
-    // Stores that were found faithful are left faithful at every exit, and complete after
-    // `Complete`.
+    // Over a conforming source with the stored tables: stores that were found faithful are left
+    // faithful at every exit, and complete after `Complete`.
     ensures faithful { (entry : SpecEntry) → IsEntryOf config.now now_ms entry →
-        Found S.stands K.holds D.seen D.may_leave entry src.old sink.old offsets.old →
-        S.honest src.new →
+        Found S.stands K.holds D.Disk entry src.old sink.old offsets.old → S.honest src.new →
         HadOwnTables entry →
-        LeavesGoing S.may_leave K.may_leave D.may_leave entry src.new sink.new offsets.new }
+        LeavesGoing S.may_leave K.may_leave D.Disk entry src.new sink.new offsets.new }
     ensures complete { (entry : SpecEntry) → IsEntryOf config.now now_ms entry →
-        Found S.stands K.holds D.seen D.may_leave entry src.old sink.old offsets.old →
-        S.honest src.new →
+        Found S.stands K.holds D.Disk entry src.old sink.old offsets.old → S.honest src.new →
         HadOwnTables entry → result ≡ Ok Ending.Complete →
-        LeavesComplete S.may_leave K.may_leave D.may_leave entry src.new sink.new offsets.new }
+        LeavesComplete S.may_leave K.may_leave D.Disk entry src.new sink.new offsets.new }
 
     // The store's offset still agrees with its disk, unless the disk failed, for any source and
     // sink.
-    ensures holds { CacheMatchesDisk D.seen D.may_leave offsets.old offsets.new result }
+    ensures holds { CacheMatchesDisk D.Disk offsets.old offsets.new result }
 
-    // How many watermarks are added, by the source's state and the stored offset.
+    // Over a conforming source with the stored tables: at most how many watermarks are added, by
+    // the source's state and the stored offset.
     ensures marks { (s : SourceState) → S.stands src.old s → S.honest src.new →
         HadOwnTables (session_start_at config.now now_ms s offsets.old.offset) → (left : CrashState) →
         S.may_leave src.new left →
         AddsFewOrNoMarks (session_start_at config.now now_ms s offsets.old.offset) left }
 
-    // After a normal end, exactly how many watermarks are added, and which closed windows account
-    // for the stored cursors.
+    // Over a conforming source with the stored tables, after a normal end: exactly how many
+    // watermarks are added, and that the closed windows account for the stored cursors.
     ensures exactly { (s : SourceState) → S.stands src.old s → S.honest src.new →
         HadOwnTables (session_start_at config.now now_ms s offsets.old.offset) →
         IfOk result (λ ending. (left : CrashState) → S.may_leave src.new left →
         EndsExactly (session_start_at config.now now_ms s offsets.old.offset) offsets.new.offset
         report.new.chunks (marks_more ending offsets.new.offset) left.history) }
 
-    // After any end, at most two watermarks for each reported window, and two more, are added.
+    // Over a conforming source with the stored tables, after any end: at most two watermarks for
+    // each reported window, and two more, are added.
     ensures most { (s : SourceState) → S.stands src.old s → S.honest src.new →
         HadOwnTables (session_start_at config.now now_ms s offsets.old.offset) →
         (left : CrashState) → S.may_leave src.new left →
         AddsAtMost offsets.new.offset report.new.chunks s.history left.history }
 
-    // Over a conforming source and faithful stores, each window whose high watermark is counted was
-    // closed.
+    // Over a conforming source and faithful stores, after a normal end: each window whose high
+    // watermark is counted was closed.
     ensures unclosed { (entry : SpecEntry) → IsEntryOf config.now now_ms entry →
-        Found S.stands K.holds D.seen D.may_leave entry src.old sink.old offsets.old →
+        Found S.stands K.holds D.Disk entry src.old sink.old offsets.old →
         S.honest src.new → WasFaithful entry → (t : SourceState) → S.stands src.new t →
         OnOk result (HasClosedRead offsets.new.offset report.new t) }
 
@@ -405,7 +401,7 @@ pub fn session<S: Source, K: Sink, D: Disk>(
     // Over a conforming source and faithful stores the cause of an error is in the source's
     // history; before the first store an offset is too long only by the catalogue.
     ensures content { (entry : SpecEntry) → IsEntryOf config.now now_ms entry →
-        Found S.stands K.holds D.seen D.may_leave entry src.old sink.old offsets.old →
+        Found S.stands K.holds D.Disk entry src.old sink.old offsets.old →
         S.honest src.new → WasFaithful entry →
         IfErr result (IsFaithfulHalt entry offsets.new.offset report.new (S.stands src.new)
         (K.holds sink.new)) }
@@ -465,7 +461,7 @@ pub fn session<S: Source, K: Sink, D: Disk>(
     ensures honest { S.honest src.new → S.honest src.old }
     ensures source_comes { S.comes_of src.old src.new }
     ensures sink_comes { K.comes_of sink.old sink.new }
-    ensures store_comes { ExtendsOffsets D.seen D.may_leave offsets.old offsets.new }
+    ensures store_comes { ExtendsOffsets D.Disk offsets.old offsets.new }
 {
     *report = Report {
         messages: 0,

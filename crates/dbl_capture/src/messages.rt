@@ -59,23 +59,19 @@ pub(crate) fn read_and_deliver<S: Source, K: Sink, D: Disk>(
 
     // The session's invariant, and what may be left.
     ensures next { (tell : Bool) (entry : SpecEntry) →
-        InSession tell S.stands K.holds D.seen D.may_leave entry
-        work.old src.old sink.old store.now →
+        InSession tell S.stands K.holds D.Disk entry work.old src.old sink.old store.now →
         S.honest src.new →
-        OnOk result (InSession tell S.stands K.holds D.seen D.may_leave entry
+        OnOk result (InSession tell S.stands K.holds D.Disk entry
         work.new src.new sink.new store.now) }
     ensures left { (tell : Bool) (entry : SpecEntry) →
-        InSession tell S.stands K.holds D.seen D.may_leave entry
-        work.old src.old sink.old store.now →
+        InSession tell S.stands K.holds D.Disk entry work.old src.old sink.old store.now →
         S.honest src.new →
-        OnErr result (LeavesBy tell S.may_leave K.may_leave D.may_leave entry
+        OnErr result (LeavesBy tell S.may_leave K.may_leave D.Disk entry
         src.new sink.new store.now) }
     ensures whole { (tell : Bool) (entry : SpecEntry) →
-        InSession tell S.stands K.holds D.seen D.may_leave entry
-        work.old src.old sink.old store.now →
+        InSession tell S.stands K.holds D.Disk entry work.old src.old sink.old store.now →
         S.honest src.new → result ≡ Ok None →
-        HasReadAllAt tell S.stands K.holds D.seen D.may_leave entry
-        work.new src.new sink.new store.now }
+        HasReadAllAt tell S.stands K.holds D.Disk entry work.new src.new sink.new store.now }
 
     // The session's state.
     ensures ready { OnOk result (HasReadyWork work.new) }
@@ -123,7 +119,7 @@ pub(crate) fn read_and_deliver<S: Source, K: Sink, D: Disk>(
         IfErr result (HasHaltedPut S.stands K.holds K.may_leave groups at b.config b.now b.held
         store.now.offset report.new src.new (S.told src.new) sink.new) }
     ensures own { (tell : Bool) (entry : SpecEntry) (at : Option SourceState) (found : Option Trace)
-        (b : Beginning) → InSession tell S.stands K.holds D.seen D.may_leave entry
+        (b : Beginning) → InSession tell S.stands K.holds D.Disk entry
         work.old src.old sink.old store.now →
         IsUnderWay S.stands at found b store.now.offset work.old report.old src.old
         (S.told src.old) → (s : SourceState) → at ≡ Some s → S.honest src.new →
@@ -138,12 +134,12 @@ pub(crate) fn read_and_deliver<S: Source, K: Sink, D: Disk>(
         Awaits S.stands work.old src.old → result ≡ Ok None →
         work.new.follower.window ≡ windows.Absent }
     ensures most { (tell : Bool) (entry : SpecEntry) →
-        InSession tell S.stands K.holds D.seen D.may_leave entry
+        InSession tell S.stands K.holds D.Disk entry
         work.old src.old sink.old store.now → AreClosed work.old report.old.chunks →
         OnErr result ((left : CrashState) → S.may_leave src.new left →
         AddsNoMore report.new.chunks entry.history left.history) }
     ensures content { (entry : SpecEntry) (at : Option SourceState) (found : Option Trace)
-        (b : Beginning) → InSession true S.stands K.holds D.seen D.may_leave entry
+        (b : Beginning) → InSession true S.stands K.holds D.Disk entry
         work.old src.old sink.old store.now →
         IsUnderWay S.stands at found b store.now.offset work.old report.old src.old
         (S.told src.old) → WasFaithful entry → S.honest src.new →

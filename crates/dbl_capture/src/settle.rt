@@ -41,36 +41,33 @@ pub(crate) fn store_and_confirm<S: Source, K: Sink, D: Disk>(
 
     // The session's invariant, and what may be left.
     ensures settled { (tell : Bool) (entry : SpecEntry) →
-        InSession tell S.stands K.holds D.seen D.may_leave entry
-        work.old src.old sink.now store.old →
+        InSession tell S.stands K.holds D.Disk entry work.old src.old sink.now store.old →
         S.honest src.new →
-        OnOk result (IsSettled tell S.stands K.holds D.seen D.may_leave entry
+        OnOk result (IsSettled tell S.stands K.holds D.Disk entry
         work.new src.new sink.now store.new) }
     ensures whole { (tell : Bool) (entry : SpecEntry) →
-        HasReadAllAt tell S.stands K.holds D.seen D.may_leave entry
-        work.old src.old sink.now store.old →
+        HasReadAllAt tell S.stands K.holds D.Disk entry work.old src.old sink.now store.old →
         S.honest src.new →
-        OnOk result (IsSettledWhole tell S.stands K.holds D.seen D.may_leave entry
+        OnOk result (IsSettledWhole tell S.stands K.holds D.Disk entry
         work.new src.new sink.now store.new) }
     ensures left { (tell : Bool) (entry : SpecEntry) →
-        InSession tell S.stands K.holds D.seen D.may_leave entry
-        work.old src.old sink.now store.old →
+        InSession tell S.stands K.holds D.Disk entry work.old src.old sink.now store.old →
         S.honest src.new →
-        OnErr result (LeavesBy tell S.may_leave K.may_leave D.may_leave entry
+        OnErr result (LeavesBy tell S.may_leave K.may_leave D.Disk entry
         src.new sink.now store.new) }
 
     // The session's state.
     ensures same { OnOk result (work.new ≡ record work.old { since = 0 }) }
     ensures report { IsReportAt (is_ok result) store.old.offset store.new.offset
         work.old report.old report.new }
-    ensures held { CacheMatchesDisk D.seen D.may_leave store.old store.new result }
+    ensures held { CacheMatchesDisk D.Disk store.old store.new result }
     ensures still { S.has_ended src.new ≡ S.has_ended src.old }
     ensures reading { S.is_reading src.new ≡ S.is_reading src.old }
     ensures source_live { OnOk result (IsTrue (S.is_live src.new)) }
     ensures store_live { OnOk result (IsLive store.new) }
     ensures honest { S.honest src.new → S.honest src.old }
     ensures source_comes { S.comes_of src.old src.new }
-    ensures store_comes { ExtendsOffsets D.seen D.may_leave store.old store.new }
+    ensures store_comes { ExtendsOffsets D.Disk store.old store.new }
     ensures source { FailsOnlyIfCounted (result ≡ Err Halt.Source) (S.faults src.old) (S.faults src.new) }
     ensures sink { result ≢ Err Halt.Sink }
     ensures never { (value at : _) → result ≢ Err (Halt.WatermarkMissing value at) }
@@ -108,12 +105,12 @@ pub(crate) fn store_and_confirm<S: Source, K: Sink, D: Disk>(
     ensures awaits { Awaits S.stands work.old src.old →
         OnOk result (Awaits S.stands work.new src.new) }
     ensures most { (tell : Bool) (entry : SpecEntry) →
-        InSession tell S.stands K.holds D.seen D.may_leave entry
+        InSession tell S.stands K.holds D.Disk entry
         work.old src.old sink.now store.old → AreClosed work.old report.old.chunks →
         OnErr result ((left : CrashState) → S.may_leave src.new left →
         AddsNoMore report.new.chunks entry.history left.history) }
     ensures content { (entry : SpecEntry) →
-        InSession true S.stands K.holds D.seen D.may_leave entry
+        InSession true S.stands K.holds D.Disk entry
         work.old src.old sink.now store.old → WasFaithful entry →
         IfErr result (IsFaithfulHalt entry store.new.offset report.new (S.stands src.new)
         (K.holds sink.now)) }
@@ -140,16 +137,14 @@ pub(crate) fn finish_complete<S: Source, K: Sink, D: Disk>(
     requires store_live { IsLive store.old }
     requires ready { HasReadyWork work.old }
     ensures ended { (tell : Bool) (entry : SpecEntry) →
-        HasReadAllAt tell S.stands K.holds D.seen D.may_leave entry
-        work.old src.old sink.now store.old →
+        HasReadAllAt tell S.stands K.holds D.Disk entry work.old src.old sink.now store.old →
         S.honest src.new →
-        OnOk result (IsSettledWhole tell S.stands K.holds D.seen D.may_leave entry
+        OnOk result (IsSettledWhole tell S.stands K.holds D.Disk entry
         work.new src.new sink.now store.new) }
     ensures left { (tell : Bool) (entry : SpecEntry) →
-        InSession tell S.stands K.holds D.seen D.may_leave entry
-        work.old src.old sink.now store.old →
+        InSession tell S.stands K.holds D.Disk entry work.old src.old sink.now store.old →
         S.honest src.new →
-        OnErr result (LeavesBy tell S.may_leave K.may_leave D.may_leave entry
+        OnErr result (LeavesBy tell S.may_leave K.may_leave D.Disk entry
         src.new sink.now store.new) }
     ensures unmissed { work.old.follower.window ≡ windows.Absent →
         (value at : _) → result ≢ Err (Halt.WatermarkMissing value at) }
@@ -157,14 +152,14 @@ pub(crate) fn finish_complete<S: Source, K: Sink, D: Disk>(
     ensures same { OnOk result (work.new ≡ record work.old { since = 0 }) }
     ensures report { IsReportAt (is_ok result) store.old.offset store.new.offset
         work.old report.old report.new }
-    ensures held { CacheMatchesDisk D.seen D.may_leave store.old store.new result }
+    ensures held { CacheMatchesDisk D.Disk store.old store.new result }
     ensures still { S.has_ended src.new ≡ S.has_ended src.old }
     ensures reading { S.is_reading src.new ≡ S.is_reading src.old }
     ensures source_live { OnOk result (IsTrue (S.is_live src.new)) }
     ensures store_live { OnOk result (IsLive store.new) }
     ensures honest { S.honest src.new → S.honest src.old }
     ensures source_comes { S.comes_of src.old src.new }
-    ensures store_comes { ExtendsOffsets D.seen D.may_leave store.old store.new }
+    ensures store_comes { ExtendsOffsets D.Disk store.old store.new }
     ensures source { FailsOnlyIfCounted (result ≡ Err Halt.Source) (S.faults src.old) (S.faults src.new) }
     ensures sink { result ≢ Err Halt.Sink }
     ensures reads { IfErr result IsNotGone }
@@ -199,12 +194,12 @@ pub(crate) fn finish_complete<S: Source, K: Sink, D: Disk>(
         store.new.offset report.new src.new (S.told src.new) sink.now) }
     ensures own { (entry : SpecEntry) → IfErr result (IsHonestHalt entry (S.stands src.new)) }
     ensures most { (tell : Bool) (entry : SpecEntry) →
-        InSession tell S.stands K.holds D.seen D.may_leave entry
+        InSession tell S.stands K.holds D.Disk entry
         work.old src.old sink.now store.old → AreClosed work.old report.old.chunks →
         OnErr result ((left : CrashState) → S.may_leave src.new left →
         AddsNoMore report.new.chunks entry.history left.history) }
     ensures content { (entry : SpecEntry) →
-        InSession true S.stands K.holds D.seen D.may_leave entry
+        InSession true S.stands K.holds D.Disk entry
         work.old src.old sink.now store.old → WasFaithful entry →
         IfErr result (IsFaithfulHalt entry store.new.offset report.new (S.stands src.new)
         (K.holds sink.now)) }

@@ -59,16 +59,14 @@ fn open_next_window<S: Source, K: Sink, D: Disk>(
     requires ready { HasReadyWork work.old }
     requires number { work.old.number + 1 < 2 ^ 64 }
     ensures armed { (tell : Bool) (entry : SpecEntry) →
-        InSession tell S.stands K.holds D.seen D.may_leave entry
-        work.old src.old sink.now store.now →
+        InSession tell S.stands K.holds D.Disk entry work.old src.old sink.now store.now →
         S.honest src.new →
-        OnOk result (InSession tell S.stands K.holds D.seen D.may_leave entry
+        OnOk result (InSession tell S.stands K.holds D.Disk entry
         work.new src.new sink.now store.now) }
     ensures left { (tell : Bool) (entry : SpecEntry) →
-        InSession tell S.stands K.holds D.seen D.may_leave entry
-        work.old src.old sink.now store.now →
+        InSession tell S.stands K.holds D.Disk entry work.old src.old sink.now store.now →
         S.honest src.new →
-        OnErr result (LeavesBy tell S.may_leave K.may_leave D.may_leave entry
+        OnErr result (LeavesBy tell S.may_leave K.may_leave D.Disk entry
         src.new sink.now store.now) }
     ensures waits { OnOk result (IsArmedNext work.old work.new) }
     ensures reading { S.is_reading src.new ≡ S.is_reading src.old }
@@ -103,14 +101,13 @@ fn open_next_window<S: Source, K: Sink, D: Disk>(
         IfErr result (HasHaltedPut S.stands K.holds K.may_leave groups at b.config b.now b.held
         store.now.offset report src.new (S.told src.new) sink.now) }
     ensures own { (tell : Bool) (entry : SpecEntry) →
-        InSession tell S.stands K.holds D.seen D.may_leave entry
-        work.old src.old sink.now store.now →
+        InSession tell S.stands K.holds D.Disk entry work.old src.old sink.now store.now →
         S.honest src.new →
         IfErr result (IsHonestHalt entry (S.stands src.new)) }
     ensures awaits { Awaits S.stands work.old src.old →
         OnOk result (Awaits S.stands work.new src.new) }
     ensures most { (tell : Bool) (entry : SpecEntry) (chunks : ℕ) →
-        InSession tell S.stands K.holds D.seen D.may_leave entry
+        InSession tell S.stands K.holds D.Disk entry
         work.old src.old sink.now store.now → AreClosed work.old chunks →
         OnErr result ((left : CrashState) → S.may_leave src.new left →
         AddsNoMore chunks entry.history left.history) }
@@ -143,23 +140,19 @@ fn process_message<S: Source, K: Sink, D: Disk>(
 
     // The session's invariant, and what may be left.
     ensures turned { (tell : Bool) (entry : SpecEntry) →
-        InSession tell S.stands K.holds D.seen D.may_leave entry
-        work.old src.old sink.old store.old →
+        InSession tell S.stands K.holds D.Disk entry work.old src.old sink.old store.old →
         S.honest src.new →
-        OnOk result (InSession tell S.stands K.holds D.seen D.may_leave entry
+        OnOk result (InSession tell S.stands K.holds D.Disk entry
         work.new src.new sink.new store.new) }
     ensures left { (tell : Bool) (entry : SpecEntry) →
-        InSession tell S.stands K.holds D.seen D.may_leave entry
-        work.old src.old sink.old store.old →
+        InSession tell S.stands K.holds D.Disk entry work.old src.old sink.old store.old →
         S.honest src.new →
-        OnErr result (LeavesBy tell S.may_leave K.may_leave D.may_leave entry
+        OnErr result (LeavesBy tell S.may_leave K.may_leave D.Disk entry
         src.new sink.new store.new) }
     ensures complete { (tell : Bool) (entry : SpecEntry) →
-        InSession tell S.stands K.holds D.seen D.may_leave entry
-        work.old src.old sink.old store.old →
+        InSession tell S.stands K.holds D.Disk entry work.old src.old sink.old store.old →
         S.honest src.new → result ≡ Ok true →
-        IsSettledWhole tell S.stands K.holds D.seen D.may_leave entry
-        work.new src.new sink.new store.new }
+        IsSettledWhole tell S.stands K.holds D.Disk entry work.new src.new sink.new store.new }
 
     // The session's state.
     ensures done { result ≡ Ok true → AreAllDone work.new.follower.cursors }
@@ -186,7 +179,7 @@ fn process_message<S: Source, K: Sink, D: Disk>(
         HasOwnStored first store.old.offset → HasOwnStored first store.new.offset }
     ensures position { IsAtPosition store.old.offset report.old →
         IsAtPosition store.new.offset report.new }
-    ensures held { CacheMatchesDisk D.seen D.may_leave store.old store.new result }
+    ensures held { CacheMatchesDisk D.Disk store.old store.new result }
     ensures counts { IfOk result (λ ended. MatchBool ended
         (report.new.messages ≡ report.old.messages)
         (report.new.messages ≡ report.old.messages + 1)) }
@@ -199,7 +192,7 @@ fn process_message<S: Source, K: Sink, D: Disk>(
     ensures honest { S.honest src.new → S.honest src.old }
     ensures source_comes { S.comes_of src.old src.new }
     ensures sink_comes { K.comes_of sink.old sink.new }
-    ensures store_comes { ExtendsOffsets D.seen D.may_leave store.old store.new }
+    ensures store_comes { ExtendsOffsets D.Disk store.old store.new }
     ensures source { FailsOnlyIfCounted (result ≡ Err Halt.Source) (S.faults src.old) (S.faults src.new) }
     ensures sink { FailsOnlyIfCounted (result ≡ Err Halt.Sink) (K.faults sink.old) (K.faults sink.new) }
     ensures offsets { FailsOnlyIfCounted (result ≡ Err Halt.Offsets)
@@ -237,7 +230,7 @@ fn process_message<S: Source, K: Sink, D: Disk>(
         IfErr result (HasHaltedPut S.stands K.holds K.may_leave groups at b.config b.now b.held
         store.new.offset report.new src.new (S.told src.new) sink.new) }
     ensures own { (tell : Bool) (entry : SpecEntry) (at : Option SourceState) (found : Option Trace)
-        (b : Beginning) → InSession tell S.stands K.holds D.seen D.may_leave entry
+        (b : Beginning) → InSession tell S.stands K.holds D.Disk entry
         work.old src.old sink.old store.old →
         IsUnderWay S.stands at found b store.old.offset work.old report.old src.old
         (S.told src.old) → (s : SourceState) → at ≡ Some s → S.honest src.new →
@@ -248,13 +241,13 @@ fn process_message<S: Source, K: Sink, D: Disk>(
         Awaits S.stands work.old src.old → IfOk result (λ ended.
         ended ≡ false → Awaits S.stands work.new src.new) }
     ensures most { (tell : Bool) (entry : SpecEntry) (at : Option SourceState) (found : Option Trace)
-        (b : Beginning) → InSession tell S.stands K.holds D.seen D.may_leave entry
+        (b : Beginning) → InSession tell S.stands K.holds D.Disk entry
         work.old src.old sink.old store.old →
         IsUnderWay S.stands at found b store.old.offset work.old report.old src.old
         (S.told src.old) → S.honest src.new → OnErr result ((left : CrashState) →
         S.may_leave src.new left → AddsNoMore report.new.chunks entry.history left.history) }
     ensures content { (entry : SpecEntry) (at : Option SourceState) (found : Option Trace)
-        (b : Beginning) → InSession true S.stands K.holds D.seen D.may_leave entry
+        (b : Beginning) → InSession true S.stands K.holds D.Disk entry
         work.old src.old sink.old store.old →
         IsUnderWay S.stands at found b store.old.offset work.old report.old src.old
         (S.told src.old) → WasFaithful entry → S.honest src.new →
@@ -298,23 +291,19 @@ pub(crate) fn process_messages<S: Source, K: Sink, D: Disk>(
 
     // What the session leaves.
     ensures ran { (tell : Bool) (entry : SpecEntry) →
-        InSession tell S.stands K.holds D.seen D.may_leave entry
-        work.old src.old sink.old store.old →
+        InSession tell S.stands K.holds D.Disk entry work.old src.old sink.old store.old →
         S.honest src.new →
-        OnOk result (InSession tell S.stands K.holds D.seen D.may_leave entry
+        OnOk result (InSession tell S.stands K.holds D.Disk entry
         work.new src.new sink.new store.new) }
     ensures left { (tell : Bool) (entry : SpecEntry) →
-        InSession tell S.stands K.holds D.seen D.may_leave entry
-        work.old src.old sink.old store.old →
+        InSession tell S.stands K.holds D.Disk entry work.old src.old sink.old store.old →
         S.honest src.new →
-        OnErr result (LeavesBy tell S.may_leave K.may_leave D.may_leave entry
+        OnErr result (LeavesBy tell S.may_leave K.may_leave D.Disk entry
         src.new sink.new store.new) }
     ensures complete { (tell : Bool) (entry : SpecEntry) →
-        InSession tell S.stands K.holds D.seen D.may_leave entry
-        work.old src.old sink.old store.old →
+        InSession tell S.stands K.holds D.Disk entry work.old src.old sink.old store.old →
         S.honest src.new → result ≡ Ok Ending.Complete →
-        IsSettledWhole tell S.stands K.holds D.seen D.may_leave entry
-        work.new src.new sink.new store.new }
+        IsSettledWhole tell S.stands K.holds D.Disk entry work.new src.new sink.new store.new }
 
     // When the session ends normally, and what is counted.
     ensures done { result ≡ Ok Ending.Complete → AreAllDone work.new.follower.cursors
@@ -335,7 +324,7 @@ pub(crate) fn process_messages<S: Source, K: Sink, D: Disk>(
         HasOwnStored work.old.offset store.new.offset }
     ensures position { IsAtPosition store.old.offset report.old →
         IsAtPosition store.new.offset report.new }
-    ensures held { CacheMatchesDisk D.seen D.may_leave store.old store.new result }
+    ensures held { CacheMatchesDisk D.Disk store.old store.new result }
     ensures bounded { report.new.messages ≤ budget }
     ensures commits { report.new.commits ≤ report.new.messages }
     ensures source_live { OnOk result (IsTrue (S.is_live src.new)) }
@@ -344,7 +333,7 @@ pub(crate) fn process_messages<S: Source, K: Sink, D: Disk>(
     ensures honest { S.honest src.new → S.honest src.old }
     ensures source_comes { S.comes_of src.old src.new }
     ensures sink_comes { K.comes_of sink.old sink.new }
-    ensures store_comes { ExtendsOffsets D.seen D.may_leave store.old store.new }
+    ensures store_comes { ExtendsOffsets D.Disk store.old store.new }
     ensures source { FailsOnlyIfCounted (result ≡ Err Halt.Source) (S.faults src.old) (S.faults src.new) }
     ensures sink { FailsOnlyIfCounted (result ≡ Err Halt.Sink) (K.faults sink.old) (K.faults sink.new) }
     ensures offsets { FailsOnlyIfCounted (result ≡ Err Halt.Offsets)
@@ -377,19 +366,19 @@ pub(crate) fn process_messages<S: Source, K: Sink, D: Disk>(
         IfErr result (HasHaltedPut S.stands K.holds K.may_leave groups at b.config b.now b.held
         store.new.offset report.new src.new (S.told src.new) sink.new) }
     ensures own { (tell : Bool) (entry : SpecEntry) (at : Option SourceState) (found : Option Trace)
-        (b : Beginning) → InSession tell S.stands K.holds D.seen D.may_leave entry
+        (b : Beginning) → InSession tell S.stands K.holds D.Disk entry
         work.old src.old sink.old store.old →
         IsUnderWay S.stands at found b store.old.offset work.old report.old src.old
         (S.told src.old) → (s : SourceState) → at ≡ Some s → S.honest src.new →
         IfErr result (IsHonestHalt entry (S.stands src.new)) }
     ensures most { (tell : Bool) (entry : SpecEntry) (at : Option SourceState) (found : Option Trace)
-        (b : Beginning) → InSession tell S.stands K.holds D.seen D.may_leave entry
+        (b : Beginning) → InSession tell S.stands K.holds D.Disk entry
         work.old src.old sink.old store.old →
         IsUnderWay S.stands at found b store.old.offset work.old report.old src.old
         (S.told src.old) → S.honest src.new → OnErr result ((left : CrashState) →
         S.may_leave src.new left → AddsNoMore report.new.chunks entry.history left.history) }
     ensures content { (entry : SpecEntry) (at : Option SourceState) (found : Option Trace)
-        (b : Beginning) → InSession true S.stands K.holds D.seen D.may_leave entry
+        (b : Beginning) → InSession true S.stands K.holds D.Disk entry
         work.old src.old sink.old store.old →
         IsUnderWay S.stands at found b store.old.offset work.old report.old src.old
         (S.told src.old) → WasFaithful entry → S.honest src.new →

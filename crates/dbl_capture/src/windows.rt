@@ -39,16 +39,14 @@ pub(crate) fn arm<S: Source, K: Sink, D: Disk>(
     requires table { IsOpenTable work.old table }
     requires number { work.old.number + 1 < 2 ^ 64 }
     ensures armed { (tell : Bool) (entry : SpecEntry) →
-        InSession tell S.stands K.holds D.seen D.may_leave entry
-        work.old src.old sink.now store.now →
+        InSession tell S.stands K.holds D.Disk entry work.old src.old sink.now store.now →
         S.honest src.new →
-        OnOk result (InSession tell S.stands K.holds D.seen D.may_leave entry
+        OnOk result (InSession tell S.stands K.holds D.Disk entry
         work.new src.new sink.now store.now) }
     ensures left { (tell : Bool) (entry : SpecEntry) →
-        InSession tell S.stands K.holds D.seen D.may_leave entry
-        work.old src.old sink.now store.now →
+        InSession tell S.stands K.holds D.Disk entry work.old src.old sink.now store.now →
         S.honest src.new →
-        OnErr result (LeavesBy tell S.may_leave K.may_leave D.may_leave entry
+        OnErr result (LeavesBy tell S.may_leave K.may_leave D.Disk entry
         src.new sink.now store.now) }
     ensures same { OnOk result (IsArmedWork table work.old work.new) }
     ensures reading { S.is_reading src.new ≡ S.is_reading src.old }
@@ -83,14 +81,13 @@ pub(crate) fn arm<S: Source, K: Sink, D: Disk>(
         IfErr result (HasHaltedPut S.stands K.holds K.may_leave groups at b.config b.now b.held
         store.now.offset report src.new (S.told src.new) sink.now) }
     ensures own { (tell : Bool) (entry : SpecEntry) →
-        InSession tell S.stands K.holds D.seen D.may_leave entry
-        work.old src.old sink.now store.now →
+        InSession tell S.stands K.holds D.Disk entry work.old src.old sink.now store.now →
         S.honest src.new →
         IfErr result (IsHonestHalt entry (S.stands src.new)) }
     ensures awaits { Awaits S.stands work.old src.old →
         OnOk result (Awaits S.stands work.new src.new) }
     ensures most { (tell : Bool) (entry : SpecEntry) (chunks : ℕ) →
-        InSession tell S.stands K.holds D.seen D.may_leave entry
+        InSession tell S.stands K.holds D.Disk entry
         work.old src.old sink.now store.now → AreClosed work.old chunks →
         OnErr result ((left : CrashState) → S.may_leave src.new left →
         AddsNoMore chunks entry.history left.history) }

@@ -260,11 +260,11 @@ module _ (config : Config) (held stored : Option Offset) (report : Report) (t : 
   gone_asks : (g : IsGoneHalt config held stored (Some t) h) → MustHalt config held stored report t (Err h)
   gone_asks g = record {
     message = no_fault;
-    rows = λ answered s plan error rows_are next read. absurd (no_gone_rows g.first answered (sym (g.tells t refl) ∙ rows_are));
+    rows = λ answered s plan error rows_are next read. absurd (no_gone_rows g.first answered (sym (g.last_answer t refl) ∙ rows_are));
     described = λ raw error one two answer is. absurd (stored_none g.stored.offset (sym g.stored.is ∙ two));
     unknown = λ one two answer. absurd (stored_none g.stored.offset (sym g.stored.is ∙ two));
     gone = λ first s answer.
-        inl (inl (ap (λ (x : Halt). Err x) (g.is ∙ ap₂ (λ (o : Offset) (l : Lsn). halt.Gone o.lsn l) (first_some g.stored.offset s.offset (sym g.stored.is ∙ s.is)) (same_first g.first first (sym (g.tells t refl) ∙ answer)))));
+        inl (inl (ap (λ (x : Halt). Err x) (g.is ∙ ap₂ (λ (o : Offset) (l : Lsn). halt.Gone o.lsn l) (first_some g.stored.offset s.offset (sym g.stored.is ∙ s.is)) (same_first g.first first (sym (g.last_answer t refl) ∙ answer)))));
   }
 
 exhausted_held : (held : Option Offset) (h : Halt) → IsExhausted held h → held ≡ None → ⊥

@@ -5,6 +5,7 @@ use Rattle.std.specs.List.{AllByRecursion, position}
 use Rattle.dbl_base.specs.declared.lsn.Lsn.{Lsn}
 use Rattle.dbl_record.specs.declared.record.Record.{Record}
 use Rattle.dbl_model_table.specs.declared.table.TableInfo.{TableInfo}
+use Rattle.dbl_capture_work.specs.Disk.Model.{DiskModel}
 use Rattle.dbl_capture_work.specs.ModelHistory.declared.cursor.Cursor.{Cursor}
 use Rattle.dbl_capture_work.specs.ModelHistory.Cursors.{AreCursorsOf}
 use Rattle.dbl_capture_work.specs.ModelHistory.Fit.{IsFitHistory}
@@ -89,8 +90,8 @@ not_all cursors place cursor at unread all =
 
 -- ---- a session
 
-module _ {S K D : Type 0} {tell : Bool} {stands : S → SourceState → Type 0} {holds : K → List (List Record) → Type 0} {seen : D → Option (List ℕ)} {may_leave : D → List ℕ → Type 0} {entry : SessionStart} {work : SessionState} {src : S} {sink : K} {store : StoreOn D}
-    (s : InSession tell stands holds seen may_leave entry work src sink store) where
+module _ {S K D : Type 0} {tell : Bool} {stands : S → SourceState → Type 0} {holds : K → List (List Record) → Type 0} {model : DiskModel D} {entry : SessionStart} {work : SessionState} {src : S} {sink : K} {store : StoreOn D}
+    (s : InSession tell stands holds model entry work src sink store) where
   infos_are : work.offset.infos ≡ s.stage.first.infos
   infos_are = ap (λ (o : Offset). o.infos) s.work_is.offset_is
 
@@ -144,7 +145,7 @@ module _ {S K D : Type 0} {tell : Bool} {stands : S → SourceState → Type 0} 
     -- wherever it ends on the way
     pub arm_left : (may_source : S → CrashState → Type 0) (may_sink : K → List (List Record) → Type 0) (src2 : S) → work.follower.window ≡ Absent → ((left : CrashState) → may_source src2 left → MayHaveMarks (own_marks plan) (state_at_stage s.stage) left)
         → ((left : CrashState) → may_source src2 left → IsFitHistory left.history) → (IsTrue tell → (groups : List (List Record)) → may_sink sink groups → groups ≡ s.stage.groups) → (left : CrashState) × may_source src2 left → (IsTrue tell → (groups : List (List Record)) × may_sink sink groups)
-        → LeavesBy tell may_source may_sink may_leave entry src2 sink store
+        → LeavesBy tell may_source may_sink model entry src2 sink store
     arm_left may_source may_sink src2 none may fit only some_source some_sink =
         source_ends s may_source may_sink src2 (λ faithful left is. may_be left (may left is) (fit left is) faithful) only (λ left is. few_left none left (may left is)) some_source some_sink
 
@@ -196,7 +197,7 @@ module _ {S K D : Type 0} {tell : Bool} {stands : S → SourceState → Type 0} 
     stands_so : (t : SourceState) → t.confirmed ≡ s.stage.confirmed → t.reading ≡ Some (record { after = s.stage.first.lsn; messages = s.stage.messages }) → t ≡ state_at_stage (armed_at s.stage t.history chunk)
     stands_so t confirmed reading = ap₂ (λ (c : Lsn) (r : Option Reading). record { history = t.history; confirmed = c; reading = r }) confirmed reading
 
-    pub armed_on : (honest : Type 0) → honest → (src2 : S) (t : SourceState) → stands src2 t → WasWindowed honest chunk.plan chunk (state_at_stage s.stage) t → IsFitHistory t.history → InSession tell stands holds seen may_leave entry armed_work src2 sink store
+    pub armed_on : (honest : Type 0) → honest → (src2 : S) (t : SourceState) → stands src2 t → WasWindowed honest chunk.plan chunk (state_at_stage s.stage) t → IsFitHistory t.history → InSession tell stands holds model entry armed_work src2 sink store
     armed_on honest is_honest src2 t is w fit = record {
       stage = armed_at s.stage t.history chunk;
       source_is = subst (stands src2) (stands_so t w.looked.confirmed w.looked.reading) is;
@@ -217,9 +218,9 @@ module _ {S K D : Type 0} {tell : Bool} {stands : S → SourceState → Type 0} 
 
   -- so it is where the window was read
   pub window_on : (table : ℕ) (work2 : SessionState) (honest : Type 0) → honest → (src2 : S) → HasReadWindow honest stands table work work2 (state_at_stage s.stage) src2 → IsOpenTable work table → work.number + 1 < 2 ^ 64 → work.follower.window ≡ Absent
-      → ((t : SourceState) → stands src2 t → IsFitHistory t.history) → InSession tell stands holds seen may_leave entry work2 src2 sink store
+      → ((t : SourceState) → stands src2 t → IsFitHistory t.history) → InSession tell stands holds model entry work2 src2 sink store
   window_on table work2 honest is_honest src2 w unread small none fit =
-      subst (λ (v : SessionState). InSession tell stands holds seen may_leave entry v src2 sink store) (sym w.armed.is)
+      subst (λ (v : SessionState). InSession tell stands holds model entry v src2 sink store) (sym w.armed.is)
       (armed_on table w.armed.chunk (plan_parts work table w.armed.chunk.plan w.armed.plan) w.armed.few unread small none honest is_honest src2 w.stood.standing w.stood.is w.stood.holds (fit w.stood.standing w.stood.is))
 
 -- ---- there is a plan

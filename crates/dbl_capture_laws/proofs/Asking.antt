@@ -70,7 +70,7 @@ ok_pair (Err h) A B a b = tt
 
 told_as : (found old new : Option Trace) (ms : List Message) (t : Trace) → HasReadSinceStart found old ms → IsTakenBy [] old new → new ≡ Some t → AreSpelled t.read ms
 told_as found old new ms t a none is =
-    subst (λ (l : List (List ℕ)). AreSpelled l ms) (sym (read_is a.read found a.begun new t is a.anew (taken_more [] a.read a.begun old new a.taken none a.read refl))) a.spelled
+    subst (λ (l : List (List ℕ)). AreSpelled l ms) (sym (read_is a.read found a.begun new t is a.begun_unread (taken_more [] a.read a.begun old new a.taken none a.read refl))) a.spelled
 
 told_none : (told : Option Trace) → IsTakenBy [] told told
 told_none None = tt

@@ -172,7 +172,7 @@ within_grown : (lsn : Lsn) (old new : History) (more : List RawCommit) → new.c
 within_grown lsn old new more is w = record {
   position = w.position;
   at = subst (λ (l : List RawCommit). PositionIn l w.position) (sym is) (still_position old more w.position w.at);
-  le = w.le;
+  not_below = w.not_below;
 }
 
 -- A mark was written.
@@ -201,12 +201,12 @@ written after value read later old new m w parted = record {
     rising = subst (λ (l : List RawCommit). AreRising 0 (map (λ (c : RawCommit). c.lsn.0) l)) grown m.rising
 
     lt : nat_lt after.0 m.mark.lsn.0 ≡ true
-    lt = passes after.0 w.position m.mark.lsn.0 w.le (at_mark (λ (c : RawCommit). w.position < c.lsn.0) m.before m.mark m.after (behind_position old more rising w.position w.at))
+    lt = passes after.0 w.position m.mark.lsn.0 w.not_below (at_mark (λ (c : RawCommit). w.position < c.lsn.0) m.before m.mark m.after (behind_position old more rising w.position w.at))
 
 -- ---- where it begins
 
 head_within : (history : History) (lsn : Lsn) (place : ℕ) → lsn ≡ head_of (take place history.commits) → HasPositionInLog lsn history
-head_within history lsn place is = record { position = lsn.0; at = head_position history lsn place is; le = same_le lsn.0 }
+head_within history lsn place is = record { position = lsn.0; at = head_position history lsn place is; not_below = same_le lsn.0 }
   where
     same_le : (n : ℕ) → n ≤ n
     same_le n = omega arith
@@ -215,7 +215,7 @@ stored_within : (history : History) (old : Option Offset) (stored : Offset) → 
 stored_within history old stored is le = record {
   position = (head_of history.commits).0;
   at = head_position history (head_of history.commits) (length history.commits) (ap head_of (sym (take-length history.commits)));
-  le = subst (λ (o : Option Offset). IsWithinLog history o) is le;
+  not_below = subst (λ (o : Option Offset). IsWithinLog history o) is le;
 }
 
 -- the offset that is stored first, of the stored one

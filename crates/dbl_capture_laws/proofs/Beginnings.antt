@@ -7,6 +7,7 @@ use Rattle.dbl_record.specs.declared.record.Record.{Record}
 use Rattle.dbl_model_table.specs.declared.config.Config.{Config}
 use Rattle.dbl_model_table.specs.declared.table.TableInfo.{TableInfo}
 use Rattle.dbl_model_table.proofs.Lists.{slice_get-lt}
+use Rattle.dbl_capture_work.specs.Disk.Model.{DiskModel}
 use Rattle.dbl_capture_work.specs.ModelHistory.declared.cursor.Cursor.{Cursor}
 use Rattle.dbl_capture_work.specs.ModelHistory.Cursors.{AreCursorsOf}
 use Rattle.dbl_capture_work.specs.ModelHistory.Fit.{AreInfosOf, IsFitHistory}
@@ -185,15 +186,15 @@ begins_first entry config first s t asked none history rise moved infos head is 
 pub few_unread : (entry : SessionStart) (left : CrashState) → Grows entry.history left.history → AddsFewOrNoMarks entry left
 few_unread entry left g = inl (no_mark_more entry.history left.history g)
 
-module _ {S K D : Type 0} (tell : Bool) (may_source : S → CrashState → Type 0) (may_sink : K → List (List Record) → Type 0) (seen : D → Option (List ℕ)) (may_leave : D → List ℕ → Type 0) (entry : SessionStart) (src : S) (sink : K)
+module _ {S K D : Type 0} (tell : Bool) (may_source : S → CrashState → Type 0) (may_sink : K → List (List Record) → Type 0) (model : DiskModel D) (entry : SessionStart) (src : S) (sink : K)
     (fit_entry : IsFitHistory entry.history) (fit : (left : CrashState) → may_source src left → IsFitHistory left.history) (same : (left : CrashState) → may_source src left → left.confirmed ≡ entry.confirmed)
     (only_sink : IsTrue tell → (groups : List (List Record)) → may_sink sink groups → groups ≡ entry.groups)
     (some_source : (left : CrashState) × may_source src left) (some_sink : IsTrue tell → (groups : List (List Record)) × may_sink sink groups) where
   -- before the first store
-  pub unread_left : (store : StoreOn D) → (IsTrue tell → HoldsOffset seen may_leave store entry.offset) → ((left : CrashState) → may_source src left → Grows entry.history left.history) → LeavesBy tell may_source may_sink may_leave entry src sink store
+  pub unread_left : (store : StoreOn D) → (IsTrue tell → HoldsOffset model store entry.offset) → ((left : CrashState) → may_source src left → Grows entry.history left.history) → LeavesBy tell may_source may_sink model entry src sink store
   unread_left store held grows = record {
-    follows = λ tells faithful. left_weaker may_leave (disk_of store) (λ offset. offset ≡ entry.offset) (λ offset. (left : CrashState) (groups : List (List Record)) → may_source src left → may_sink sink groups → FollowsSession entry left groups offset)
-        (held_left seen may_leave store entry.offset (held tells))
+    follows = λ tells faithful. left_weaker model (disk_of store) (λ offset. offset ≡ entry.offset) (λ offset. (left : CrashState) (groups : List (List Record)) → may_source src left → may_sink sink groups → FollowsSession entry left groups offset)
+        (held_left model store entry.offset (held tells))
         (λ offset is left groups is_left is_groups.
         subst (λ (o : Option Offset). FollowsSession entry left groups o) (sym is) (subst (λ (g : List (List Record)). FollowsSession entry left g entry.offset) (sym (only_sink tells groups is_groups))
         (unread_sessions_follow entry left faithful fit_entry (fit left is_left) (grows left is_left) (same left is_left))));
@@ -212,9 +213,9 @@ module _ {S K D : Type 0} (tell : Bool) (may_source : S → CrashState → Type 
         subst (λ (o : Option Offset). FollowsSession entry left entry.groups o) (sym new)
         (first_offsets_follow entry history left first faithful fit_entry (fit left is) before (since left is) infos began (same left is))
 
-    pub first_left : (store : StoreOn D) → (IsTrue tell → LeavesOffset may_leave (disk_of store) (λ offset. (offset ≡ entry.offset) ⊎ (offset ≡ Some first))) → LeavesBy tell may_source may_sink may_leave entry src sink store
+    pub first_left : (store : StoreOn D) → (IsTrue tell → LeavesOffset model (disk_of store) (λ offset. (offset ≡ entry.offset) ⊎ (offset ≡ Some first))) → LeavesBy tell may_source may_sink model entry src sink store
     first_left store leaves = record {
-      follows = λ tells faithful. left_weaker may_leave (disk_of store) (λ offset. (offset ≡ entry.offset) ⊎ (offset ≡ Some first)) (λ offset. (left : CrashState) (groups : List (List Record)) → may_source src left → may_sink sink groups → FollowsSession entry left groups offset) (leaves tells)
+      follows = λ tells faithful. left_weaker model (disk_of store) (λ offset. (offset ≡ entry.offset) ⊎ (offset ≡ Some first)) (λ offset. (left : CrashState) (groups : List (List Record)) → may_source src left → may_sink sink groups → FollowsSession entry left groups offset) (leaves tells)
           (λ offset is left groups is_left is_groups. subst (λ (g : List (List Record)). FollowsSession entry left g offset) (sym (only_sink tells groups is_groups)) (either_follows faithful left is_left offset is));
       few = λ left is_left. few_unread entry left (grows_on entry.history history left.history before (since left is_left));
       some_source = some_source;
@@ -223,11 +224,11 @@ module _ {S K D : Type 0} (tell : Bool) (may_source : S → CrashState → Type 
 
 -- ---- it reads
 
-module _ {S K D : Type 0} {tell : Bool} {stands : S → SourceState → Type 0} {holds : K → List (List Record) → Type 0} {seen : D → Option (List ℕ)} {may_leave : D → List ℕ → Type 0} {entry : SessionStart} {first : Offset} {src : S} {sink : K} {store : StoreOn D}
-    (b : BeganAt tell stands holds seen may_leave entry first src sink store) where
+module _ {S K D : Type 0} {tell : Bool} {stands : S → SourceState → Type 0} {holds : K → List (List Record) → Type 0} {model : DiskModel D} {entry : SessionStart} {first : Offset} {src : S} {sink : K} {store : StoreOn D}
+    (b : BeganAt tell stands holds model entry first src sink store) where
   -- reading has begun behind the first offset's LSN
   pub begun_session : (fit_entry : IsFitHistory entry.history) (src2 : S) (t : SourceState) (work : SessionState) → stands src2 t → IsBegun first.lsn b.standing t → IsFitHistory t.history → 1 ≤ entry.config.every → first.incarnation < 2 ^ 64
-      → works.BeginsWithOffset first entry.now entry.config.chunk entry.config.every work → InSession tell stands holds seen may_leave entry work src2 sink store
+      → works.BeginsWithOffset first entry.now entry.config.chunk entry.config.every work → InSession tell stands holds model entry work src2 sink store
   begun_session fit_entry src2 t work is begun fit some small made =
       let grown : Grows entry.history t.history = grows_on entry.history b.standing.history t.history b.grown begun.grows in
       let longer_is : t.history ≡ longer b.standing.history begun.grows.others = is_longer b.standing.history t.history begun.grows.others (record { tables = begun.grows.tables; commits = begun.grows.commits }) in

@@ -43,7 +43,7 @@ sessions_begin_at_rest b every work report for begun messages commits chunks = r
     offset = b.first;
     stored_is = refl;
     of = record {
-      for = for;
+      for_config = for;
       of = record { identity = refl; infos = refl; start = refl; incarnation = refl };
       placed = subst (λ (o : Offset). IsPlacedOf b.first o) (sym begun.offset_is) refl;
       time = begun.now_is;
@@ -97,7 +97,7 @@ windows_let_it_rest b ms stored old new table report r absent unread armed = sub
       is = record {
         offset = r.is.offset;
         stored_is = r.is.stored_is;
-        of = record { for = r.is.of.for; of = r.is.of.of; placed = r.is.of.placed; time = r.is.of.time; most = r.is.of.most };
+        of = record { for_config = r.is.of.for_config; of = r.is.of.of; placed = r.is.of.placed; time = r.is.of.time; most = r.is.of.most };
         upto = r.is.upto;
         is = works;
         end_is = r.is.end_is;
@@ -132,7 +132,7 @@ messages_let_it_rest b ms stored old next before report bytes r w counted =
       is = record {
         offset = r.is.offset;
         stored_is = r.is.stored_is;
-        of = record { for = r.is.of.for; of = r.is.of.of; placed = r.is.of.placed; time = r.is.of.time; most = r.is.of.most };
+        of = record { for_config = r.is.of.for_config; of = r.is.of.of; placed = r.is.of.placed; time = r.is.of.time; most = r.is.of.most };
         upto = r.is.upto;
         is = taken_is b.first.lsn ms old r.is.is w.message w.spells.fits.fields next.assembler w.clean w.stands (sym w.commit_is);
         end_is = r.is.end_is ∙ ap (end_after b.first.end_lsn) same_commits;
@@ -193,7 +193,7 @@ module _ (b : Beginning) (ms : List Message) (stored : Option Offset) (old next 
       offset = r.is.offset;
       stored_is = r.is.stored_is;
       of = record {
-        for = r.is.of.for;
+        for_config = r.is.of.for_config;
         of = r.is.of.of;
         placed = ap (λ (o : Offset). record o { lsn = commit.lsn; end_lsn = commit.end_lsn }) r.is.of.placed;
         time = r.is.of.time;
@@ -243,8 +243,8 @@ commits_leave_it_read b ms stored old next new before report bytes commit r w st
 -- the next offset is of the session
 pub of_next : (b : Beginning) (offset : Offset) (work : SessionState) → IsOfFirst b.config b.now b.held b.first offset work → IsOfFirst b.config b.now b.held b.first (next_offset_of work) work
 of_next b offset work of = record {
-  for = of.for;
-  of = of_session b.config b.held b.first work of.for of.placed;
+  for_config = of.for_config;
+  of = of_session b.config b.held b.first work of.for_config of.placed;
   placed = of.placed;
   time = of.time;
   most = of.most;
@@ -263,7 +263,7 @@ stores_let_it_rest b ms stored old new before report is same counted =
       is = record {
         offset = next_offset_of old;
         stored_is = refl;
-        of = record { for = next.for; of = next.of; placed = next.placed; time = next.time; most = next.most };
+        of = record { for_config = next.for_config; of = next.of; placed = next.placed; time = next.time; most = next.most };
         upto = same_le old.offset.lsn.0 old.offset.lsn.0 refl;
         is = settled_work b.first.lsn ms old is.is;
         end_is = is.end_is;

@@ -86,7 +86,7 @@ windows_halt config now held first stored work report table told h o b absent op
 pub bytes_halt : BytesHalt
 bytes_halt config now held first stored work before report found begun old new bytes h o anew t taken messages fault =
     subst (IsHalt config now held (Some stored) report new) (sym fault.is) (
-      read_after config now held first stored o.for o.of report new (bytes ∷ t.read) many (λ x is. read_is (bytes ∷ t.read) found begun new x is anew (taken_more (bytes ∷ []) t.read begun old new t.taken taken (bytes ∷ t.read) refl)),
+      read_after config now held first stored o.for_config o.of report new (bytes ∷ t.read) many (λ x is. read_is (bytes ∷ t.read) found begun new x is anew (taken_more (bytes ∷ []) t.read begun old new t.taken taken (bytes ∷ t.read) refl)),
       record {
         bytes = bytes;
         earlier = t.read;

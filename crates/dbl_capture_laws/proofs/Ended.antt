@@ -71,7 +71,7 @@ module _ (b : Beginning) (o : Offset) (work : SessionState) (of : IsOfFirst b.co
       reading_one : reading_at b.first.lsn ms ≡ reading
       reading_one =
           ap₂ (λ (a : Lsn) (l : List Message). reading_at a l)
-          (same_behind b.held o o.infos was.stored.offset.infos b.first.lsn reading.after began was.subsequent) messages_one
+          (same_behind b.held o o.infos was.stored.offset.infos b.first.lsn reading.after began was.begins_after) messages_one
 
   -- and of the one behind which a source stands
   pub stood_one : (report : Report) (t : SourceState) (ms : List Message) (result : Result Ending Halt) → StandsAt b ms t
@@ -138,12 +138,12 @@ module _ (b : Beginning) (ms : List Message) (stored later : Option Offset) (wor
 
       at : (o : Offset) → StillOf o → HasHaltedTold b.config b.now b.held (Some o) found new report h
       at o of =
-          let both = stops_are_followed b.config b.now found told.begun new b.first o b.held report h of.for of.of told.anew stopped in
+          let both = stops_are_followed b.config b.now found told.begun new b.first o b.held report h of.for_config of.of told.begun_unread stopped in
           record {
             followed = both.0;
             read = inl both.1;
             must = λ t tells. told_one b o work of report t told.read ms (Err h)
-                (read_is told.read found told.begun new t tells told.anew (taken_more [] told.read told.begun old new told.taken more told.read refl)) told.spelled
+                (read_is told.read found told.begun new t tells told.begun_unread (taken_more [] told.read told.begun old new told.taken more told.read refl)) told.spelled
                 (taken_messages_ask_nothing b.config b.now b.held b.first o work ms (Err h) of is.is);
           }
 
@@ -161,7 +161,7 @@ module _ (b : Beginning) (ms : List Message) (stored later : Option Offset) (wor
 
       at : (o : Offset) → StillOf o → HasHaltedStood b.config b.now b.held (Some o) report s t h
       at o of = record {
-        stood = inr (stood_are_followed b.config b.now b.first o b.held report t h of.for of.of stood);
+        stood = inr (stood_are_followed b.config b.now b.first o b.held report t h of.for_config of.of stood);
         must = stood_one b o work of report t ms (Err h) stands (taken_messages_ask_nothing b.config b.now b.held b.first o work ms (Err h) of is.is);
       }
 
@@ -228,10 +228,10 @@ module _ (b : Beginning) (ms : List Message) (stored : Option Offset) (work : Se
           (halts_at_messages b.first.lsn b.first.end_lsn told.begun old new before report work bytes h (has_taken b ms stored work before found old is told) more left messages commits)
 
       both : IsFollowed b.config b.now b.held (Some is.offset) report new h × TellsSoMany report.messages new
-      both = stops_are_followed b.config b.now found told.begun new b.first is.offset b.held report h is.of.for is.of.of told.anew stopped
+      both = stops_are_followed b.config b.now found told.begun new b.first is.offset b.held report h is.of.for_config is.of.of told.begun_unread stopped
 
       read_now : (t : Trace) → new ≡ Some t → t.read ≡ bytes ∷ told.read
-      read_now t tells = read_is (bytes ∷ told.read) found told.begun new t tells told.anew (taken_more (bytes ∷ []) told.read told.begun old new told.taken more (bytes ∷ told.read) refl)
+      read_now t tells = read_is (bytes ∷ told.read) found told.begun new t tells told.begun_unread (taken_more (bytes ∷ []) told.read told.begun old new told.taken more (bytes ∷ told.read) refl)
 
       asked : (t : Trace) → new ≡ Some t → MustHaltTold b.config b.now b.held (Some is.offset) report t (Err h)
       asked t tells reading was = by reading.messages refl (subst (λ (l : List (List ℕ)). AreSpelled l reading.messages) (sym (was.tells t refl) ∙ read_now t tells) was.spelled)
@@ -243,7 +243,7 @@ module _ (b : Beginning) (ms : List Message) (stored : Option Offset) (work : Se
 
   at_stood : (s t : SourceState) (m : Message) → Spells bytes m → StandsAt b (m ∷ ms) t → HasHaltedStood b.config b.now b.held (Some is.offset) report s t h
   at_stood s t m spells stands = record {
-    stood = inr (stood_are_followed b.config b.now b.first is.offset b.held report t h is.of.for is.of.of stood);
+    stood = inr (stood_are_followed b.config b.now b.first is.offset b.held report t h is.of.for_config is.of.of stood);
     must = stood_one b is.offset work is.of report t (m ∷ ms) (Err h) stands (newest m spells);
   }
     where
@@ -333,7 +333,7 @@ halts_unread_are_stood config now held stored told report s t h is messages comm
 pub ends_are_told : EndsAreTold
 ends_are_told b ms work report found told ending is a = (
   subst (λ (k : ℤ). StoodAtLast b.config k b.held (Some (next_offset_of work)) report told) is.of.time
-      (ends_stand_at_last b.config found a.begun told b.first b.held report work is.of.for is.of.placed a.anew (has_taken b ms (Some (next_offset_of work)) work report found told is a)),
+      (ends_stand_at_last b.config found a.begun told b.first b.held report work is.of.for_config is.of.placed a.begun_unread (has_taken b ms (Some (next_offset_of work)) work report found told is a)),
   λ t tells. ap (λ (l : List (List ℕ)). length l) (read_now t tells) ∙ (sym (same_many a.read ms a.spelled) ∙ is.many),
   λ t tells. told_one b (next_offset_of work) work next report t a.read ms (Ok ending) (read_now t tells) a.spelled
       (taken_messages_ask_nothing b.config b.now b.held b.first (next_offset_of work) work ms (Ok ending) next is.is),
@@ -343,12 +343,12 @@ ends_are_told b ms work report found told ending is a = (
     next = of_next b is.offset work is.of
 
     read_now : (t : Trace) → told ≡ Some t → t.read ≡ a.read
-    read_now t tells = read_is a.read found a.begun told t tells a.anew a.taken
+    read_now t tells = read_is a.read found a.begun told t tells a.begun_unread a.taken
 
 pub ends_are_stood : EndsAreStood
 ends_are_stood b ms work report t ending is stands upto = (
   subst (λ (k : ℤ). HasSettled b.config k b.held (Some (next_offset_of work)) report t) is.of.time
-      (sources_settle b.config b.first b.held report work t is.of.for is.of.placed (stands_behind b ms (Some (next_offset_of work)) work report t is stands) upto),
+      (sources_settle b.config b.first b.held report work t is.of.for_config is.of.placed (stands_behind b ms (Some (next_offset_of work)) work report t is stands) upto),
   stood_one b (next_offset_of work) work next report t ms (Ok ending) stands
       (taken_messages_ask_nothing b.config b.now b.held b.first (next_offset_of work) work ms (Ok ending) next is.is),
 )

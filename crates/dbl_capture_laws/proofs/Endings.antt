@@ -7,6 +7,7 @@ use Rattle.dbl_base.specs.declared.lsn.Lsn.{Lsn}
 use Rattle.dbl_record.specs.declared.record.Record.{Record}
 use Rattle.dbl_model_table.specs.declared.config.Config.{Config}
 use Rattle.dbl_model_table.specs.declared.table.TableInfo.{TableInfo}
+use Rattle.dbl_capture_work.specs.Disk.Model.{DiskModel}
 use Rattle.dbl_capture_work.specs.ModelHistory.declared.cursor.Cursor.{Cursor}
 use Rattle.dbl_capture_work.specs.ModelHistory.Fit.{AreInfosOf, IsFitHistory}
 use Rattle.dbl_capture_work.specs.ModelHistory.History.{History, RawCommit}
@@ -69,9 +70,9 @@ done_at armed work new none same absent settled =
 
 -- ---- complete
 
-module _ {S K D : Type 0} {tell : Bool} {stands : S → SourceState → Type 0} {holds : K → List (List Record) → Type 0} {seen : D → Option (List ℕ)} {may_leave : D → List ℕ → Type 0} {entry : SessionStart} {work : SessionState} {src : S} {sink : K} {store : StoreOn D}
-    (w : IsSettledWhole tell stands holds seen may_leave entry work src sink store) where
-  abbrev s : InSession tell stands holds seen may_leave entry work src sink store
+module _ {S K D : Type 0} {tell : Bool} {stands : S → SourceState → Type 0} {holds : K → List (List Record) → Type 0} {model : DiskModel D} {entry : SessionStart} {work : SessionState} {src : S} {sink : K} {store : StoreOn D}
+    (w : IsSettledWhole tell stands holds model entry work src sink store) where
+  abbrev s : InSession tell stands holds model entry work src sink store
   s = w.settled.is
 
   done_so : AreAllDone work.follower.cursors → AllByRecursion (λ cursor. cursor.done ≡ true) s.stage.following.cursors
@@ -79,10 +80,10 @@ module _ {S K D : Type 0} {tell : Bool} {stands : S → SourceState → Type 0} 
 
   pub complete_left : IsTrue tell → (may_source : S → CrashState → Type 0) (may_sink : K → List (List Record) → Type 0) (honest : Type 0) → ((t : SourceState) (l : CrashState) → stands src t → may_source src l → l ≡ left_of t)
       → ((groups left : List (List Record)) → holds sink groups → may_sink sink left → left ≡ groups) → honest → (honest → (l : CrashState) → may_source src l → IsFitHistory l.history) → AreAllDone work.follower.cursors
-      → LeavesComplete may_source may_sink may_leave entry src sink store
+      → LeavesComplete may_source may_sink model entry src sink store
   complete_left tells may_source may_sink honest only only_sink is_honest fit done faithful =
-      left_weaker may_leave (disk_of store) (λ offset. offset ≡ Some s.stage.stored) (λ offset. (left : CrashState) (groups : List (List Record)) → may_source src left → may_sink sink groups → IsCompleteWith entry left groups offset)
-      (held_left seen may_leave store (Some s.stage.stored) (s.store_is tells))
+      left_weaker model (disk_of store) (λ offset. offset ≡ Some s.stage.stored) (λ offset. (left : CrashState) (groups : List (List Record)) → may_source src left → may_sink sink groups → IsCompleteWith entry left groups offset)
+      (held_left model store (Some s.stage.stored) (s.store_is tells))
       (λ offset same left groups is_left is_groups.
       subst (λ (o : Option Offset). IsCompleteWith entry left groups o) (sym same)
       (subst (λ (g : List (List Record)). IsComplete entry left g s.stage.stored) (sym (only_sink s.stage.groups groups (s.sink_is tells) is_groups))
@@ -178,9 +179,9 @@ first_of_stored config history (Some old) new first at is none = let wrong : Som
 -- ---- what the store holds
 
 -- a store that wasn't touched holds what it held
-pub held_same : {D : Type 0} (seen : D → Option (List ℕ)) (may_leave : D → List ℕ → Type 0) (old new : StoreOn D) → new ≡ old → HoldsOffset seen may_leave old old.offset → HoldsOffset seen may_leave new new.offset
-held_same {D} seen may_leave old new same held = subst (λ (s : StoreOn D). HoldsOffset seen may_leave s s.offset) (sym same) held
+pub held_same : {D : Type 0} (model : DiskModel D) (old new : StoreOn D) → new ≡ old → HoldsOffset model old old.offset → HoldsOffset model new new.offset
+held_same {D} model old new same held = subst (λ (s : StoreOn D). HoldsOffset model s s.offset) (sym same) held
 
 -- and one that answered what it stored holds that
-pub held_stored : {D : Type 0} (seen : D → Option (List ℕ)) (may_leave : D → List ℕ → Type 0) (new : StoreOn D) (offset : Offset) → new.offset ≡ Some offset → HoldsOffset seen may_leave new (Some offset) → HoldsOffset seen may_leave new new.offset
-held_stored seen may_leave new offset is held = subst (HoldsOffset seen may_leave new) (sym is) held
+pub held_stored : {D : Type 0} (model : DiskModel D) (new : StoreOn D) (offset : Offset) → new.offset ≡ Some offset → HoldsOffset model new (Some offset) → HoldsOffset model new new.offset
+held_stored model new offset is held = subst (HoldsOffset model new) (sym is) held

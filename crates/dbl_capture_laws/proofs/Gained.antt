@@ -143,7 +143,7 @@ commits_are_sent after ms m commit old records is ends lt clear listed gained = 
       (all_weaker (λ (item : Record). item.position ≡ commit.lsn.0) (λ (item : Record). item.position ≤ commit.lsn.0) (take (length (part_of old commit)) (part_of old commit)) (λ item at. equal_le item.position commit.lsn.0 at) (run_at commit.lsn.0 (part_of old commit) (length (part_of old commit)) run))),
   subst (AllByRecursion (λ (other : Commit). other.lsn.0 ≤ commit.lsn.0)) (sym commits_are)
       (all_append (λ (other : Commit). other.lsn.0 ≤ commit.lsn.0) (commits_of old.offset.infos ms) (commit ∷ [])
-      (all_weaker (λ (other : Commit). other.lsn.0 ≤ old.offset.lsn.0) (λ (other : Commit). other.lsn.0 ≤ commit.lsn.0) (commits_of old.offset.infos ms) (λ other le. le_lt other.lsn.0 old.offset.lsn.0 commit.lsn.0 le lt) gained.subsequent)
+      (all_weaker (λ (other : Commit). other.lsn.0 ≤ old.offset.lsn.0) (λ (other : Commit). other.lsn.0 ≤ commit.lsn.0) (commits_of old.offset.infos ms) (λ other le. le_lt other.lsn.0 old.offset.lsn.0 commit.lsn.0 le lt) gained.commits_within)
       (equal_le commit.lsn.0 commit.lsn.0 refl, tt)),
 )
   where
@@ -158,7 +158,7 @@ commits_are_sent after ms m commit old records is ends lt clear listed gained = 
       parts = gained.sent.parts ++ (part_of old commit) ∷ [];
       each = zip_append (IsSentFor (making_of old.offset old.now_ms old.chunk)) (commits_of old.offset.infos ms) (commit ∷ []) gained.sent.parts ((part_of old commit) ∷ []) gained.sent.each (is_sent old commit is.identity is.infos is.own clear listed commit.body refl, tt);
       whole = ap (λ (l : List Record). l ++ (part_of old commit)) gained.sent.whole ∙ sym (joined_snoc gained.sent.parts (part_of old commit));
-      rising = rising_snoc after.0 old.offset.lsn.0 (commits_of old.offset.infos ms) commit gained.sent.rising gained.subsequent gained.order lt;
+      rising = rising_snoc after.0 old.offset.lsn.0 (commits_of old.offset.infos ms) commit gained.sent.rising gained.commits_within gained.order lt;
     })
 
     groups_cut : (n : ℕ) → (groups : List (List Record)) → (groups ++ cut records) ++ cut (take n (part_of old commit)) ≡ groups ++ cut (take (length records + n) (records ++ (part_of old commit)))

@@ -4,6 +4,7 @@ use Rattle.std.specs.Prelude.{IfOk, OnErr, OnOk}
 use Rattle.dbl_base.specs.declared.lsn.Lsn.{Lsn}
 use Rattle.dbl_pgmsg.specs.declared.messages.Message.{Message}
 use Rattle.dbl_record.specs.declared.record.Record.{Record}
+use Rattle.dbl_capture_work.specs.Disk.Model.{DiskModel}
 use Rattle.dbl_capture_work.specs.ModelHistory.Fit.{IsFitHistory}
 use Rattle.dbl_capture_work.specs.ModelHistory.History.{RawCommit}
 use Rattle.dbl_capture_work.specs.SourceModel.Growth.{marks_in}
@@ -56,15 +57,15 @@ on_err (Err e) P p = p
 -- ---- stores
 
 -- a store that holds an offset leaves it
-pub held_left : {D : Type 0} (seen : D → Option (List ℕ)) (may_leave : D → List ℕ → Type 0) (store : StoreOn D) (offset : Option Offset) → HoldsOffset seen may_leave store offset → LeavesOffset may_leave (disk_of store) (λ left. left ≡ offset)
-held_left seen may_leave store offset held crashed may = (
+pub held_left : {D : Type 0} (model : DiskModel D) (store : StoreOn D) (offset : Option Offset) → HoldsOffset model store offset → LeavesOffset model (disk_of store) (λ left. left ≡ offset)
+held_left model store offset held crashed may = (
   offset,
   subst (λ (i : List ℕ). IsStore i offset) (sym (held.lists.only crashed may)) (record { entries = held.entries; journal = held.lists.spelled; each = held.each; last = held.last }),
   refl,
 )
 
-pub left_weaker : {D : Type 0} (may_leave : D → List ℕ → Type 0) (disk : D) (P Q : Option Offset → Type 0) → LeavesOffset may_leave disk P → ((offset : Option Offset) → P offset → Q offset) → LeavesOffset may_leave disk Q
-left_weaker may_leave disk P Q leaves weaker crashed may = let found = leaves crashed may in (found.0, found.1, weaker found.0 found.2)
+pub left_weaker : {D : Type 0} (model : DiskModel D) (disk : D) (P Q : Option Offset → Type 0) → LeavesOffset model disk P → ((offset : Option Offset) → P offset → Q offset) → LeavesOffset model disk Q
+left_weaker model disk P Q leaves weaker crashed may = let found = leaves crashed may in (found.0, found.1, weaker found.0 found.2)
 
 -- ---- what a call of the source may leave
 
@@ -137,10 +138,10 @@ settled_since work new same r = subst (λ (w : SessionState). w.since < w.every)
 
 -- ---- a session goes on
 
-module _ {S K D : Type 0} {tell : Bool} {stands : S → SourceState → Type 0} {holds : K → List (List Record) → Type 0} {seen : D → Option (List ℕ)} {may_leave : D → List ℕ → Type 0} {entry : SessionStart} {work : SessionState} {src : S} {sink : K} {store : StoreOn D}
-    (s : InSession tell stands holds seen may_leave entry work src sink store) where
+module _ {S K D : Type 0} {tell : Bool} {stands : S → SourceState → Type 0} {holds : K → List (List Record) → Type 0} {model : DiskModel D} {entry : SessionStart} {work : SessionState} {src : S} {sink : K} {store : StoreOn D}
+    (s : InSession tell stands holds model entry work src sink store) where
   -- others have committed
-  abbrev pub moved_on : (src2 : S) (t : SourceState) → stands src2 t → Moved (state_at_stage s.stage) t → IsFitHistory t.history → InSession tell stands holds seen may_leave entry work src2 sink store
+  abbrev pub moved_on : (src2 : S) (t : SourceState) → stands src2 t → Moved (state_at_stage s.stage) t → IsFitHistory t.history → InSession tell stands holds model entry work src2 sink store
   moved_on src2 t is moved fit = record {
     stage = record s.stage { history = t.history };
     source_is = subst (stands src2) (ap₂ (λ (c : Lsn) (r : Option Reading). record { history = t.history; confirmed = c; reading = r }) moved.confirmed moved.reading) is;
@@ -163,10 +164,10 @@ module _ {S K D : Type 0} {tell : Bool} {stands : S → SourceState → Type 0} 
 
   -- by its source
   pub source_ends : (may_source : S → CrashState → Type 0) (may_sink : K → List (List Record) → Type 0) (src2 : S) → (WasFaithful entry → (left : CrashState) → may_source src2 left → MayBeLeft s.stage left) → (IsTrue tell → (groups : List (List Record)) → may_sink sink groups → groups ≡ s.stage.groups)
-      → ((left : CrashState) → may_source src2 left → AddsFewOrNoMarks entry left) → (left : CrashState) × may_source src2 left → (IsTrue tell → (groups : List (List Record)) × may_sink sink groups) → LeavesBy tell may_source may_sink may_leave entry src2 sink store
+      → ((left : CrashState) → may_source src2 left → AddsFewOrNoMarks entry left) → (left : CrashState) × may_source src2 left → (IsTrue tell → (groups : List (List Record)) × may_sink sink groups) → LeavesBy tell may_source may_sink model entry src2 sink store
   source_ends may_source may_sink src2 may only few some_source some_sink = record {
-    follows = λ t faithful. left_weaker may_leave (disk_of store) (λ offset. offset ≡ Some s.stage.stored) (λ offset. (left : CrashState) (groups : List (List Record)) → may_source src2 left → may_sink sink groups → FollowsSession entry left groups offset)
-        (held_left seen may_leave store (Some s.stage.stored) (s.store_is t))
+    follows = λ t faithful. left_weaker model (disk_of store) (λ offset. offset ≡ Some s.stage.stored) (λ offset. (left : CrashState) (groups : List (List Record)) → may_source src2 left → may_sink sink groups → FollowsSession entry left groups offset)
+        (held_left model store (Some s.stage.stored) (s.store_is t))
         (λ offset same left groups is_left is_groups.
         subst (λ (o : Option Offset). FollowsSession entry left groups o) (sym same) (subst (λ (g : List (List Record)). FollowsSession entry left g (Some s.stage.stored)) (sym (only t groups is_groups)) (sources_may_end entry s.stage left faithful (may faithful left is_left) s.going)));
     few = few;
@@ -175,12 +176,12 @@ module _ {S K D : Type 0} {tell : Bool} {stands : S → SourceState → Type 0} 
   }
 
   -- by its store
-  pub store_ends : (may_source : S → CrashState → Type 0) (may_sink : K → List (List Record) → Type 0) (store2 : StoreOn D) → (IsTrue tell → LeavesOffset may_leave (disk_of store2) (λ offset. (offset ≡ Some s.stage.stored) ⊎ (offset ≡ Some (next_offset s.stage))))
+  pub store_ends : (may_source : S → CrashState → Type 0) (may_sink : K → List (List Record) → Type 0) (store2 : StoreOn D) → (IsTrue tell → LeavesOffset model (disk_of store2) (λ offset. (offset ≡ Some s.stage.stored) ⊎ (offset ≡ Some (next_offset s.stage))))
       → (WasFaithful entry → (left : CrashState) → may_source src left → MayBeLeft s.stage left) → (IsTrue tell → (groups : List (List Record)) → may_sink sink groups → groups ≡ s.stage.groups)
       → ((left : CrashState) → may_source src left → AddsFewOrNoMarks entry left) → (left : CrashState) × may_source src left → (IsTrue tell → (groups : List (List Record)) × may_sink sink groups)
-      → LeavesBy tell may_source may_sink may_leave entry src sink store2
+      → LeavesBy tell may_source may_sink model entry src sink store2
   store_ends may_source may_sink store2 leaves may only few some_source some_sink = record {
-    follows = λ t faithful. left_weaker may_leave (disk_of store2) (λ offset. (offset ≡ Some s.stage.stored) ⊎ (offset ≡ Some (next_offset s.stage))) (λ offset. (left : CrashState) (groups : List (List Record)) → may_source src left → may_sink sink groups → FollowsSession entry left groups offset) (leaves t)
+    follows = λ t faithful. left_weaker model (disk_of store2) (λ offset. (offset ≡ Some s.stage.stored) ⊎ (offset ≡ Some (next_offset s.stage))) (λ offset. (left : CrashState) (groups : List (List Record)) → may_source src left → may_sink sink groups → FollowsSession entry left groups offset) (leaves t)
         (λ offset either left groups is_left is_groups.
         subst (λ (g : List (List Record)). FollowsSession entry left g offset) (sym (only t groups is_groups)) (elim either [
           | inl same ↦ subst (λ (o : Option Offset). FollowsSession entry left s.stage.groups o) (sym same) (sources_may_end entry s.stage left faithful (may faithful left is_left) s.going)
@@ -192,9 +193,9 @@ module _ {S K D : Type 0} {tell : Bool} {stands : S → SourceState → Type 0} 
   }
 
   -- the offset was stored
-  pub stored_on : (work2 : SessionState) (store2 : StoreOn D) → work2 ≡ record work { since = 0 } → (IsTrue tell → HoldsOffset seen may_leave store2 (Some (next_offset s.stage))) → InSession tell stands holds seen may_leave entry work2 src sink store2
+  pub stored_on : (work2 : SessionState) (store2 : StoreOn D) → work2 ≡ record work { since = 0 } → (IsTrue tell → HoldsOffset model store2 (Some (next_offset s.stage))) → InSession tell stands holds model entry work2 src sink store2
   stored_on work2 store2 same held =
-      subst (λ (w : SessionState). InSession tell stands holds seen may_leave entry w src sink store2) (sym same)
+      subst (λ (w : SessionState). InSession tell stands holds model entry w src sink store2) (sym same)
       (record {
         stage = stored_at s.stage;
         source_is = s.source_is;
@@ -214,7 +215,7 @@ module _ {S K D : Type 0} {tell : Bool} {stands : S → SourceState → Type 0} 
       })
 
   -- a position was confirmed
-  pub confirmed_on : (src2 : S) (t : SourceState) (upto : Lsn) → stands src2 t → IsConfirmed upto (state_at_stage s.stage) t → IsFitHistory t.history → upto.0 ≤ s.stage.stored.lsn.0 → InSession tell stands holds seen may_leave entry work src2 sink store
+  pub confirmed_on : (src2 : S) (t : SourceState) (upto : Lsn) → stands src2 t → IsConfirmed upto (state_at_stage s.stage) t → IsFitHistory t.history → upto.0 ≤ s.stage.stored.lsn.0 → InSession tell stands holds model entry work src2 sink store
   confirmed_on src2 t upto is confirmed fit le = record {
     stage = record s.stage { history = t.history; confirmed = t.confirmed };
     source_is = subst (stands src2) (ap (λ (r : Option Reading). record { history = t.history; confirmed = t.confirmed; reading = r }) confirmed.reading) is;
@@ -275,7 +276,7 @@ module _ {S K D : Type 0} {tell : Bool} {stands : S → SourceState → Type 0} 
   -- it ends with nothing more done
   pub rests : (may_source : S → CrashState → Type 0) (may_sink : K → List (List Record) → Type 0) (honest : Type 0) → ((t : SourceState) (l : CrashState) → stands src t → may_source src l → l ≡ left_of t) → ((t : SourceState) → stands src t → may_source src (left_of t))
       → ((groups left : List (List Record)) → holds sink groups → may_sink sink left → left ≡ groups) → ((groups : List (List Record)) → holds sink groups → may_sink sink groups) → honest → (honest → (l : CrashState) → may_source src l → IsFitHistory l.history) → 1 ≤ entry.config.chunk
-      → LeavesBy tell may_source may_sink may_leave entry src sink store
+      → LeavesBy tell may_source may_sink model entry src sink store
   rests may_source may_sink honest only may only_sink may_hold is_honest fit some =
       source_ends may_source may_sink src (rests_left may_source honest only is_honest fit) (λ t groups is. only_sink s.stage.groups groups (s.sink_is t) is)
       (λ left is. few_rest left (only (state_at_stage s.stage) left s.source_is is) some)

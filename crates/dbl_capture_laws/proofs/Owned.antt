@@ -351,7 +351,7 @@ first_long_offsets_are_own entry s t first h faithful history_is confirmed_is fi
   offset = first;
   identity = named_at entry.offset begins.began;
   captured = captured_at entry.offset begins.began;
-  is = follows.faithful.subsequent.offset_is;
+  is = follows.faithful.lags.offset_is;
   long = long;
 }
   where

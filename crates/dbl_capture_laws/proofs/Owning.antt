@@ -12,6 +12,7 @@ use Rattle.dbl_model_table.specs.declared.config.Config.{Config}
 use Rattle.dbl_model_table.specs.declared.table.RawTable.{RawTable}
 use Rattle.dbl_model_table.specs.declared.table.TableInfo.{TableInfo}
 use Rattle.dbl_model_table.specs.declared.table.TableName.{TableName}
+use Rattle.dbl_capture_work.specs.Disk.Model.{DiskModel}
 use Rattle.dbl_capture_work.specs.ModelHistory.Fit.{AreInfosOf, IsFitHistory}
 use Rattle.dbl_capture_work.specs.ModelHistory.History.{History}
 use Rattle.dbl_capture_work.specs.ModelCommit.Stated.{ended_commit, transaction_fault}
@@ -126,8 +127,8 @@ module _ (entry : SessionStart) (stored : Option Offset) (report : Report) (stan
       stores_own first h (λ long. long_own t entry.groups is held first h long (first_long_offsets_are_own entry s t first h faithful history_is confirmed_is fit_entry fit begins)) cause
 
 -- the next one
-module _ {S K D : Type 0} {stands : S → SourceState → Type 0} {holds : K → List (List Record) → Type 0} {seen : D → Option (List ℕ)} {may_leave : D → List ℕ → Type 0} {entry : SessionStart} {work : SessionState} {src : S} {sink : K} {store : StoreOn D}
-    (s : InSession true stands holds seen may_leave entry work src sink store) (faithful : WasFaithful entry) where
+module _ {S K D : Type 0} {stands : S → SourceState → Type 0} {holds : K → List (List Record) → Type 0} {model : DiskModel D} {entry : SessionStart} {work : SessionState} {src : S} {sink : K} {store : StoreOn D}
+    (s : InSession true stands holds model entry work src sink store) (faithful : WasFaithful entry) where
   pub store_own : (stored : Option Offset) (report : Report) (h : Halt) → (h ≡ halt.Memory) ⊎ ((h ≡ halt.Offsets) ⊎ IsTooLong (next_offset_of work) h) → IsFaithfulHalt entry stored report (stands src) (holds sink) h
   store_own stored report h cause =
       stores_own entry stored report (stands src) (holds sink) (next_offset_of work) h
@@ -232,7 +233,7 @@ none_some offset is = cc
 -- faithful stores have the tables of the source's catalogue
 had_so : (history : History) (confirmed : Lsn) (records : List Record) (offset : Option Offset) → IsFaithful history confirmed records offset → IfSome offset (λ o. AreInfosOf history o.infos)
 had_so history confirmed records None is = tt
-had_so history confirmed records (Some offset) is = is.subsequent.offset_is.infos
+had_so history confirmed records (Some offset) is = is.lags.offset_is.infos
 
 pub had_of : (entry : SessionStart) → WasFaithful entry → HadOwnTables entry
 had_of entry faithful = had_so entry.history entry.confirmed (joined entry.groups) entry.offset faithful

@@ -45,7 +45,7 @@ gains_begin first now chunk every work report begun records chunks rows = (
   record {
     sent = record { parts = []; each = tt; whole = refl; rising = tt };
     within = tt;
-    subsequent = tt;
+    commits_within = tt;
     order = same_le first.lsn.0 work.offset.lsn.0 (ap (λ (o : Offset). o.lsn.0) (sym begun.offset_is));
   },
   record {
@@ -67,7 +67,7 @@ gains_stay after ms old new records offset now chunk is = record {
       (subst (λ (k : ℤ). AreSent (making_of old.offset k new.chunk) after.0 (commits_of old.offset.infos ms) records) (sym now)
       (subst (λ (n : ℕ). AreSent (making_of old.offset old.now_ms n) after.0 (commits_of old.offset.infos ms) records) (sym chunk) is.sent));
   within = subst (λ (o : Offset). AllByRecursion (λ (item : Record). item.position ≤ o.lsn.0) records) (sym offset) is.within;
-  subsequent = subst (λ (o : Offset). AllByRecursion (λ (commit : Commit). commit.lsn.0 ≤ o.lsn.0) (commits_of o.infos ms)) (sym offset) is.subsequent;
+  commits_within = subst (λ (o : Offset). AllByRecursion (λ (commit : Commit). commit.lsn.0 ≤ o.lsn.0) (commits_of o.infos ms)) (sym offset) is.commits_within;
   order = subst (λ (o : Offset). after.0 ≤ o.lsn.0) (sym offset) is.order;
 }
 
@@ -75,7 +75,7 @@ pub messages_gain_nothing : MessagesGainNothing
 messages_gain_nothing after ms bytes old next records w is = subst (λ (x : SessionState). IsGained after (w.message ∷ ms) x records) (sym w.same) (record {
   sent = subst (λ (l : List Commit). AreSent (making_at old) after.0 l records) same_commits is.sent;
   within = is.within;
-  subsequent = subst (AllByRecursion (λ (commit : Commit). commit.lsn.0 ≤ old.offset.lsn.0)) same_commits is.subsequent;
+  commits_within = subst (AllByRecursion (λ (commit : Commit). commit.lsn.0 ≤ old.offset.lsn.0)) same_commits is.commits_within;
   order = is.order;
 })
   where
@@ -100,8 +100,8 @@ module _ (config : Config) (now : ℤ) (held : Option Offset) (first stored : Of
       ∙ ap (λ (n : ℕ). making_with stored.identity stored.infos now config.chunk n) (sym o.of.incarnation)))))
 
   low_at : (old : Option Offset) → BeginsAfter old (Some stored) stored.infos first.lsn → appends_after old (Some stored) ≡ first.lsn.0
-  low_at None subsequent = ap (λ (l : Lsn). l.0) (sym subsequent.1)
-  low_at (Some found) subsequent = ap (λ (l : Lsn). l.0) (sym subsequent.1)
+  low_at None begins = ap (λ (l : Lsn). l.0) (sym begins.1)
+  low_at (Some found) begins = ap (λ (l : Lsn). l.0) (sym begins.1)
 
   -- so many first records of those that were sent
   gains_cut : (commits : List Commit) (records : List Record) (count : ℕ) (groups left : List (List Record)) → AreSent (making_at work) first.lsn.0 commits records → left ≡ groups ++ cut (take count records)
@@ -178,7 +178,7 @@ module _ (after : Lsn) (ms : List Message) (bytes : List ℕ) (commit : Commit) 
     gained_at = record {
       sent = sends;
       within = (commits_are_sent after ms w.message commit old records is ends rises clear listed gained).2;
-      subsequent = (commits_are_sent after ms w.message commit old records is ends rises clear listed gained).3;
+      commits_within = (commits_are_sent after ms w.message commit old records is ends rises clear listed gained).3;
       order = le_lt after.0 old.offset.lsn.0 commit.lsn.0 gained.order rises;
     }
 
@@ -186,7 +186,7 @@ module _ (after : Lsn) (ms : List Message) (bytes : List ℕ) (commit : Commit) 
     gained_by new st = subst (λ (x : SessionState). IsGained after (w.message ∷ ms) x (records ++ items)) (sym st.same) (record {
       sent = gained_at.sent;
       within = gained_at.within;
-      subsequent = gained_at.subsequent;
+      commits_within = gained_at.commits_within;
       order = gained_at.order;
     })
 

@@ -196,7 +196,7 @@ module _ (config : Config) (now : ℤ) (held : Option Offset) (first stored : Of
     stored = has_stored config held first stored for of;
     infos = first.infos;
     after = first.lsn;
-    subsequent = behind_first config held first stored for of;
+    begins_after = behind_first config held first stored for of;
     read = read;
     many = many;
     tells = tells;
@@ -229,7 +229,7 @@ stood_are_followed config now first stored held report t h for of s = record {
   stored = has_stored config held first stored for of;
   reading = record { after = first.lsn; messages = s.messages };
   reading_is = s.reading_is;
-  subsequent = subst (λ (l : List TableInfo). BeginsAfter held (Some stored) l first.lsn) (sym of.infos) (behind_first config held first stored for of);
+  begins_after = subst (λ (l : List TableInfo). BeginsAfter held (Some stored) l first.lsn) (sym of.infos) (behind_first config held first stored for of);
   many = s.many;
   so_far = subst (λ (c : Course). HasFollowedOf c s.messages report.commits h) (course_stored config now held first stored for of) s.so_far;
 }
@@ -273,7 +273,7 @@ sources_settle config first held report work t for placed b upto = record {
   upto = upto;
   reading = record { after = first.lsn; messages = b.messages };
   reading_is = b.reading_is;
-  subsequent = subst (λ (l : List TableInfo). BeginsAfter held (Some (next_offset_of work)) l first.lsn) (sym of.infos) (behind_first config held first (next_offset_of work) for of);
+  begins_after = subst (λ (l : List TableInfo). BeginsAfter held (Some (next_offset_of work)) l first.lsn) (sym of.infos) (behind_first config held first (next_offset_of work) for of);
   many = b.many;
   accepted = b.is.accepted;
   sent = b.is.sent;

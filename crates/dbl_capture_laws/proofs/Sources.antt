@@ -35,7 +35,7 @@ use Rattle.dbl_capture_laws.proofs.Ended.{ends_are_stood, ends_are_told, halts_a
 pub told_still : (found old new : Option Trace) (ms : List Message) → HasReadSinceStart found old ms → IsTakenBy [] old new → HasReadSinceStart found new ms
 told_still found old new ms a none = record {
   begun = a.begun;
-  anew = a.anew;
+  begun_unread = a.begun_unread;
   read = a.read;
   taken = taken_more [] a.read a.begun old new a.taken none a.read refl;
   spelled = a.spelled;
@@ -44,7 +44,7 @@ told_still found old new ms a none = record {
 pub told_on : (found old new : Option Trace) (ms : List Message) (bytes : List ℕ) (m : Message) → HasReadSinceStart found old ms → IsTakenBy (bytes ∷ []) old new → Spells bytes m → HasReadSinceStart found new (m ∷ ms)
 told_on found old new ms bytes m a one spells = record {
   begun = a.begun;
-  anew = a.anew;
+  begun_unread = a.begun_unread;
   read = bytes ∷ a.read;
   taken = taken_more (bytes ∷ []) a.read a.begun old new a.taken one (bytes ∷ a.read) refl;
   spelled = (spells, a.spelled);
@@ -82,7 +82,7 @@ module _ {S : Type 0} (stands : S → SourceState → Type 0) (at : Option Sourc
   begins b every work report src told for begun messages commits chunks anew stood = record {
     messages = [];
     is = sessions_begin_at_rest b every work report for begun messages commits chunks;
-    tells = record { begun = told; anew = anew; read = []; taken = begun_told told; spelled = tt };
+    tells = record { begun = told; begun_unread = anew; read = []; taken = begun_told told; spelled = tt };
     stood = stood;
   }
 

@@ -62,10 +62,10 @@ module _ (b : Beginning) (ms : List Message) (stored : Option Offset) (work : Se
   taken_caused before found old new bytes h r a one (inl memory) = memory_caused b.config b.now b.held stored (record before { messages = before.messages + 1 }) new h memory
   taken_caused before found old new bytes h r a one (inr (inl message)) =
       held_as before new r.is (record before { messages = before.messages + 1 }) h
-      (bytes_halt b.config b.now b.held b.first r.is.offset work before (record before { messages = before.messages + 1 }) found a.begun old new bytes h r.is.of a.anew (has_taken b ms stored work before found old r.is a) one refl message)
+      (bytes_halt b.config b.now b.held b.first r.is.offset work before (record before { messages = before.messages + 1 }) found a.begun old new bytes h r.is.of a.begun_unread (has_taken b ms stored work before found old r.is a) one refl message)
   taken_caused before found old new bytes h r a one (inr (inr txn)) =
       held_as before new r.is (record before { messages = before.messages + 1 }) h
-      (messages_halt b.config b.now b.held b.first r.is.offset work before (record before { messages = before.messages + 1 }) found a.begun old new bytes h r.is.of (between before r) a.anew (has_taken b ms stored work before found old r.is a) one refl (inl txn))
+      (messages_halt b.config b.now b.held b.first r.is.offset work before (record before { messages = before.messages + 1 }) found a.begun old new bytes h r.is.of (between before r) a.begun_unread (has_taken b ms stored work before found old r.is a) one refl (inl txn))
 
   -- for the records of the commit that it ends
   pub follow_caused : (before report : Report) (found old new : Option Trace) (bytes : List ℕ) (next : SessionState) (commit : Commit) (h : Halt) → IsResting b ms stored work before → HasReadSinceStart found old ms → IsTakenBy (bytes ∷ []) old new
@@ -76,14 +76,14 @@ module _ (b : Beginning) (ms : List Message) (stored : Option Offset) (work : Se
   follow_caused before report found old new bytes next commit h r a one w counted same (inr (inl failed)) = subst (IsHalt b.config b.now b.held stored report new) (sym failed) tt
   follow_caused before report found old new bytes next commit h r a one w counted same (inr (inr either)) =
       held_as before new r.is report h
-      (messages_halt b.config b.now b.held b.first r.is.offset work before report found a.begun old new bytes h r.is.of (record { cursors = r.same; windows = subst (AreClosed work) (sym same) r.is.windows }) a.anew (has_taken b ms stored work before found old r.is a) one counted (inr (next, commit, w, either)))
+      (messages_halt b.config b.now b.held b.first r.is.offset work before report found a.begun old new bytes h r.is.of (record { cursors = r.same; windows = subst (AreClosed work) (sym same) r.is.windows }) a.begun_unread (has_taken b ms stored work before found old r.is a) one counted (inr (next, commit, w, either)))
 
   -- for a mark that it waits for
   pub missed_caused : (report : Report) (found told : Option Trace) (value : List ℕ) → IsResting b ms stored work report → HasReadSinceStart found told ms → awaited work.follower.window ≡ Some value → LastAnswerIs told (Read None)
       → IsHalt b.config b.now b.held stored report told (halt.WatermarkMissing value work.offset.lsn)
   missed_caused report found told value r a waits answer =
       held_as report told r.is report (halt.WatermarkMissing value work.offset.lsn)
-      (marks_are_missed b.config b.now b.held b.first r.is.offset work report found a.begun told value r.is.of (between report r) a.anew (has_taken b ms stored work report found told r.is a) r.is.opened waits answer)
+      (marks_are_missed b.config b.now b.held b.first r.is.offset work report found a.begun told value r.is.of (between report r) a.begun_unread (has_taken b ms stored work report found told r.is a) r.is.opened waits answer)
 
   -- for its next offset
   pub store_caused : (report : Report) (found told : Option Trace) (h : Halt) → IsReadUpTo b ms stored work report → HasReadSinceStart found told ms → IsOffset (next_offset_of work) → (h ≡ halt.Memory) ⊎ ((h ≡ halt.Offsets) ⊎ IsTooLong (next_offset_of work) h)
@@ -92,4 +92,4 @@ module _ (b : Beginning) (ms : List Message) (stored : Option Offset) (work : Se
   store_caused report found told h is a asked (inr (inl failed)) = subst (IsHalt b.config b.now b.held stored report told) (sym failed) tt
   store_caused report found told h is a asked (inr (inr long)) =
       held_as report told is report h
-      (offsets_halt b.config b.now b.held b.first is.offset work report found a.begun told h is.of a.anew (has_taken b ms stored work report found told is a) is.moves asked long)
+      (offsets_halt b.config b.now b.held b.first is.offset work report found a.begun told h is.of a.begun_unread (has_taken b ms stored work report found told is a) is.moves asked long)

@@ -91,15 +91,15 @@ module _ {K : Type 0} (holds : K → List (List Record) → Type 0) (groups : Li
 
   told_tallied : (told : Option Trace) (read : List (List ℕ)) → length read ≡ report.messages → ((t : Trace) → told ≡ Some t → t.read ≡ read)
       → Tallies holds groups sink (making_at work) b.first.lsn o.lsn Spells read report.commits result → IsTallied holds groups b.config b.now b.held (Some o) report told sink result
-  told_tallied told read many tells t = inr (read_after b.config b.now b.held b.first o of.for of.of report told read many tells, made_so Spells read t)
+  told_tallied told read many tells t = inr (read_after b.config b.now b.held b.first o of.for_config of.of report told read many tells, made_so Spells read t)
 
   stood_tallied : (s : SourceState) (ms : List Message) → StandsAt b ms s → length ms ≡ report.messages
       → Tallies holds groups sink (making_at work) b.first.lsn o.lsn (λ (m n : Message). m ≡ n) ms report.commits result → IsTalliedAfter holds groups b.config b.now b.held (Some o) report s sink result
   stood_tallied s ms stands many t = inr (record {
-    stored = has_stored b.config b.held b.first o of.for of.of;
+    stored = has_stored b.config b.held b.first o of.for_config of.of;
     reading = record { after = b.first.lsn; messages = ms };
     reading_is = stands;
-    subsequent = behind_stored b.config b.now b.held b.first o work of;
+    begins_after = behind_stored b.config b.now b.held b.first o work of;
     many = many;
     tallies = made_so (λ (m n : Message). m ≡ n) ms t;
   })
@@ -122,7 +122,7 @@ module _ {S K : Type 0} (stands : S → SourceState → Type 0) (holds : K → L
   between_tallied none = at_stored b c.way.messages stored later work before c.way.is (λ (x : Option Offset). IsTallied holds groups b.config b.now b.held x report told2 sink result)
       (λ o of upto. told_tallied holds groups sink result b o work of report told2 c.way.tells.read
       (sym (same_many c.way.tells.read c.way.messages c.way.tells.spelled) ∙ (c.way.is.many ∙ sym messages))
-      (λ t is. read_is c.way.tells.read found c.way.tells.begun told2 t is c.way.tells.anew (taken_more [] c.way.tells.read c.way.tells.begun told told2 c.way.tells.taken none c.way.tells.read refl))
+      (λ t is. read_is c.way.tells.read found c.way.tells.begun told2 t is c.way.tells.begun_unread (taken_more [] c.way.tells.read c.way.tells.begun told told2 c.way.tells.taken none c.way.tells.read refl))
       (all_tallied holds groups sink Spells result b.first.lsn c.way.messages work c.put.records c.put.is c.way.tells.read c.way.tells.spelled report.commits (commits ∙ c.way.is.followed) o.lsn upto few c.put.held)) kept
 
   pub between_stood : ((s t : SourceState) → stands src s → stands src2 t → t.reading ≡ s.reading) → (s t : SourceState) → at ≡ Some s → stands src2 t → IsTalliedAfter holds groups b.config b.now b.held later report t sink result
@@ -160,7 +160,7 @@ module _ {S K : Type 0} (stands : S → SourceState → Type 0) (holds : K → L
   newest_told one = at_stored b u.way.messages stored stored work before u.way.is.is (λ (x : Option Offset). IsTallied holds groups b.config b.now b.held x report told2 sink2 (Err h))
       (λ o of upto. told_tallied holds groups sink2 (Err h) b o work of report told2 (bytes ∷ u.way.tells.read)
       (one_more report.messages before.messages (length u.way.tells.read) messages (sym (same_many u.way.tells.read u.way.messages u.way.tells.spelled) ∙ u.way.is.is.many))
-      (λ t is. read_is (bytes ∷ u.way.tells.read) found u.way.tells.begun told2 t is u.way.tells.anew (taken_more (bytes ∷ []) u.way.tells.read u.way.tells.begun told told2 u.way.tells.taken one (bytes ∷ u.way.tells.read) refl))
+      (λ t is. read_is (bytes ∷ u.way.tells.read) found u.way.tells.begun told2 t is u.way.tells.begun_unread (taken_more (bytes ∷ []) u.way.tells.read u.way.tells.begun told told2 u.way.tells.taken one (bytes ∷ u.way.tells.read) refl))
       (newest_tallied holds groups sink2 Spells (Err h) b.first.lsn u.way.messages work u.put.records u.put.is u.way.tells.read u.way.tells.spelled report.commits (commits ∙ u.way.is.is.followed) o.lsn upto bytes part few part_is held)) (inl refl)
 
   pub newest_stood : ((s : SourceState) → stands src s → (m : Message) × Spells bytes m × HasState stands src2 (HasReadOneMore m s)) → ((s t : SourceState) → stands src2 s → stands src2 t → s ≡ t)

@@ -163,7 +163,7 @@ start_opens config old new told after h stored same says (inr (inr gone)) =
       stored = stored;
       first = gone.first;
       is = gone.is ∙ ap (λ (l : Lsn). halt.Gone l gone.first) same;
-      tells = (says after gone.first gone.is).1;
+      last_answer = (says after gone.first gone.is).1;
     }))
 
 -- where the greatest incarnation is stored it halts for that

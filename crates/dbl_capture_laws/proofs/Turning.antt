@@ -98,7 +98,7 @@ same_le n m is = omega (arith, is)
 
 -- where there is none, it rests
 pub rested_next : (work : SessionState) → HasReadyWork work → HasNoneNext work → IsArmedNext work work
-rested_next work ready none = record { ready = ready; offset_is = refl; every_is = refl; now_is = refl; since_is = refl; number = no_more work.number; none = none }
+rested_next work ready none = record { ready = ready; offset_is = refl; every_is = refl; now_is = refl; since_is = refl; number = no_more work.number; none_next = none }
 
 -- a window that is read leaves it ready for the next step
 pub armed_ready : (old new : SessionState) (table : ℕ) → HasReadyWork old → IsOpenTable old table → IsArmedWork table old new → HasReadyWork new
@@ -135,5 +135,5 @@ armed_next old new table r found armed = record {
   now_is = ap (λ (w : SessionState). w.now_ms) armed.is;
   since_is = ap (λ (w : SessionState). w.since) armed.is;
   number = same_le new.number (old.number + 1) (ap (λ (w : SessionState). w.number) armed.is);
-  none = subst HasNoneNext (sym armed.is) refl;
+  none_next = subst HasNoneNext (sym armed.is) refl;
 }

@@ -7,6 +7,7 @@ use Rattle.dbl_model_table.specs.declared.change.Body.TheVariants.{Mark}
 use Rattle.dbl_model_table.specs.declared.change.Commit.{Commit}
 use Rattle.dbl_model_table.specs.declared.table.TableInfo.{TableInfo}
 use Rattle.dbl_model_table.proofs.Lists.{slice_get-lt}
+use Rattle.dbl_capture_work.specs.Disk.Model.{DiskModel}
 use Rattle.dbl_capture_work.specs.ModelHistory.History.{RawCommit}
 use Rattle.dbl_capture_work.specs.ModelHistory.History as raw
 use Rattle.dbl_capture_work.specs.ModelHistory.MarkTexts.{mark_text}
@@ -118,8 +119,8 @@ module _ (entry : SessionStart) (stage : Stage) (faithful : WasFaithful entry) (
 
 -- ---- where a session stands
 
-module _ {S K D : Type 0} {tell : Bool} {stands : S → SourceState → Type 0} {holds : K → List (List Record) → Type 0} {seen : D → Option (List ℕ)} {may_leave : D → List ℕ → Type 0} {entry : SessionStart} {work : SessionState} {src : S} {sink : K} {store : StoreOn D}
-    (s : InSession tell stands holds seen may_leave entry work src sink store) where
+module _ {S K D : Type 0} {tell : Bool} {stands : S → SourceState → Type 0} {holds : K → List (List Record) → Type 0} {model : DiskModel D} {entry : SessionStart} {work : SessionState} {src : S} {sink : K} {store : StoreOn D}
+    (s : InSession tell stands holds model entry work src sink store) where
   infos_are : (next_offset_of work).infos ≡ s.stage.first.infos
   infos_are = ap (λ (o : Offset). o.infos) s.work_is.offset_is
 

@@ -44,7 +44,7 @@ module _ (config : Config) (now : ℤ) (old new : Option Offset) (report : Repor
 
   open_halts : (h : Halt) → IsOpenHalt config old new told h → Halts h
   open_halts h (inl begin) = begin_halts h begin.1 begin.0
-  open_halts h (inr (inl gone)) = subst Halts (sym gone.is) (gone.stored, refl, gone.tells)
+  open_halts h (inr (inl gone)) = subst Halts (sym gone.is) (gone.stored, refl, gone.last_answer)
   open_halts h (inr (inr (inl memory))) = subst Halts (sym memory) tt
   open_halts h (inr (inr (inr source))) = subst Halts (sym source) tt
 

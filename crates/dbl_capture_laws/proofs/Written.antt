@@ -253,10 +253,10 @@ marks_are_exact entry stage offset chunks windows infos cursors none reading = (
     brought : HaveBrought entry.config.chunk chunks stage.history entry.offset (Some offset)
     brought = record {
       begun = stage.first.cursors;
-      were = were_begun entry stage.history stage.first entry.offset reading.began;
+      begun_with = were_begun entry stage.history stage.first entry.offset reading.began;
       offset = offset;
       is = refl;
-      come = subst (λ (l : List TableInfo). HaveComeOn l entry.config.chunk chunks stage.history stage.first.cursors offset.cursors) (sym infos)
+      advanced = subst (λ (l : List TableInfo). HaveComeOn l entry.config.chunk chunks stage.history stage.first.cursors offset.cursors) (sym infos)
           (subst (HaveComeOn stage.first.infos entry.config.chunk chunks stage.history stage.first.cursors) (sym cursors) come);
     }
 

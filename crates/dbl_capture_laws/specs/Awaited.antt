@@ -26,7 +26,7 @@ IsWithinLog history stored = IfSome stored (λ offset. offset.lsn.0 ≤ (head_of
 pub record HasPositionInLog (lsn : Lsn) (history : History) : Type 0 where
   pub position : ℕ
   pub at : IsPositionOf history position
-  pub le : lsn.0 ≤ position
+  pub not_below : lsn.0 ≤ position
 
 -- ---- watermarks
 

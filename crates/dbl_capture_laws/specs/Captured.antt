@@ -23,7 +23,7 @@ abbrev pub MustHaltAbsent : {A : Type 0} → Config → History → Option Offse
 MustHaltAbsent config history old result = old ≡ None → (name : TableName) → Contains config.tables name → (CanBeCaptured history name → ⊥)
     → (h : Halt) × (result ≡ Err h) × IsTableHalt h × IsAbsentHalt config.tables history h
 
--- Each table can be captured, or the session stops with the error of the first that can't.
+-- Each table can be captured, or the session stops with an error about a table, out of memory, or because a call of the source failed.
 abbrev pub CapturesOrHalts : {A : Type 0} → Config → History → Result A Halt → Type 0
 CapturesOrHalts config history (Ok answer) = AllByRecursion (CanBeCaptured history) config.tables
 CapturesOrHalts config history (Err h) = AllByRecursion (CanBeCaptured history) config.tables ⊎ IsTableHalt h

@@ -58,7 +58,7 @@ pub record IsResting (b : Beginning) (ms : List Message) (stored : Option Offset
 -- The source's trace, if known, has the bytes of these messages since reading began, and of no others.
 pub record HasReadSinceStart (found told : Option Trace) (ms : List Message) : Type 0 where
   pub begun : Option Trace
-  pub anew : IsTakenAnew found begun
+  pub begun_unread : IsTakenAnew found begun
   pub read : List (List ℕ)
   pub taken : IsTakenBy read begun told
   pub spelled : AreSpelled read ms

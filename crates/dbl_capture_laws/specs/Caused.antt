@@ -33,5 +33,5 @@ pub record Halts {S : Type 0} (stands : S → SourceState → Type 0) (at : Opti
     (held stored : Option Offset) (report : Report) (src : S) (told : Option Trace) (h : Halt) : Type 0 where
   pub halted : HasHalted stands at found config now held stored report src told h
   pub cause : IsHalt config now held stored report told h
-  pub ask : (t : Trace) → told ≡ Some t → MustHalt config held stored report t (Err h)
+  pub must : (t : Trace) → told ≡ Some t → MustHalt config held stored report t (Err h)
   pub stood : (s : SourceState) → at ≡ Some s → IsHaltStanding config now held stored report (stands src) h

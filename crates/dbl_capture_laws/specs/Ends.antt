@@ -2,6 +2,7 @@
 use Rattle.std.specs.Prelude.{◌≡◌, ◌⊎◌, ℕ, ◌+◌, ◌≤◌, Bool, true, false, not, position, Option, Some, None, Result, Err, List}
 use Rattle.std.specs.List.{AllByRecursion}
 use Rattle.dbl_record.specs.declared.record.Record.{Record}
+use Rattle.dbl_capture_work.specs.Disk.Model.{DiskModel}
 use Rattle.dbl_capture_work.specs.ModelHistory.declared.cursor.Cursor.{Cursor}
 use Rattle.dbl_capture_work.specs.SourceModel.Standings.{CrashState}
 use Rattle.dbl_capture_work.specs.Offset.declared.offset.Offset.{Offset}
@@ -41,7 +42,7 @@ pub record IsArmedNext (old new : SessionState) : Type 0 where
   pub now_is : new.now_ms ≡ old.now_ms
   pub since_is : new.since ≡ old.since
   pub number : new.number ≤ old.number + 1
-  pub none : HasNoneNext new
+  pub none_next : HasNoneNext new
 
 -- Every table is read to its end.
 abbrev pub AreAllDone : List Cursor → Type 0
@@ -56,8 +57,8 @@ pub record HasOwnStored (first : Offset) (stored : Option Offset) : Type 0 where
   pub of : IsOfSession first offset
 
 -- The store's cached offset agrees with its disk after the call if it did before, unless the disk failed.
-abbrev pub CacheMatchesDisk : {A D : Type 0} → (D → Option (List ℕ)) → (D → List ℕ → Type 0) → StoreOn D → StoreOn D → Result A Halt → Type 0
-CacheMatchesDisk seen may_leave old new result = HoldsOffset seen may_leave old old.offset → (result ≡ Err halt.Offsets → ⊥) → HoldsOffset seen may_leave new new.offset
+abbrev pub CacheMatchesDisk : {A D : Type 0} → DiskModel D → StoreOn D → StoreOn D → Result A Halt → Type 0
+CacheMatchesDisk model old new result = HoldsOffset model old old.offset → (result ≡ Err halt.Offsets → ⊥) → HoldsOffset model new new.offset
 
 -- ---- the report
 
@@ -80,8 +81,8 @@ IsCompleteWith entry left groups None = ⊥
 IsCompleteWith entry left groups (Some offset) = IsComplete entry left groups offset
 
 -- Everything that source, sink and store may leave is complete, if the stores were faithful.
-abbrev pub LeavesComplete : {S K D : Type 0} → (S → CrashState → Type 0) → (K → List (List Record) → Type 0) → (D → List ℕ → Type 0)
+abbrev pub LeavesComplete : {S K D : Type 0} → (S → CrashState → Type 0) → (K → List (List Record) → Type 0) → DiskModel D
     → SessionStart → S → K → StoreOn D → Type 0
-LeavesComplete may_source may_sink may_leave entry src sink store =
-    WasFaithful entry → LeavesOffset may_leave (disk_of store) (λ offset.
+LeavesComplete may_source may_sink model entry src sink store =
+    WasFaithful entry → LeavesOffset model (disk_of store) (λ offset.
     (left : CrashState) (groups : List (List Record)) → may_source src left → may_sink sink groups → IsCompleteWith entry left groups offset)

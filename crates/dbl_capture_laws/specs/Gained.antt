@@ -127,7 +127,7 @@ ReportsGroups holds may_leave groups (Err h) sink report = HasCountedGroups hold
 pub record IsGained (after : Lsn) (ms : List Message) (work : SessionState) (records : List Record) : Type 0 where
   pub sent : AreSent (making_of work.offset work.now_ms work.chunk) after.0 (commits_of work.offset.infos ms) records
   pub within : AllByRecursion (λ item. item.position ≤ work.offset.lsn.0) records
-  pub subsequent : AllByRecursion (λ commit. commit.lsn.0 ≤ work.offset.lsn.0) (commits_of work.offset.infos ms)
+  pub commits_within : AllByRecursion (λ commit. commit.lsn.0 ≤ work.offset.lsn.0) (commits_of work.offset.infos ms)
   pub order : after.0 ≤ work.offset.lsn.0
 
 -- ---- theorems

@@ -46,7 +46,7 @@ use Rattle.dbl_capture_laws.specs.Reported.{AreSpelled, HasReadAfter, BeginsAfte
 -- These messages were read, and the source's trace, if known, has their bytes.
 pub record WasTold (config : Config) (old new : Option Offset) (report : Report) (told : Option Trace) (reading : Reading) : Type 0 where
   pub stored : HasStored config old new
-  pub subsequent : BeginsAfter old new stored.offset.infos reading.after
+  pub begins_after : BeginsAfter old new stored.offset.infos reading.after
   pub many : length reading.messages ≡ report.messages
   pub read : List (List ℕ)
   pub spelled : AreSpelled read reading.messages
@@ -55,7 +55,7 @@ pub record WasTold (config : Config) (old new : Option Offset) (report : Report)
 -- These messages were read, by the source's state.
 pub record WasStood (config : Config) (old new : Option Offset) (report : Report) (t : SourceState) (reading : Reading) : Type 0 where
   pub stored : HasStored config old new
-  pub subsequent : BeginsAfter old new stored.offset.infos reading.after
+  pub begins_after : BeginsAfter old new stored.offset.infos reading.after
   pub many : length reading.messages ≡ report.messages
   pub is : t.reading ≡ Some reading
 

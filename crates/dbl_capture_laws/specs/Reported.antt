@@ -89,7 +89,7 @@ pub record HasReadAfter (config : Config) (old new : Option Offset) (report : Re
   pub stored : HasStored config old new
   pub infos : List TableInfo
   pub after : Lsn
-  pub subsequent : BeginsAfter old new infos after
+  pub begins_after : BeginsAfter old new infos after
   pub read : List (List ℕ)
   pub many : length read ≡ report.messages
   pub tells : (t : Trace) → told ≡ Some t → t.read ≡ read
@@ -149,7 +149,7 @@ pub record HasSettled (config : Config) (now : ℤ) (old new : Option Offset) (r
   pub upto : stored.offset.lsn.0 ≤ t.confirmed.0
   pub reading : Reading
   pub reading_is : t.reading ≡ Some reading
-  pub subsequent : BeginsAfter old new stored.offset.infos reading.after
+  pub begins_after : BeginsAfter old new stored.offset.infos reading.after
   pub many : length reading.messages ≡ report.messages
   pub accepted : AreWithoutFault stored.offset.infos reading.after reading.messages
   pub sent : AllCouldBeSent (course_at now reading.after stored) (commits_of stored.offset.infos reading.messages)
@@ -162,7 +162,7 @@ pub record HasReadSo (config : Config) (now : ℤ) (old new : Option Offset) (re
   pub stored : HasStored config old new
   pub reading : Reading
   pub reading_is : t.reading ≡ Some reading
-  pub subsequent : BeginsAfter old new stored.offset.infos reading.after
+  pub begins_after : BeginsAfter old new stored.offset.infos reading.after
   pub many : length reading.messages ≡ report.messages
   pub so_far : HasFollowedOf (course_at now reading.after stored) reading.messages report.commits h
 

@@ -1,8 +1,9 @@
 -- A session between two of its calls, over any source, sink and store, and what these may leave when it ends.
-use Rattle.std.specs.Prelude.{◌≡◌, ◌⊎◌, ℕ, Bool, IsTrue, Option, Some, None, List, map}
+use Rattle.std.specs.Prelude.{◌≡◌, ◌⊎◌, Bool, IsTrue, Option, Some, None, List, map}
 use Rattle.dbl_model_table.specs.declared.config.Config.{Config}
 use Rattle.dbl_model_table.specs.declared.table.TableInfo.{TableInfo}
 use Rattle.dbl_record.specs.declared.record.Record.{Record}
+use Rattle.dbl_capture_work.specs.Disk.Model.{DiskModel}
 use Rattle.dbl_capture_work.specs.ModelHistory.Fit.{AreInfosOf}
 use Rattle.dbl_capture_work.specs.ModelHistory.History.{History}
 use Rattle.dbl_capture_work.specs.Offset.declared.offset.Offset.{Offset}
@@ -37,12 +38,11 @@ pub record IsWorkOf (entry : SessionStart) (stage : Stage) (work : SessionState)
 
 -- The invariant of a session: its stage agrees with the source's state, and with the contents of sink and store if these are known.
 pub record InSession {S K D : Type 0} (tell : Bool) (stands : S → SourceState → Type 0) (holds : K → List (List Record) → Type 0)
-    (seen : D → Option (List ℕ)) (may_leave : D → List ℕ → Type 0) (entry : SessionStart) (work : SessionState) (src : S) (sink : K)
-    (store : StoreOn D) : Type 0 where
+    (model : DiskModel D) (entry : SessionStart) (work : SessionState) (src : S) (sink : K) (store : StoreOn D) : Type 0 where
   pub stage : Stage
   pub source_is : stands src (state_at_stage stage)
   pub sink_is : IsTrue tell → holds sink stage.groups
-  pub store_is : IsTrue tell → HoldsOffset seen may_leave store (Some stage.stored)
+  pub store_is : IsTrue tell → HoldsOffset model store (Some stage.stored)
   pub work_is : IsWorkOf entry stage work
   pub going : IsGoing entry stage
 
@@ -72,8 +72,8 @@ AddsFewOrNoMarks entry left = (marks_in left.history.commits ≡ marks_in entry.
 -- What the source may leave has few watermarks added; and if sink and store are known and were faithful, what the three may leave keeps the
 -- session's guarantees. At least one outcome exists.
 pub record LeavesBy {S K D : Type 0} (tell : Bool) (may_source : S → CrashState → Type 0) (may_sink : K → List (List Record) → Type 0)
-    (may_leave : D → List ℕ → Type 0) (entry : SessionStart) (src : S) (sink : K) (store : StoreOn D) : Type 0 where
-  pub follows : IsTrue tell → WasFaithful entry → LeavesOffset may_leave (disk_of store) (λ offset.
+    (model : DiskModel D) (entry : SessionStart) (src : S) (sink : K) (store : StoreOn D) : Type 0 where
+  pub follows : IsTrue tell → WasFaithful entry → LeavesOffset model (disk_of store) (λ offset.
       (left : CrashState) (groups : List (List Record)) → may_source src left → may_sink sink groups → FollowsSession entry left groups offset)
   pub few : (left : CrashState) → may_source src left → AddsFewOrNoMarks entry left
   pub some_source : (left : CrashState) × may_source src left
@@ -81,8 +81,8 @@ pub record LeavesBy {S K D : Type 0} (tell : Bool) (may_source : S → CrashStat
 
 -- What the three may leave keeps the session's guarantees, if the stores were faithful; at least one outcome exists.
 pub record LeavesGoing {S K D : Type 0} (may_source : S → CrashState → Type 0) (may_sink : K → List (List Record) → Type 0)
-    (may_leave : D → List ℕ → Type 0) (entry : SessionStart) (src : S) (sink : K) (store : StoreOn D) : Type 0 where
-  pub follows : WasFaithful entry → LeavesOffset may_leave (disk_of store) (λ offset.
+    (model : DiskModel D) (entry : SessionStart) (src : S) (sink : K) (store : StoreOn D) : Type 0 where
+  pub follows : WasFaithful entry → LeavesOffset model (disk_of store) (λ offset.
       (left : CrashState) (groups : List (List Record)) → may_source src left → may_sink sink groups → FollowsSession entry left groups offset)
   pub some_source : (left : CrashState) × may_source src left
   pub some_sink : (groups : List (List Record)) × may_sink sink groups

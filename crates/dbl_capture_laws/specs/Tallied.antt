@@ -84,7 +84,7 @@ pub record HasTallied {K : Type 0} (holds : K → List (List Record) → Type 0)
   pub stored : HasStored config old new
   pub reading : Reading
   pub reading_is : t.reading ≡ Some reading
-  pub subsequent : BeginsAfter old new stored.offset.infos reading.after
+  pub begins_after : BeginsAfter old new stored.offset.infos reading.after
   pub many : length reading.messages ≡ report.messages
   pub tallies : Tallies holds groups sink (making_of stored.offset now config.chunk) reading.after stored.offset.lsn (λ m n. m ≡ n) reading.messages
       report.commits result

@@ -48,7 +48,7 @@ pub record IsGoneHalt (config : Config) (old new : Option Offset) (told : Option
   pub stored : HasStored config old new
   pub first : Lsn
   pub is : h ≡ halt.Gone stored.offset.lsn first
-  pub tells : LastAnswerIs told (Began (Gone first))
+  pub last_answer : LastAnswerIs told (Began (Gone first))
 
 -- The possible errors before reading begins.
 abbrev pub IsOpenHalt : Config → Option Offset → Option Offset → Option Trace → Halt → Type 0
@@ -64,7 +64,7 @@ SessionsHaltUnread = (config : Config) (now : ℤ) (old new : Option Offset) (re
 
 -- The session began with this first offset, and an offset of it is stored.
 pub record IsOfFirst (config : Config) (now : ℤ) (held : Option Offset) (first stored : Offset) (work : SessionState) : Type 0 where
-  pub for : IsOffsetFor config held first
+  pub for_config : IsOffsetFor config held first
   pub of : IsOfSession first stored
   pub placed : IsPlacedOf first work.offset
   pub time : work.now_ms ≡ now

@@ -55,10 +55,10 @@ WereBegun (Some found) cursors = cursors ≡ found.cursors
 -- The closed windows, each of at most `chunk` rows, advanced the cursors from those at the beginning to those of the stored offset.
 pub record HaveBrought (chunk chunks : ℕ) (history : History) (found stored : Option Offset) : Type 0 where
   pub begun : List Cursor
-  pub were : WereBegun found begun
+  pub begun_with : WereBegun found begun
   pub offset : Offset
   pub is : stored ≡ Some offset
-  pub come : HaveComeOn offset.infos chunk chunks history begun offset.cursors
+  pub advanced : HaveComeOn offset.infos chunk chunks history begun offset.cursors
 
 -- Exactly so many watermarks were added, and the closed windows advanced the cursors to those of the stored offset.
 abbrev pub EndsExactly : SessionStart → Option Offset → ℕ → ℕ → History → Type 0

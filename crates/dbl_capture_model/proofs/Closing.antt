@@ -245,13 +245,13 @@ module _ (entry : SessionStart) (stage : Stage) (m : Message) (commit : Commit) 
 
   -- ---- what was told
 
-  subsequent : IsBehind stage.history stage.confirmed (records_of_stage stage) (next_offset stage)
-  subsequent = (caught_up_stores_are_faithful stage.history stage.confirmed (records_of_stage stage) (next_offset stage) before (commit ∷ rest) (far_at entry stage) 0 over k.next_is up).subsequent
+  lags : IsBehind stage.history stage.confirmed (records_of_stage stage) (next_offset stage)
+  lags = (caught_up_stores_are_faithful stage.history stage.confirmed (records_of_stage stage) (next_offset stage) before (commit ∷ rest) (far_at entry stage) 0 over k.next_is up).lags
 
   told : AreToldUpTo stage.first.identity stage.first.infos (records_of_stage stage) chunk.plan.table chunk.plan.above
   told =
       subst (λ (bound : Option Key). AreToldUpTo stage.first.identity stage.first.infos (records_of_stage stage) chunk.plan.table bound) (sym waits.above)
-      (cursors_were_told stage.history stage.confirmed (records_of_stage stage) (next_offset stage) chunk.plan.table chunk.plan.info waits.cursor subsequent waits.captured waits.cursor_is)
+      (cursors_were_told stage.history stage.confirmed (records_of_stage stage) (next_offset stage) chunk.plan.table chunk.plan.info waits.cursor lags waits.captured waits.cursor_is)
 
   far : far_at entry stage < commit.lsn.0
   far =

@@ -50,7 +50,7 @@ lower a b c le lt = omega (arith, le, lt)
 told_on : (identity : Identity) (records more : List Record) (low high : ℕ) → low < high → (info : TableInfo) (cursor : Cursor) → IsRightCursor identity records low info cursor → IsRightCursor identity (records ++ more) high info cursor
 told_on identity records more low high lt info cursor (inl unread) = inl unread
 told_on identity records more low high lt info cursor (inr told) =
-    inr (record { place = told.place; item = told.item; stands = at_left records more told.place told.item told.stands; tells = told.tells; not_after = lower told.item.position low high told.not_after lt })
+    inr (record { place = told.place; item = told.item; stands = at_left records more told.place told.item told.stands; reports = told.reports; not_after = lower told.item.position low high told.not_after lt })
 
 -- the last record of a snapshot tells how far it has come
 told_last : (identity : Identity) (infos : List TableInfo) (chunk : Chunk) (commit : Commit) (now : ℤ) (records sent : List Record) → (listed : IsSnapshot identity infos (closed_of chunk) commit now sent)
@@ -64,7 +64,7 @@ told_last identity infos chunk commit now records sent listed =
       place = length records + length rows;
       item = progress;
       stands = at_right records sent (length rows) progress (ap (λ (l : List Record). slice_get l (length rows)) sent_is ∙ slice_get-seam rows progress []);
-      tells = progress_records_tell identity listed.info commit (length chunk.rows) chunk.through chunk.done listed.fits.through;
+      reports = progress_records_tell identity listed.info commit (length chunk.rows) chunk.through chunk.done listed.fits.through;
       not_after = le_refl commit.lsn.0;
     }
 

@@ -36,10 +36,10 @@ use Rattle.dbl_capture_model.proofs.Growing.{confirmed_so, offset_longer, up_lon
 
 stands_so : (history : History) (confirmed : Lsn) (records : List Record) (offset : Option Offset) → IsFaithful history confirmed records offset → IfSome offset (λ o. IsPositionOf history o.lsn.0)
 stands_so history confirmed records None is = tt
-stands_so history confirmed records (Some offset) is = by is.subsequent.offset_is.lsn
+stands_so history confirmed records (Some offset) is = by is.lags.offset_is.lsn
   where
     by : (offset.lsn.0 ≡ offset.start.0) ⊎ IsCommitAt history offset.lsn.0 → IsPositionOf history offset.lsn.0
-    by (inl same) = subst (IsPositionOf history) (sym same) is.subsequent.offset_is.start
+    by (inl same) = subst (IsPositionOf history) (sym same) is.lags.offset_is.start
     by (inr at) = inr at
 
 pub stood_of : (entry : SessionStart) → WasFaithful entry → StoodInLog entry
@@ -122,7 +122,7 @@ lag_far entry_history history more entry_records records old offset every rise g
     let low : AllByRecursion (λ (c : RawCommit). c.lsn.0 ≤ offset.lsn.0) together.before = all_weaker (λ (c : RawCommit). c.lsn.0 ≤ old.lsn.0) (λ (c : RawCommit). c.lsn.0 ≤ offset.lsn.0) together.before (λ c is. le_on c.lsn.0 old.lsn.0 offset.lsn.0 is le) together.unread in
     let over : AllByRecursion (λ (c : RawCommit). top_position entry_records < c.lsn.0) (together.later ++ more) =
     all_append (λ (c : RawCommit). top_position entry_records < c.lsn.0) together.later more
-    (all_weaker (λ (c : RawCommit). (old.lsn.0 < c.lsn.0) × (top_position entry_records < c.lsn.0)) (λ (c : RawCommit). top_position entry_records < c.lsn.0) together.later (λ c is. is.1) together.new) high in
+    (all_weaker (λ (c : RawCommit). (old.lsn.0 < c.lsn.0) × (top_position entry_records < c.lsn.0)) (λ (c : RawCommit). top_position entry_records < c.lsn.0) together.later (λ c is. is.1) together.undelivered) high in
     le_max_right (lag history records (Some offset)) every (lag entry_history entry_records (Some old))
     (lags_are_bounded history records offset together.before (repeated entry_history entry_records old) (together.later ++ more) spelled low
     (subst (λ (n : ℕ). AllByRecursion (λ (c : RawCommit). n < c.lsn.0) (together.later ++ more)) (sym same) over))

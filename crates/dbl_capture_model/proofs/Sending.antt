@@ -121,11 +121,11 @@ pub far_on : (stage : Stage) (far other : ℕ) (before later : List Commit) (sen
 far_on stage far other before later sent records le up = record {
   fit = up.fit;
   spelled = up.spelled;
-  ahead = up.ahead;
+  after_start = up.after_start;
   kept = up.kept;
   own = up.own;
   parted = up.parted;
-  caught = up.caught;
+  agrees_up_to = up.agrees_up_to;
   few = up.few;
   sending = up.sending;
   log = up.log;

@@ -108,7 +108,7 @@ earlier_marks entry history first None grows small began is place n side commit 
 earlier_marks entry history first (Some old) grows small began is place n side commit less at mark =
     not_own old.incarnation first.incarnation n side commit.body began.1 small less
     (at_all (λ (c : RawCommit). IsMarkedBy old.incarnation c.body) (entry.history.commits ++ grows.others) place commit
-    (all_append (λ (c : RawCommit). IsMarkedBy old.incarnation c.body) entry.history.commits grows.others is.subsequent.offset_is.marks (all_weaker (λ (c : RawCommit). HasChanges c.body) (λ (c : RawCommit). IsMarkedBy old.incarnation c.body) grows.others (λ c has. marked c.body has) grows.are_others))
+    (all_append (λ (c : RawCommit). IsMarkedBy old.incarnation c.body) entry.history.commits grows.others is.lags.offset_is.marks (all_weaker (λ (c : RawCommit). HasChanges c.body) (λ (c : RawCommit). IsMarkedBy old.incarnation c.body) grows.others (λ c has. marked c.body has) grows.are_others))
     (ap (λ (l : List RawCommit). slice_get l place) (sym grows.commits) ∙ at)) mark
   where
     marked : (body : RawBody) → HasChanges body → IsMarkedBy old.incarnation body
@@ -126,10 +126,10 @@ module _ (entry : SessionStart) (history : History) (first : Offset) (fit_found 
   begins = faithful_stores_are_caught_up history entry.confirmed (joined entry.groups) first fit faithful_first
 
   rises : AreRising 0 (lsns (begins.before ++ begins.later))
-  rises = subst (λ (l : List Commit). AreRising 0 (lsns l)) begins.up.spelled begins.up.fit.rise
+  rises = subst (λ (l : List Commit). AreRising 0 (lsns l)) begins.delivered.spelled begins.delivered.fit.rise
 
   both : begins.before ++ begins.later ≡ (parts_of entry history first fit).old ++ to_state first.infos first.lsn history
-  both = sym begins.up.spelled ∙ (parts_at first.infos first.lsn history fit.rising).1
+  both = sym begins.delivered.spelled ∙ (parts_at first.infos first.lsn history fit.rising).1
 
   later_is : begins.later ≡ to_state first.infos first.lsn history
   later_is =
@@ -150,7 +150,7 @@ module _ (entry : SessionStart) (history : History) (first : Offset) (fit_found 
       far_on (stage_of entry history first) (top_position (joined entry.groups)) (max (top_position (joined entry.groups)) first.lsn.0) ((parts_of entry history first fit).old ++ []) (to_state first.infos first.lsn history) 0 (joined entry.groups)
       (left_le (top_position (joined entry.groups)) first.lsn.0)
       (subst (λ (l : List Commit). HasDeliveredUpTo first.identity first.infos (typed first.infos history) first.start.0 (top_position (joined entry.groups)) l (to_state first.infos first.lsn history) 0 (joined entry.groups)) before_is
-      (subst (λ (l : List Commit). HasDeliveredUpTo first.identity first.infos (typed first.infos history) first.start.0 (top_position (joined entry.groups)) begins.before l 0 (joined entry.groups)) later_is begins.up))
+      (subst (λ (l : List Commit). HasDeliveredUpTo first.identity first.infos (typed first.infos history) first.start.0 (top_position (joined entry.groups)) begins.before l 0 (joined entry.groups)) later_is begins.delivered))
 
   together : StandTogether history (joined entry.groups) first
   together = repeated_commits_stand_together history (joined entry.groups) first fit.rising
@@ -160,7 +160,7 @@ module _ (entry : SessionStart) (history : History) (first : Offset) (fit_found 
 
   pub kept_first : KeepsStage entry (stage_of entry history first) (parts_of entry history first fit)
   kept_first = record {
-    order = faithful_first.subsequent.offset_is.order;
+    order = faithful_first.lags.offset_is.order;
     small = lit< tt;
     own_marks = record {
       numbered = λ place n side commit less at is. absurd (earlier_marks entry history first entry.offset grows small began faithful place n side commit less at is);
@@ -170,8 +170,8 @@ module _ (entry : SessionStart) (history : History) (first : Offset) (fit_found 
     window = tt;
     from = le_refl first.lsn.0;
     to = le_refl first.lsn.0;
-    stored_is = faithful_first.subsequent.offset_is;
-    next_is = faithful_first.subsequent.offset_is;
+    stored_is = faithful_first.lags.offset_is;
+    next_is = faithful_first.lags.offset_is;
     up = up_first;
     adds = record { more = []; is = sym (append-nil (joined entry.groups)); above = tt; rise = tt };
     within = tt;
@@ -185,8 +185,8 @@ module _ (entry : SessionStart) (history : History) (first : Offset) (fit_found 
       followed = tt;
       many = refl;
       over = all_append (λ (c : RawCommit). first.lsn.0 < c.lsn.0) (repeated history (joined entry.groups) first) together.later
-          (all_weaker (λ (c : RawCommit). (first.lsn.0 < c.lsn.0) × (c.lsn.0 ≤ top_position (joined entry.groups))) (λ (c : RawCommit). first.lsn.0 < c.lsn.0) (repeated history (joined entry.groups) first) (λ c is. is.0) together.again)
-          (all_weaker (λ (c : RawCommit). (first.lsn.0 < c.lsn.0) × (top_position (joined entry.groups) < c.lsn.0)) (λ (c : RawCommit). first.lsn.0 < c.lsn.0) together.later (λ c is. is.0) together.new);
+          (all_weaker (λ (c : RawCommit). (first.lsn.0 < c.lsn.0) × (c.lsn.0 ≤ top_position (joined entry.groups))) (λ (c : RawCommit). first.lsn.0 < c.lsn.0) (repeated history (joined entry.groups) first) (λ c is. is.0) together.redelivered)
+          (all_weaker (λ (c : RawCommit). (first.lsn.0 < c.lsn.0) × (top_position (joined entry.groups) < c.lsn.0)) (λ (c : RawCommit). first.lsn.0 < c.lsn.0) together.later (λ c is. is.0) together.undelivered);
       few = none_le entry.config.every;
       top = inr refl;
     };

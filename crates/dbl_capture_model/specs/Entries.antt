@@ -63,8 +63,8 @@ WasKept entry = IsKeptAfter entry.confirmed entry.offset
 
 -- ---- positions
 
--- The position above which a session appends: the LSN that was stored when it began, or else the start of its first offset. If it stored
--- none either, it has appended nothing.
+-- The position above which a session appends: the LSN that was stored when it began, or else the start of its first offset, or 0 if it
+-- stored none.
 abbrev pub appends_after : Option Offset → Option Offset → ℕ
 appends_after (Some old) new = old.lsn.0
 appends_after None (Some new) = new.start.0

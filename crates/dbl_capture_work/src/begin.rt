@@ -191,11 +191,11 @@ pub fn put_offset<D: Disk>(
 ) -> Result<(), Halt>
     requires live { IsLive store.old }
     requires offset { IsOffset offset }
-    ensures stored { (old : Option SpecOffset) → HoldsOffset D.seen D.may_leave store.old old →
-        OnOk result (HoldsOffset D.seen D.may_leave store.new (Some offset)) }
-    ensures left { (old : Option SpecOffset) → HoldsOffset D.seen D.may_leave store.old old →
-        LeavesOffset D.may_leave (disk_of store.new) (λ left. (left ≡ old) ⊎ (left ≡ Some offset)) }
-    ensures comes { ExtendsOffsets D.seen D.may_leave store.old store.new }
+    ensures stored { (old : Option SpecOffset) → HoldsOffset D.Disk store.old old →
+        OnOk result (HoldsOffset D.Disk store.new (Some offset)) }
+    ensures left { (old : Option SpecOffset) → HoldsOffset D.Disk store.old old →
+        LeavesOffset D.Disk (disk_of store.new) (λ left. (left ≡ old) ⊎ (left ≡ Some offset)) }
+    ensures comes { ExtendsOffsets D.Disk store.old store.new }
     ensures loads { OnOk result (store.new.offset ≡ Some offset) }
     ensures kept { OnErr result (result ≢ Err Halt.Offsets → store.new ≡ store.old) }
     ensures keeps { OnErr result (store.new.offset ≡ store.old.offset) }

@@ -53,7 +53,7 @@ pub enum Halt {
         table: TableName,
         column: Text,
     },
-    /// The encoding of a record has more than 2^28 bytes.
+    /// The encoding of a batch of one record has more than 2^28 bytes; `len` is its length.
     #[error("record too long {len}")]
     RecordTooLong {
         len: u64,

@@ -6,7 +6,7 @@ ghost use Rattle.dbl_capture_work.specs.Works.{BeginsWithOffset, HasReadyWork, n
 ghost use Rattle.dbl_capture_model.specs.Steps.{following_of};
 
 use crate::Halt;
-use dbl_base::Seq;
+use dbl_base::{Seq, copy_items};
 use dbl_follow::Follower;
 use dbl_model_history::Cursor;
 use dbl_model_table::TableInfo;
@@ -35,21 +35,13 @@ pub struct SessionState {
 fn copy_cursors(alloc: Global, cursors: &Vec<Cursor>) -> Result<Seq<Cursor>, AllocError>
     ensures { IfOk result (λ copies. copies ≡ cursors.now.items) }
 {
-    let mut copies = Vec::with_capacity(alloc, cursors.len())?;
-    for cursor in cursors {
-        copies.push(cursor.copy(alloc)?)?;
-    }
-    Ok(Seq::make(copies))
+    Ok(Seq::make(copy_items(alloc, cursors.as_slice())?))
 }
 
 fn infos_of(alloc: Global, offset: &Offset) -> Result<Vec<TableInfo>, AllocError>
     ensures { IfOk result (λ infos. infos.items ≡ offset.now.infos) }
 {
-    let mut infos = Vec::with_capacity(alloc, offset.infos.items().len())?;
-    for info in offset.infos.items() {
-        infos.push(info.copy(alloc)?)?;
-    }
-    Ok(infos)
+    copy_items(alloc, offset.infos.items().as_slice())
 }
 
 fn follower_of(alloc: Global, offset: &Offset) -> Result<Follower, Halt>

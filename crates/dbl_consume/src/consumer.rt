@@ -43,8 +43,8 @@ impl Consumer {
         })
     }
 
-    /// Applies a record: a topic, and the JSON texts of a key and a value. After memory ran out the
-    /// consumer must not be used.
+    /// Applies a record: a topic, and the JSON texts of a key and a value. After memory ran out
+    /// nothing is known of the consumer's rows.
     pub fn apply(&mut self, topic: &Text, key: &Text, value: &Text) -> Result<(), ConsumeError>
         ensures took { (taken : List Reading) → Took taken self.old →
             OnOk result (Took (taken ++ reading_of

@@ -159,8 +159,7 @@ fn put_tables<O: Output>(
     Ok(())
 }
 
-/// Shows that the topics and each topic's keys ascend, which std guarantees of a map whose length
-/// is requested.
+/// For the prover alone: the lengths' contracts say that the topics and each topic's keys ascend.
 pub(crate) fn look_at_order(tables: &Tables)
     ensures topics { IsOrdered text_cmp tables.now }
     ensures keys { AreInOrder tables.now.entries }

@@ -1,5 +1,6 @@
 -- An entry that is appended: what the journal lists then, and what it tells where it fails.
-use Rattle.std.proofs.Common.{◌≡◌, ◌∙◌, ◌⊎◌, ℕ, ◌<◌, ◌^◌, Option, List, [], ◌∷◌, ◌++◌, refl, sym, ap, subst, inl}
+use Rattle.std.proofs.Common.{◌≡◌, ◌∙◌, ◌⊎◌, ℕ, ◌<◌, ◌^◌, List, [], ◌∷◌, ◌++◌, refl, sym, ap, subst, inl}
+use Rattle.dbl_disk.specs.Model.{DiskModel}
 use Rattle.dbl_pgmsg.specs.declared.messages.Message.{Message}
 use Rattle.dbl_journal.specs.declared.error.JournalError.{JournalError}
 use Rattle.dbl_journal.specs.declared.error.JournalError.TheVariants as journal
@@ -38,26 +39,26 @@ pub spells_at : (form : List ℕ) (built steps : ℕ) (given messages : List Mes
 spells_at form built steps given messages same are spells =
     subst (λ (n : ℕ). EncodesEntry form (Commits n messages)) same (subst (λ (ms : List Message). EncodesEntry form (Commits built ms)) are spells)
 
-module _ {D : Type 0} (seen : D → Option (List ℕ)) (may_leave : D → List ℕ → Type 0) (new : OnDisk D) (forms : List (List ℕ)) (form : List ℕ) (entry : Entry) (spells : EncodesEntry form entry) where
-  pub entry_listed : Lists seen may_leave new (forms ++ form ∷ []) → Lists seen may_leave new (forms ++ entry_form entry ∷ [])
-  entry_listed lists = subst (λ (w : List ℕ). Lists seen may_leave new (forms ++ w ∷ [])) spells.spelled lists
+module _ {D : Type 0} (model : DiskModel D) (new : OnDisk D) (forms : List (List ℕ)) (form : List ℕ) (entry : Entry) (spells : EncodesEntry form entry) where
+  pub entry_listed : Lists model new (forms ++ form ∷ []) → Lists model new (forms ++ entry_form entry ∷ [])
+  entry_listed lists = subst (λ (w : List ℕ). Lists model new (forms ++ w ∷ [])) spells.spelled lists
 
-  pub entry_left : LeavesEntries may_leave new.disk (λ left. (left ≡ forms) ⊎ (left ≡ forms ++ form ∷ [])) → LeavesEntries may_leave new.disk (λ left. (left ≡ forms) ⊎ (left ≡ forms ++ entry_form entry ∷ []))
-  entry_left leaves = subst (λ (w : List ℕ). LeavesEntries may_leave new.disk (λ left. (left ≡ forms) ⊎ (left ≡ forms ++ w ∷ []))) spells.spelled leaves
+  pub entry_left : LeavesEntries model new.disk (λ left. (left ≡ forms) ⊎ (left ≡ forms ++ form ∷ [])) → LeavesEntries model new.disk (λ left. (left ≡ forms) ⊎ (left ≡ forms ++ entry_form entry ∷ []))
+  entry_left leaves = subst (λ (w : List ℕ). LeavesEntries model new.disk (λ left. (left ≡ forms) ⊎ (left ≡ forms ++ w ∷ []))) spells.spelled leaves
 
   -- where nothing was appended, what was there is left
-  pub none_left : Lists seen may_leave new forms → LeavesEntries may_leave new.disk (λ left. (left ≡ forms) ⊎ (left ≡ forms ++ entry_form entry ∷ []))
+  pub none_left : Lists model new forms → LeavesEntries model new.disk (λ left. (left ≡ forms) ⊎ (left ≡ forms ++ entry_form entry ∷ []))
   none_left lists crashed may = (forms, subst (λ (bytes : List ℕ). IsJournal bytes forms) (sym (lists.only crashed may)) lists.spelled, inl refl)
 
 -- ---- what a call leaves of a journal
 
-module _ {D : Type 0} (seen : D → Option (List ℕ)) (may_leave : D → List ℕ → Type 0) (old new : OnDisk D) where
+module _ {D : Type 0} (model : DiskModel D) (old new : OnDisk D) where
   -- nothing was appended
-  pub lists_kept : new ≡ old → (forms : List (List ℕ)) → Lists seen may_leave old forms → Lists seen may_leave new forms
-  lists_kept same forms lists = subst (λ (j : OnDisk D). Lists seen may_leave j forms) (sym same) lists
+  pub lists_kept : new ≡ old → (forms : List (List ℕ)) → Lists model old forms → Lists model new forms
+  lists_kept same forms lists = subst (λ (j : OnDisk D). Lists model j forms) (sym same) lists
 
   -- it was only read
-  pub comes_by_read : new ≡ record old { disk = new.disk } → seen new.disk ≡ seen old.disk → ((forms : List (List ℕ)) → Lists seen may_leave old forms → Lists seen may_leave new forms) → ExtendsJournal seen may_leave old new
+  pub comes_by_read : new ≡ record old { disk = new.disk } → model.seen new.disk ≡ model.seen old.disk → ((forms : List (List ℕ)) → Lists model old forms → Lists model new forms) → ExtendsJournal model old new
   comes_by_read same told lists gate most come = record {
     lists = λ live. (let was = come.lists (subst IsTrue (ap (λ (j : OnDisk D). j.live) same) live) in (was.0, lists was.0 was.1));
     told = (come.told.0, told ∙ come.told.1);

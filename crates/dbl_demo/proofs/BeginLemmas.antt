@@ -1,6 +1,7 @@
 -- The first entries of a log are appended: which fault that can have, how many they are, how long the disk gets, and what is left
 -- of it.
 use Rattle.std.proofs.Common.{◌≡◌, ◌∙◌, ℕ, ◌+◌, ◌<◌, ◌≤◌, ◌^◌, Option, None, Some, Result, Err, List, [], ◌∷◌, ◌++◌, length, max, refl, sym, ap, subst, arith, inl, inr}
+use Rattle.dbl_disk.specs.Model.{DiskModel}
 use Rattle.dbl_pgmsg.specs.declared.messages.Message.{Message}
 use Rattle.dbl_journal.specs.declared.error.JournalError.{JournalError}
 use Rattle.dbl_journal.specs.declared.error.JournalError.TheVariants as broken
@@ -70,9 +71,9 @@ grown_twice script first second rows messages old mid new some is spells once ag
 -- ---- what is left of the disk
 
 -- the journal couldn't be made
-pub unmade_disk : {D : Type 0} (seen : D → Option (List ℕ)) (faults : D → ℕ) (old new : D) (e : DemoError) → ((bytes : List ℕ) → seen old ≡ Some [] → seen new ≡ Some bytes → length bytes ≤ size []) → faults old ≤ faults new → FaultCounted (faults old) (faults new) → IsFailed e
-    → Makes seen faults first_room (IsFailed e) old new
-unmade_disk seen faults old new e short later rose failed = record {
+pub unmade_disk : {D : Type 0} (model : DiskModel D) (old new : D) (e : DemoError) → ((bytes : List ℕ) → model.seen old ≡ Some [] → model.seen new ≡ Some bytes → length bytes ≤ size []) → model.faults old ≤ model.faults new → FaultCounted (model.faults old) (model.faults new) → IsFailed e
+    → Makes model first_room (IsFailed e) old new
+unmade_disk model old new e short later rose failed = record {
   small = λ bytes told is. omega (arith, none_small, short bytes told is);
   later = later;
   cause = λ again. rose;
@@ -80,26 +81,26 @@ unmade_disk seen faults old new e short later rose failed = record {
 }
 
 -- it was made, and entries were appended, or not all
-module _ {D : Type 0} (seen : D → Option (List ℕ)) (may_leave : D → List ℕ → Type 0) (faults : D → ℕ) (disk : D) (first last : OnDisk D) (all : List (List ℕ)) where
+module _ {D : Type 0} (model : DiskModel D) (disk : D) (first last : OnDisk D) (all : List (List ℕ)) where
   abbrev Grows : Type 0
-  Grows = (old new : List ℕ) → Lists seen may_leave first [] → seen first.disk ≡ Some old → seen last.disk ≡ Some new → length new ≤ max (length old) (size all)
+  Grows = (old new : List ℕ) → Lists model first [] → model.seen first.disk ≡ Some old → model.seen last.disk ≡ Some new → length new ≤ max (length old) (size all)
 
   abbrev IsMade : Type 0
-  IsMade = seen disk ≡ Some [] → Lists seen may_leave first []
+  IsMade = model.seen disk ≡ Some [] → Lists model first []
 
-  begun_small : IsMade → ((bytes : List ℕ) → seen disk ≡ Some [] → seen first.disk ≡ Some bytes → length bytes ≤ size []) → Grows → size all ≤ 2 ^ 30 → (bytes : List ℕ) → seen disk ≡ Some [] → seen last.disk ≡ Some bytes → length bytes ≤ 2 ^ 30
+  begun_small : IsMade → ((bytes : List ℕ) → model.seen disk ≡ Some [] → model.seen first.disk ≡ Some bytes → length bytes ≤ size []) → Grows → size all ≤ 2 ^ 30 → (bytes : List ℕ) → model.seen disk ≡ Some [] → model.seen last.disk ≡ Some bytes → length bytes ≤ 2 ^ 30
   begun_small made once grows small bytes told is =
       let lists = made told in
       let short : length lists.bytes ≤ size [] = once lists.bytes told lists.told in
       omega (arith, small, none_small, short, grows lists.bytes bytes lists lists.told is)
 
-  begun_steady : ((bytes : List ℕ) → seen disk ≡ Some bytes → bytes ≡ []) → IsMade → IsSteady seen faults disk first.disk → IsSteady seen faults first.disk last.disk → IsSteady seen faults disk last.disk
+  begun_steady : ((bytes : List ℕ) → model.seen disk ≡ Some bytes → bytes ≡ []) → IsMade → IsSteady model disk first.disk → IsSteady model first.disk last.disk → IsSteady model disk last.disk
   begun_steady empty made one two bytes told =
       let lists = made (told ∙ ap Some (empty bytes told)) in
       two lists.bytes lists.told ∙ one bytes told
 
-  pub begun_disk : (failed : Type 0) → ((bytes : List ℕ) → seen disk ≡ Some bytes → bytes ≡ []) → IsMade → ((bytes : List ℕ) → seen disk ≡ Some [] → seen first.disk ≡ Some bytes → length bytes ≤ size []) → Grows → size all ≤ 2 ^ 30
-      → faults disk ≤ faults first.disk → faults first.disk ≤ faults last.disk → (failed → FaultCounted (faults first.disk) (faults last.disk)) → IsSteady seen faults disk first.disk → ((failed → ⊥) → IsSteady seen faults first.disk last.disk) → Makes seen faults first_room failed disk last.disk
+  pub begun_disk : (failed : Type 0) → ((bytes : List ℕ) → model.seen disk ≡ Some bytes → bytes ≡ []) → IsMade → ((bytes : List ℕ) → model.seen disk ≡ Some [] → model.seen first.disk ≡ Some bytes → length bytes ≤ size []) → Grows → size all ≤ 2 ^ 30
+      → model.faults disk ≤ model.faults first.disk → model.faults first.disk ≤ model.faults last.disk → (failed → FaultCounted (model.faults first.disk) (model.faults last.disk)) → IsSteady model disk first.disk → ((failed → ⊥) → IsSteady model first.disk last.disk) → Makes model first_room failed disk last.disk
   begun_disk failed empty made once grows small later on cause one two = record {
     small = begun_small made once grows small;
     later = omega (arith, later, on);

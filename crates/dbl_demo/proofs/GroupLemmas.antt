@@ -1,6 +1,7 @@
 -- A group that is run step by step, of a source that is known by its parts.
-use Rattle.std.proofs.Common.{◌≡◌, ◌∙◌, ℕ, zero, suc, ◌+◌, ◌<◌, ◌≤◌, Bool, true, false, Option, Some, List, [], ◌∷◌, length, sym, subst, refl, arith}
+use Rattle.std.proofs.Common.{◌≡◌, ◌∙◌, ℕ, zero, suc, ◌+◌, ◌<◌, ◌≤◌, Bool, true, false, Some, List, [], ◌∷◌, length, sym, subst, refl, arith}
 use Rattle.std.specs.Prelude.{IsTrue, slice_get}
+use Rattle.dbl_disk.specs.Model.{DiskModel}
 use Rattle.dbl_journal.specs.Growth.{ExtendsJournal}
 use Rattle.dbl_journal.proofs.Growth.{comes_on}
 use Rattle.dbl_script.specs.declared.script.Step.{Step}
@@ -16,36 +17,36 @@ some_at [] n lt = absurd (omega (arith, lt))
 some_at (x ∷ xs) zero lt = (x, refl)
 some_at (x ∷ xs) (suc n) lt = some_at xs n (omega (arith, lt))
 
-module _ {D : Type 0} (seen : D → Option (List ℕ)) (may_leave : D → List ℕ → Type 0) (faults : D → ℕ) (old : Demo D) {now whole : Demo D} (is : now ≡ whole) (so : IsReleasing seen may_leave faults old whole) where
-  here : IsReleasing seen may_leave faults old now
-  here = subst (IsReleasing seen may_leave faults old) (sym is) so
+module _ {D : Type 0} (model : DiskModel D) (old : Demo D) {now whole : Demo D} (is : now ≡ whole) (so : IsReleasing model old whole) where
+  here : IsReleasing model old now
+  here = subst (IsReleasing model old) (sym is) so
 
   -- however the step ended
-  pub group_comes : (new : Demo D) → ExtendsJournal seen may_leave now.journal new.journal → ExtendsJournal seen may_leave old.journal new.journal
-  group_comes new comes = comes_on seen may_leave old.journal now.journal new.journal here.comes comes
+  pub group_comes : (new : Demo D) → ExtendsJournal model now.journal new.journal → ExtendsJournal model old.journal new.journal
+  group_comes new comes = comes_on model old.journal now.journal new.journal here.comes comes
 
-  pub group_left : (new : Demo D) → now.done < length now.steps → ((wal : Wal) → IsRunning seen may_leave wal now → LeavesRun may_leave wal (now.done + 1) [] now new) → (wal : Wal) → IsRunning seen may_leave wal old → LeavesRun may_leave wal (next_end old) [] old new
-  group_left new left leaves = release_left seen may_leave faults old now here new left leaves
+  pub group_left : (new : Demo D) → now.done < length now.steps → ((wal : Wal) → IsRunning model wal now → LeavesRun model wal (now.done + 1) [] now new) → (wal : Wal) → IsRunning model wal old → LeavesRun model wal (next_end old) [] old new
+  group_left new left leaves = release_left model old now here new left leaves
 
-  module _ (new : Demo D) (left : now.done < length now.steps) (ran : (wal : Wal) → IsRunning seen may_leave wal now → Ran seen may_leave wal (now.done + 1) [] now new) (ends : Bool) (tells : (step : Step) → slice_get now.steps now.done ≡ Some step → ends ≡ is_tick step) where
+  module _ (new : Demo D) (left : now.done < length now.steps) (ran : (wal : Wal) → IsRunning model wal now → Ran model wal (now.done + 1) [] now new) (ends : Bool) (tells : (step : Step) → slice_get now.steps now.done ≡ Some step → ends ≡ is_tick step) where
     step : (x : Step) × (slice_get now.steps now.done ≡ Some x)
     step = some_at now.steps now.done left
 
     -- it ended the group
-    pub group_ran : ends ≡ true → (wal : Wal) → IsRunning seen may_leave wal old → Ran seen may_leave wal (next_end old) [] old new
-    group_ran tick = release_ends seen may_leave faults old now new here left ran step.0 step.1 (sym (tells step.0 step.1) ∙ tick)
+    pub group_ran : ends ≡ true → (wal : Wal) → IsRunning model wal old → Ran model wal (next_end old) [] old new
+    group_ran tick = release_ends model old now new here left ran step.0 step.1 (sym (tells step.0 step.1) ∙ tick)
 
     pub group_end_is : ends ≡ true → new.done ≡ now.done + 1 → new.done ≡ next_end old
     group_end_is tick one = one ∙ sym (here.ends ∙ end_here now.steps now.done step.0 step.1 (sym (tells step.0 step.1) ∙ tick))
 
     -- or it didn't
-    pub group_goes : ends ≡ false → new.done ≡ now.done + 1 → IsTrue new.journal.live → IsRunOf now new → ExtendsJournal seen may_leave now.journal new.journal → faults now.journal.disk ≤ faults new.journal.disk → IsReleasing seen may_leave faults old new
-    group_goes other one live same comes counted = release_goes seen may_leave faults old now new here left ran step.0 step.1 (sym (tells step.0 step.1) ∙ other) one live same comes counted
+    pub group_goes : ends ≡ false → new.done ≡ now.done + 1 → IsTrue new.journal.live → IsRunOf now new → ExtendsJournal model now.journal new.journal → model.faults now.journal.disk ≤ model.faults new.journal.disk → IsReleasing model old new
+    group_goes other one live same comes counted = release_goes model old now new here left ran step.0 step.1 (sym (tells step.0 step.1) ∙ other) one live same comes counted
 
 -- no step is left
-module _ {D : Type 0} (seen : D → Option (List ℕ)) (may_leave : D → List ℕ → Type 0) (faults : D → ℕ) (old now : Demo D) (so : IsReleasing seen may_leave faults old now) (none : length now.steps ≤ now.done) where
-  pub group_over : (wal : Wal) → IsRunning seen may_leave wal old → Ran seen may_leave wal (next_end old) [] old now
-  group_over = release_stops seen may_leave faults old now so none
+module _ {D : Type 0} (model : DiskModel D) (old now : Demo D) (so : IsReleasing model old now) (none : length now.steps ≤ now.done) where
+  pub group_over : (wal : Wal) → IsRunning model wal old → Ran model wal (next_end old) [] old now
+  group_over = release_stops model old now so none
 
-  pub group_over_left : (wal : Wal) → IsRunning seen may_leave wal old → LeavesRun may_leave wal (next_end old) [] old now
-  group_over_left wal running = left_whole seen may_leave faults wal (next_end old) old now (group_over wal running)
+  pub group_over_left : (wal : Wal) → IsRunning model wal old → LeavesRun model wal (next_end old) [] old now
+  group_over_left wal running = left_whole model wal (next_end old) old now (group_over wal running)

@@ -3,8 +3,9 @@ use Rattle.std.proofs.Common.{Bor, ◌≡◌, ◌∙◌, ℕ, zero, suc, ◌<◌
 use Rattle.std.specs.Prelude.{slice_get, IsSome, option_copied}
 use Rattle.std.specs.Slice.{IsItemAt}
 use Rattle.std.proofs.lemmas.Option.{slice_get_read, slice_get_within}
+use Rattle.dbl_disk.specs.Model.{DiskModel}
 use Rattle.dbl_source_log.specs.declared.logged.Logged.{Logged}
-use Rattle.dbl_source_log.specs.declared.place.Place.{Place}
+use Rattle.dbl_source_log.specs.declared.reader_position.ReaderPosition.{ReaderPosition}
 use Rattle.dbl_source_log.specs.Sent.{index_of, IsPlaceIn}
 use Rattle.dbl_journal.specs.Stored.{Lists, OnDisk}
 use Rattle.dbl_demo_wal.specs.declared.entry.Entry.{Entry}
@@ -29,7 +30,7 @@ log_short (Commits steps messages ∷ entries) = omega (arith, log_short entries
 log_short (Marks steps value ∷ entries) = omega (arith, log_short entries)
 log_short (Confirms upto ∷ entries) = omega (arith, log_short entries)
 
-module _ {D : Type 0} (seen : D → Option (List ℕ)) (may_leave : D → List ℕ → Type 0) (old : Demo D) (wal : Wal) (place : Place) (running : IsRunning seen may_leave wal old) (at : old.place ≡ Some place) where
+module _ {D : Type 0} (model : DiskModel D) (old : Demo D) (wal : Wal) (place : ReaderPosition) (running : IsRunning model wal old) (at : old.place ≡ Some place) where
   abbrev log : List Logged
   log = logged_in wal.entries
 
@@ -47,7 +48,7 @@ module _ {D : Type 0} (seen : D → Option (List ℕ)) (may_leave : D → List �
       by (Some logged) is there = sym (running.reader.held_is place logged at is)
 
   -- another journal that lists the same, and a commit that is held
-  pub holding : (journal : OnDisk D) → Lists seen may_leave journal (forms_of wal) → (held : Option Logged) → held ≡ slice_get log (index_of place) → IsRunning seen may_leave wal (record old { journal = journal; held = held })
+  pub holding : (journal : OnDisk D) → Lists model journal (forms_of wal) → (held : Option Logged) → held ≡ slice_get log (index_of place) → IsRunning model wal (record old { journal = journal; held = held })
   holding journal lists held is = record {
     lists = lists;
     is = running.is;
@@ -63,8 +64,8 @@ module _ {D : Type 0} (seen : D → Option (List ℕ)) (may_leave : D → List �
       placed = running.reader.placed;
       recalled = running.reader.recalled;
       held_is = λ p logged there holds. (
-          let same : place ≡ p = (let both : ◌≡◌ {A = Option Place} (Some place) (Some p) = sym at ∙ there in cc) in
-          ap (λ (q : Place). slice_get log (index_of q)) (sym same) ∙ sym is ∙ holds);
+          let same : place ≡ p = (let both : ◌≡◌ {A = Option ReaderPosition} (Some place) (Some p) = sym at ∙ there in cc) in
+          ap (λ (q : ReaderPosition). slice_get log (index_of q)) (sym same) ∙ sym is ∙ holds);
     };
   }
 
@@ -87,13 +88,13 @@ module _ {D : Type 0} (seen : D → Option (List ℕ)) (may_leave : D → List �
 
   -- ---- nothing is left
 
-  pub read_nothing : length old.commits ≤ index_of place → ReadNone seen may_leave wal place old
+  pub read_nothing : length old.commits ≤ index_of place → ReadNone model wal place old
   read_nothing past = record { is = at; end = omega (arith, past, counted); running = running }
 
   -- ---- one more message
 
   -- a place of the log has no more commits before it than a wal has entries
-  pub place_near : (next : Place) → IsPlaceIn log next → next.commits < 2 ^ 40
+  pub place_near : (next : ReaderPosition) → IsPlaceIn log next → next.commits < 2 ^ 40
   place_near next placed = omega (arith, placed.few, log_short wal.entries, running.few)
 
 -- ---- the number of a commit's entry, as it is looked up

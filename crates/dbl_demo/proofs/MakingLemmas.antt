@@ -1,5 +1,6 @@
 -- A source that is made: why a workload is refused, which faults there are besides, and what is left of the disk.
-use Rattle.std.proofs.Common.{◌≡◌, ◌∙◌, ◌⊎◌, ℕ, ◌≤◌, ◌^◌, Option, Some, List, [], length, sym, ap, subst, arith, inl, inr}
+use Rattle.std.proofs.Common.{◌≡◌, ◌∙◌, ◌⊎◌, ℕ, ◌≤◌, ◌^◌, Some, List, [], length, sym, ap, subst, arith, inl, inr}
+use Rattle.dbl_disk.specs.Model.{DiskModel}
 use Rattle.dbl_journal.specs.declared.error.JournalError.TheVariants as broken
 use Rattle.dbl_demo_workload.specs.declared.error.DemoError.{DemoError}
 use Rattle.dbl_demo_workload.specs.declared.error.DemoError.TheVariants as fault
@@ -55,8 +56,9 @@ module _ (bytes : List ℕ) (e : DemoError) where
 
 -- ---- the disk
 
-pub empty_small : {D : Type 0} (seen : D → Option (List ℕ)) (disk : D) (bytes : List ℕ) → seen disk ≡ Some [] → seen disk ≡ Some bytes → length bytes ≤ 2 ^ 30
-empty_small seen disk bytes told is =
+pub empty_small : {D : Type 0} (model : DiskModel D) (disk : D) (bytes : List ℕ) → model.seen disk ≡ Some [] → model.seen disk ≡ Some bytes
+    → length bytes ≤ 2 ^ 30
+empty_small model disk bytes told is =
     let both : Some [] ≡ Some bytes = sym told ∙ is in
     let same : [] ≡ bytes = cc in
     omega (arith, ap (λ (l : List ℕ). length l) same)

@@ -1,6 +1,7 @@
 -- One step that was run: what it leaves of a source that is known by its parts.
-use Rattle.std.proofs.Common.{◌≡◌, ◌∙◌, ℕ, ◌+◌, ◌<◌, ◌^◌, Bool, get_or, Option, None, Some, List, [], length, sym, ap, subst}
+use Rattle.std.proofs.Common.{◌≡◌, ◌∙◌, ◌+◌, ◌<◌, ◌^◌, Bool, get_or, Option, None, Some, List, [], length, sym, ap, subst}
 use Rattle.std.specs.Prelude.{slice_get}
+use Rattle.dbl_disk.specs.Model.{DiskModel}
 use Rattle.dbl_pgmsg.specs.declared.messages.Message.{Message}
 use Rattle.dbl_journal.specs.Stored.{count_of}
 use Rattle.dbl_script.specs.declared.script.Step.{Step}
@@ -17,7 +18,7 @@ use Rattle.dbl_demo_laws.specs.Reading.{IsLogged, LeavesLogged}
 use Rattle.dbl_demo_laws.specs.Running.{IsRunOf, LeavesRun, Ran}
 use Rattle.dbl_demo_laws.proofs.RunLemmas.{left_alone, left_logged, ran_logged, ran_silent}
 
-module _ {D : Type 0} (seen : D → Option (List ℕ)) (may_leave : D → List ℕ → Type 0) {parts whole : Demo D} (is : parts ≡ whole) where
+module _ {D : Type 0} (model : DiskModel D) {parts whole : Demo D} (is : parts ≡ whole) where
   -- what running the next step of the parts commits
   abbrev pub RunsOne : List Step → Option (List Message) → Tables → Type 0
   RunsOne steps committed store = (w : Workload) → steps ≡ steps_of w → Stands w.tables (acts_at w parts.done) parts.store → IsNextRun w parts.done committed store
@@ -26,8 +27,8 @@ module _ {D : Type 0} (seen : D → Option (List ℕ)) (may_leave : D → List �
   parts_on store = record parts { store = store; done = parts.done + 1 }
 
   -- nothing was written
-  pub one_alone : whole.done < length whole.steps → (wal : Wal) → IsRunning seen may_leave wal whole → LeavesRun may_leave wal (whole.done + 1) [] whole parts
-  one_alone left wal running = left_alone seen may_leave wal whole running left whole.store parts (whole.done + 1) (ap (λ (s : Demo D). s.journal) is)
+  pub one_alone : whole.done < length whole.steps → (wal : Wal) → IsRunning model wal whole → LeavesRun model wal (whole.done + 1) [] whole parts
+  one_alone left wal running = left_alone model wal whole running left whole.store parts (whole.done + 1) (ap (λ (s : Demo D). s.journal) is)
 
   -- whether it ends a group
   pub one_ends : whole.done < length whole.steps → (tick : Bool) (x step : Step) → x ≡ get_or parts.steps parts.done x → tick ≡ is_tick x → slice_get whole.steps whole.done ≡ Some step → tick ≡ is_tick step
@@ -38,9 +39,9 @@ module _ {D : Type 0} (seen : D → Option (List ℕ)) (may_leave : D → List �
       let same : x ≡ step = (let both : ◌≡◌ {A = Option Step} (Some x) (Some step) = sym is_x ∙ here in cc) in
       told ∙ ap is_tick same
 
-  module _ (left : whole.done < length whole.steps) (steps : List Step) (are : steps ≡ parts.steps) (store : Tables) (committed : Option (List Message)) (ran : RunsOne steps committed store) (wal : Wal) (running : IsRunning seen may_leave wal whole) where
-    runs : IsRunning seen may_leave wal parts
-    runs = subst (IsRunning seen may_leave wal) (sym is) running
+  module _ (left : whole.done < length whole.steps) (steps : List Step) (are : steps ≡ parts.steps) (store : Tables) (committed : Option (List Message)) (ran : RunsOne steps committed store) (wal : Wal) (running : IsRunning model wal whole) where
+    runs : IsRunning model wal parts
+    runs = subst (IsRunning model wal) (sym is) running
 
     left_parts : parts.done < length parts.steps
     left_parts = subst (λ (s : Demo D). s.done < length s.steps) (sym is) left
@@ -49,19 +50,19 @@ module _ {D : Type 0} (seen : D → Option (List ℕ)) (may_leave : D → List �
     next = ran wal.workload (are ∙ runs.steps) runs.stands
 
     -- it committed nothing
-    pub one_silent : committed ≡ None → Ran seen may_leave wal (whole.done + 1) [] whole (parts_on store)
+    pub one_silent : committed ≡ None → Ran model wal (whole.done + 1) [] whole (parts_on store)
     one_silent none =
         let nothing : IsNextRun wal.workload parts.done None store = subst (λ (o : Option (List Message)). IsNextRun wal.workload parts.done o store) none next in
-        subst (λ (s : Demo D). Ran seen may_leave wal (s.done + 1) [] s (parts_on store)) is (ran_silent seen may_leave wal parts runs left_parts store nothing)
+        subst (λ (s : Demo D). Ran model wal (s.done + 1) [] s (parts_on store)) is (ran_silent model wal parts runs left_parts store nothing)
 
     module _ (messages : List Message) (some : committed ≡ Some messages) (fits : FitsWalEntry (Commits (parts.done + 1) messages)) (small : count_of parts.journal < 2 ^ 40) (new : Demo D) where
       commits : IsNextRun wal.workload parts.done (Some messages) store
       commits = subst (λ (o : Option (List Message)). IsNextRun wal.workload parts.done o store) some next
 
       -- its commit was appended, or was being appended
-      pub one_logged : IsLogged seen may_leave messages (parts_on store) new → IsRunOf (parts_on store) new → (new.done ≡ parts.done + 1) × (new.store ≡ store) → Ran seen may_leave wal (whole.done + 1) [] whole new
+      pub one_logged : IsLogged model messages (parts_on store) new → IsRunOf (parts_on store) new → (new.done ≡ parts.done + 1) × (new.store ≡ store) → Ran model wal (whole.done + 1) [] whole new
       one_logged logged same stays =
-          subst (λ (s : Demo D). Ran seen may_leave wal (s.done + 1) [] s new) is (ran_logged seen may_leave wal parts runs left_parts store messages commits fits small new logged same stays)
+          subst (λ (s : Demo D). Ran model wal (s.done + 1) [] s new) is (ran_logged model wal parts runs left_parts store messages commits fits small new logged same stays)
 
-      pub one_left : LeavesLogged seen may_leave messages (parts_on store) new → LeavesRun may_leave wal (whole.done + 1) [] whole new
-      one_left leaves = subst (λ (s : Demo D). LeavesRun may_leave wal (s.done + 1) [] s new) is (left_logged seen may_leave wal parts runs left_parts store messages commits fits small new leaves)
+      pub one_left : LeavesLogged model messages (parts_on store) new → LeavesRun model wal (whole.done + 1) [] whole new
+      one_left leaves = subst (λ (s : Demo D). LeavesRun model wal (s.done + 1) [] s new) is (left_logged model wal parts runs left_parts store messages commits fits small new leaves)

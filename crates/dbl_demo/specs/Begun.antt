@@ -1,4 +1,4 @@
--- For private clauses: the begin of a log.
+-- The beginning of a log; clauses of public functions cite only `first_room`.
 use Rattle.std.specs.Prelude.{◌≡◌, ◌⊎◌, ℕ, ◌^◌, Bool, true, false, List, [], ◌∷◌}
 use Rattle.dbl_demo_workload.specs.declared.error.DemoError.{DemoError}
 use Rattle.dbl_demo_workload.specs.declared.error.DemoError.TheVariants as demo

@@ -16,7 +16,7 @@ use dbl_base::{Bytes, Lsn};
 use dbl_disk::Disk;
 use dbl_model_table::{RawTable, TableName};
 use dbl_source::SourceError;
-use dbl_source_log::{LogTable, Place, lsn_of};
+use dbl_source_log::{LogTable, ReaderPosition, lsn_of};
 use dbl_source_model::Started;
 
 fn place_named(tables: &[LogTable], name: &TableName) -> Option<usize>
@@ -59,7 +59,7 @@ impl<D: Disk> DemoSource<D> {
         name: &TableName,
     ) -> Result<Option<RawTable>, SourceError>
         requires { IsTrue self.old.live }
-        ensures { RunsStepsAndWrites D.seen D.may_leave D.faults (next_end self.old) []
+        ensures { RunsStepsAndWrites D.Disk (next_end self.old) []
             (AnswersEntry name.now self.old) self.old self.new result }
     {
         self.live = false;
@@ -72,12 +72,12 @@ impl<D: Disk> DemoSource<D> {
     /// The position of the last commit after the group.
     pub(crate) fn answer_head(&mut self) -> Result<Lsn, SourceError>
         requires { IsTrue self.old.live }
-        ensures { RunsStepsAndWrites D.seen D.may_leave D.faults (next_end self.old) []
+        ensures { RunsStepsAndWrites D.Disk (next_end self.old) []
             (AnswersHead self.old) self.old self.new result }
     {
         self.live = false;
         self.run_to_tick()?;
-        // A journal has fewer than 2^40 entries, and its log has no more commits.
+        // For the prover alone: a journal has fewer than 2^40 entries, and its log no more commits.
         let _entries = self.journal.count();
         self.live = true;
         Ok(lsn_of(self.commits.len() as u64))
@@ -101,7 +101,7 @@ impl<D: Disk> DemoSource<D> {
     /// Starts a reader. The log is gone if and only if the LSN is below the confirmed position.
     pub(crate) fn answer_start(&mut self, after: Lsn) -> Result<Started, SourceError>
         requires { IsTrue self.old.live }
-        ensures { RunsStepsAndWrites D.seen D.may_leave D.faults (next_end self.old) []
+        ensures { RunsStepsAndWrites D.Disk (next_end self.old) []
             (AnswersStart after self.old) self.old self.new result }
     {
         self.live = false;
@@ -114,7 +114,7 @@ impl<D: Disk> DemoSource<D> {
                 first: self.confirmed,
             });
         }
-        self.place = Some(Place {
+        self.place = Some(ReaderPosition {
             after,
             commits: 0,
             begun: false,
@@ -127,7 +127,7 @@ impl<D: Disk> DemoSource<D> {
     /// The next message, after running groups until there is one or no step is left.
     pub(crate) fn answer_read(&mut self) -> Result<Option<Bytes>, SourceError>
         requires { IsTrue self.old.live }
-        ensures { AddsRead D.seen D.may_leave D.faults self.old self.new result }
+        ensures { AddsRead D.Disk self.old self.new result }
     {
         self.live = false;
         self.run_to_unread_commit()?;

@@ -27,19 +27,19 @@ fn source_error(error: JournalError) -> SourceError
 pub(crate) fn append<D: Disk>(journal: &mut Journal<D>, entry: Vec<u8>) -> Result<(), SourceError>
     requires live { IsTrue journal.old.live }
     requires room { 4 ≤ length entry.items }
-    ensures added { (forms : List (List ℕ)) → Lists D.seen D.may_leave journal.old forms
-        → OnOk result (Lists D.seen D.may_leave journal.new (forms ++ drop 4 entry.items ∷ [])) }
-    ensures left { (forms : List (List ℕ)) → Lists D.seen D.may_leave journal.old forms
-        → LeavesEntries D.may_leave journal.new.disk
+    ensures added { (forms : List (List ℕ)) → Lists D.Disk journal.old forms
+        → OnOk result (Lists D.Disk journal.new (forms ++ drop 4 entry.items ∷ [])) }
+    ensures left { (forms : List (List ℕ)) → Lists D.Disk journal.old forms
+        → LeavesEntries D.Disk journal.new.disk
         (λ left. (left ≡ forms) ⊎ (left ≡ forms ++ drop 4 entry.items ∷ [])) }
     // If memory runs out nothing is appended.
-    ensures kept { (forms : List (List ℕ)) → Lists D.seen D.may_leave journal.old forms
-        → result ≡ Err SourceError.Memory → Lists D.seen D.may_leave journal.new forms }
+    ensures kept { (forms : List (List ℕ)) → Lists D.Disk journal.old forms
+        → result ≡ Err SourceError.Memory → Lists D.Disk journal.new forms }
     // A journal that failed can't be used any more; if memory ran out it is unchanged.
     ensures stays { OnErr result (IsTrue journal.new.live → journal.new ≡ journal.old) }
     ensures live { OnOk result (IsTrue journal.new.live) }
     ensures count { OnOk result (count_of journal.new ≡ count_of journal.old + 1) }
-    ensures comes { ExtendsJournal D.seen D.may_leave journal.old journal.new }
+    ensures comes { ExtendsJournal D.Disk journal.old journal.new }
     ensures cause { FailsOnlyIfCounted (result ≡ Err SourceError.Failed)
         (D.faults journal.old.disk) (D.faults journal.new.disk) }
 {
@@ -57,12 +57,12 @@ pub(crate) fn entry<D: Disk>(
 ) -> Result<Bytes, SourceError>
     requires live { IsTrue journal.old.live }
     requires within { number < count_of journal.old }
-    ensures found { (forms : List (List ℕ)) → Lists D.seen D.may_leave journal.old forms
+    ensures found { (forms : List (List ℕ)) → Lists D.Disk journal.old forms
         → IfOk result (λ bytes. slice_get forms number ≡ Some bytes) }
-    ensures lists { (forms : List (List ℕ)) → Lists D.seen D.may_leave journal.old forms
-        → Lists D.seen D.may_leave journal.new forms }
+    ensures lists { (forms : List (List ℕ)) → Lists D.Disk journal.old forms
+        → Lists D.Disk journal.new forms }
     ensures same { journal.new ≡ record journal.old { disk = journal.new.disk } }
-    ensures comes { ExtendsJournal D.seen D.may_leave journal.old journal.new }
+    ensures comes { ExtendsJournal D.Disk journal.old journal.new }
     ensures crash { (crashed : List ℕ) → D.may_leave journal.new.disk crashed
         → D.may_leave journal.old.disk crashed }
     ensures cause { FailsOnlyIfCounted (result ≡ Err SourceError.Failed)

@@ -34,14 +34,14 @@ impl<D: Disk> Source for DemoSource<D> {
     ghost use Rattle.dbl_demo_laws.specs.Demo.{ExtendsDemo, HasDemoState};
     ghost use Rattle.dbl_demo_laws.specs.SourceLaws.{lives_so, one_standing, only_left, may_leave_so, reads_so, rising_so, fit_so, right_so};
 
-    ghost stands = { λ source s. HasDemoState D.seen D.may_leave source s };
+    ghost stands = { λ source s. HasDemoState D.Disk source s };
 
     // Every workload is a conforming source.
     ghost honest = { λ source. Unit {0} };
 
-    ghost may_leave = { λ source l. MayLeaveWal D.may_leave source.journal.disk l };
+    ghost may_leave = { λ source l. MayLeaveWal D.Disk source.journal.disk l };
 
-    ghost comes_of = { λ old new. ExtendsDemo D.seen D.may_leave old new };
+    ghost comes_of = { λ old new. ExtendsDemo D.Disk old new };
 
     ghost told = { λ source. None };
 
@@ -53,21 +53,21 @@ impl<D: Disk> Source for DemoSource<D> {
 
     ghost faults = { λ source. D.faults source.journal.disk };
 
-    ghost lives = { λ source s a. lives_so D.seen D.may_leave source s a };
+    ghost lives = { λ source s a. lives_so _ source s a };
 
-    ghost one = { λ source s t a b. one_standing D.seen D.may_leave source s t a b };
+    ghost one = { λ source s t a b. one_standing _ source s t a b };
 
-    ghost only = { λ source s l a may. only_left D.seen D.may_leave source s l a may };
+    ghost only = { λ source s l a may. only_left _ source s l a may };
 
-    ghost may = { λ source s a. may_leave_so D.seen D.may_leave D.seen_may_be_left source s a };
+    ghost may = { λ source s a. may_leave_so _ D.seen_may_be_left source s a };
 
-    ghost reads = { λ source s a. reads_so D.seen D.may_leave source s a };
+    ghost reads = { λ source s a. reads_so _ source s a };
 
-    ghost rising = { λ source s a. rising_so D.seen D.may_leave source s a };
+    ghost rising = { λ source s a. rising_so _ source s a };
 
-    ghost fit = { λ source l may honest. fit_so D.may_leave source.journal.disk l may };
+    ghost fit = { λ source l may honest. fit_so _ source.journal.disk l may };
 
-    ghost right = { λ source s r a honest is. right_so D.seen D.may_leave source s r a is };
+    ghost right = { λ source s r a honest is. right_so _ source s r a is };
 
     ghost comes_self = { λ source script gate most kept. kept };
 
@@ -80,15 +80,13 @@ impl<D: Disk> Source for DemoSource<D> {
 
     fn describe(&mut self, name: &TableName) -> Result<Option<RawTable>, SourceError>
         requires { IsTrue self.old.live }
-        ensures described { MovesTo (HasDemoState D.seen D.may_leave) self.old self.new result
+        ensures described { MovesTo (HasDemoState D.Disk) self.old self.new result
             (IsDescribed name.now) }
         ensures named { IfOk result (λ entry. IfSome entry (λ raw. raw.name ≡ name.now)) }
-        ensures left { Leaves (HasDemoState D.seen D.may_leave)
-            (λ source l. MayLeaveWal D.may_leave source.journal.disk l)
-            self.old self.new MayFollow }
-        ensures some { LeavesSome (HasDemoState D.seen D.may_leave)
-            (λ source l. MayLeaveWal D.may_leave source.journal.disk l)
-            self.old self.new }
+        ensures left { Leaves (HasDemoState D.Disk)
+            (λ source l. MayLeaveWal D.Disk source.journal.disk l) self.old self.new MayFollow }
+        ensures some { LeavesSome (HasDemoState D.Disk)
+            (λ source l. MayLeaveWal D.Disk source.journal.disk l) self.old self.new }
         ensures told { IfOk result (λ entry. LastAnswerIs None (Described entry)) }
         ensures taken { IsTakenBy [] None None }
         ensures reading { is_some self.new.place ≡ is_some self.old.place }
@@ -96,27 +94,24 @@ impl<D: Disk> Source for DemoSource<D> {
         ensures live { OnOk result (IsTrue self.new.live) }
         ensures dead { OnErr result (self.new.live ≡ false) }
         ensures honest { Unit {0} → Unit {0} }
-        ensures comes { ExtendsDemo D.seen D.may_leave self.old self.new }
+        ensures comes { ExtendsDemo D.Disk self.old self.new }
         ensures cause { FailsOnlyIfCounted (result ≡ Err Failed)
             (D.faults self.old.journal.disk) (D.faults self.new.journal.disk) }
         ensures group { OnOk result (self.new.done ≡ next_end self.old) }
-        ensures released { OnOk result (ReleasesSteps D.seen D.may_leave
+        ensures released { OnOk result (ReleasesSteps D.Disk
             (next_end self.old) [] self.old self.new) }
-        ensures first { LeavesFirst D.seen D.may_leave
-            (next_end self.old) [] self.old self.new }
+        ensures first { LeavesFirst D.Disk (next_end self.old) [] self.old self.new }
     {
         self.answer_describe(name)
     }
 
     fn head(&mut self) -> Result<Lsn, SourceError>
         requires { IsTrue self.old.live }
-        ensures headed { MovesTo (HasDemoState D.seen D.may_leave) self.old self.new result IsHeaded }
-        ensures left { Leaves (HasDemoState D.seen D.may_leave)
-            (λ source l. MayLeaveWal D.may_leave source.journal.disk l)
-            self.old self.new MayFollow }
-        ensures some { LeavesSome (HasDemoState D.seen D.may_leave)
-            (λ source l. MayLeaveWal D.may_leave source.journal.disk l)
-            self.old self.new }
+        ensures headed { MovesTo (HasDemoState D.Disk) self.old self.new result IsHeaded }
+        ensures left { Leaves (HasDemoState D.Disk)
+            (λ source l. MayLeaveWal D.Disk source.journal.disk l) self.old self.new MayFollow }
+        ensures some { LeavesSome (HasDemoState D.Disk)
+            (λ source l. MayLeaveWal D.Disk source.journal.disk l) self.old self.new }
         ensures told { IfOk result (λ lsn. LastAnswerIs None (Head lsn)) }
         ensures taken { IsTakenBy [] None None }
         ensures reading { is_some self.new.place ≡ is_some self.old.place }
@@ -124,31 +119,27 @@ impl<D: Disk> Source for DemoSource<D> {
         ensures live { OnOk result (IsTrue self.new.live) }
         ensures dead { OnErr result (self.new.live ≡ false) }
         ensures honest { Unit {0} → Unit {0} }
-        ensures comes { ExtendsDemo D.seen D.may_leave self.old self.new }
+        ensures comes { ExtendsDemo D.Disk self.old self.new }
         ensures cause { FailsOnlyIfCounted (result ≡ Err Failed)
             (D.faults self.old.journal.disk) (D.faults self.new.journal.disk) }
         ensures last { IfOk result (λ lsn. lsn ≡ lsn_of (length self.new.commits)) }
         ensures group { OnOk result (self.new.done ≡ next_end self.old) }
-        ensures released { OnOk result (ReleasesSteps D.seen D.may_leave
+        ensures released { OnOk result (ReleasesSteps D.Disk
             (next_end self.old) [] self.old self.new) }
-        ensures first { LeavesFirst D.seen D.may_leave
-            (next_end self.old) [] self.old self.new }
+        ensures first { LeavesFirst D.Disk (next_end self.old) [] self.old self.new }
     {
         self.answer_head()
     }
 
     fn start(&mut self, after: Lsn) -> Result<Started, SourceError>
         requires { IsTrue self.old.live }
-        ensures started { MovesTo (HasDemoState D.seen D.may_leave) self.old self.new result
-            (Starts after) }
+        ensures started { MovesTo (HasDemoState D.Disk) self.old self.new result (Starts after) }
         ensures gone { IfOk result (λ started.
             started ≡ start_answer after self.old.confirmed) }
-        ensures left { Leaves (HasDemoState D.seen D.may_leave)
-            (λ source l. MayLeaveWal D.may_leave source.journal.disk l)
-            self.old self.new MayFollow }
-        ensures some { LeavesSome (HasDemoState D.seen D.may_leave)
-            (λ source l. MayLeaveWal D.may_leave source.journal.disk l)
-            self.old self.new }
+        ensures left { Leaves (HasDemoState D.Disk)
+            (λ source l. MayLeaveWal D.Disk source.journal.disk l) self.old self.new MayFollow }
+        ensures some { LeavesSome (HasDemoState D.Disk)
+            (λ source l. MayLeaveWal D.Disk source.journal.disk l) self.old self.new }
         ensures told { IfOk result (λ started. LastAnswerIs None (Began started)) }
         ensures taken { OnOk result (IsTakenAnew None None) }
         ensures untaken { OnErr result (IsTakenBy [] None None) }
@@ -159,14 +150,13 @@ impl<D: Disk> Source for DemoSource<D> {
         ensures live { OnOk result (IsTrue self.new.live) }
         ensures dead { OnErr result (self.new.live ≡ false) }
         ensures honest { Unit {0} → Unit {0} }
-        ensures comes { ExtendsDemo D.seen D.may_leave self.old self.new }
+        ensures comes { ExtendsDemo D.Disk self.old self.new }
         ensures cause { FailsOnlyIfCounted (result ≡ Err Failed)
             (D.faults self.old.journal.disk) (D.faults self.new.journal.disk) }
         ensures group { OnOk result (self.new.done ≡ next_end self.old) }
-        ensures released { OnOk result (ReleasesSteps D.seen D.may_leave
+        ensures released { OnOk result (ReleasesSteps D.Disk
             (next_end self.old) [] self.old self.new) }
-        ensures first { LeavesFirst D.seen D.may_leave
-            (next_end self.old) [] self.old self.new }
+        ensures first { LeavesFirst D.Disk (next_end self.old) [] self.old self.new }
     {
         self.answer_start(after)
     }
@@ -174,18 +164,16 @@ impl<D: Disk> Source for DemoSource<D> {
     fn read(&mut self) -> Result<Option<Bytes>, SourceError>
         requires live { IsTrue self.old.live }
         requires reading { IsTrue (is_some self.old.place) }
-        ensures took { (s : SourceState) → HasDemoState D.seen D.may_leave self.old s
+        ensures took { (s : SourceState) → HasDemoState D.Disk self.old s
             → IfOk result (λ read. MatchOption read
-            (HasState (HasDemoState D.seen D.may_leave) self.new
+            (HasState (HasDemoState D.Disk) self.new
             (λ t. Moved s t × (Unit {0} → HasReadAll s t)))
             (λ bytes. (m : Message) × Spells bytes m
-            × HasState (HasDemoState D.seen D.may_leave) self.new (HasReadOneMore m s))) }
-        ensures left { Leaves (HasDemoState D.seen D.may_leave)
-            (λ source l. MayLeaveWal D.may_leave source.journal.disk l)
-            self.old self.new MayFollow }
-        ensures some { LeavesSome (HasDemoState D.seen D.may_leave)
-            (λ source l. MayLeaveWal D.may_leave source.journal.disk l)
-            self.old self.new }
+            × HasState (HasDemoState D.Disk) self.new (HasReadOneMore m s))) }
+        ensures left { Leaves (HasDemoState D.Disk)
+            (λ source l. MayLeaveWal D.Disk source.journal.disk l) self.old self.new MayFollow }
+        ensures some { LeavesSome (HasDemoState D.Disk)
+            (λ source l. MayLeaveWal D.Disk source.journal.disk l) self.old self.new }
         ensures told { IfOk result (λ read. LastAnswerIs None (Read read)) }
         ensures taken { IfOk result (λ read. MatchOption read (IsTakenBy [] None None)
             (λ bytes. IsTakenBy (bytes ∷ []) None None)) }
@@ -196,15 +184,14 @@ impl<D: Disk> Source for DemoSource<D> {
         ensures live { OnOk result (IsTrue self.new.live) }
         ensures dead { OnErr result (self.new.live ≡ false) }
         ensures honest { Unit {0} → Unit {0} }
-        ensures comes { ExtendsDemo D.seen D.may_leave self.old self.new }
+        ensures comes { ExtendsDemo D.Disk self.old self.new }
         ensures cause { FailsOnlyIfCounted (result ≡ Err Failed)
             (D.faults self.old.journal.disk) (D.faults self.new.journal.disk) }
-        ensures released { OnOk result (ReadsOnTo D.seen D.may_leave
-            self.old self.new) }
-        ensures first { LeavesRead D.seen D.may_leave self.old self.new }
+        ensures released { OnOk result (ReadsOnTo D.Disk self.old self.new) }
+        ensures first { LeavesRead D.Disk self.old self.new }
         // None means that no step is left, and no commit to be read.
         ensures end { IfOk result (λ read. read ≡ None → (wal : Wal)
-            → IsDemo D.seen D.may_leave wal self.old → HasReadWhole
+            → IsDemo D.Disk wal self.old → HasReadWhole
             (with_entries wal (added_by wal self.old.done self.new.done [])) self.new) }
         ensures all { IfOk result (λ read. read ≡ None
             → self.new.done ≡ length self.new.steps) }
@@ -221,18 +208,16 @@ impl<D: Disk> Source for DemoSource<D> {
     ) -> Result<Vec<RawRow>, SourceError>
         requires live { IsTrue self.old.live }
         requires positive { 1 ≤ limit }
-        ensures selected { MovesTo (HasDemoState D.seen D.may_leave) self.old self.new result (λ rows.
+        ensures selected { MovesTo (HasDemoState D.Disk) self.old self.new result (λ rows.
             IsSelectAnswer (Unit {0}) table.now (option_copied above.entry) limit rows.items) }
-        ensures shown { (wal : Wal) → IsDemo D.seen D.may_leave wal self.old
+        ensures shown { (wal : Wal) → IsDemo D.Disk wal self.old
             → IfOk result (λ rows. AreRowsShown wal.workload.tables
             (acts_at wal.workload (next_end self.old)) table.now
             (option_copied above.entry) limit rows.items) }
-        ensures left { Leaves (HasDemoState D.seen D.may_leave)
-            (λ source l. MayLeaveWal D.may_leave source.journal.disk l)
-            self.old self.new MayFollow }
-        ensures some { LeavesSome (HasDemoState D.seen D.may_leave)
-            (λ source l. MayLeaveWal D.may_leave source.journal.disk l)
-            self.old self.new }
+        ensures left { Leaves (HasDemoState D.Disk)
+            (λ source l. MayLeaveWal D.Disk source.journal.disk l) self.old self.new MayFollow }
+        ensures some { LeavesSome (HasDemoState D.Disk)
+            (λ source l. MayLeaveWal D.Disk source.journal.disk l) self.old self.new }
         ensures told { IfOk result (λ rows. LastAnswerIs None (Selected rows.items)) }
         ensures taken { IsTakenBy [] None None }
         ensures reading { is_some self.new.place ≡ is_some self.old.place }
@@ -240,14 +225,13 @@ impl<D: Disk> Source for DemoSource<D> {
         ensures live { OnOk result (IsTrue self.new.live) }
         ensures dead { OnErr result (self.new.live ≡ false) }
         ensures honest { Unit {0} → Unit {0} }
-        ensures comes { ExtendsDemo D.seen D.may_leave self.old self.new }
+        ensures comes { ExtendsDemo D.Disk self.old self.new }
         ensures cause { FailsOnlyIfCounted (result ≡ Err Failed)
             (D.faults self.old.journal.disk) (D.faults self.new.journal.disk) }
         ensures group { OnOk result (self.new.done ≡ second_end self.old) }
-        ensures released { OnOk result (ReleasesSteps D.seen D.may_leave
+        ensures released { OnOk result (ReleasesSteps D.Disk
             (second_end self.old) [] self.old self.new) }
-        ensures first { LeavesFirst D.seen D.may_leave
-            (second_end self.old) [] self.old self.new }
+        ensures first { LeavesFirst D.Disk (second_end self.old) [] self.old self.new }
     {
         self.answer_select(table, above, limit)
     }
@@ -255,17 +239,15 @@ impl<D: Disk> Source for DemoSource<D> {
     fn mark(&mut self, value: &Text) -> Result<(), SourceError>
         requires live { IsTrue self.old.live }
         requires short { length value.now ≤ 64 }
-        ensures marked { MovesTo (HasDemoState D.seen D.may_leave) self.old self.new result
+        ensures marked { MovesTo (HasDemoState D.Disk) self.old self.new result
             (λ done. IsMarked value.now) }
-        ensures left { Leaves (HasDemoState D.seen D.may_leave)
-            (λ source l. MayLeaveWal D.may_leave source.journal.disk l)
+        ensures left { Leaves (HasDemoState D.Disk)
+            (λ source l. MayLeaveWal D.Disk source.journal.disk l)
             self.old self.new (MayFollowMark value.now) }
-        ensures some { LeavesSome (HasDemoState D.seen D.may_leave)
-            (λ source l. MayLeaveWal D.may_leave source.journal.disk l)
-            self.old self.new }
-        ensures unmarked { result ≡ Err Memory → Leaves (HasDemoState D.seen D.may_leave)
-            (λ source l. MayLeaveWal D.may_leave source.journal.disk l)
-            self.old self.new MayFollow }
+        ensures some { LeavesSome (HasDemoState D.Disk)
+            (λ source l. MayLeaveWal D.Disk source.journal.disk l) self.old self.new }
+        ensures unmarked { result ≡ Err Memory → Leaves (HasDemoState D.Disk)
+            (λ source l. MayLeaveWal D.Disk source.journal.disk l) self.old self.new MayFollow }
         ensures told { OnOk result (LastAnswerIs None Done) }
         ensures taken { IsTakenBy [] None None }
         ensures reading { is_some self.new.place ≡ is_some self.old.place }
@@ -273,13 +255,13 @@ impl<D: Disk> Source for DemoSource<D> {
         ensures live { OnOk result (IsTrue self.new.live) }
         ensures dead { OnErr result (self.new.live ≡ false) }
         ensures honest { Unit {0} → Unit {0} }
-        ensures comes { ExtendsDemo D.seen D.may_leave self.old self.new }
+        ensures comes { ExtendsDemo D.Disk self.old self.new }
         ensures cause { FailsOnlyIfCounted (result ≡ Err Failed)
             (D.faults self.old.journal.disk) (D.faults self.new.journal.disk) }
         ensures group { OnOk result (self.new.done ≡ next_end self.old) }
-        ensures released { OnOk result (ReleasesSteps D.seen D.may_leave
+        ensures released { OnOk result (ReleasesSteps D.Disk
             (next_end self.old) (mark_entries value.now (next_end self.old)) self.old self.new) }
-        ensures first { LeavesFirst D.seen D.may_leave
+        ensures first { LeavesFirst D.Disk
             (next_end self.old) (mark_entries value.now (next_end self.old)) self.old self.new }
     {
         self.answer_mark(value)
@@ -287,17 +269,15 @@ impl<D: Disk> Source for DemoSource<D> {
 
     fn confirm(&mut self, upto: Lsn) -> Result<(), SourceError>
         requires { IsTrue self.old.live }
-        ensures confirmed { MovesTo (HasDemoState D.seen D.may_leave) self.old self.new result
+        ensures confirmed { MovesTo (HasDemoState D.Disk) self.old self.new result
             (λ done. IsConfirmed upto) }
-        ensures left { Leaves (HasDemoState D.seen D.may_leave)
-            (λ source l. MayLeaveWal D.may_leave source.journal.disk l)
+        ensures left { Leaves (HasDemoState D.Disk)
+            (λ source l. MayLeaveWal D.Disk source.journal.disk l)
             self.old self.new (MayFollowConfirm upto) }
-        ensures some { LeavesSome (HasDemoState D.seen D.may_leave)
-            (λ source l. MayLeaveWal D.may_leave source.journal.disk l)
-            self.old self.new }
-        ensures unconfirmed { result ≡ Err Memory → Leaves (HasDemoState D.seen D.may_leave)
-            (λ source l. MayLeaveWal D.may_leave source.journal.disk l)
-            self.old self.new MayFollow }
+        ensures some { LeavesSome (HasDemoState D.Disk)
+            (λ source l. MayLeaveWal D.Disk source.journal.disk l) self.old self.new }
+        ensures unconfirmed { result ≡ Err Memory → Leaves (HasDemoState D.Disk)
+            (λ source l. MayLeaveWal D.Disk source.journal.disk l) self.old self.new MayFollow }
         ensures told { OnOk result (LastAnswerIs None Done) }
         ensures taken { IsTakenBy [] None None }
         ensures reading { is_some self.new.place ≡ is_some self.old.place }
@@ -305,13 +285,13 @@ impl<D: Disk> Source for DemoSource<D> {
         ensures live { OnOk result (IsTrue self.new.live) }
         ensures dead { OnErr result (self.new.live ≡ false) }
         ensures honest { Unit {0} → Unit {0} }
-        ensures comes { ExtendsDemo D.seen D.may_leave self.old self.new }
+        ensures comes { ExtendsDemo D.Disk self.old self.new }
         ensures cause { FailsOnlyIfCounted (result ≡ Err Failed)
             (D.faults self.old.journal.disk) (D.faults self.new.journal.disk) }
         ensures group { OnOk result (self.new.done ≡ next_end self.old) }
-        ensures released { OnOk result (ReleasesSteps D.seen D.may_leave
+        ensures released { OnOk result (ReleasesSteps D.Disk
             (next_end self.old) (confirm_of self.old.confirmed upto) self.old self.new) }
-        ensures first { LeavesFirst D.seen D.may_leave
+        ensures first { LeavesFirst D.Disk
             (next_end self.old) (confirm_of self.old.confirmed upto) self.old self.new }
     {
         self.answer_confirm(upto)

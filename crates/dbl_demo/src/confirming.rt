@@ -21,14 +21,13 @@ impl<D: Disk> DemoSource<D> {
         requires live { IsTrue self.old.journal.live }
         requires dead { self.old.live ≡ false }
         requires room { 4 ≤ length entry.items }
-        ensures added { (forms : List (List ℕ)) → Lists D.seen D.may_leave self.old.journal forms
-            → OnOk result (Lists D.seen D.may_leave self.new.journal
-            (forms ++ drop 4 entry.items ∷ [])) }
-        ensures left { (forms : List (List ℕ)) → Lists D.seen D.may_leave self.old.journal forms
-            → LeavesEntries D.may_leave self.new.journal.disk
+        ensures added { (forms : List (List ℕ)) → Lists D.Disk self.old.journal forms
+            → OnOk result (Lists D.Disk self.new.journal (forms ++ drop 4 entry.items ∷ [])) }
+        ensures left { (forms : List (List ℕ)) → Lists D.Disk self.old.journal forms
+            → LeavesEntries D.Disk self.new.journal.disk
             (λ left. (left ≡ forms) ⊎ (left ≡ forms ++ drop 4 entry.items ∷ [])) }
-        ensures kept { (forms : List (List ℕ)) → Lists D.seen D.may_leave self.old.journal forms
-            → result ≡ Err SourceError.Memory → Lists D.seen D.may_leave self.new.journal forms }
+        ensures kept { (forms : List (List ℕ)) → Lists D.Disk self.old.journal forms
+            → result ≡ Err SourceError.Memory → Lists D.Disk self.new.journal forms }
         ensures small { count_of self.old.journal < disk_limit }
         ensures confirmed { OnOk result (self.new.confirmed ≡ upto) }
         ensures same { self.new ≡ record self.old {
@@ -36,10 +35,11 @@ impl<D: Disk> DemoSource<D> {
           confirmed = self.new.confirmed;
         } }
         ensures live { OnOk result (IsTrue self.new.journal.live) }
-        ensures comes { ExtendsJournal D.seen D.may_leave self.old.journal self.new.journal }
+        ensures comes { ExtendsJournal D.Disk self.old.journal self.new.journal }
         ensures cause { FailsOnlyIfCounted (result ≡ Err SourceError.Failed)
             (D.faults self.old.journal.disk) (D.faults self.new.journal.disk) }
     {
+        // For the prover alone: a journal has fewer than 2^40 entries.
         let _entries = self.journal.count();
         append(&mut self.journal, entry)?;
         self.confirmed = upto;
@@ -49,11 +49,11 @@ impl<D: Disk> DemoSource<D> {
     /// Confirms a position. One that doesn't rise isn't appended.
     pub(crate) fn answer_confirm(&mut self, upto: Lsn) -> Result<(), SourceError>
         requires { IsTrue self.old.live }
-        ensures added { RunsStepsAndWrites D.seen D.may_leave D.faults
+        ensures added { RunsStepsAndWrites D.Disk
             (next_end self.old) (confirm_of self.old.confirmed upto)
             (AnswersNothing self.old) self.old self.new result }
         ensures starved { result ≡ Err SourceError.Memory
-            → LeavesFirst D.seen D.may_leave (next_end self.old) [] self.old self.new }
+            → LeavesFirst D.Disk (next_end self.old) [] self.old self.new }
     {
         self.live = false;
         self.run_to_tick()?;

@@ -47,8 +47,7 @@ fn begin_log<D: Disk>(
     requires empty { count_of journal.old ≡ 0 }
     requires short { length bytes.now < entry_limit }
     requires fits { IfSome prepared.now.rows FitAnEntry }
-    ensures begun { Lists D.seen D.may_leave journal.old []
-        → OnOk result (Lists D.seen D.may_leave journal.new
+    ensures begun { Lists D.Disk journal.old [] → OnOk result (Lists D.Disk journal.new
         (first_forms bytes.now prepared.now.rows)) }
     ensures live { OnOk result (IsTrue journal.new.live) }
     ensures count { OnOk result (count_of journal.new
@@ -56,12 +55,12 @@ fn begin_log<D: Disk>(
     ensures kinds { IfErr result IsBeginFault }
     ensures cause { FailsOnlyIfCounted (result ≡ Err (DemoError.Journal JournalError.Failed))
         (D.faults journal.old.disk) (D.faults journal.new.disk) }
-    ensures grows { (old new : List ℕ) → Lists D.seen D.may_leave journal.old []
+    ensures grows { (old new : List ℕ) → Lists D.Disk journal.old []
         → D.seen journal.old.disk ≡ Some old → D.seen journal.new.disk ≡ Some new
         → length new ≤ max (length old)
         (size (first_forms bytes.now prepared.now.rows)) }
     ensures steady { result ≢ Err (DemoError.Journal JournalError.Failed)
-        → IsSteady D.seen D.faults journal.old.disk journal.new.disk }
+        → IsSteady D.Disk journal.old.disk journal.new.disk }
 {
     journal.append_built(workload_entry(alloc, bytes)?)?;
     match &prepared.rows {
@@ -84,15 +83,14 @@ pub(crate) fn make_log<D: Disk>(
     requires short { length bytes.now < entry_limit }
     requires fits { IfSome prepared.now.rows FitAnEntry }
     ensures begun { D.seen disk ≡ Some [] → IfOk result (λ journal.
-        Lists D.seen D.may_leave journal (first_forms bytes.now prepared.now.rows)) }
+        Lists D.Disk journal (first_forms bytes.now prepared.now.rows)) }
     ensures live { IfOk result (λ journal. IsTrue journal.live) }
     ensures count { IfOk result (λ journal. count_of journal
         ≡ length (first_forms bytes.now prepared.now.rows)) }
     ensures kinds { IfErr result (λ refused. IsBeginFault refused.error) }
     ensures disk { MatchResult result
-        (λ journal. Makes D.seen D.faults first_room ⊥ disk journal.disk)
-        (λ refused. Makes D.seen D.faults first_room
-        (IsFailed refused.error) disk refused.disk) }
+        (λ journal. Makes D.Disk first_room ⊥ disk journal.disk)
+        (λ refused. Makes D.Disk first_room (IsFailed refused.error) disk refused.disk) }
 {
     let mut journal = match Journal::make(alloc, disk) {
         Ok(journal) => journal,
@@ -125,9 +123,8 @@ pub(crate) fn first_source<D: Disk>(
         × (count_of journal ≡ length (first_forms script prepared.rows)) }
     requires numbers { commits.items ≡ numbers_of (is_some prepared.rows) }
     ensures made { (script : List ℕ) (w : Workload) → IsWorkload script w → IsReady w prepared
-        → Lists D.seen D.may_leave journal (first_forms script prepared.rows)
-        → (wal : Wal) × IsDemo D.seen D.may_leave wal result
-        × IsFirstWal script wal × (result.done ≡ 0) }
+        → Lists D.Disk journal (first_forms script prepared.rows)
+        → (wal : Wal) × IsDemo D.Disk wal result × IsFirstWal script wal × (result.done ≡ 0) }
     ensures unread { result.place ≡ None }
     ensures live { IsTrue result.live }
     ensures names { result.names ≡ prepared.names.items }

@@ -22,14 +22,13 @@ impl<D: Disk> DemoSource<D> {
         requires live { IsTrue self.old.journal.live }
         requires dead { self.old.live ≡ false }
         requires room { 4 ≤ length entry.items }
-        ensures added { (forms : List (List ℕ)) → Lists D.seen D.may_leave self.old.journal forms
-            → OnOk result (Lists D.seen D.may_leave self.new.journal
-            (forms ++ drop 4 entry.items ∷ [])) }
-        ensures left { (forms : List (List ℕ)) → Lists D.seen D.may_leave self.old.journal forms
-            → LeavesEntries D.may_leave self.new.journal.disk
+        ensures added { (forms : List (List ℕ)) → Lists D.Disk self.old.journal forms
+            → OnOk result (Lists D.Disk self.new.journal (forms ++ drop 4 entry.items ∷ [])) }
+        ensures left { (forms : List (List ℕ)) → Lists D.Disk self.old.journal forms
+            → LeavesEntries D.Disk self.new.journal.disk
             (λ left. (left ≡ forms) ⊎ (left ≡ forms ++ drop 4 entry.items ∷ [])) }
-        ensures kept { (forms : List (List ℕ)) → Lists D.seen D.may_leave self.old.journal forms
-            → result ≡ Err SourceError.Memory → Lists D.seen D.may_leave self.new.journal forms }
+        ensures kept { (forms : List (List ℕ)) → Lists D.Disk self.old.journal forms
+            → result ≡ Err SourceError.Memory → Lists D.Disk self.new.journal forms }
         ensures small { count_of self.old.journal < disk_limit }
         ensures commits { OnOk result
             (self.new.commits ≡ self.old.commits ++ count_of self.old.journal ∷ []) }
@@ -38,7 +37,7 @@ impl<D: Disk> DemoSource<D> {
           commits = self.new.commits;
         } }
         ensures live { OnOk result (IsTrue self.new.journal.live) }
-        ensures comes { ExtendsJournal D.seen D.may_leave self.old.journal self.new.journal }
+        ensures comes { ExtendsJournal D.Disk self.old.journal self.new.journal }
         ensures cause { FailsOnlyIfCounted (result ≡ Err SourceError.Failed)
             (D.faults self.old.journal.disk) (D.faults self.new.journal.disk) }
     {
@@ -55,11 +54,11 @@ impl<D: Disk> DemoSource<D> {
     pub(crate) fn answer_mark(&mut self, value: &Text) -> Result<(), SourceError>
         requires live { IsTrue self.old.live }
         requires short { length value.now ≤ 64 }
-        ensures added { RunsStepsAndWrites D.seen D.may_leave D.faults
+        ensures added { RunsStepsAndWrites D.Disk
             (next_end self.old) (mark_entries value.now (next_end self.old))
             (AnswersNothing self.old) self.old self.new result }
         ensures starved { result ≡ Err SourceError.Memory
-            → LeavesFirst D.seen D.may_leave (next_end self.old) [] self.old self.new }
+            → LeavesFirst D.Disk (next_end self.old) [] self.old self.new }
     {
         self.live = false;
         self.run_to_tick()?;

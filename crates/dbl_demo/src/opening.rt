@@ -22,22 +22,21 @@ pub(crate) fn open_journal<D: Disk>(
     mut journal: Journal<D>,
 ) -> Result<DemoSource<D>, Refused<D, DemoError>>
     requires { IsTrue journal.live }
-    ensures opened { (forms : List (List ℕ)) → Lists D.seen D.may_leave journal forms
+    ensures opened { (forms : List (List ℕ)) → Lists D.Disk journal forms
         → IfOk result (λ source. (wal : Wal) × (forms ≡ forms_of wal)
-        × IsDemo D.seen D.may_leave wal source × (source.done ≡ steps_in wal.entries)) }
+        × IsDemo D.Disk wal source × (source.done ≡ steps_in wal.entries)) }
     ensures named { IfOk result (λ source. AreTableNames source.names) }
     ensures unread { IfOk result (λ source. source.place ≡ None) }
     ensures live { IfOk result (λ source. IsTrue source.live) }
-    ensures bad { (forms : List (List ℕ)) (index : ℕ) → Lists D.seen D.may_leave journal forms
+    ensures bad { (forms : List (List ℕ)) (index : ℕ) → Lists D.Disk journal forms
         → IfErr result (λ refused.
         refused.error ≡ DemoError.BadEntry index → IsFirstBad forms index) }
     ensures kinds { IfErr result (λ refused.
         (refused.error ≡ DemoError.Memory) ⊎ IsFailed refused.error
         ⊎ (index : ℕ) × (refused.error ≡ DemoError.BadEntry index)) }
     ensures read { MatchResult result
-        (λ source. Keeps D.seen D.may_leave D.faults ⊥ journal.disk source.journal.disk)
-        (λ refused. Keeps D.seen D.may_leave D.faults
-        (IsFailed refused.error) journal.disk refused.disk) }
+        (λ source. Keeps D.Disk ⊥ journal.disk source.journal.disk)
+        (λ refused. Keeps D.Disk (IsFailed refused.error) journal.disk refused.disk) }
 {
     let Checked {
         prepared,

@@ -3,7 +3,7 @@
 ghost use Rattle.std.specs.Prelude.{◌≡◌, ◌⊎◌, ◌<◌, ℕ, List, None, Some, Err, IfOk, IsTrue, slice_get, IfErr};
 ghost use Rattle.std.specs.Prelude.{IsSome, is_some, false, length};
 ghost use Rattle.dbl_base.specs.Streams.{FailsOnlyIfCounted};
-ghost use Rattle.dbl_source_log.specs.declared.place.Place.{Place};
+ghost use Rattle.dbl_source_log.specs.declared.reader_position.ReaderPosition.{ReaderPosition};
 ghost use Rattle.dbl_source_log.specs.Sent.{index_of};
 ghost use Rattle.dbl_journal.specs.Growth.{ExtendsJournal};
 ghost use Rattle.dbl_journal.specs.Stored.{count_of};
@@ -21,7 +21,7 @@ use dbl_base::Bytes;
 use dbl_demo_wal::{Entry, EntryError, decode};
 use dbl_disk::Disk;
 use dbl_source::{SourceError, next_step, remember};
-use dbl_source_log::{Logged, Place, commits_upto};
+use dbl_source_log::{Logged, ReaderPosition, commits_upto};
 use std::alloc::Global;
 
 // 2^40: a journal has fewer entries, and its log no more commits.
@@ -57,10 +57,10 @@ impl<D: Disk> DemoSource<D> {
     fn cache_commit(&mut self, number: u64) -> Result<Option<Bytes>, SourceError>
         requires live { IsTrue self.old.journal.live }
         requires within { number < count_of self.old.journal }
-        ensures held { (wal : Wal) (place : Place) → IsRunning D.seen D.may_leave wal self.old
+        ensures held { (wal : Wal) (place : ReaderPosition) → IsRunning D.Disk wal self.old
             → self.old.place ≡ Some place
             → slice_get self.old.commits (index_of place) ≡ Some number
-            → IfOk result (λ other. (other ≡ None) × IsRunning D.seen D.may_leave wal self.new
+            → IfOk result (λ other. (other ≡ None) × IsRunning D.Disk wal self.new
             × (self.new.held ≡ slice_get (logged_in wal.entries) (index_of place))) }
         ensures some { IfOk result (λ other. other ≡ None → IsSome self.new.held) }
         ensures same { CachesCommit self.old self.new }
@@ -68,7 +68,7 @@ impl<D: Disk> DemoSource<D> {
         ensures count { count_of self.new.journal ≡ count_of self.old.journal }
         ensures crash { (crashed : List ℕ) → D.may_leave self.new.journal.disk crashed
             → D.may_leave self.old.journal.disk crashed }
-        ensures comes { ExtendsJournal D.seen D.may_leave self.old.journal self.new.journal }
+        ensures comes { ExtendsJournal D.Disk self.old.journal self.new.journal }
         ensures cause { FailsOnlyIfCounted (result ≡ Err SourceError.Failed)
             (D.faults self.old.journal.disk) (D.faults self.new.journal.disk) }
     {
@@ -85,13 +85,12 @@ impl<D: Disk> DemoSource<D> {
 
     // The next message of the cached commit, after which the reader is then. Each one can be
     // encoded, so only memory can run out.
-    fn step_on(&mut self, place: Place, index: usize) -> Result<Option<Bytes>, SourceError>
+    fn step_on(&mut self, place: ReaderPosition, index: usize) -> Result<Option<Bytes>, SourceError>
         requires index { index ≡ index_of place }
         requires small { index < disk_limit }
-        ensures read { (wal : Wal) → IsRunning D.seen D.may_leave wal self.old
-            → self.old.place ≡ Some place
+        ensures read { (wal : Wal) → IsRunning D.Disk wal self.old → self.old.place ≡ Some place
             → self.old.held ≡ slice_get (logged_in wal.entries) index → IsSome self.old.held
-            → IfOk result (ReadsNext D.seen D.may_leave wal place self.new) }
+            → IfOk result (ReadsNext D.Disk wal place self.new) }
         ensures some { IsSome self.old.held → IfOk result IsSome }
         ensures reading { IsSome self.old.place → IsSome self.new.place }
         ensures same { self.new ≡ record self.old {
@@ -127,9 +126,9 @@ impl<D: Disk> DemoSource<D> {
     /// The next message of the log, after which the reader is then; none if nothing is left.
     pub(crate) fn next_bytes(&mut self) -> Result<Option<Bytes>, SourceError>
         requires { IsTrue self.old.journal.live }
-        ensures read { (wal : Wal) (place : Place) → IsRunning D.seen D.may_leave wal self.old
+        ensures read { (wal : Wal) (place : ReaderPosition) → IsRunning D.Disk wal self.old
             → self.old.place ≡ Some place
-            → IfOk result (ReadsNext D.seen D.may_leave wal place self.new) }
+            → IfOk result (ReadsNext D.Disk wal place self.new) }
         ensures reading { is_some self.new.place ≡ is_some self.old.place }
         // None is returned only if the reader has read each commit whole.
         ensures none { IfOk result (λ read. read ≡ None
@@ -143,14 +142,14 @@ impl<D: Disk> DemoSource<D> {
         ensures live { self.new.journal.live ≡ self.old.journal.live }
         ensures crash { (crashed : List ℕ) → D.may_leave self.new.journal.disk crashed
             → D.may_leave self.old.journal.disk crashed }
-        ensures comes { ExtendsJournal D.seen D.may_leave self.old.journal self.new.journal }
+        ensures comes { ExtendsJournal D.Disk self.old.journal self.new.journal }
         ensures cause { FailsOnlyIfCounted (result ≡ Err SourceError.Failed)
             (D.faults self.old.journal.disk) (D.faults self.new.journal.disk) }
     {
         let Some(place) = self.place else {
             return Ok(None);
         };
-        // A journal has fewer than 2^40 entries, and its log has no more commits.
+        // For the prover alone: a journal has fewer than 2^40 entries, and its log no more commits.
         let _entries = self.journal.count();
         let index = commits_upto(place.after) + place.commits;
         let Some(number) = self.commits.get(index).copied() else {

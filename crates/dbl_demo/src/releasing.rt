@@ -4,7 +4,7 @@ ghost use Rattle.std.specs.Prelude.{◌≡◌, ◌<◌, ◌≤◌, ◌+◌, Err,
 ghost use Rattle.dbl_base.specs.Streams.{FailsOnlyIfCounted};
 ghost use Rattle.dbl_journal.specs.Growth.{ExtendsJournal};
 ghost use Rattle.dbl_journal.specs.Stored.{count_of};
-ghost use Rattle.dbl_source_log.specs.declared.place.Place.{Place};
+ghost use Rattle.dbl_source_log.specs.declared.reader_position.ReaderPosition.{ReaderPosition};
 ghost use Rattle.dbl_demo_wal.specs.declared.entry.Entry.TheVariants.{Commits};
 ghost use Rattle.dbl_demo_wal.specs.Entries.{FitsWalEntry};
 ghost use Rattle.dbl_script.specs.declared.script.Step.{Step};
@@ -31,14 +31,14 @@ impl<D: Disk> DemoSource<D> {
         requires live { IsTrue self.old.journal.live }
         requires dead { self.old.live ≡ false }
         requires fits { FitAnEntry messages }
-        ensures logged { OnOk result (IsLogged D.seen D.may_leave messages self.old self.new) }
-        ensures left { LeavesLogged D.seen D.may_leave messages self.old self.new }
+        ensures logged { OnOk result (IsLogged D.Disk messages self.old self.new) }
+        ensures left { LeavesLogged D.Disk messages self.old self.new }
         ensures entry { FitsWalEntry (Commits self.old.done messages) }
         ensures small { count_of self.old.journal < disk_limit }
         ensures live { OnOk result (IsTrue self.new.journal.live) }
         ensures same { IsRunOf self.old self.new }
         ensures stays { (self.new.done ≡ self.old.done) × (self.new.store ≡ self.old.store) }
-        ensures comes { ExtendsJournal D.seen D.may_leave self.old.journal self.new.journal }
+        ensures comes { ExtendsJournal D.Disk self.old.journal self.new.journal }
         ensures cause { FailsOnlyIfCounted (result ≡ Err SourceError.Failed)
             (D.faults self.old.journal.disk) (D.faults self.new.journal.disk) }
     {
@@ -54,16 +54,16 @@ impl<D: Disk> DemoSource<D> {
         requires live { IsTrue self.old.journal.live }
         requires dead { self.old.live ≡ false }
         requires left { self.old.done < length self.old.steps }
-        ensures ran { (wal : Wal) → IsRunning D.seen D.may_leave wal self.old
-            → OnOk result (Ran D.seen D.may_leave wal (self.old.done + 1) [] self.old self.new) }
-        ensures crash { (wal : Wal) → IsRunning D.seen D.may_leave wal self.old
-            → LeavesRun D.may_leave wal (self.old.done + 1) [] self.old self.new }
+        ensures ran { (wal : Wal) → IsRunning D.Disk wal self.old
+            → OnOk result (Ran D.Disk wal (self.old.done + 1) [] self.old self.new) }
+        ensures crash { (wal : Wal) → IsRunning D.Disk wal self.old
+            → LeavesRun D.Disk wal (self.old.done + 1) [] self.old self.new }
         ensures ends { IfOk result (λ ends. (step : Step)
             → slice_get self.old.steps self.old.done ≡ Some step → ends ≡ is_tick step) }
         ensures one { OnOk result (self.new.done ≡ self.old.done + 1) }
         ensures live { OnOk result (IsTrue self.new.journal.live) }
         ensures same { IsRunOf self.old self.new }
-        ensures comes { ExtendsJournal D.seen D.may_leave self.old.journal self.new.journal }
+        ensures comes { ExtendsJournal D.Disk self.old.journal self.new.journal }
         ensures cause { FailsOnlyIfCounted (result ≡ Err SourceError.Failed)
             (D.faults self.old.journal.disk) (D.faults self.new.journal.disk) }
     {
@@ -80,14 +80,14 @@ impl<D: Disk> DemoSource<D> {
     pub(crate) fn run_to_tick(&mut self) -> Result<(), SourceError>
         requires live { IsTrue self.old.journal.live }
         requires dead { self.old.live ≡ false }
-        ensures ran { (wal : Wal) → IsRunning D.seen D.may_leave wal self.old
-            → OnOk result (Ran D.seen D.may_leave wal (next_end self.old) [] self.old self.new) }
-        ensures crash { (wal : Wal) → IsRunning D.seen D.may_leave wal self.old
-            → LeavesRun D.may_leave wal (next_end self.old) [] self.old self.new }
+        ensures ran { (wal : Wal) → IsRunning D.Disk wal self.old
+            → OnOk result (Ran D.Disk wal (next_end self.old) [] self.old self.new) }
+        ensures crash { (wal : Wal) → IsRunning D.Disk wal self.old
+            → LeavesRun D.Disk wal (next_end self.old) [] self.old self.new }
         ensures end { OnOk result (self.new.done ≡ next_end self.old) }
         ensures live { OnOk result (IsTrue self.new.journal.live) }
         ensures same { IsRunOf self.old self.new }
-        ensures comes { ExtendsJournal D.seen D.may_leave self.old.journal self.new.journal }
+        ensures comes { ExtendsJournal D.Disk self.old.journal self.new.journal }
         ensures cause { FailsOnlyIfCounted (result ≡ Err SourceError.Failed)
             (D.faults self.old.journal.disk) (D.faults self.new.journal.disk) }
     {
@@ -113,18 +113,18 @@ impl<D: Disk> DemoSource<D> {
     pub(crate) fn run_to_unread_commit(&mut self) -> Result<(), SourceError>
         requires live { IsTrue self.old.journal.live }
         requires dead { self.old.live ≡ false }
-        ensures ran { (wal : Wal) (place : Place) → IsRunning D.seen D.may_leave wal self.old
+        ensures ran { (wal : Wal) (place : ReaderPosition) → IsRunning D.Disk wal self.old
             → self.old.place ≡ Some place
-            → OnOk result (RanOn D.seen D.may_leave wal place self.old self.new) }
-        ensures crash { (wal : Wal) (place : Place) → IsRunning D.seen D.may_leave wal self.old
+            → OnOk result (RanOn D.Disk wal place self.old self.new) }
+        ensures crash { (wal : Wal) (place : ReaderPosition) → IsRunning D.Disk wal self.old
             → self.old.place ≡ Some place
-            → LeavesReadRun D.may_leave wal place self.old self.new }
+            → LeavesReadRun D.Disk wal place self.old self.new }
         ensures end { OnOk result
             ((has_unread self.new.place (length self.new.commits) ≡ true)
             ⊎ (length self.new.steps ≤ self.new.done)) }
         ensures live { OnOk result (IsTrue self.new.journal.live) }
         ensures same { IsRunOf self.old self.new }
-        ensures comes { ExtendsJournal D.seen D.may_leave self.old.journal self.new.journal }
+        ensures comes { ExtendsJournal D.Disk self.old.journal self.new.journal }
         ensures cause { FailsOnlyIfCounted (result ≡ Err SourceError.Failed)
             (D.faults self.old.journal.disk) (D.faults self.new.journal.disk) }
     {

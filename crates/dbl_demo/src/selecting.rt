@@ -45,9 +45,9 @@ impl<D: Disk> DemoSource<D> {
         limit: u32,
     ) -> Result<Vec<RawRow>, SourceError>
         requires { IsTrue self.old.live }
-        ensures added { RunsStepsAndWrites D.seen D.may_leave D.faults (second_end self.old) []
+        ensures added { RunsStepsAndWrites D.Disk (second_end self.old) []
             (λ new rows. IsReaderKept self.old new) self.old self.new result }
-        ensures shown { (wal : Wal) → IsDemo D.seen D.may_leave wal self.old
+        ensures shown { (wal : Wal) → IsDemo D.Disk wal self.old
             → IfOk result (λ rows. AreRowsShown wal.workload.tables
             (acts_at wal.workload (next_end self.old)) table.now
             (option_copied above.entry) limit rows.items) }

@@ -22,7 +22,7 @@ use dbl_disk::{Disk, Refused};
 use dbl_journal::{Journal, JournalError};
 use dbl_model_table::TableName;
 use dbl_script::Step;
-use dbl_source_log::{LogTable, Logged, Place};
+use dbl_source_log::{LogTable, Logged, ReaderPosition};
 use dbl_tables::Tables;
 use std::alloc::Global;
 use std::collections::BTreeSet;
@@ -46,7 +46,7 @@ pub struct DemoSource<D: Disk> {
     // The number of each commit's entry.
     pub(crate) commits: Vec<u64>,
     pub(crate) confirmed: Lsn,
-    pub(crate) place: Option<Place>,
+    pub(crate) place: Option<ReaderPosition>,
     // The tables that Relations have described since the last start.
     pub(crate) described: BTreeSet<u32>,
     // The commit that is being read, once its entry was read.
@@ -98,7 +98,7 @@ impl<D: Disk> DemoSource<D> {
         // The log is of the workload, without watermarks and confirmed positions, and no step is
         // done.
         ensures made { D.seen disk ≡ Some [] → IfOk result (λ source. (wal : Wal)
-            × IsDemo D.seen D.may_leave wal source × IsFirstWal workload.now wal × (source.done ≡ 0)) }
+            × IsDemo D.Disk wal source × IsFirstWal workload.now wal × (source.done ≡ 0)) }
         ensures workload { IfOk result (λ source. (w : Workload) × IsWorkload workload.now w
             × (source.names ≡ map (λ table. table.info.name) w.tables)
             × (source.steps ≡ steps_of w)) }
@@ -121,9 +121,9 @@ impl<D: Disk> DemoSource<D> {
             (λ source. D.faults disk ≤ D.faults source.journal.disk)
             (λ refused. D.faults disk ≤ D.faults refused.disk) }
         ensures steady { MatchResult result
-            (λ source. IsSteady D.seen D.faults disk source.journal.disk)
+            (λ source. IsSteady D.Disk disk source.journal.disk)
             (λ refused. refused.error ≢ DemoError.Journal JournalError.Failed
-            → IsSteady D.seen D.faults disk refused.disk) }
+            → IsSteady D.Disk disk refused.disk) }
     {
         let prepared = match prepare(alloc, workload) {
             Ok(prepared) => prepared,
@@ -143,7 +143,7 @@ impl<D: Disk> DemoSource<D> {
     pub fn open(alloc: Global, disk: D) -> Result<DemoSource<D>, Refused<D, DemoError>>
         ensures opened { (bytes : List ℕ) → D.seen disk ≡ Some bytes
             → IfOk result (λ source. (wal : Wal) × IsWal bytes wal
-            × IsDemo D.seen D.may_leave wal source × (source.done ≡ steps_in wal.entries)) }
+            × IsDemo D.Disk wal source × (source.done ≡ steps_in wal.entries)) }
         // For every disk, also one with unknown contents.
         ensures named { IfOk result (λ source. AreTableNames source.names) }
         ensures unread { IfOk result (λ source. source.place ≡ None) }
@@ -172,9 +172,9 @@ impl<D: Disk> DemoSource<D> {
             (λ source. D.faults disk ≤ D.faults source.journal.disk)
             (λ refused. D.faults disk ≤ D.faults refused.disk) }
         ensures steady { MatchResult result
-            (λ source. IsSteady D.seen D.faults disk source.journal.disk)
+            (λ source. IsSteady D.Disk disk source.journal.disk)
             (λ refused. refused.error ≢ DemoError.Journal JournalError.Failed
-            → IsSteady D.seen D.faults disk refused.disk) }
+            → IsSteady D.Disk disk refused.disk) }
     {
         match Journal::open(alloc, disk) {
             Ok(journal) => open_journal(alloc, journal),

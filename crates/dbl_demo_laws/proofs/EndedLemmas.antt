@@ -1,8 +1,9 @@
 -- What a read told that found nothing left goes on holding, until a read finds a message or a start begins anew.
-use Rattle.std.proofs.Common.{◌≡◌, ◌∙◌, ℕ, zero, suc, Option, List, [], ◌∷◌, ◌++◌, length, drop, sym, ap, subst}
+use Rattle.std.proofs.Common.{◌≡◌, ◌∙◌, ℕ, zero, suc, List, [], ◌∷◌, ◌++◌, length, drop, sym, ap, subst}
 use Rattle.std.specs.Prelude.{IsTrue}
 use Rattle.std.specs.List.{AllByRecursion}
 use Rattle.std.proofs.lemmas.List.Elements.{filter_map-append}
+use Rattle.dbl_disk.specs.Model.{DiskModel}
 use Rattle.dbl_source.specs.SourceLog.declared.logged.Logged.{Logged}
 use Rattle.dbl_source.specs.SourceLog.Sent.{index_of}
 use Rattle.dbl_demo_workload.specs.DemoWal.declared.entry.Entry.{Entry}
@@ -30,7 +31,7 @@ marks_on zero xs ys first second = all_marks xs ys first second
 marks_on (suc n) [] ys first second = watermarks_since (suc n) ys second
 marks_on (suc n) (x ∷ xs) ys first second = marks_on n xs ys first second
 
-module _ {D : Type 0} (seen : D → Option (List ℕ)) (may_leave : D → List ℕ → Type 0) (old new : Demo D) (wal : Wal) (of_old : IsDemo seen may_leave wal old) where
+module _ {D : Type 0} (model : DiskModel D) (old new : Demo D) (wal : Wal) (of_old : IsDemo model wal old) where
   -- a call that runs no step then, and writes a mark at the most
   pub ended_on : (upto : ℕ) (own : List Entry) → (old.done ≡ length old.steps → upto ≡ old.done) → AreMarks (logged_in own) → new.done ≡ upto → new.steps ≡ old.steps → IsReaderKept old new → IsTrue new.ended
       → HasReachedEnd (with_entries wal (added_by wal old.done upto own)) new

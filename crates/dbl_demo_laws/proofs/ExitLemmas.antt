@@ -1,8 +1,9 @@
 -- How a call ends, from what a run of steps made of the source.
-use Rattle.std.proofs.Common.{◌≡◌, ◌∙◌, ℕ, zero, suc, ◌≤◌, true, false, Option, List, [], ◌∷◌, ◌++◌, length, take, refl, sym, ap, subst, arith, append_assoc}
+use Rattle.std.proofs.Common.{◌≡◌, ◌∙◌, ℕ, zero, suc, ◌≤◌, true, false, List, [], ◌∷◌, ◌++◌, length, take, refl, sym, ap, subst, arith, append_assoc}
 use Rattle.std.specs.Prelude.{IsTrue, Result, Ok, Err}
 use Rattle.std.proofs.lemmas.List.{append-nil, take_all}
 use Rattle.dbl_base.specs.Streams.{FaultCounted}
+use Rattle.dbl_disk.specs.Model.{DiskModel}
 use Rattle.dbl_journal.specs.Growth as journals
 use Rattle.dbl_source.specs.SourceLog.declared.error.SourceError.{SourceError}
 use Rattle.dbl_source.specs.SourceLog.declared.error.SourceError.TheVariants.{Failed}
@@ -46,10 +47,10 @@ added_more wal done mid upto own first second =
     ∙ append_assoc (released wal.workload done mid) (released wal.workload mid upto) own
     ∙ ap (λ (l : List Entry). l ++ (released wal.workload mid upto ++ own)) (sym (append-nil (released wal.workload done mid)))
 
-pub leaves_as : {D : Type 0} (may_leave : D → List ℕ → Type 0) (disk : D) (P Q : Wal → Type 0) → ((wal : Wal) → P wal → Q wal) → LeavesWal may_leave disk P → LeavesWal may_leave disk Q
-leaves_as may_leave disk P Q by leaves crashed may = let here = leaves crashed may in (here.0, here.1, by here.0 here.2)
+pub leaves_as : {D : Type 0} (model : DiskModel D) (disk : D) (P Q : Wal → Type 0) → ((wal : Wal) → P wal → Q wal) → LeavesWal model disk P → LeavesWal model disk Q
+leaves_as model disk P Q by leaves crashed may = let here = leaves crashed may in (here.0, here.1, by here.0 here.2)
 
-module _ {D : Type 0} (seen : D → Option (List ℕ)) (may_leave : D → List ℕ → Type 0) (faults : D → ℕ) (old : Demo D) where
+module _ {D : Type 0} (model : DiskModel D) (old : Demo D) where
   -- a run of steps leaves the reader as it was, and the source as one in a call
   pub kept_is : (mid : Demo D) → IsRunOf (within old) mid → IsReaderKept old mid
   kept_is mid same = record { place = ap (λ (d : Demo D). d.place) same; ended = ap (λ (d : Demo D). d.ended) same }
@@ -59,23 +60,23 @@ module _ {D : Type 0} (seen : D → Option (List ℕ)) (may_leave : D → List �
 
   -- what a run of steps leaves, as a call leaves it
   abbrev pub Leaves : ℕ → List Entry → Demo D → Type 0
-  Leaves upto own mid = (wal : Wal) → IsRunning seen may_leave wal (within old) → LeavesRun may_leave wal upto own (within old) mid
+  Leaves upto own mid = (wal : Wal) → IsRunning model wal (within old) → LeavesRun model wal upto own (within old) mid
 
   -- and what it makes of the source
   abbrev pub Runs : ℕ → List Entry → Demo D → Type 0
-  Runs upto own mid = (wal : Wal) → IsRunning seen may_leave wal (within old) → Ran seen may_leave wal upto own (within old) mid
+  Runs upto own mid = (wal : Wal) → IsRunning model wal (within old) → Ran model wal upto own (within old) mid
 
-  pub first_is : (upto : ℕ) (own : List Entry) (new : Demo D) → Leaves upto own new → LeavesFirst seen may_leave upto own old new
-  first_is upto own new leaves wal is = leaves wal (running_live seen may_leave wal old false is.running)
+  pub first_is : (upto : ℕ) (own : List Entry) (new : Demo D) → Leaves upto own new → LeavesFirst model upto own old new
+  first_is upto own new leaves wal is = leaves wal (running_live model wal old false is.running)
 
-  pub releases_is : (upto : ℕ) (own : List Entry) (mid : Demo D) → (old.done ≡ length old.steps → upto ≡ old.done) → AreMarks (logged_in own) → IsRunOf (within old) mid → Runs upto own mid → ReleasesSteps seen may_leave upto own old (answering mid)
+  pub releases_is : (upto : ℕ) (own : List Entry) (mid : Demo D) → (old.done ≡ length old.steps → upto ≡ old.done) → AreMarks (logged_in own) → IsRunOf (within old) mid → Runs upto own mid → ReleasesSteps model upto own old (answering mid)
   releases_is upto own mid stays marks same runs wal is =
-      let ran = runs wal (running_live seen may_leave wal old false is.running) in
+      let ran = runs wal (running_live model wal old false is.running) in
       record {
         is = record {
           live = refl;
-          running = running_live seen may_leave (with_entries wal (added_by wal old.done upto own)) mid true ran.running;
-          ended = ended_on seen may_leave old (answering mid) wal is upto own stays marks ran.done (ap (λ (d : Demo D). d.steps) same)
+          running = running_live model (with_entries wal (added_by wal old.done upto own)) mid true ran.running;
+          ended = ended_on model old (answering mid) wal is upto own stays marks ran.done (ap (λ (d : Demo D). d.steps) same)
               (let kept = kept_is mid same in record { place = kept.place; ended = kept.ended });
         };
         done = ran.done;
@@ -84,23 +85,23 @@ module _ {D : Type 0} (seen : D → Option (List ℕ)) (may_leave : D → List �
   -- a crash in an earlier part of the call leaves the first ones of it
   pub first_more : (mid upto : ℕ) (own : List Entry) (new : Demo D) → old.done ≤ mid → mid ≤ upto → Leaves mid [] new → Leaves upto own new
   first_more mid upto own new first second leaves wal is =
-      leaves_as may_leave new.journal.disk (IsLeftOf wal (added_by wal old.done mid [])) (IsLeftOf wal (added_by wal old.done upto own))
+      leaves_as model new.journal.disk (IsLeftOf wal (added_by wal old.done mid [])) (IsLeftOf wal (added_by wal old.done upto own))
       (left_more wal (added_by wal old.done mid []) (added_by wal old.done upto own) (released wal.workload mid upto ++ own) (added_more wal old.done mid upto own first second)) (leaves wal is)
 
   -- where all of it stands and nothing else is left, that is the first ones of it
-  pub first_all : (upto : ℕ) (own : List Entry) (new : Demo D) → ((wal : Wal) → IsRunning seen may_leave wal (within old) → LeavesWal may_leave new.journal.disk (λ left. left ≡ with_entries wal (added_by wal old.done upto own))) → Leaves upto own new
+  pub first_all : (upto : ℕ) (own : List Entry) (new : Demo D) → ((wal : Wal) → IsRunning model wal (within old) → LeavesWal model new.journal.disk (λ left. left ≡ with_entries wal (added_by wal old.done upto own))) → Leaves upto own new
   first_all upto own new all wal is =
-      leaves_as may_leave new.journal.disk (λ left. left ≡ with_entries wal (added_by wal old.done upto own)) (IsLeftOf wal (added_by wal old.done upto own))
+      leaves_as model new.journal.disk (λ left. left ≡ with_entries wal (added_by wal old.done upto own)) (IsLeftOf wal (added_by wal old.done upto own))
       (λ left same. (let added : List Entry = added_by wal old.done upto own in record { count = length added; is = same ∙ ap (with_entries wal) (sym (take_all (length added) added (omega arith))) })) (all wal is)
 
   -- ---- the ends of a call
 
   module _ {T : Type 0} (upto : ℕ) (own : List Entry) (Answers : Demo D → T → Type 0) (new : Demo D) (result : Result T SourceError) where
     -- it failed
-    pub fails : (e : SourceError) → result ≡ Err e → Leaves upto own new → new.live ≡ false → IsReaderKept old new → journals.ExtendsJournal seen may_leave old.journal new.journal → faults old.journal.disk ≤ faults new.journal.disk
-        → (e ≡ Failed → FaultCounted (faults old.journal.disk) (faults new.journal.disk)) → RunsStepsAndWrites seen may_leave faults upto own Answers old new result
+    pub fails : (e : SourceError) → result ≡ Err e → Leaves upto own new → new.live ≡ false → IsReaderKept old new → journals.ExtendsJournal model old.journal new.journal → model.faults old.journal.disk ≤ model.faults new.journal.disk
+        → (e ≡ Failed → FaultCounted (model.faults old.journal.disk) (model.faults new.journal.disk)) → RunsStepsAndWrites model upto own Answers old new result
     fails e is leaves dead reader come later failed =
-        subst (λ (r : Result T SourceError). RunsStepsAndWrites seen may_leave faults upto own Answers old new r) (sym is) (record {
+        subst (λ (r : Result T SourceError). RunsStepsAndWrites model upto own Answers old new r) (sym is) (record {
           released = tt;
           group = tt;
           first = first_is upto own new leaves;
@@ -114,10 +115,10 @@ module _ {D : Type 0} (seen : D → Option (List ℕ)) (may_leave : D → List �
         })
 
     -- it answered
-    pub answers : (x : T) → result ≡ Ok x → ReleasesSteps seen may_leave upto own old new → new.done ≡ upto → Leaves upto own new → IsTrue new.live → journals.ExtendsJournal seen may_leave old.journal new.journal → faults old.journal.disk ≤ faults new.journal.disk → Answers new x
-        → RunsStepsAndWrites seen may_leave faults upto own Answers old new result
+    pub answers : (x : T) → result ≡ Ok x → ReleasesSteps model upto own old new → new.done ≡ upto → Leaves upto own new → IsTrue new.live → journals.ExtendsJournal model old.journal new.journal → model.faults old.journal.disk ≤ model.faults new.journal.disk → Answers new x
+        → RunsStepsAndWrites model upto own Answers old new result
     answers x is releases group leaves live come later holds =
-        subst (λ (r : Result T SourceError). RunsStepsAndWrites seen may_leave faults upto own Answers old new r) (sym is) (record {
+        subst (λ (r : Result T SourceError). RunsStepsAndWrites model upto own Answers old new r) (sym is) (record {
           released = releases;
           group = group;
           first = first_is upto own new leaves;
@@ -132,33 +133,33 @@ module _ {D : Type 0} (seen : D → Option (List ℕ)) (may_leave : D → List �
 
 -- ---- behind a group that was run
 
-module _ {D : Type 0} (seen : D → Option (List ℕ)) (may_leave : D → List ℕ → Type 0) (faults : D → ℕ) (old mid : Demo D) (same : IsRunOf (within old) mid) (left : Leaves seen may_leave faults old (next_end old) [] mid)
-    (come : journals.ExtendsJournal seen may_leave old.journal mid.journal) (later : faults old.journal.disk ≤ faults mid.journal.disk) where
+module _ {D : Type 0} (model : DiskModel D) (old mid : Demo D) (same : IsRunOf (within old) mid) (left : Leaves model old (next_end old) [] mid)
+    (come : journals.ExtendsJournal model old.journal mid.journal) (later : model.faults old.journal.disk ≤ model.faults mid.journal.disk) where
   -- the call fails there, with the group or behind it
-  pub fails_there : {T : Type 0} (upto : ℕ) (own : List Entry) (Answers : Demo D → T → Type 0) (result : Result T SourceError) (e : SourceError) → result ≡ Err e → next_end old ≤ upto → (e ≡ Failed → FaultCounted (faults old.journal.disk) (faults mid.journal.disk))
-      → RunsStepsAndWrites seen may_leave faults upto own Answers old mid result
+  pub fails_there : {T : Type 0} (upto : ℕ) (own : List Entry) (Answers : Demo D → T → Type 0) (result : Result T SourceError) (e : SourceError) → result ≡ Err e → next_end old ≤ upto → (e ≡ Failed → FaultCounted (model.faults old.journal.disk) (model.faults mid.journal.disk))
+      → RunsStepsAndWrites model upto own Answers old mid result
   fails_there upto own Answers result e is above failed =
-      fails seen may_leave faults old upto own Answers mid result e is (first_more seen may_leave faults old (next_end old) upto own mid (end_later old.steps old.done) above left)
-      (dead_is seen may_leave faults old mid same) (kept_is seen may_leave faults old mid same) come later failed
+      fails model old upto own Answers mid result e is (first_more model old (next_end old) upto own mid (end_later old.steps old.done) above left)
+      (dead_is model old mid same) (kept_is model old mid same) come later failed
 
   -- it answers there, and writes nothing of its own
-  pub answers_there : {T : Type 0} (Answers : Demo D → T → Type 0) (x : T) → Runs seen may_leave faults old (next_end old) [] mid → mid.done ≡ next_end old → Answers (answering mid) x → RunsStepsAndWrites seen may_leave faults (next_end old) [] Answers old (answering mid) (Ok x)
+  pub answers_there : {T : Type 0} (Answers : Demo D → T → Type 0) (x : T) → Runs model old (next_end old) [] mid → mid.done ≡ next_end old → Answers (answering mid) x → RunsStepsAndWrites model (next_end old) [] Answers old (answering mid) (Ok x)
   answers_there Answers x runs done holds =
-      answers seen may_leave faults old (next_end old) [] Answers (answering mid) (Ok x) x refl
-      (releases_is seen may_leave faults old (next_end old) [] mid (λ all. end_none old.steps old.done (omega (arith, all))) tt same runs) done left refl come later holds
+      answers model old (next_end old) [] Answers (answering mid) (Ok x) x refl
+      (releases_is model old (next_end old) [] mid (λ all. end_none old.steps old.done (omega (arith, all))) tt same runs) done left refl come later holds
 
 -- ---- the same of a source that is known by its parts
 
-module _ {D T : Type 0} (seen : D → Option (List ℕ)) (may_leave : D → List ℕ → Type 0) (faults : D → ℕ) {parts whole : Demo D} (is : parts ≡ whole) (mid : Demo D) (same : IsRunOf (within parts) mid) (left : Leaves seen may_leave faults parts (next_end parts) [] mid)
-    (come : journals.ExtendsJournal seen may_leave parts.journal mid.journal) (later : faults parts.journal.disk ≤ faults mid.journal.disk) where
-  pub fails_from : (upto : Demo D → ℕ) (own : Demo D → List Entry) (Answers : Demo D → Demo D → T → Type 0) (result : Result T SourceError) (e : SourceError) → result ≡ Err e → next_end parts ≤ upto parts → (e ≡ Failed → FaultCounted (faults parts.journal.disk) (faults mid.journal.disk))
-      → RunsStepsAndWrites seen may_leave faults (upto whole) (own whole) (Answers whole) whole mid result
+module _ {D T : Type 0} (model : DiskModel D) {parts whole : Demo D} (is : parts ≡ whole) (mid : Demo D) (same : IsRunOf (within parts) mid) (left : Leaves model parts (next_end parts) [] mid)
+    (come : journals.ExtendsJournal model parts.journal mid.journal) (later : model.faults parts.journal.disk ≤ model.faults mid.journal.disk) where
+  pub fails_from : (upto : Demo D → ℕ) (own : Demo D → List Entry) (Answers : Demo D → Demo D → T → Type 0) (result : Result T SourceError) (e : SourceError) → result ≡ Err e → next_end parts ≤ upto parts → (e ≡ Failed → FaultCounted (model.faults parts.journal.disk) (model.faults mid.journal.disk))
+      → RunsStepsAndWrites model (upto whole) (own whole) (Answers whole) whole mid result
   fails_from upto own Answers result e told above failed =
-      subst (λ (s : Demo D). RunsStepsAndWrites seen may_leave faults (upto s) (own s) (Answers s) s mid result) is
-      (fails_there seen may_leave faults parts mid same left come later (upto parts) (own parts) (Answers parts) result e told above failed)
+      subst (λ (s : Demo D). RunsStepsAndWrites model (upto s) (own s) (Answers s) s mid result) is
+      (fails_there model parts mid same left come later (upto parts) (own parts) (Answers parts) result e told above failed)
 
-  pub answers_from : (Answers : Demo D → Demo D → T → Type 0) (x : T) → Runs seen may_leave faults parts (next_end parts) [] mid → mid.done ≡ next_end parts → Answers parts (answering mid) x
-      → RunsStepsAndWrites seen may_leave faults (next_end whole) [] (Answers whole) whole (answering mid) (Ok x)
+  pub answers_from : (Answers : Demo D → Demo D → T → Type 0) (x : T) → Runs model parts (next_end parts) [] mid → mid.done ≡ next_end parts → Answers parts (answering mid) x
+      → RunsStepsAndWrites model (next_end whole) [] (Answers whole) whole (answering mid) (Ok x)
   answers_from Answers x runs done holds =
-      subst (λ (s : Demo D). RunsStepsAndWrites seen may_leave faults (next_end s) [] (Answers s) s (answering mid) (Ok x)) is
-      (answers_there seen may_leave faults parts mid same left come later (Answers parts) x runs done holds)
+      subst (λ (s : Demo D). RunsStepsAndWrites model (next_end s) [] (Answers s) s (answering mid) (Ok x)) is
+      (answers_there model parts mid same left come later (Answers parts) x runs done holds)

@@ -2,7 +2,8 @@
 use Rattle.std.proofs.Common.{◌≡◌, ◌∙◌, ◌⊎◌, ℕ, zero, suc, ◌+◌, ◌≤◌, true, false, Option, Some, List, [], ◌∷◌, ◌++◌, length, take, drop, refl, sym, ap, subst, arith, append_assoc, inl, inr}
 use Rattle.std.specs.Prelude.{slice_get}
 use Rattle.std.proofs.lemmas.List.{append-nil, length-drop, nil_from_length}
-use Rattle.dbl_source.specs.SourceLog.declared.place.Place.{Place}
+use Rattle.dbl_disk.specs.Model.{DiskModel}
+use Rattle.dbl_source.specs.SourceLog.declared.reader_position.ReaderPosition.{ReaderPosition}
 use Rattle.dbl_demo_workload.specs.Script.declared.script.Step.{Step}
 use Rattle.dbl_demo_workload.specs.Script.declared.script.Step.TheVariants as kinds
 use Rattle.dbl_demo_workload.specs.DemoWal.declared.entry.Entry.{Entry}
@@ -57,20 +58,20 @@ added_plus w done mid upto first second =
     ∙ sym (append_assoc (released w done mid) (released w mid upto) [])
     ∙ ap (λ (l : List Entry). l ++ []) (sym (released_plus w done mid upto first second))
 
-module _ {D : Type 0} (seen : D → Option (List ℕ)) (may_leave : D → List ℕ → Type 0) (wal : Wal) (old mid : Demo D) (between : ℕ) (first : old.done ≤ between) (ran : Ran seen may_leave wal between [] old mid) where
+module _ {D : Type 0} (model : DiskModel D) (wal : Wal) (old mid : Demo D) (between : ℕ) (first : old.done ≤ between) (ran : Ran model wal between [] old mid) where
   -- the wal behind the first run
   abbrev pub wal_between : Wal
   wal_between = with_entries wal (added_by wal old.done between [])
 
-  pub ran_on : (new : Demo D) (upto : ℕ) → between ≤ upto → Ran seen may_leave wal_between upto [] mid new → Ran seen may_leave wal upto [] old new
+  pub ran_on : (new : Demo D) (upto : ℕ) → between ≤ upto → Ran model wal_between upto [] mid new → Ran model wal upto [] old new
   ran_on new upto second more =
       let here : with_entries wal_between (added_by wal mid.done upto []) ≡ with_entries wal_between (added_by wal between upto []) = ap (λ (n : ℕ). with_entries wal_between (added_by wal n upto [])) ran.done in
       let whole : with_entries wal_between (added_by wal between upto []) ≡ with_entries wal (added_by wal old.done upto []) =
       with_plus wal (added_by wal old.done between []) (added_by wal between upto []) ∙ ap (with_entries wal) (added_plus wal.workload old.done between upto first second) in
-      record { running = subst (λ (x : Wal). IsRunning seen may_leave x new) (here ∙ whole) more.running; done = more.done }
+      record { running = subst (λ (x : Wal). IsRunning model x new) (here ∙ whole) more.running; done = more.done }
 
   -- what a crash leaves in the second run has the first ones of all
-  pub left_all : (new : Demo D) (upto end : ℕ) → between ≤ upto → upto ≤ end → LeavesRun may_leave wal_between upto [] mid new → LeavesRun may_leave wal end [] old new
+  pub left_all : (new : Demo D) (upto end : ℕ) → between ≤ upto → upto ≤ end → LeavesRun model wal_between upto [] mid new → LeavesRun model wal end [] old new
   left_all new upto end second last leaves crashed may =
       let here = leaves crashed may in
       let added : added_by wal mid.done upto [] ≡ added_by wal between upto [] = ap (λ (n : ℕ). added_by wal n upto []) ran.done in
@@ -118,7 +119,7 @@ end_none steps done le = omega (arith, ap group_size (nil_from_length (drop done
 
 -- ---- a read that goes on, group by group
 
-module _ (w : Workload) (entries : List Entry) (place : Place) (done : ℕ) where
+module _ (w : Workload) (entries : List Entry) (place : ReaderPosition) (done : ℕ) where
   pub reading_begins : (now : ℕ) → now ≡ group_end (steps_of w) done → IsReadingOn w entries place done now
   reading_begins now is = record { last = done; ends = is; back = λ upto h. h }
 
@@ -134,12 +135,12 @@ module _ (w : Workload) (entries : List Entry) (place : Place) (done : ℕ) wher
   reading_ends now is end = is.back now (stops is.last is.ends end)
 
 -- it ends somewhere
-record EndsSomewhere (w : Workload) (entries : List Entry) (place : Place) (done now : ℕ) : Type 0 where
+record EndsSomewhere (w : Workload) (entries : List Entry) (place : ReaderPosition) (done now : ℕ) : Type 0 where
   upto : ℕ
   later : now ≤ upto
   on : ReadsOn w entries place done upto done
 
-reading_finishes : (w : Workload) (entries : List Entry) (place : Place) (done fuel now : ℕ) → now ≤ length (steps_of w) → length (steps_of w) ≤ now + fuel → IsReadingOn w entries place done now → EndsSomewhere w entries place done now
+reading_finishes : (w : Workload) (entries : List Entry) (place : ReaderPosition) (done fuel now : ℕ) → now ≤ length (steps_of w) → length (steps_of w) ≤ now + fuel → IsReadingOn w entries place done now → EndsSomewhere w entries place done now
 reading_finishes w entries place done zero now within enough reading = record { upto = now; later = omega arith; on = reading_ends w entries place done now reading (inr (omega (arith, enough))) }
 reading_finishes w entries place done (suc fuel) now within enough reading =
     by (cases_lt (index_of place) (length (logged_in (entries ++ released w done now)))) (cases_lt now (length (steps_of w)))
@@ -161,9 +162,9 @@ take_whole : {A : Type 0} (xs : List A) → take (length xs) xs ≡ xs
 take_whole [] = refl
 take_whole {A = A} (x ∷ xs) = ap (λ (l : List A). x ∷ l) (take_whole xs)
 
-module _ {D : Type 0} (seen : D → Option (List ℕ)) (may_leave : D → List ℕ → Type 0) (faults : D → ℕ) where
+module _ {D : Type 0} (model : DiskModel D) where
   -- where all of a run stands, a crash leaves all of it
-  pub left_whole : (wal : Wal) (upto : ℕ) (old new : Demo D) → Ran seen may_leave wal upto [] old new → LeavesRun may_leave wal upto [] old new
+  pub left_whole : (wal : Wal) (upto : ℕ) (old new : Demo D) → Ran model wal upto [] old new → LeavesRun model wal upto [] old new
   left_whole wal upto old new ran crashed may =
       let added = added_by wal old.done upto [] in
       let running = ran.running in
@@ -172,13 +173,13 @@ module _ {D : Type 0} (seen : D → Option (List ℕ)) (may_leave : D → List �
       (with_entries wal added, subst (λ (bytes : List ℕ). IsWal bytes (with_entries wal added)) (sym is) here, record { count = length added; is = ap (with_entries wal) (sym (take_whole added)) })
 
   -- no step was run
-  pub ran_nothing : (wal : Wal) (old : Demo D) → IsRunning seen may_leave wal old → Ran seen may_leave wal old.done [] old old
+  pub ran_nothing : (wal : Wal) (old : Demo D) → IsRunning model wal old → Ran model wal old.done [] old old
   ran_nothing wal old running =
       let none : added_by wal old.done old.done [] ≡ [] = append-nil (released wal.workload old.done old.done) ∙ released_none wal.workload old.done in
       let same : with_entries wal (added_by wal old.done old.done []) ≡ wal = ap (with_entries wal) none ∙ ap (λ (l : List Entry). let x : Wal = record wal { entries = l } in x) (append-nil wal.entries) in
-      record { running = subst (λ (x : Wal). IsRunning seen may_leave x old) (sym same) running; done = refl }
+      record { running = subst (λ (x : Wal). IsRunning model x old) (sym same) running; done = refl }
 
-  pub release_begins : (old : Demo D) → IsTrue old.journal.live → IsReleasing seen may_leave faults old old
+  pub release_begins : (old : Demo D) → IsTrue old.journal.live → IsReleasing model old old
   release_begins old live = record {
     ran = λ wal running. ran_nothing wal old running;
     ends = refl;
@@ -189,24 +190,24 @@ module _ {D : Type 0} (seen : D → Option (List ℕ)) (may_leave : D → List �
     counted = omega arith;
   }
 
-  module _ (old now new : Demo D) (so : IsReleasing seen may_leave faults old now) (left : now.done < length now.steps) (ran : (wal : Wal) → IsRunning seen may_leave wal now → Ran seen may_leave wal (now.done + 1) [] now new) where
+  module _ (old now new : Demo D) (so : IsReleasing model old now) (left : now.done < length now.steps) (ran : (wal : Wal) → IsRunning model wal now → Ran model wal (now.done + 1) [] now new) where
     -- the first run and one step
-    pub ran_more : (wal : Wal) → IsRunning seen may_leave wal old → Ran seen may_leave wal (now.done + 1) [] old new
+    pub ran_more : (wal : Wal) → IsRunning model wal old → Ran model wal (now.done + 1) [] old new
     ran_more wal running =
         let first = so.ran wal running in
-        ran_on seen may_leave wal old now now.done so.later first new (now.done + 1) (omega arith) (ran (wal_between seen may_leave wal old now now.done so.later first) first.running)
+        ran_on model wal old now now.done so.later first new (now.done + 1) (omega arith) (ran (wal_between model wal old now now.done so.later first) first.running)
 
     -- the step that ends the group
-    pub release_ends : (s : Step) → slice_get now.steps now.done ≡ Some s → is_tick s ≡ true → (wal : Wal) → IsRunning seen may_leave wal old → Ran seen may_leave wal (next_end old) [] old new
+    pub release_ends : (s : Step) → slice_get now.steps now.done ≡ Some s → is_tick s ≡ true → (wal : Wal) → IsRunning model wal old → Ran model wal (next_end old) [] old new
     release_ends s there tick wal running =
         let end : next_end old ≡ now.done + 1 = so.ends ∙ end_here now.steps now.done s there tick in
-        subst (λ (n : ℕ). Ran seen may_leave wal n [] old new) (sym end) (ran_more wal running)
+        subst (λ (n : ℕ). Ran model wal n [] old new) (sym end) (ran_more wal running)
 
     -- another one
-    pub release_goes : (s : Step) → slice_get now.steps now.done ≡ Some s → is_tick s ≡ false → new.done ≡ now.done + 1 → IsTrue new.journal.live → IsRunOf now new → ExtendsJournal seen may_leave now.journal new.journal → faults now.journal.disk ≤ faults new.journal.disk
-        → IsReleasing seen may_leave faults old new
+    pub release_goes : (s : Step) → slice_get now.steps now.done ≡ Some s → is_tick s ≡ false → new.done ≡ now.done + 1 → IsTrue new.journal.live → IsRunOf now new → ExtendsJournal model now.journal new.journal → model.faults now.journal.disk ≤ model.faults new.journal.disk
+        → IsReleasing model old new
     release_goes s there other one live same comes counted = record {
-      ran = λ wal running. subst (λ (n : ℕ). Ran seen may_leave wal n [] old new) (sym one) (ran_more wal running);
+      ran = λ wal running. subst (λ (n : ℕ). Ran model wal n [] old new) (sym one) (ran_more wal running);
       ends = so.ends ∙ end_on now.steps now.done s there other ∙ ap (group_end now.steps) (sym one) ∙ ap (λ (steps : List Step). group_end steps new.done) (sym (ap (λ (d : Demo D). d.steps) same));
       later = omega (arith, so.later, one);
       live = live;
@@ -215,23 +216,23 @@ module _ {D : Type 0} (seen : D → Option (List ℕ)) (may_leave : D → List �
       counted = omega (arith, so.counted, counted);
     }
 
-  module _ (old now : Demo D) (so : IsReleasing seen may_leave faults old now) where
+  module _ (old now : Demo D) (so : IsReleasing model old now) where
     -- no step is left
-    pub release_stops : length now.steps ≤ now.done → (wal : Wal) → IsRunning seen may_leave wal old → Ran seen may_leave wal (next_end old) [] old now
+    pub release_stops : length now.steps ≤ now.done → (wal : Wal) → IsRunning model wal old → Ran model wal (next_end old) [] old now
     release_stops none wal running =
         let end : next_end old ≡ now.done = so.ends ∙ end_none now.steps now.done none in
-        subst (λ (n : ℕ). Ran seen may_leave wal n [] old now) (sym end) (so.ran wal running)
+        subst (λ (n : ℕ). Ran model wal n [] old now) (sym end) (so.ran wal running)
 
     -- what a crash leaves while a step is run
-    pub release_left : (new : Demo D) → now.done < length now.steps → ((wal : Wal) → IsRunning seen may_leave wal now → LeavesRun may_leave wal (now.done + 1) [] now new) → (wal : Wal) → IsRunning seen may_leave wal old → LeavesRun may_leave wal (next_end old) [] old new
+    pub release_left : (new : Demo D) → now.done < length now.steps → ((wal : Wal) → IsRunning model wal now → LeavesRun model wal (now.done + 1) [] now new) → (wal : Wal) → IsRunning model wal old → LeavesRun model wal (next_end old) [] old new
     release_left new left leaves wal running =
         let first = so.ran wal running in
         let above : now.done + 1 ≤ next_end old = omega (arith, end_above now.steps now.done left, so.ends) in
-        left_all seen may_leave wal old now now.done so.later first new (now.done + 1) (next_end old) (omega arith) above (leaves (wal_between seen may_leave wal old now now.done so.later first) first.running)
+        left_all model wal old now now.done so.later first new (now.done + 1) (next_end old) (omega arith) above (leaves (wal_between model wal old now now.done so.later first) first.running)
 
 -- ---- a read, group by group
 
-module _ {D : Type 0} (seen : D → Option (List ℕ)) (may_leave : D → List ℕ → Type 0) (faults : D → ℕ) (old now : Demo D) (later : old.done ≤ now.done) where
+module _ {D : Type 0} (model : DiskModel D) (old now : Demo D) (later : old.done ≤ now.done) where
   -- the wal behind what was run so far
   abbrev wal_now : Wal → Wal
   wal_now wal = with_entries wal (added_by wal old.done now.done [])
@@ -240,29 +241,29 @@ module _ {D : Type 0} (seen : D → Option (List ℕ)) (may_leave : D → List �
   added_is wal = ap (λ (l : List Entry). wal.entries ++ l) (append-nil (released wal.workload old.done now.done))
 
   -- as many commits stand there as the source knows
-  commits_known : (wal : Wal) → IsRunning seen may_leave (wal_now wal) now → length now.commits ≡ length (logged_in (wal.entries ++ released wal.workload old.done now.done))
+  commits_known : (wal : Wal) → IsRunning model (wal_now wal) now → length now.commits ≡ length (logged_in (wal.entries ++ released wal.workload old.done now.done))
   commits_known wal running = ap (λ (l : List ℕ). length l) running.commits ∙ count_places 1 (wal_now wal).entries ∙ ap (λ (es : List Entry). length (logged_in es)) (added_is wal)
 
-  pub unread_so : (wal : Wal) (place : Place) → IsRunning seen may_leave (wal_now wal) now → now.place ≡ Some place → has_unread now.place (length now.commits) ≡ true → EndsRead wal.workload wal.entries place old.done now.done
+  pub unread_so : (wal : Wal) (place : ReaderPosition) → IsRunning model (wal_now wal) now → now.place ≡ Some place → has_unread now.place (length now.commits) ≡ true → EndsRead wal.workload wal.entries place old.done now.done
   unread_so wal place running at unread =
-      let here : nat_lt (index_of place) (length now.commits) ≡ true = sym (ap (λ (o : Option Place). has_unread o (length now.commits)) at) ∙ unread in
+      let here : nat_lt (index_of place) (length now.commits) ≡ true = sym (ap (λ (o : Option ReaderPosition). has_unread o (length now.commits)) at) ∙ unread in
       let lt : index_of place < length now.commits = ltb-true (index_of place) (length now.commits) here in
       omega (arith, lt, commits_known wal running)
 
-  pub read_so : (wal : Wal) (place : Place) → IsRunning seen may_leave (wal_now wal) now → now.place ≡ Some place → has_unread now.place (length now.commits) ≡ false → EndsRead wal.workload wal.entries place old.done now.done → ⊥
+  pub read_so : (wal : Wal) (place : ReaderPosition) → IsRunning model (wal_now wal) now → now.place ≡ Some place → has_unread now.place (length now.commits) ≡ false → EndsRead wal.workload wal.entries place old.done now.done → ⊥
   read_so wal place running at read ends =
-      let here : nat_lt (index_of place) (length now.commits) ≡ false = sym (ap (λ (o : Option Place). has_unread o (length now.commits)) at) ∙ read in
+      let here : nat_lt (index_of place) (length now.commits) ≡ false = sym (ap (λ (o : Option ReaderPosition). has_unread o (length now.commits)) at) ∙ read in
       let le : length now.commits ≤ index_of place = ltb-false (index_of place) (length now.commits) here in
       omega (arith, le, ends, commits_known wal running)
 
-module _ {D : Type 0} (seen : D → Option (List ℕ)) (may_leave : D → List ℕ → Type 0) (faults : D → ℕ) where
+module _ {D : Type 0} (model : DiskModel D) where
   -- the first group
-  pub reads_first : (old new : Demo D) → ((wal : Wal) → IsRunning seen may_leave wal old → Ran seen may_leave wal (next_end old) [] old new) → new.done ≡ next_end old → IsTrue new.journal.live → IsRunOf old new → ExtendsJournal seen may_leave old.journal new.journal → faults old.journal.disk ≤ faults new.journal.disk
-      → HasRunOn seen may_leave faults old new
+  pub reads_first : (old new : Demo D) → ((wal : Wal) → IsRunning model wal old → Ran model wal (next_end old) [] old new) → new.done ≡ next_end old → IsTrue new.journal.live → IsRunOf old new → ExtendsJournal model old.journal new.journal → model.faults old.journal.disk ≤ model.faults new.journal.disk
+      → HasRunOn model old new
   reads_first old new ran end live same comes counted = record {
     ran = λ wal place running at. (
         let steps : next_end old ≡ group_end (steps_of wal.workload) old.done = ap (λ (l : List Step). group_end l old.done) running.steps in
-        (reading_begins wal.workload wal.entries place old.done new.done (end ∙ steps), subst (λ (n : ℕ). Ran seen may_leave wal n [] old new) (sym end) (ran wal running)));
+        (reading_begins wal.workload wal.entries place old.done new.done (end ∙ steps), subst (λ (n : ℕ). Ran model wal n [] old new) (sym end) (ran wal running)));
     later = omega (arith, end, end_later old.steps old.done);
     live = live;
     same = same;
@@ -270,40 +271,40 @@ module _ {D : Type 0} (seen : D → Option (List ℕ)) (may_leave : D → List �
     counted = counted;
   }
 
-  module _ (old now : Demo D) (so : HasRunOn seen may_leave faults old now) where
+  module _ (old now : Demo D) (so : HasRunOn model old now) where
     place_same : now.place ≡ old.place
     place_same = ap (λ (d : Demo D). d.place) so.same
 
     -- a commit stands there to be read
-    pub reads_end : has_unread now.place (length now.commits) ≡ true → (wal : Wal) (place : Place) → IsRunning seen may_leave wal old → old.place ≡ Some place → RanOn seen may_leave wal place old now
+    pub reads_end : has_unread now.place (length now.commits) ≡ true → (wal : Wal) (place : ReaderPosition) → IsRunning model wal old → old.place ≡ Some place → RanOn model wal place old now
     reads_end unread wal place running at =
         let run = so.ran wal place running at in
-        record { on = reading_ends wal.workload wal.entries place old.done now.done run.0 (inl (unread_so seen may_leave faults old now so.later wal place run.1.running (place_same ∙ at) unread)); running = run.1.running }
+        record { on = reading_ends wal.workload wal.entries place old.done now.done run.0 (inl (unread_so model old now so.later wal place run.1.running (place_same ∙ at) unread)); running = run.1.running }
 
     -- or no step is left
-    pub reads_all : length now.steps ≤ now.done → (wal : Wal) (place : Place) → IsRunning seen may_leave wal old → old.place ≡ Some place → RanOn seen may_leave wal place old now
+    pub reads_all : length now.steps ≤ now.done → (wal : Wal) (place : ReaderPosition) → IsRunning model wal old → old.place ≡ Some place → RanOn model wal place old now
     reads_all none wal place running at =
         let run = so.ran wal place running at in
         let all : length (steps_of wal.workload) ≤ now.done = omega (arith, none, ap (λ (l : List Step). length l) run.1.running.steps) in
         record { on = reading_ends wal.workload wal.entries place old.done now.done run.0 (inr all); running = run.1.running }
 
     module _ (new : Demo D) (read : has_unread now.place (length now.commits) ≡ false) where
-      on_group : (wal : Wal) (place : Place) → IsRunning seen may_leave wal old → old.place ≡ Some place → IsReadingOn wal.workload wal.entries place old.done (next_end now)
+      on_group : (wal : Wal) (place : ReaderPosition) → IsRunning model wal old → old.place ≡ Some place → IsReadingOn wal.workload wal.entries place old.done (next_end now)
       on_group wal place running at =
           let run = so.ran wal place running at in
           let steps : group_end (steps_of wal.workload) now.done ≡ next_end now = ap (λ (l : List Step). group_end l now.done) (sym run.1.running.steps) in
           subst (IsReadingOn wal.workload wal.entries place old.done) steps
-          (reading_goes wal.workload wal.entries place old.done now.done run.0 (read_so seen may_leave faults old now so.later wal place run.1.running (place_same ∙ at) read))
+          (reading_goes wal.workload wal.entries place old.done now.done run.0 (read_so model old now so.later wal place run.1.running (place_same ∙ at) read))
 
       -- one more group
-      pub reads_on : ((wal : Wal) → IsRunning seen may_leave wal now → Ran seen may_leave wal (next_end now) [] now new) → new.done ≡ next_end now → IsTrue new.journal.live → IsRunOf now new → ExtendsJournal seen may_leave now.journal new.journal → faults now.journal.disk ≤ faults new.journal.disk
-          → HasRunOn seen may_leave faults old new
+      pub reads_on : ((wal : Wal) → IsRunning model wal now → Ran model wal (next_end now) [] now new) → new.done ≡ next_end now → IsTrue new.journal.live → IsRunOf now new → ExtendsJournal model now.journal new.journal → model.faults now.journal.disk ≤ model.faults new.journal.disk
+          → HasRunOn model old new
       reads_on ran end live same comes counted = record {
         ran = λ wal place running at. (
             let run = so.ran wal place running at in
-            let second = subst (λ (n : ℕ). Ran seen may_leave (wal_between seen may_leave wal old now now.done so.later run.1) n [] now new) (sym end) (ran (wal_between seen may_leave wal old now now.done so.later run.1) run.1.running) in (
+            let second = subst (λ (n : ℕ). Ran model (wal_between model wal old now now.done so.later run.1) n [] now new) (sym end) (ran (wal_between model wal old now now.done so.later run.1) run.1.running) in (
               subst (IsReadingOn wal.workload wal.entries place old.done) (sym end) (on_group wal place running at),
-              ran_on seen may_leave wal old now now.done so.later run.1 new new.done (omega (arith, end, end_later now.steps now.done)) second,
+              ran_on model wal old now now.done so.later run.1 new new.done (omega (arith, end, end_later now.steps now.done)) second,
             ));
         later = omega (arith, so.later, end, end_later now.steps now.done);
         live = live;
@@ -313,7 +314,7 @@ module _ {D : Type 0} (seen : D → Option (List ℕ)) (may_leave : D → List �
       }
 
   -- what a crash leaves while so many steps are run is left while more are
-  left_more : (wal : Wal) (upto end : ℕ) (old new : Demo D) → old.done ≤ upto → upto ≤ end → LeavesRun may_leave wal upto [] old new → LeavesRun may_leave wal end [] old new
+  left_more : (wal : Wal) (upto end : ℕ) (old new : Demo D) → old.done ≤ upto → upto ≤ end → LeavesRun model wal upto [] old new → LeavesRun model wal end [] old new
   left_more wal upto end old new first second leaves crashed may =
       let here = leaves crashed may in
       let subsequent = released wal.workload upto end ++ [] in
@@ -322,35 +323,35 @@ module _ {D : Type 0} (seen : D → Option (List ℕ)) (may_leave : D → List �
       (here.0, here.1, record { count = n.0; is = here.2.is ∙ ap (with_entries wal) (n.1 ∙ ap (take n.0) whole) })
 
   -- wherever the read ends, it adds what was being added first
-  left_by_end : (wal : Wal) (place : Place) (upto : ℕ) (old new : Demo D) → IsRunning seen may_leave wal old → old.done ≤ upto → upto ≤ length (steps_of wal.workload) → IsReadingOn wal.workload wal.entries place old.done upto → LeavesRun may_leave wal upto [] old new
-      → LeavesReadRun may_leave wal place old new
+  left_by_end : (wal : Wal) (place : ReaderPosition) (upto : ℕ) (old new : Demo D) → IsRunning model wal old → old.done ≤ upto → upto ≤ length (steps_of wal.workload) → IsReadingOn wal.workload wal.entries place old.done upto → LeavesRun model wal upto [] old new
+      → LeavesReadRun model wal place old new
   left_by_end wal place upto old new running first within reading leaves crashed may =
       let end = reading_finishes wal.workload wal.entries place old.done (length (steps_of wal.workload)) upto within (omega arith) reading in
       let here = left_more wal upto end.upto old new first end.later leaves crashed may in
       (here.0, here.1, (end.upto, end.on, here.2))
 
   -- in the first group
-  pub first_left : (old new : Demo D) → ((wal : Wal) → IsRunning seen may_leave wal old → LeavesRun may_leave wal (next_end old) [] old new) → (wal : Wal) (place : Place) → IsRunning seen may_leave wal old → LeavesReadRun may_leave wal place old new
+  pub first_left : (old new : Demo D) → ((wal : Wal) → IsRunning model wal old → LeavesRun model wal (next_end old) [] old new) → (wal : Wal) (place : ReaderPosition) → IsRunning model wal old → LeavesReadRun model wal place old new
   first_left old new leaves wal place running =
       let steps : next_end old ≡ group_end (steps_of wal.workload) old.done = ap (λ (l : List Step). group_end l old.done) running.steps in
       let within : next_end old ≤ length (steps_of wal.workload) = omega (arith, steps, end_within (steps_of wal.workload) old.done running.silent.there) in
       left_by_end wal place (next_end old) old new running (end_later old.steps old.done) within (reading_begins wal.workload wal.entries place old.done (next_end old) steps) (leaves wal running)
 
   -- in a later one
-  pub reads_left : (old now new : Demo D) (so : HasRunOn seen may_leave faults old now) → has_unread now.place (length now.commits) ≡ false → ((wal : Wal) → IsRunning seen may_leave wal now → LeavesRun may_leave wal (next_end now) [] now new)
-      → (wal : Wal) (place : Place) → IsRunning seen may_leave wal old → old.place ≡ Some place → LeavesReadRun may_leave wal place old new
+  pub reads_left : (old now new : Demo D) (so : HasRunOn model old now) → has_unread now.place (length now.commits) ≡ false → ((wal : Wal) → IsRunning model wal now → LeavesRun model wal (next_end now) [] now new)
+      → (wal : Wal) (place : ReaderPosition) → IsRunning model wal old → old.place ≡ Some place → LeavesReadRun model wal place old new
   reads_left old now new so read leaves wal place running at =
       let run = so.ran wal place running at in
-      let between = wal_between seen may_leave wal old now now.done so.later run.1 in
+      let between = wal_between model wal old now now.done so.later run.1 in
       let steps : next_end now ≡ group_end (steps_of wal.workload) now.done = ap (λ (l : List Step). group_end l now.done) run.1.running.steps in
       let within : next_end now ≤ length (steps_of wal.workload) = omega (arith, steps, end_within (steps_of wal.workload) now.done run.1.running.silent.there) in
       let above : now.done ≤ next_end now = end_later now.steps now.done in
-      let all : LeavesRun may_leave wal (next_end now) [] old new =
-      left_all seen may_leave wal old now now.done so.later run.1 new (next_end now) (next_end now) above (omega arith) (leaves between run.1.running) in
+      let all : LeavesRun model wal (next_end now) [] old new =
+      left_all model wal old now now.done so.later run.1 new (next_end now) (next_end now) above (omega arith) (leaves between run.1.running) in
       left_by_end wal place (next_end now) old new running (omega (arith, so.later, above)) within (on_group old now so new read wal place running at) all
 
   -- where it answered
-  pub ran_left : (old new : Demo D) (wal : Wal) (place : Place) → old.done ≤ new.done → RanOn seen may_leave wal place old new → LeavesReadRun may_leave wal place old new
+  pub ran_left : (old new : Demo D) (wal : Wal) (place : ReaderPosition) → old.done ≤ new.done → RanOn model wal place old new → LeavesReadRun model wal place old new
   ran_left old new wal place later run crashed may =
-      let whole = left_whole seen may_leave faults wal new.done old new (record { running = run.running; done = refl }) crashed may in
+      let whole = left_whole model wal new.done old new (record { running = run.running; done = refl }) crashed may in
       (whole.0, whole.1, (new.done, run.on, whole.2))

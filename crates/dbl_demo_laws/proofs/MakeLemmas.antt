@@ -2,12 +2,13 @@
 use Rattle.std.proofs.Common.{◌≡◌, ◌∙◌, ℕ, ◌+◌, ◌<◌, ◌≤◌, ◌^◌, true, false, Option, None, Some, List, [], ◌∷◌, ◌++◌, length, max, refl, sym, ap, subst, arith}
 use Rattle.std.specs.Prelude.{IfSome, IsTrue, option_to_list}
 use Rattle.std.specs.List.{AllByRecursion}
+use Rattle.dbl_disk.specs.Model.{DiskModel}
 use Rattle.dbl_pgmsg.specs.declared.messages.Message.{Message}
 use Rattle.dbl_journal.specs.Stored.{Lists, OnDisk, size}
 use Rattle.dbl_journal.proofs.Appends.{up_to_gate-nil, length-up_to_gate-push, length-magic}
 use Rattle.dbl_source.specs.SourceLog.declared.logged.LogTable.{LogTable}
 use Rattle.dbl_source.specs.SourceLog.declared.logged.Logged.{Logged}
-use Rattle.dbl_source.specs.SourceLog.declared.place.Place.{Place}
+use Rattle.dbl_source.specs.SourceLog.declared.reader_position.ReaderPosition.{ReaderPosition}
 use Rattle.dbl_demo_workload.specs.Tables.Stands.{Stands}
 use Rattle.dbl_demo_workload.specs.DemoWal.declared.entry.Entry.{Entry}
 use Rattle.dbl_demo_workload.specs.DemoWal.declared.entry.Entry.TheVariants.{Commits}
@@ -87,14 +88,14 @@ places_are (Some messages) = refl
 
 -- ---- the source
 
-module _ {D : Type 0} (seen : D → Option (List ℕ)) (may_leave : D → List ℕ → Type 0) (script : List ℕ) (w : Workload) (is : IsWorkload script w) (ready : Prepared) (of : IsReady w ready) (demo : Demo D) where
+module _ {D : Type 0} (model : DiskModel D) (script : List ℕ) (w : Workload) (is : IsWorkload script w) (ready : Prepared) (of : IsReady w ready) (demo : Demo D) where
   abbrev wal_of_rows : Wal
   wal_of_rows = first_wal script w is ready.rows of.rows
 
-  first_running : Lists seen may_leave demo.journal (first_forms script ready.rows) → demo.names ≡ ready.names.items → demo.tables ≡ ready.tables.items → demo.store ≡ ready.store → demo.steps ≡ ready.steps.items → demo.done ≡ 0 → demo.commits ≡ first_places ready.rows
-      → demo.confirmed ≡ record { 0 = 0 } → demo.place ≡ None → IsRunning seen may_leave wal_of_rows demo
+  first_running : Lists model demo.journal (first_forms script ready.rows) → demo.names ≡ ready.names.items → demo.tables ≡ ready.tables.items → demo.store ≡ ready.store → demo.steps ≡ ready.steps.items → demo.done ≡ 0 → demo.commits ≡ first_places ready.rows
+      → demo.confirmed ≡ record { 0 = 0 } → demo.place ≡ None → IsRunning model wal_of_rows demo
   first_running lists names tables store steps done commits confirmed place = record {
-    lists = subst (Lists seen may_leave demo.journal) (sym (forms_are script w is ready.rows of.rows ready.rows)) lists;
+    lists = subst (Lists model demo.journal) (sym (forms_are script w is ready.rows of.rows ready.rows)) lists;
     is = is_wal script w is ready.rows of.rows (rows_fit script w ready is of);
     few = few_first script w is ready.rows of.rows ready.rows;
     names = names ∙ of.names;
@@ -107,7 +108,7 @@ module _ {D : Type 0} (seen : D → Option (List ℕ)) (may_leave : D → List �
     reader = reads demo.tables (logged_in (rows_entries ready.rows));
   }
     where
-      nowhere : (p : Place) → demo.place ≡ Some p → ⊥
+      nowhere : (p : ReaderPosition) → demo.place ≡ Some p → ⊥
       nowhere p there = let both : None ≡ Some p = sym place ∙ there in cc
 
       reads : (tables : List LogTable) (log : List Logged) → IsReader tables log demo.place demo.described demo.held
@@ -118,8 +119,8 @@ module _ {D : Type 0} (seen : D → Option (List ℕ)) (may_leave : D → List �
       }
 
   -- it stands for its first wal
-  pub made_first : IsTrue demo.live → demo.ended ≡ false → Lists seen may_leave demo.journal (first_forms script ready.rows) → demo.names ≡ ready.names.items → demo.tables ≡ ready.tables.items → demo.store ≡ ready.store → demo.steps ≡ ready.steps.items → demo.done ≡ 0
-      → demo.commits ≡ first_places ready.rows → demo.confirmed ≡ record { 0 = 0 } → demo.place ≡ None → (wal : Wal) × IsDemo seen may_leave wal demo × IsFirstWal script wal × (demo.done ≡ 0)
+  pub made_first : IsTrue demo.live → demo.ended ≡ false → Lists model demo.journal (first_forms script ready.rows) → demo.names ≡ ready.names.items → demo.tables ≡ ready.tables.items → demo.store ≡ ready.store → demo.steps ≡ ready.steps.items → demo.done ≡ 0
+      → demo.commits ≡ first_places ready.rows → demo.confirmed ≡ record { 0 = 0 } → demo.place ≡ None → (wal : Wal) × IsDemo model wal demo × IsFirstWal script wal × (demo.done ≡ 0)
   made_first live ended lists names tables store steps done commits confirmed place = (
     wal_of_rows,
     record {
@@ -167,9 +168,9 @@ grew_once old new first all once less = omega (arith, once, less)
 
 -- ---- what the journal lists
 
-module _ {D : Type 0} (seen : D → Option (List ℕ)) (may_leave : D → List ℕ → Type 0) (journal : OnDisk D) (script form : List ℕ) where
-  pub workload_listed : form ≡ workload_form script → Lists seen may_leave journal ([] ++ form ∷ []) → Lists seen may_leave journal (workload_form script ∷ [])
-  workload_listed is lists = subst (λ (w : List ℕ). Lists seen may_leave journal (w ∷ [])) is lists
+module _ {D : Type 0} (model : DiskModel D) (journal : OnDisk D) (script form : List ℕ) where
+  pub workload_listed : form ≡ workload_form script → Lists model journal ([] ++ form ∷ []) → Lists model journal (workload_form script ∷ [])
+  workload_listed is lists = subst (λ (w : List ℕ). Lists model journal (w ∷ [])) is lists
 
-  pub rows_listed : (messages : List Message) → EncodesEntry form (Commits 0 messages) → Lists seen may_leave journal ((workload_form script ∷ []) ++ form ∷ []) → Lists seen may_leave journal (first_forms script (Some messages))
-  rows_listed messages spells lists = subst (λ (w : List ℕ). Lists seen may_leave journal (workload_form script ∷ w ∷ [])) spells.spelled lists
+  pub rows_listed : (messages : List Message) → EncodesEntry form (Commits 0 messages) → Lists model journal ((workload_form script ∷ []) ++ form ∷ []) → Lists model journal (first_forms script (Some messages))
+  rows_listed messages spells lists = subst (λ (w : List ℕ). Lists model journal (workload_form script ∷ w ∷ [])) spells.spelled lists

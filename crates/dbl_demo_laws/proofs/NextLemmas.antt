@@ -2,11 +2,12 @@
 use Rattle.std.proofs.Common.{◌≡◌, ◌∙◌, ◌⊎◌, ℕ, Option, None, Some, List, [], refl, sym, ap, subst, inl, inr, ◌+◌}
 use Rattle.std.specs.Prelude.{slice_get, Ok, Err}
 use Rattle.std.specs.BTreeSet.{BTreeSet}
+use Rattle.dbl_disk.specs.Model.{DiskModel}
 use Rattle.dbl_model_table.specs.declared.row.Key.{Key}
 use Rattle.dbl_model_table.specs.declared.table.RawRow.{RawRow}
 use Rattle.dbl_model_table.specs.declared.table.TableName.{TableName}
 use Rattle.dbl_source.specs.SourceLog.declared.logged.Logged.{Logged}
-use Rattle.dbl_source.specs.SourceLog.declared.place.Place.{Place}
+use Rattle.dbl_source.specs.SourceLog.declared.reader_position.ReaderPosition.{ReaderPosition}
 use Rattle.dbl_base.specs.declared.lsn.Lsn.{Lsn}
 use Rattle.dbl_source.specs.SourceLog.Numbers.{commits_upto}
 use Rattle.dbl_source.specs.SourceLog.Sent.{index_of, told_at, IsPlaceIn}
@@ -28,7 +29,7 @@ use Rattle.dbl_demo_laws.specs.Reading.{ReadOne}
 
 -- ---- the reader
 
-module _ {D : Type 0} (seen : D → Option (List ℕ)) (may_leave : D → List ℕ → Type 0) (old : Demo D) (wal : Wal) (place : Place) (running : IsRunning seen may_leave wal old) (at : old.place ≡ Some place) (step : Step) (next : IsNext old.tables (logged_in wal.entries) place step) where
+module _ {D : Type 0} (model : DiskModel D) (old : Demo D) (wal : Wal) (place : ReaderPosition) (running : IsRunning model wal old) (at : old.place ≡ Some place) (step : Step) (next : IsNext old.tables (logged_in wal.entries) place step) where
   abbrev log : List Logged
   log = logged_in wal.entries
 
@@ -50,11 +51,11 @@ module _ {D : Type 0} (seen : D → Option (List ℕ)) (may_leave : D → List �
     reader_behind : IsReader old.tables log (Some step.place) described held
     reader_behind = record {
       placed = λ p is. (let same : step.place ≡ p = cc in subst (IsPlaceIn log) same next.placed);
-      recalled = λ p is. (let same : step.place ≡ p = cc in subst (λ (q : Place). Describes described (told_at old.tables log q)) same describes);
-      held_is = λ p logged is holds_it. (let same : step.place ≡ p = cc in subst (λ (q : Place). slice_get log (index_of q) ≡ Some logged) same (held_there logged holds_it));
+      recalled = λ p is. (let same : step.place ≡ p = cc in subst (λ (q : ReaderPosition). Describes described (told_at old.tables log q)) same describes);
+      held_is = λ p logged is holds_it. (let same : step.place ≡ p = cc in subst (λ (q : ReaderPosition). slice_get log (index_of q) ≡ Some logged) same (held_there logged holds_it));
     }
 
-    pub read_after : ReadOne seen may_leave wal place subsequent step.bytes
+    pub read_after : ReadOne model wal place subsequent step.bytes
     read_after = record {
       next = step.place;
       is = refl;

@@ -3,7 +3,7 @@ use Rattle.std.proofs.Common.{◌≡◌, ◌∙◌, ℕ, ◌+◌, ◌<◌, ◌�
 use Rattle.std.specs.Prelude.{IsTrue}
 use Rattle.std.specs.List.{All}
 use Rattle.std.proofs.lemmas.List.Elements.{All-push, All-weaker}
-use Rattle.dbl_source.specs.SourceLog.declared.place.Place.{Place}
+use Rattle.dbl_source.specs.SourceLog.declared.reader_position.ReaderPosition.{ReaderPosition}
 use Rattle.dbl_journal.specs.Stored.{OnDisk, count_of}
 use Rattle.dbl_demo_workload.specs.Script.declared.script.Step.{Step}
 use Rattle.dbl_demo_workload.specs.Tables.declared.tables.Tables.{Tables}
@@ -15,11 +15,11 @@ use Rattle.dbl_demo_laws.specs.Demo.{HasParts}
 on_false : (b : Bool) → b ≡ false → IsTrue b → ⊥
 on_false b is on = let wrong : true ≡ false = sym on ∙ is in cc
 
-module _ {D : Type 0} (old : OnDisk D) (store : Tables) (steps : List Step) (done : ℕ) (commits : List ℕ) (place : Option Place) (live : Bool) (parts : HasParts old store steps done commits place live) (dead : live ≡ false) where
+module _ {D : Type 0} (old : OnDisk D) (store : Tables) (steps : List Step) (done : ℕ) (commits : List ℕ) (place : Option ReaderPosition) (live : Bool) (parts : HasParts old store steps done commits place live) (dead : live ≡ false) where
   -- another journal, which can't be used
   pub parts_lost : (new : OnDisk D) → new.live ≡ false → HasParts new store steps done commits place live
   parts_lost new lost = record {
-    subsequent = parts.subsequent;
+    has_run = parts.has_run;
     usable = λ on. absurd (on_false live dead on);
     few = λ on. absurd (on_false new.live lost on);
     there = λ on. absurd (on_false new.live lost on);
@@ -33,7 +33,7 @@ module _ {D : Type 0} (old : OnDisk D) (store : Tables) (steps : List Step) (don
 
     pub parts_grown : HasParts new store steps done commits place live
     parts_grown = record {
-      subsequent = parts.subsequent;
+      has_run = parts.has_run;
       usable = λ on. absurd (on_false live dead on);
       few = λ on. (let few = parts.few on_old in omega (arith, few, more));
       there = λ on. there_on;
@@ -43,7 +43,7 @@ module _ {D : Type 0} (old : OnDisk D) (store : Tables) (steps : List Step) (don
     -- the last of them is a commit
     pub parts_logged : count_of new ≡ count_of old + 1 → HasParts new store steps done (commits ++ count_of old ∷ []) place live
     parts_logged one = record {
-      subsequent = parts.subsequent;
+      has_run = parts.has_run;
       usable = λ on. absurd (on_false live dead on);
       few = λ on. (let few = parts.few on_old in omega (arith, few, one, length-append commits (count_of old ∷ [])));
       there = λ on. All-push (λ (n : ℕ). n < count_of new) commits (count_of old) there_on (omega (arith, one));
@@ -60,13 +60,13 @@ module _ {D : Type 0} (old : OnDisk D) (store : Tables) (steps : List Step) (don
 
 -- ---- a step was run, or the reader moved
 
-module _ {D : Type 0} (journal_of : OnDisk D) (store : Tables) (steps : List Step) (done : ℕ) (commits : List ℕ) (place : Option Place) (live : Bool) (parts : HasParts journal_of store steps done commits place live) where
+module _ {D : Type 0} (journal_of : OnDisk D) (store : Tables) (steps : List Step) (done : ℕ) (commits : List ℕ) (place : Option ReaderPosition) (live : Bool) (parts : HasParts journal_of store steps done commits place live) where
   pub parts_run : (new : Tables) (now : ℕ) → HasRunSteps steps now new → HasParts journal_of new steps now commits place live
-  parts_run new now subsequent = record { subsequent = subsequent; usable = parts.usable; few = parts.few; there = parts.there; near = parts.near }
+  parts_run new now has_run = record { has_run = has_run; usable = parts.usable; few = parts.few; there = parts.there; near = parts.near }
 
-  pub parts_moved : (next : Option Place) → ((p : Place) → next ≡ Some p → p.commits ≤ 2 ^ 40) → HasParts journal_of store steps done commits next live
-  parts_moved next near = record { subsequent = parts.subsequent; usable = parts.usable; few = parts.few; there = parts.there; near = near }
+  pub parts_moved : (next : Option ReaderPosition) → ((p : ReaderPosition) → next ≡ Some p → p.commits ≤ 2 ^ 40) → HasParts journal_of store steps done commits next live
+  parts_moved next near = record { has_run = parts.has_run; usable = parts.usable; few = parts.few; there = parts.there; near = near }
 
   -- once a call is over, the source can be used as long as its journal can
   pub parts_live : (now : Bool) → (IsTrue now → IsTrue journal_of.live) → HasParts journal_of store steps done commits place now
-  parts_live now usable = record { subsequent = parts.subsequent; usable = usable; few = parts.few; there = parts.there; near = parts.near }
+  parts_live now usable = record { has_run = parts.has_run; usable = usable; few = parts.few; there = parts.there; near = parts.near }

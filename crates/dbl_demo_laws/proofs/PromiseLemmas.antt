@@ -1,6 +1,7 @@
 -- What a call promises as a call of any source, from what it comes to.
 use Rattle.std.proofs.Common.{◌≡◌, ◌∙◌, ℕ, true, false, Option, None, Some, List, [], length, sym, ap, subst, arith}
 use Rattle.std.specs.Prelude.{IsTrue, is_some, IfSome, Result, Ok, Err, IfOk, OnOk, OnErr}
+use Rattle.dbl_disk.specs.Model.{DiskModel}
 use Rattle.dbl_model_table.specs.declared.table.RawTable.{RawTable}
 use Rattle.dbl_model_table.specs.declared.table.TableName.{TableName}
 use Rattle.dbl_source.specs.ModelHistory.History.{History, entry_of}
@@ -9,7 +10,7 @@ use Rattle.dbl_source.specs.SourceModel.Leaves.{Leaves, LeavesSome, MayFollow}
 use Rattle.dbl_source.specs.SourceModel.Trace.{Answer, LastAnswerIs}
 use Rattle.dbl_journal.specs.Growth as journals
 use Rattle.dbl_journal.specs.Stored.{Lists, OnDisk}
-use Rattle.dbl_source.specs.SourceLog.declared.place.Place.{Place}
+use Rattle.dbl_source.specs.SourceLog.declared.reader_position.ReaderPosition.{ReaderPosition}
 use Rattle.dbl_source.specs.SourceLog.declared.error.SourceError.{SourceError}
 use Rattle.dbl_source.proofs.EntryLemmas.{found_named}
 use Rattle.dbl_demo_workload.specs.DemoWal.declared.entry.Entry.{Entry}
@@ -61,7 +62,7 @@ kept_reader old new Says (Ok x) kept says reader = reader x says
 kept_reader old new Says (Err e) kept says reader = kept
 
 pub same_reader : {D : Type 0} (old new : Demo D) → IsReaderKept old new → is_some new.place ≡ is_some old.place
-same_reader old new kept = ap (λ (p : Option Place). is_some p) kept.place
+same_reader old new kept = ap (λ (p : Option ReaderPosition). is_some p) kept.place
 
 pub err_reader : {D T : Type 0} (old new : Demo D) (result : Result T SourceError) → OnErr result (IsReaderKept old new) → OnErr result (is_some new.place ≡ is_some old.place)
 err_reader old new (Ok x) kept = tt
@@ -80,12 +81,12 @@ ok_ended new Says (Err e) says ended = tt
 pub commits_added : (wal : Wal) (done upto : ℕ) → AreCommits (added_by wal done upto [])
 commits_added wal done upto = are_append (released wal.workload done upto) [] (released_are wal.workload done upto) tt
 
-module _ {D : Type 0} (seen : D → Option (List ℕ)) (may_leave : D → List ℕ → Type 0) (old new : Demo D) where
+module _ {D : Type 0} (model : DiskModel D) (old new : Demo D) where
   abbrev May : Demo D → CrashState → Type 0
-  May source l = MayLeaveWal may_leave source.journal.disk l
+  May source l = MayLeaveWal model source.journal.disk l
 
   -- a journal that lists entries has come somewhere
-  come_here : (journal : OnDisk D) (forms : List (List ℕ)) (lists : Lists seen may_leave journal forms) → journals.HasCome seen may_leave 0 (length lists.bytes) journal
+  come_here : (journal : OnDisk D) (forms : List (List ℕ)) (lists : Lists model journal forms) → journals.HasCome model 0 (length lists.bytes) journal
   come_here journal forms lists = record {
     lists = λ live. (forms, lists);
     told = (lists.bytes, lists.told);
@@ -96,27 +97,27 @@ module _ {D : Type 0} (seen : D → Option (List ℕ)) (may_leave : D → List �
   }
 
   -- so the disk goes on telling its bytes
-  pub still_told : journals.ExtendsJournal seen may_leave old.journal new.journal → (wal : Wal) → IsDemo seen may_leave wal old → (bytes : List ℕ) × (seen new.journal.disk ≡ Some bytes)
+  pub still_told : journals.ExtendsJournal model old.journal new.journal → (wal : Wal) → IsDemo model wal old → (bytes : List ℕ) × (model.seen new.journal.disk ≡ Some bytes)
   still_told come wal is = let lists = is.running.lists in (come 0 (length lists.bytes) (come_here old.journal (forms_of wal) lists)).told
 
-  module _ (may_be_left : (disk : D) (bytes : List ℕ) → seen disk ≡ Some bytes → may_leave disk bytes) (come : journals.ExtendsJournal seen may_leave old.journal new.journal) where
-    pub leaves_some : (P : Wal → Wal → Type 0) → ((wal : Wal) → IsDemo seen may_leave wal old → LeavesWal may_leave new.journal.disk (P wal)) → LeavesSome (HasDemoState seen may_leave) May old new
+  module _ (may_be_left : (disk : D) (bytes : List ℕ) → model.seen disk ≡ Some bytes → model.may_leave disk bytes) (come : journals.ExtendsJournal model old.journal new.journal) where
+    pub leaves_some : (P : Wal → Wal → Type 0) → ((wal : Wal) → IsDemo model wal old → LeavesWal model new.journal.disk (P wal)) → LeavesSome (HasDemoState model) May old new
     leaves_some P leaves s stands =
         let told = still_told come stands.0 stands.1 in
-        some_left may_leave new.journal.disk (P stands.0) seen may_be_left told.0 told.1 (leaves stands.0 stands.1)
+        some_left model new.journal.disk (P stands.0) may_be_left told.0 told.1 (leaves stands.0 stands.1)
 
-    pub some_held : (upto : ℕ) (own : List Entry) → LeavesFirst seen may_leave upto own old new → LeavesSome (HasDemoState seen may_leave) May old new
+    pub some_held : (upto : ℕ) (own : List Entry) → LeavesFirst model upto own old new → LeavesSome (HasDemoState model) May old new
     some_held upto own first = leaves_some (λ wal. IsLeftOf wal (added_by wal old.done upto own)) first
 
-  pub left_held : (upto : ℕ) → LeavesFirst seen may_leave upto [] old new → Leaves (HasDemoState seen may_leave) May old new MayFollow
+  pub left_held : (upto : ℕ) → LeavesFirst model upto [] old new → Leaves (HasDemoState model) May old new MayFollow
   left_held upto first s l stands may =
-      left_moved seen may_leave old new stands.0 (added_by stands.0 old.done upto []) (commits_added stands.0 old.done upto) stands.1 s stands l may (first stands.0 stands.1)
+      left_moved model old new stands.0 (added_by stands.0 old.done upto []) (commits_added stands.0 old.done upto) stands.1 s stands l may (first stands.0 stands.1)
 
   -- ---- what it leads to
 
-  pub leads_held : {T : Type 0} (upto : ℕ) (own : List Entry) (Says : T → Type 0) (G : T → SourceState → SourceState → Type 0) (result : Result T SourceError) → OnOk result (ReleasesSteps seen may_leave upto own old new) → IfOk result (λ x. Says x)
-      → ((x : T) → Says x → (wal : Wal) → IsDemo seen may_leave wal old → Released seen may_leave wal upto own old new → (s : SourceState) → HasDemoState seen may_leave old s → HasState (HasDemoState seen may_leave) new (G x s))
-      → MovesTo (HasDemoState seen may_leave) old new result G
+  pub leads_held : {T : Type 0} (upto : ℕ) (own : List Entry) (Says : T → Type 0) (G : T → SourceState → SourceState → Type 0) (result : Result T SourceError) → OnOk result (ReleasesSteps model upto own old new) → IfOk result (λ x. Says x)
+      → ((x : T) → Says x → (wal : Wal) → IsDemo model wal old → Released model wal upto own old new → (s : SourceState) → HasDemoState model old s → HasState (HasDemoState model) new (G x s))
+      → MovesTo (HasDemoState model) old new result G
   leads_held upto own Says G (Ok x) releases says by s stands = by x says stands.0 stands.1 (releases stands.0 stands.1) s stands
   leads_held upto own Says G (Err e) releases says by s stands = tt
 
@@ -126,6 +127,6 @@ module _ {D : Type 0} (seen : D → Option (List ℕ)) (may_leave : D → List �
   live_or P (Ok x) holds dead live = holds
   live_or P (Err e) holds dead live = absurd (let wrong : true ≡ false = sym live ∙ dead in cc)
 
-  pub comes_held : {T : Type 0} (upto : ℕ) (own : List Entry) (result : Result T SourceError) → IsTrue old.live → journals.ExtendsJournal seen may_leave old.journal new.journal → LeavesFirst seen may_leave upto own old new
-      → OnOk result (ReleasesSteps seen may_leave upto own old new) → OnErr result (new.live ≡ false) → ExtendsDemo seen may_leave old new
-  comes_held upto own result was come first releases dead = comes_released seen may_leave old new come was upto own first (λ live. live_or (ReleasesSteps seen may_leave upto own old new) result releases dead live)
+  pub comes_held : {T : Type 0} (upto : ℕ) (own : List Entry) (result : Result T SourceError) → IsTrue old.live → journals.ExtendsJournal model old.journal new.journal → LeavesFirst model upto own old new
+      → OnOk result (ReleasesSteps model upto own old new) → OnErr result (new.live ≡ false) → ExtendsDemo model old new
+  comes_held upto own result was come first releases dead = comes_released model old new come was upto own first (λ live. live_or (ReleasesSteps model upto own old new) result releases dead live)

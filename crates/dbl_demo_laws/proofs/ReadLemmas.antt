@@ -3,6 +3,7 @@ use Rattle.std.proofs.Common.{◌≡◌, ◌∙◌, ◌⊎◌, ℕ, ◌≤◌, B
 use Rattle.std.specs.Prelude.{IsTrue, is_none, is_some, MatchOption, Result, Ok, Err, IfOk, OnOk, option_map}
 use Rattle.std.specs.List.{AllByRecursion}
 use Rattle.std.proofs.lemmas.List.{append-nil, drop_all}
+use Rattle.dbl_disk.specs.Model.{DiskModel}
 use Rattle.dbl_pgmsg.specs.declared.messages.Message.{Message}
 use Rattle.dbl_pgmsg.specs.Grammar.{Spells}
 use Rattle.dbl_source.specs.SourceModel.Standings.{CrashState, Reading, SourceState, HasState}
@@ -11,7 +12,7 @@ use Rattle.dbl_source.specs.SourceModel.Leaves.{Leaves, LeavesSome, MayFollow}
 use Rattle.dbl_source.specs.SourceModel.Trace.{IsTakenBy}
 use Rattle.dbl_source.specs.SourceLog.declared.logged.LogTable.{LogTable}
 use Rattle.dbl_source.specs.SourceLog.declared.logged.Logged.{Logged}
-use Rattle.dbl_source.specs.SourceLog.declared.place.Place.{Place}
+use Rattle.dbl_source.specs.SourceLog.declared.reader_position.ReaderPosition.{ReaderPosition}
 use Rattle.dbl_source.specs.SourceLog.Sent.{index_of, told_at}
 use Rattle.dbl_source.specs.SourceLog.declared.error.SourceError.{SourceError}
 use Rattle.dbl_source.proofs.PlayLemmas.{read_all}
@@ -36,7 +37,7 @@ use Rattle.dbl_demo_laws.proofs.ComesLemmas.{LeftByRead, comes_read}
 use Rattle.dbl_demo_laws.proofs.PromiseLemmas.{commits_added, leaves_some, live_or}
 
 -- the reader that is somewhere
-pub place_there : {D : Type 0} (demo : Demo D) (place : Option Place) → demo.place ≡ place → IsTrue (is_some place) → (p : Place) × (demo.place ≡ Some p)
+pub place_there : {D : Type 0} (demo : Demo D) (place : Option ReaderPosition) → demo.place ≡ place → IsTrue (is_some place) → (p : ReaderPosition) × (demo.place ≡ Some p)
 place_there demo None is some = absurd (let wrong : false ≡ true = some in cc)
 place_there demo (Some p) is some = (p, is)
 
@@ -45,11 +46,11 @@ not_begun false none = refl
 not_begun true none = absurd (none refl)
 
 -- a read ends with a commit to be read, or where no step is left
-pub read_ends : (w : Workload) (entries : List Entry) (place : Place) (done upto : ℕ) {from : ℕ} → ReadsOn w entries place done upto from → EndsRead w entries place done upto ⊎ (length (steps_of w) ≤ upto)
+pub read_ends : (w : Workload) (entries : List Entry) (place : ReaderPosition) (done upto : ℕ) {from : ℕ} → ReadsOn w entries place done upto from → EndsRead w entries place done upto ⊎ (length (steps_of w) ≤ upto)
 read_ends w entries place done upto (stops from is end) = end
 read_ends w entries place done upto (goes from none on) = read_ends w entries place done upto on
 
-module _ {D : Type 0} (seen : D → Option (List ℕ)) (may_leave : D → List ℕ → Type 0) (old new : Demo D) (wal : Wal) (place : Place) (of_old : IsDemo seen may_leave wal old) (there : old.place ≡ Some place) where
+module _ {D : Type 0} (model : DiskModel D) (old new : Demo D) (wal : Wal) (place : ReaderPosition) (of_old : IsDemo model wal old) (there : old.place ≡ Some place) where
   abbrev next : Wal
   next = with_entries wal (added_by wal old.done new.done [])
 
@@ -62,7 +63,7 @@ module _ {D : Type 0} (seen : D → Option (List ℕ)) (may_leave : D → List �
       cc
 
   -- where nothing is left all steps were run, and every commit was read
-  pub read_whole : ReadAfter seen may_leave wal place old new None → HasReadWhole next new
+  pub read_whole : ReadAfter model wal place old new None → HasReadWhole next new
   read_whole subsequent = record {
     done = (
         let all : length (steps_of wal.workload) ≤ new.done = elim (read_ends wal.workload wal.entries place old.done new.done subsequent.on) [
@@ -73,14 +74,14 @@ module _ {D : Type 0} (seen : D → Option (List ℕ)) (may_leave : D → List �
     read = λ p at. (
         let here : Some p ≡ Some place = sym at ∙ subsequent.next.is in
         let same : p ≡ place = cc in
-        subst (λ (q : Place). length (logged_in next.entries) ≤ index_of q) (sym same) subsequent.next.end);
+        subst (λ (q : ReaderPosition). length (logged_in next.entries) ≤ index_of q) (sym same) subsequent.next.end);
   }
     where
       unread_not : EndsRead wal.workload wal.entries place old.done new.done → ⊥
       unread_not unread = omega (arith, unread, subsequent.next.end, ap (λ (l : List Entry). length (logged_in (wal.entries ++ l))) (append-nil (released wal.workload old.done new.done)))
 
   -- so it has ended
-  ended_whole : HasReadWhole next new → IsRunning seen may_leave next new → HasReachedEnd next new
+  ended_whole : HasReadWhole next new → IsRunning model next new → HasReachedEnd next new
   ended_whole whole running = record {
     done = whole.done;
     read = λ p at. subst (λ (l : List Logged). AllByRecursion IsMark l) (sym (drop_all (index_of p) (logged_in next.entries) (whole.read p at))) tt;
@@ -88,14 +89,14 @@ module _ {D : Type 0} (seen : D → Option (List ℕ)) (may_leave : D → List �
   }
 
   -- the source behind it
-  pub demo_behind : IsTrue new.live → (read : Option (List ℕ)) → new.ended ≡ is_none read → ReadAfter seen may_leave wal place old new read → IsDemo seen may_leave next new
+  pub demo_behind : IsTrue new.live → (read : Option (List ℕ)) → new.ended ≡ is_none read → ReadAfter model wal place old new read → IsDemo model next new
   demo_behind live None ended subsequent = record { live = live; running = subsequent.next.running; ended = λ is. ended_whole (read_whole subsequent) subsequent.next.running }
   demo_behind live (Some bytes) ended subsequent = record { live = live; running = subsequent.next.running; ended = λ is. absurd (let wrong : true ≡ false = sym is ∙ ended in cc) }
 
   -- no message is left
-  lead_none : (s : SourceState) → HasDemoState seen may_leave old s → IsDemo seen may_leave next new → ReadNone seen may_leave next place new → HasState (HasDemoState seen may_leave) new (λ t. Moved s t × (Unit {0} → HasReadAll s t))
+  lead_none : (s : SourceState) → HasDemoState model old s → IsDemo model next new → ReadNone model next place new → HasState (HasDemoState model) new (λ t. Moved s t × (Unit {0} → HasReadAll s t))
   lead_none s stands of_new none =
-      let fair = wal_is_fair none.running.lists.bytes next (wal_of seen may_leave new next none.running) in
+      let fair = wal_is_fair none.running.lists.bytes next (wal_of model new next none.running) in
       let grown = history_grows wal (added_by wal old.done new.done []) (commits_added wal old.done new.done) in
       let all : HasReadAll (standing_in wal old.place) (standing_in next (Some place)) =
       read_all (tables_of next) (logged_in next.entries) (confirmed_of next) (standing_in wal old.place) place grown fair (none.running.reader.placed place none.is) none.end in
@@ -104,11 +105,11 @@ module _ {D : Type 0} (seen : D → Option (List ℕ)) (may_leave : D → List �
         confirmed = confirmed_stays wal (added_by wal old.done new.done []) (commits_added wal old.done new.done);
         reading = ap (λ (r : Reading). Some r) same_reading ∙ ap (option_map (wal_reading wal)) (sym there);
       } in
-      leads seen may_leave old new wal next s (λ a b. Moved a b × (Unit {0} → HasReadAll a b)) of_old of_new stands
-      (subst (λ (p : Option Place). Moved (standing_in wal old.place) (standing_in next p) × (Unit {0} → HasReadAll (standing_in wal old.place) (standing_in next p))) (sym none.is) (moved, λ u. all))
+      leads model old new wal next s (λ a b. Moved a b × (Unit {0} → HasReadAll a b)) of_old of_new stands
+      (subst (λ (p : Option ReaderPosition). Moved (standing_in wal old.place) (standing_in next p) × (Unit {0} → HasReadAll (standing_in wal old.place) (standing_in next p))) (sym none.is) (moved, λ u. all))
 
   -- one message was read
-  lead_one : (s : SourceState) (bytes : List ℕ) → HasDemoState seen may_leave old s → IsDemo seen may_leave next new → (one : ReadOne seen may_leave next place new bytes) → HasState (HasDemoState seen may_leave) new (HasReadOneMore one.message s)
+  lead_one : (s : SourceState) (bytes : List ℕ) → HasDemoState model old s → IsDemo model next new → (one : ReadOne model next place new bytes) → HasState (HasDemoState model) new (HasReadOneMore one.message s)
   lead_one s bytes stands of_new one =
       let tables : told_at (tables_of next) (logged_in next.entries) one.next ≡ one.message ∷ told_at (tables_of next) (logged_in next.entries) place =
       subst (λ (ts : List LogTable). told_at ts (logged_in next.entries) one.next ≡ one.message ∷ told_at ts (logged_in next.entries) place) one.running.tables one.told in
@@ -122,19 +123,19 @@ module _ {D : Type 0} (seen : D → Option (List ℕ)) (may_leave : D → List �
         was = ap (option_map (wal_reading wal)) there;
         is = ap (λ (r : Reading). Some r) (reading_is one.next before one.message one.same told);
       } in
-      leads seen may_leave old new wal next s (HasReadOneMore one.message) of_old of_new stands
-      (subst (λ (p : Option Place). HasReadOneMore one.message (standing_in wal old.place) (standing_in next p)) (sym one.is) took)
+      leads model old new wal next s (HasReadOneMore one.message) of_old of_new stands
+      (subst (λ (p : Option ReaderPosition). HasReadOneMore one.message (standing_in wal old.place) (standing_in next p)) (sym one.is) took)
     where
-      reading_is : (to : Place) (before : Reading) (message : Message) → to.after ≡ before.after → told_at (tables_of next) (logged_in next.entries) to ≡ message ∷ before.messages
+      reading_is : (to : ReaderPosition) (before : Reading) (message : Message) → to.after ≡ before.after → told_at (tables_of next) (logged_in next.entries) to ≡ message ∷ before.messages
           → wal_reading next to ≡ (let r : Reading = record { after = before.after; messages = message ∷ before.messages } in r)
       reading_is to before message after told = cc
 
-  pub lead_read : (s : SourceState) → HasDemoState seen may_leave old s → (read : Option (List ℕ)) → IsDemo seen may_leave next new → ReadAfter seen may_leave wal place old new read
-      → MatchOption read (HasState (HasDemoState seen may_leave) new (λ t. Moved s t × (Unit {0} → HasReadAll s t))) (λ bytes. (m : Message) × Spells bytes m × HasState (HasDemoState seen may_leave) new (HasReadOneMore m s))
+  pub lead_read : (s : SourceState) → HasDemoState model old s → (read : Option (List ℕ)) → IsDemo model next new → ReadAfter model wal place old new read
+      → MatchOption read (HasState (HasDemoState model) new (λ t. Moved s t × (Unit {0} → HasReadAll s t))) (λ bytes. (m : Message) × Spells bytes m × HasState (HasDemoState model) new (HasReadOneMore m s))
   lead_read s stands None of_new subsequent = lead_none s stands of_new subsequent.next
   lead_read s stands (Some bytes) of_new subsequent = let one = subsequent.next in (one.message, one.spelled, lead_one s bytes stands of_new one)
 
-  pub read_on : (read : Option (List ℕ)) → IsDemo seen may_leave next new → ReadAfter seen may_leave wal place old new read → ReadOn seen may_leave wal old new
+  pub read_on : (read : Option (List ℕ)) → IsDemo model next new → ReadAfter model wal place old new read → ReadOn model wal old new
   read_on read of_new subsequent = record { place = place; was = there; on = subsequent.on; is = of_new }
 
 -- ---- by its answer
@@ -144,44 +145,44 @@ read_taken (Ok None) = tt
 read_taken (Ok (Some bytes)) = tt
 read_taken (Err e) = tt
 
-module _ {D : Type 0} (seen : D → Option (List ℕ)) (may_leave : D → List ℕ → Type 0) (faults : D → ℕ) (old new : Demo D) (result : Result (Option (List ℕ)) SourceError) (adds : AddsRead seen may_leave faults old new result) (reads : IsTrue (is_some old.place)) where
-  at : (p : Place) × (old.place ≡ Some p)
+module _ {D : Type 0} (model : DiskModel D) (old new : Demo D) (result : Result (Option (List ℕ)) SourceError) (adds : AddsRead model old new result) (reads : IsTrue (is_some old.place)) where
+  at : (p : ReaderPosition) × (old.place ≡ Some p)
   at = place_there old old.place refl reads
 
-  pub read_took : (s : SourceState) → HasDemoState seen may_leave old s → IfOk result (λ read. MatchOption read (HasState (HasDemoState seen may_leave) new (λ t. Moved s t × (Unit {0} → HasReadAll s t))) (λ bytes. (m : Message) × Spells bytes m × HasState (HasDemoState seen may_leave) new (HasReadOneMore m s)))
+  pub read_took : (s : SourceState) → HasDemoState model old s → IfOk result (λ read. MatchOption read (HasState (HasDemoState model) new (λ t. Moved s t × (Unit {0} → HasReadAll s t))) (λ bytes. (m : Message) × Spells bytes m × HasState (HasDemoState model) new (HasReadOneMore m s)))
   read_took s stands = by result adds.live adds.ended (adds.reads stands.0 at.0 stands.1 at.1)
     where
-      by : (r : Result (Option (List ℕ)) SourceError) → OnOk r (IsTrue new.live) → IfOk r (λ read. new.ended ≡ is_none read) → IfOk r (λ read. ReadAfter seen may_leave stands.0 at.0 old new read)
-          → IfOk r (λ read. MatchOption read (HasState (HasDemoState seen may_leave) new (λ t. Moved s t × (Unit {0} → HasReadAll s t))) (λ bytes. (m : Message) × Spells bytes m × HasState (HasDemoState seen may_leave) new (HasReadOneMore m s)))
-      by (Ok read) live ended subsequent = lead_read seen may_leave old new stands.0 at.0 stands.1 at.1 s stands read (demo_behind seen may_leave old new stands.0 at.0 stands.1 at.1 live read ended subsequent) subsequent
+      by : (r : Result (Option (List ℕ)) SourceError) → OnOk r (IsTrue new.live) → IfOk r (λ read. new.ended ≡ is_none read) → IfOk r (λ read. ReadAfter model stands.0 at.0 old new read)
+          → IfOk r (λ read. MatchOption read (HasState (HasDemoState model) new (λ t. Moved s t × (Unit {0} → HasReadAll s t))) (λ bytes. (m : Message) × Spells bytes m × HasState (HasDemoState model) new (HasReadOneMore m s)))
+      by (Ok read) live ended subsequent = lead_read model old new stands.0 at.0 stands.1 at.1 s stands read (demo_behind model old new stands.0 at.0 stands.1 at.1 live read ended subsequent) subsequent
       by (Err e) live ended subsequent = tt
 
-  pub read_released : OnOk result (ReadsOnTo seen may_leave old new)
+  pub read_released : OnOk result (ReadsOnTo model old new)
   read_released = by result adds.live adds.ended (λ wal is. adds.reads wal at.0 is at.1)
     where
-      by : (r : Result (Option (List ℕ)) SourceError) → OnOk r (IsTrue new.live) → IfOk r (λ read. new.ended ≡ is_none read) → ((wal : Wal) → IsDemo seen may_leave wal old → IfOk r (λ read. ReadAfter seen may_leave wal at.0 old new read)) → OnOk r (ReadsOnTo seen may_leave old new)
-      by (Ok read) live ended subsequent = λ wal is. read_on seen may_leave old new wal at.0 is at.1 read (demo_behind seen may_leave old new wal at.0 is at.1 live read ended (subsequent wal is)) (subsequent wal is)
+      by : (r : Result (Option (List ℕ)) SourceError) → OnOk r (IsTrue new.live) → IfOk r (λ read. new.ended ≡ is_none read) → ((wal : Wal) → IsDemo model wal old → IfOk r (λ read. ReadAfter model wal at.0 old new read)) → OnOk r (ReadsOnTo model old new)
+      by (Ok read) live ended subsequent = λ wal is. read_on model old new wal at.0 is at.1 read (demo_behind model old new wal at.0 is at.1 live read ended (subsequent wal is)) (subsequent wal is)
       by (Err e) live ended subsequent = tt
 
-  pub read_ended : IfOk result (λ read. read ≡ None → (wal : Wal) → IsDemo seen may_leave wal old → HasReadWhole (with_entries wal (added_by wal old.done new.done [])) new)
+  pub read_ended : IfOk result (λ read. read ≡ None → (wal : Wal) → IsDemo model wal old → HasReadWhole (with_entries wal (added_by wal old.done new.done [])) new)
   read_ended = by result (λ wal is. adds.reads wal at.0 is at.1)
     where
-      by : (r : Result (Option (List ℕ)) SourceError) → ((wal : Wal) → IsDemo seen may_leave wal old → IfOk r (λ read. ReadAfter seen may_leave wal at.0 old new read))
-          → IfOk r (λ read. read ≡ None → (wal : Wal) → IsDemo seen may_leave wal old → HasReadWhole (with_entries wal (added_by wal old.done new.done [])) new)
+      by : (r : Result (Option (List ℕ)) SourceError) → ((wal : Wal) → IsDemo model wal old → IfOk r (λ read. ReadAfter model wal at.0 old new read))
+          → IfOk r (λ read. read ≡ None → (wal : Wal) → IsDemo model wal old → HasReadWhole (with_entries wal (added_by wal old.done new.done [])) new)
       by (Ok read) subsequent = λ none wal is.
-          read_whole seen may_leave old new wal at.0 is at.1 (subst (λ (o : Option (List ℕ)). ReadAfter seen may_leave wal at.0 old new o) none (subsequent wal is))
+          read_whole model old new wal at.0 is at.1 (subst (λ (o : Option (List ℕ)). ReadAfter model wal at.0 old new o) none (subsequent wal is))
       by (Err e) subsequent = tt
 
-  pub read_left : Leaves (HasDemoState seen may_leave) (λ source l. MayLeaveWal may_leave source.journal.disk l) old new MayFollow
+  pub read_left : Leaves (HasDemoState model) (λ source l. MayLeaveWal model source.journal.disk l) old new MayFollow
   read_left s l stands may =
       let wal = stands.0 in
-      let here = left_as may_leave new.journal.disk (LeftByRead wal at.0 old.done) l (adds.first wal at.0 stands.1 at.1) may in
+      let here = left_as model new.journal.disk (LeftByRead wal at.0 old.done) l (adds.first wal at.0 stands.1 at.1) may in
       let follow = follows_released wal (added_by wal old.done here.1.0 []) (commits_added wal old.done here.1.0) old.place here.0 here.1.2 in
-      let was : s ≡ standing_in wal old.place = stood_for seen may_leave old wal s stands.1 stands in
+      let was : s ≡ standing_in wal old.place = stood_for model old wal s stands.1 stands in
       subst (λ (x : CrashState). MayFollow s x) (sym here.2) (subst (λ (x : SourceState). MayFollow x (left_in here.0)) (sym was) follow)
 
-  pub read_some : ((disk : D) (bytes : List ℕ) → seen disk ≡ Some bytes → may_leave disk bytes) → LeavesSome (HasDemoState seen may_leave) (λ source l. MayLeaveWal may_leave source.journal.disk l) old new
-  read_some may_be_left = leaves_some seen may_leave old new may_be_left adds.come (λ wal. LeftByRead wal at.0 old.done) (λ wal is. adds.first wal at.0 is at.1)
+  pub read_some : ((disk : D) (bytes : List ℕ) → model.seen disk ≡ Some bytes → model.may_leave disk bytes) → LeavesSome (HasDemoState model) (λ source l. MayLeaveWal model source.journal.disk l) old new
+  read_some may_be_left = leaves_some model old new may_be_left adds.come (λ wal. LeftByRead wal at.0 old.done) (λ wal is. adds.first wal at.0 is at.1)
 
-  pub read_comes : IsTrue old.live → ExtendsDemo seen may_leave old new
-  read_comes was = comes_read seen may_leave old new adds.come was at.0 at.1 adds.first (λ live. live_or seen may_leave old new (ReadsOnTo seen may_leave old new) result read_released adds.dead live)
+  pub read_comes : IsTrue old.live → ExtendsDemo model old new
+  read_comes was = comes_read model old new adds.come was at.0 at.1 adds.first (λ live. live_or model old new (ReadsOnTo model old new) result read_released adds.dead live)

@@ -7,10 +7,11 @@ use Rattle.std.specs.BTreeMap.{is_at}
 use Rattle.std.specs.BTreeSet.{BTreeSet, IsEmpty, contains}
 use Rattle.dbl_base.specs.declared.lsn.Lsn.{Lsn}
 use Rattle.dbl_base.specs.Streams.{FaultCounted}
+use Rattle.dbl_disk.specs.Model.{DiskModel}
 use Rattle.dbl_journal.specs.Growth as journals
 use Rattle.dbl_source.specs.SourceLog.declared.logged.LogTable.{LogTable}
 use Rattle.dbl_source.specs.SourceLog.declared.logged.Logged.{Logged}
-use Rattle.dbl_source.specs.SourceLog.declared.place.Place.{Place}
+use Rattle.dbl_source.specs.SourceLog.declared.reader_position.ReaderPosition.{ReaderPosition}
 use Rattle.dbl_source.specs.SourceLog.Sent.{IsPlaceIn, told_at}
 use Rattle.dbl_source.proofs.SourceLogPlaceLemmas.{told_waiting}
 use Rattle.dbl_source.specs.SourceLog.declared.error.SourceError.{SourceError}
@@ -45,7 +46,7 @@ nothing_in described empty oid = ap (λ (keys : List ℕ). list_any (is_at (nat_
 pub begun_reader : (tables : List LogTable) (log : List Logged) (after : Lsn) (described : BTreeSet ℕ) → ((oid : ℕ) → contains nat_cmp described oid ≡ false)
     → IsReader tables log (Some (record { after = after; commits = 0; begun = false; change = 0; table = 0 })) described None
 begun_reader tables log after described none =
-    let first : Place = record { after = after; commits = 0; begun = false; change = 0; table = 0 } in
+    let first : ReaderPosition = record { after = after; commits = 0; begun = false; change = 0; table = 0 } in
     let nothing : told_at tables log first ≡ [] = told_waiting tables log first refl in
     record {
       placed = λ p is. (
@@ -53,14 +54,14 @@ begun_reader tables log after described none =
           subst (IsPlaceIn log) same (record { few = omega arith; there = λ begun. absurd (let wrong : false ≡ true = begun in cc) }));
       recalled = λ p is. (
           let same : first ≡ p = (let t : Some first ≡ Some p = is in cc) in
-          subst (λ (q : Place). Describes described (told_at tables log q)) same (subst (Describes described) (sym nothing) none));
+          subst (λ (q : ReaderPosition). Describes described (told_at tables log q)) same (subst (Describes described) (sym nothing) none));
       held_is = λ p logged is holds. absurd (let wrong : None ≡ Some logged = holds in cc);
     }
 
 -- a source with another reader
-pub with_reader : {D : Type 0} (seen : D → Option (List ℕ)) (may_leave : D → List ℕ → Type 0) (wal : Wal) (demo : Demo D) (place : Option Place) (described : BTreeSet ℕ) (held : Option Logged) (ended live : Bool) → IsReader demo.tables (logged_in wal.entries) place described held
-    → IsRunning seen may_leave wal demo → IsRunning seen may_leave wal (record demo { place = place; described = described; held = held; ended = ended; live = live })
-with_reader seen may_leave wal demo place described held ended live reader r = record {
+pub with_reader : {D : Type 0} (model : DiskModel D) (wal : Wal) (demo : Demo D) (place : Option ReaderPosition) (described : BTreeSet ℕ) (held : Option Logged) (ended live : Bool) → IsReader demo.tables (logged_in wal.entries) place described held
+    → IsRunning model wal demo → IsRunning model wal (record demo { place = place; described = described; held = held; ended = ended; live = live })
+with_reader model wal demo place described held ended live reader r = record {
   lists = r.lists;
   is = r.is;
   few = r.few;
@@ -76,23 +77,23 @@ with_reader seen may_leave wal demo place described held ended live reader r = r
 
 -- ---- a reader that starts, behind the group
 
-module _ {D : Type 0} (seen : D → Option (List ℕ)) (may_leave : D → List ℕ → Type 0) (faults : D → ℕ) {parts whole : Demo D} (is : parts ≡ whole) (mid : Demo D) (left : Leaves seen may_leave faults parts (next_end parts) [] mid)
-    (come : journals.ExtendsJournal seen may_leave parts.journal mid.journal) (later : faults parts.journal.disk ≤ faults mid.journal.disk) (runs : Runs seen may_leave faults parts (next_end parts) [] mid) (done : mid.done ≡ next_end parts) where
-  abbrev pub starting : Option Place → BTreeSet ℕ → Demo D
+module _ {D : Type 0} (model : DiskModel D) {parts whole : Demo D} (is : parts ≡ whole) (mid : Demo D) (left : Leaves model parts (next_end parts) [] mid)
+    (come : journals.ExtendsJournal model parts.journal mid.journal) (later : model.faults parts.journal.disk ≤ model.faults mid.journal.disk) (runs : Runs model parts (next_end parts) [] mid) (done : mid.done ≡ next_end parts) where
+  abbrev pub starting : Option ReaderPosition → BTreeSet ℕ → Demo D
   starting place described = record mid { place = place; described = described; held = None; ended = false; live = true }
 
-  pub starts_from : (after : Lsn) (place : Option Place) (described : BTreeSet ℕ) (started : Started) → ((tables : List LogTable) (log : List Logged) → IsReader tables log place described None) → started ≡ start_answer after parts.confirmed
-      → place ≡ place_after after started → RunsStepsAndWrites seen may_leave faults (next_end whole) [] (AnswersStart after whole) whole (starting place described) (Ok started)
+  pub starts_from : (after : Lsn) (place : Option ReaderPosition) (described : BTreeSet ℕ) (started : Started) → ((tables : List LogTable) (log : List Logged) → IsReader tables log place described None) → started ≡ start_answer after parts.confirmed
+      → place ≡ place_after after started → RunsStepsAndWrites model (next_end whole) [] (AnswersStart after whole) whole (starting place described) (Ok started)
   starts_from after place described started reader tells there =
-      subst (λ (s : Demo D). RunsStepsAndWrites seen may_leave faults (next_end s) [] (AnswersStart after s) s (starting place described) (Ok started)) is
-      (answers seen may_leave faults parts (next_end parts) [] (AnswersStart after parts) (starting place described) (Ok started) started refl
+      subst (λ (s : Demo D). RunsStepsAndWrites model (next_end s) [] (AnswersStart after s) s (starting place described) (Ok started)) is
+      (answers model parts (next_end parts) [] (AnswersStart after parts) (starting place described) (Ok started) started refl
       (λ wal of_old. (
-      let ran = runs wal (running_live seen may_leave wal parts false of_old.running) in
+      let ran = runs wal (running_live model wal parts false of_old.running) in
       let subsequent : Wal = with_entries wal (added_by wal parts.done (next_end parts) []) in
       record {
         is = record {
           live = refl;
-          running = with_reader seen may_leave subsequent mid place described None false true (reader mid.tables (logged_in subsequent.entries)) ran.running;
+          running = with_reader model subsequent mid place described None false true (reader mid.tables (logged_in subsequent.entries)) ran.running;
           ended = λ told. absurd (let wrong : false ≡ true = told in cc);
         };
         done = ran.done;
@@ -101,18 +102,18 @@ module _ {D : Type 0} (seen : D → Option (List ℕ)) (may_leave : D → List �
 
 -- ---- a read
 
-module _ {D : Type 0} (seen : D → Option (List ℕ)) (may_leave : D → List ℕ → Type 0) (faults : D → ℕ) {parts whole : Demo D} (is : parts ≡ whole) where
+module _ {D : Type 0} (model : DiskModel D) {parts whole : Demo D} (is : parts ≡ whole) where
   -- it failed while groups were run, or behind them
   pub read_fails : (new : Demo D) (result : Result (Option (List ℕ)) SourceError) (e : SourceError) → result ≡ Err e
-      → ((wal : Wal) (place : Place) → IsRunning seen may_leave wal (within parts) → parts.place ≡ Some place → LeavesReadRun may_leave wal place (within parts) new) → new.live ≡ false
-      → journals.ExtendsJournal seen may_leave parts.journal new.journal → faults parts.journal.disk ≤ faults new.journal.disk → (e ≡ Failed → FaultCounted (faults parts.journal.disk) (faults new.journal.disk)) → is_some new.place ≡ is_some parts.place
-      → new.ended ≡ parts.ended → AddsRead seen may_leave faults whole new result
+      → ((wal : Wal) (place : ReaderPosition) → IsRunning model wal (within parts) → parts.place ≡ Some place → LeavesReadRun model wal place (within parts) new) → new.live ≡ false
+      → journals.ExtendsJournal model parts.journal new.journal → model.faults parts.journal.disk ≤ model.faults new.journal.disk → (e ≡ Failed → FaultCounted (model.faults parts.journal.disk) (model.faults new.journal.disk)) → is_some new.place ≡ is_some parts.place
+      → new.ended ≡ parts.ended → AddsRead model whole new result
   read_fails new result e told left dead come later failed reading still =
-      subst (λ (s : Demo D). AddsRead seen may_leave faults s new result) is
-      (subst (λ (r : Result (Option (List ℕ)) SourceError). AddsRead seen may_leave faults parts new r) (sym told) (record {
+      subst (λ (s : Demo D). AddsRead model s new result) is
+      (subst (λ (r : Result (Option (List ℕ)) SourceError). AddsRead model parts new r) (sym told) (record {
         all = tt;
         reads = λ wal place of_old there. tt;
-        first = λ wal place of_old there. left wal place (running_live seen may_leave wal parts false of_old.running) there;
+        first = λ wal place of_old there. left wal place (running_live model wal parts false of_old.running) there;
         live = tt;
         dead = dead;
         come = come;
@@ -125,14 +126,14 @@ module _ {D : Type 0} (seen : D → Option (List ℕ)) (may_leave : D → List �
 
   -- it read this
   pub read_answers : (new : Demo D) (read : Option (List ℕ)) → (read ≡ None → new.done ≡ length new.steps)
-      → ((wal : Wal) (place : Place) → IsRunning seen may_leave wal (within parts) → parts.place ≡ Some place → ReadAfter seen may_leave wal place parts new read)
-      → ((wal : Wal) (place : Place) → IsRunning seen may_leave wal (within parts) → parts.place ≡ Some place → LeavesReadRun may_leave wal place (within parts) new) → IsTrue new.live
-      → journals.ExtendsJournal seen may_leave parts.journal new.journal → faults parts.journal.disk ≤ faults new.journal.disk → is_some new.place ≡ is_some parts.place → new.ended ≡ is_none read → AddsRead seen may_leave faults whole new (Ok read)
+      → ((wal : Wal) (place : ReaderPosition) → IsRunning model wal (within parts) → parts.place ≡ Some place → ReadAfter model wal place parts new read)
+      → ((wal : Wal) (place : ReaderPosition) → IsRunning model wal (within parts) → parts.place ≡ Some place → LeavesReadRun model wal place (within parts) new) → IsTrue new.live
+      → journals.ExtendsJournal model parts.journal new.journal → model.faults parts.journal.disk ≤ model.faults new.journal.disk → is_some new.place ≡ is_some parts.place → new.ended ≡ is_none read → AddsRead model whole new (Ok read)
   read_answers new read all reads left live come later reading ended =
-      subst (λ (s : Demo D). AddsRead seen may_leave faults s new (Ok read)) is (record {
+      subst (λ (s : Demo D). AddsRead model s new (Ok read)) is (record {
         all = all;
-        reads = λ wal place of_old there. reads wal place (running_live seen may_leave wal parts false of_old.running) there;
-        first = λ wal place of_old there. left wal place (running_live seen may_leave wal parts false of_old.running) there;
+        reads = λ wal place of_old there. reads wal place (running_live model wal parts false of_old.running) there;
+        first = λ wal place of_old there. left wal place (running_live model wal parts false of_old.running) there;
         live = live;
         dead = tt;
         come = come;
@@ -144,20 +145,20 @@ module _ {D : Type 0} (seen : D → Option (List ℕ)) (may_leave : D → List �
       })
 
 -- the next message behind the groups, as the source stands once it answers
-pub read_after : {D : Type 0} (seen : D → Option (List ℕ)) (may_leave : D → List ℕ → Type 0) (wal : Wal) (place : Place) (old mid new : Demo D) (read : Option (List ℕ)) (ended : Bool) → RanOn seen may_leave wal place old mid → new.done ≡ mid.done
-    → ReadsNext seen may_leave (with_entries wal (added_by wal old.done mid.done [])) place new read → ReadAfter seen may_leave wal place old (record new { ended = ended; live = true }) read
-read_after seen may_leave wal place old mid new read ended ran done next = record {
+pub read_after : {D : Type 0} (model : DiskModel D) (wal : Wal) (place : ReaderPosition) (old mid new : Demo D) (read : Option (List ℕ)) (ended : Bool) → RanOn model wal place old mid → new.done ≡ mid.done
+    → ReadsNext model (with_entries wal (added_by wal old.done mid.done [])) place new read → ReadAfter model wal place old (record new { ended = ended; live = true }) read
+read_after model wal place old mid new read ended ran done next = record {
   on = subst (λ (n : ℕ). ReadsOn wal.workload wal.entries place old.done n old.done) (sym done) ran.on;
-  next = subst (λ (n : ℕ). ReadsNext seen may_leave (with_entries wal (added_by wal old.done n [])) place (record new { ended = ended; live = true }) read) (sym done) (answers_live read next);
+  next = subst (λ (n : ℕ). ReadsNext model (with_entries wal (added_by wal old.done n [])) place (record new { ended = ended; live = true }) read) (sym done) (answers_live read next);
 }
   where
     subsequent : Wal
     subsequent = with_entries wal (added_by wal old.done mid.done [])
 
-    live : IsRunning seen may_leave subsequent new → IsRunning seen may_leave subsequent (record new { ended = ended; live = true })
-    live r = with_reader seen may_leave subsequent new new.place new.described new.held ended true r.reader r
+    live : IsRunning model subsequent new → IsRunning model subsequent (record new { ended = ended; live = true })
+    live r = with_reader model subsequent new new.place new.described new.held ended true r.reader r
 
-    answers_live : (read : Option (List ℕ)) → ReadsNext seen may_leave subsequent place new read → ReadsNext seen may_leave subsequent place (record new { ended = ended; live = true }) read
+    answers_live : (read : Option (List ℕ)) → ReadsNext model subsequent place new read → ReadsNext model subsequent place (record new { ended = ended; live = true }) read
     answers_live None none = record { is = none.is; end = none.end; running = live none.running }
     answers_live (Some bytes) one = record { next = one.next; is = one.is; same = one.same; message = one.message; spelled = one.spelled; told = one.told; running = live one.running }
 
@@ -167,15 +168,15 @@ read_after seen may_leave wal place old mid new read ended ran done next = recor
 abbrev pub IsReadOf : {D : Type 0} → Demo D → Demo D → Type 0
 IsReadOf old new = new ≡ record old { journal = new.journal; place = new.place; described = new.described; held = new.held }
 
-module _ {D : Type 0} (seen : D → Option (List ℕ)) (may_leave : D → List ℕ → Type 0) (faults : D → ℕ) {parts whole : Demo D} (is : parts ≡ whole) (mid new : Demo D) (same : IsRunOf (within parts) mid)
-    (left : (wal : Wal) (place : Place) → IsRunning seen may_leave wal (within parts) → parts.place ≡ Some place → LeavesReadRun may_leave wal place (within parts) mid)
-    (come : journals.ExtendsJournal seen may_leave parts.journal mid.journal) (later : faults parts.journal.disk ≤ faults mid.journal.disk)
-    (read_of : IsReadOf mid new) (crash : (crashed : List ℕ) → may_leave new.journal.disk crashed → may_leave mid.journal.disk crashed) (read_come : journals.ExtendsJournal seen may_leave mid.journal new.journal)
-    (read_later : faults mid.journal.disk ≤ faults new.journal.disk) (reading : is_some new.place ≡ is_some mid.place) where
-  left_read : (wal : Wal) (place : Place) → IsRunning seen may_leave wal (within parts) → parts.place ≡ Some place → LeavesReadRun may_leave wal place (within parts) new
+module _ {D : Type 0} (model : DiskModel D) {parts whole : Demo D} (is : parts ≡ whole) (mid new : Demo D) (same : IsRunOf (within parts) mid)
+    (left : (wal : Wal) (place : ReaderPosition) → IsRunning model wal (within parts) → parts.place ≡ Some place → LeavesReadRun model wal place (within parts) mid)
+    (come : journals.ExtendsJournal model parts.journal mid.journal) (later : model.faults parts.journal.disk ≤ model.faults mid.journal.disk)
+    (read_of : IsReadOf mid new) (crash : (crashed : List ℕ) → model.may_leave new.journal.disk crashed → model.may_leave mid.journal.disk crashed) (read_come : journals.ExtendsJournal model mid.journal new.journal)
+    (read_later : model.faults mid.journal.disk ≤ model.faults new.journal.disk) (reading : is_some new.place ≡ is_some mid.place) where
+  left_read : (wal : Wal) (place : ReaderPosition) → IsRunning model wal (within parts) → parts.place ≡ Some place → LeavesReadRun model wal place (within parts) new
   left_read wal place r there crashed may = left wal place r there crashed (crash crashed may)
 
-  come_read : journals.ExtendsJournal seen may_leave parts.journal new.journal
+  come_read : journals.ExtendsJournal model parts.journal new.journal
   come_read gate most h = read_come gate most (come gate most h)
 
   reading_read : is_some new.place ≡ is_some parts.place
@@ -188,21 +189,21 @@ module _ {D : Type 0} (seen : D → Option (List ℕ)) (may_leave : D → List �
   steps_read = ap (λ (d : Demo D). d.steps) read_of
 
   -- it failed
-  pub read_fails_there : (result : Result (Option (List ℕ)) SourceError) (e : SourceError) → result ≡ Err e → (e ≡ Failed → FaultCounted (faults mid.journal.disk) (faults new.journal.disk)) → AddsRead seen may_leave faults whole new result
+  pub read_fails_there : (result : Result (Option (List ℕ)) SourceError) (e : SourceError) → result ≡ Err e → (e ≡ Failed → FaultCounted (model.faults mid.journal.disk) (model.faults new.journal.disk)) → AddsRead model whole new result
   read_fails_there result e told failed =
-      read_fails seen may_leave faults is new result e told left_read (ap (λ (d : Demo D). d.live) read_of ∙ ap (λ (d : Demo D). d.live) same) come_read (omega (arith, later, read_later)) (λ is. omega (arith, later, failed is)) reading_read
+      read_fails model is new result e told left_read (ap (λ (d : Demo D). d.live) read_of ∙ ap (λ (d : Demo D). d.live) same) come_read (omega (arith, later, read_later)) (λ is. omega (arith, later, failed is)) reading_read
       (ap (λ (d : Demo D). d.ended) read_of ∙ ap (λ (d : Demo D). d.ended) same)
 
   -- it answers, and the source is live again
-  pub read_answers_there : (read : Option (List ℕ)) (ended : Bool) → ended ≡ is_none read → ((wal : Wal) (place : Place) → IsRunning seen may_leave wal (within parts) → parts.place ≡ Some place → RanOn seen may_leave wal place (within parts) mid)
-      → ((wal : Wal) (place : Place) → IsRunning seen may_leave wal mid → mid.place ≡ Some place → ReadsNext seen may_leave wal place new read) → (has_unread mid.place (length mid.commits) ≡ true) ⊎ (length mid.steps ≤ mid.done)
-      → (read ≡ None → has_unread mid.place (length mid.commits) ≡ false) → mid.done ≤ length mid.steps → AddsRead seen may_leave faults whole (record new { ended = ended; live = true }) (Ok read)
+  pub read_answers_there : (read : Option (List ℕ)) (ended : Bool) → ended ≡ is_none read → ((wal : Wal) (place : ReaderPosition) → IsRunning model wal (within parts) → parts.place ≡ Some place → RanOn model wal place (within parts) mid)
+      → ((wal : Wal) (place : ReaderPosition) → IsRunning model wal mid → mid.place ≡ Some place → ReadsNext model wal place new read) → (has_unread mid.place (length mid.commits) ≡ true) ⊎ (length mid.steps ≤ mid.done)
+      → (read ≡ None → has_unread mid.place (length mid.commits) ≡ false) → mid.done ≤ length mid.steps → AddsRead model whole (record new { ended = ended; live = true }) (Ok read)
   read_answers_there read ended tells ran next end none upto =
-      read_answers seen may_leave faults is (record new { ended = ended; live = true }) read (λ nothing. all_done nothing end)
+      read_answers model is (record new { ended = ended; live = true }) read (λ nothing. all_done nothing end)
       (λ wal place r there. (
       let on = ran wal place r there in
       let one = next (with_entries wal (added_by wal parts.done mid.done [])) place on.running (ap (λ (d : Demo D). d.place) same ∙ there) in
-      let subsequent = read_after seen may_leave wal place (within parts) mid new read ended on done_read one in
+      let subsequent = read_after model wal place (within parts) mid new read ended on done_read one in
       record { on = subsequent.on; next = subsequent.next }))
       left_read refl come_read (omega (arith, later, read_later)) reading_read tells
     where

@@ -5,9 +5,10 @@ use Rattle.std.specs.BTreeSet.{BTreeSet}
 use Rattle.std.proofs.lemmas.List.{append-nil, length-map}
 use Rattle.std.proofs.lemmas.List.Elements.{filter_map-append}
 use Rattle.dbl_base.specs.declared.lsn.Lsn.{Lsn}
+use Rattle.dbl_disk.specs.Model.{DiskModel}
 use Rattle.dbl_source.specs.SourceLog.declared.logged.LogTable.{LogTable}
 use Rattle.dbl_source.specs.SourceLog.declared.logged.Logged.{Logged}
-use Rattle.dbl_source.specs.SourceLog.declared.place.Place.{Place}
+use Rattle.dbl_source.specs.SourceLog.declared.reader_position.ReaderPosition.{ReaderPosition}
 use Rattle.dbl_source.specs.SourceLog.Sent.{index_of}
 use Rattle.dbl_source.proofs.SourceLogSentLemmas.{stays}
 use Rattle.dbl_source.specs.SourceLog.Readings.{Describes}
@@ -50,7 +51,7 @@ there_on [] ys n x there = absurd (let t = there in cc)
 there_on (y ∷ xs) ys zero x there = there
 there_on (y ∷ xs) ys (suc n) x there = there_on xs ys n x there
 
-pub reader_on : (tables : List LogTable) (log more : List Logged) (place : Option Place) (described : BTreeSet ℕ) (held : Option Logged) → IsReader tables log place described held → IsReader tables (log ++ more) place described held
+pub reader_on : (tables : List LogTable) (log more : List Logged) (place : Option ReaderPosition) (described : BTreeSet ℕ) (held : Option Logged) → IsReader tables log place described held → IsReader tables (log ++ more) place described held
 reader_on tables log more place described held reader = record {
   placed = λ p is. placed_on log more p (reader.placed p is);
   recalled = λ p is. subst (Describes described) (sym (stays tables log more p (reader.placed p is))) (reader.recalled p is);
@@ -66,15 +67,15 @@ logged_push : (entries : List Entry) (entry : Entry) → logged_in (entries ++ e
 logged_push entries entry = filter_map-append logged_by entries (entry ∷ [])
 
 -- what the journal lists is the wal with the entry
-pub lists_push : {D : Type 0} (seen : D → Option (List ℕ)) (may_leave : D → List ℕ → Type 0) (journal : OnDisk D) (wal : Wal) (entry : Entry) (form : List ℕ) → form ≡ entry_form entry → Lists seen may_leave journal (forms_of wal ++ form ∷ [])
-    → Lists seen may_leave journal (forms_of (one_more wal entry))
-lists_push seen may_leave journal wal entry form is lists =
-    subst (Lists seen may_leave journal) (ap (λ (w : List ℕ). forms_of wal ++ w ∷ []) is ∙ sym (forms_push wal entry)) lists
+pub lists_push : {D : Type 0} (model : DiskModel D) (journal : OnDisk D) (wal : Wal) (entry : Entry) (form : List ℕ) → form ≡ entry_form entry → Lists model journal (forms_of wal ++ form ∷ [])
+    → Lists model journal (forms_of (one_more wal entry))
+lists_push model journal wal entry form is lists =
+    subst (Lists model journal) (ap (λ (w : List ℕ). forms_of wal ++ w ∷ []) is ∙ sym (forms_push wal entry)) lists
 
 -- and what is left while it is appended is the wal, or the wal with it
-pub leaves_push : {D : Type 0} (may_leave : D → List ℕ → Type 0) (disk : D) (wal : Wal) (entry : Entry) (form : List ℕ) → form ≡ entry_form entry → IsWalOf (forms_of wal) wal → length wal.entries + 1 < 2 ^ 40 → FitsWalEntry entry
-    → IsNextEntry wal.workload wal.entries entry → LeavesEntries may_leave disk (λ left. (left ≡ forms_of wal) ⊎ (left ≡ forms_of wal ++ form ∷ [])) → LeavesWal may_leave disk (IsLeftOf wal (entry ∷ []))
-leaves_push may_leave disk wal entry form is sound few fits next leaves crashed may =
+pub leaves_push : {D : Type 0} (model : DiskModel D) (disk : D) (wal : Wal) (entry : Entry) (form : List ℕ) → form ≡ entry_form entry → IsWalOf (forms_of wal) wal → length wal.entries + 1 < 2 ^ 40 → FitsWalEntry entry
+    → IsNextEntry wal.workload wal.entries entry → LeavesEntries model disk (λ left. (left ≡ forms_of wal) ⊎ (left ≡ forms_of wal ++ form ∷ [])) → LeavesWal model disk (IsLeftOf wal (entry ∷ []))
+leaves_push model disk wal entry form is sound few fits next leaves crashed may =
     let here = leaves crashed may in
     elim here.2 [
       | inl same ↦ (
@@ -91,9 +92,9 @@ leaves_push may_leave disk wal entry form is sound few fits next leaves crashed 
 
 -- ---- behind a step
 
-module _ {D : Type 0} (seen : D → Option (List ℕ)) (may_leave : D → List ℕ → Type 0) (wal : Wal) (old : Demo D) (running : IsRunning seen may_leave wal old) where
+module _ {D : Type 0} (model : DiskModel D) (wal : Wal) (old : Demo D) (running : IsRunning model wal old) where
   -- one that committed nothing
-  pub running_silent : (store : Tables) → Stands wal.workload.tables (acts_at wal.workload (suc old.done)) store → IsSilent wal.workload wal.entries (suc old.done) → IsRunning seen may_leave wal (record old { store = store; done = suc old.done })
+  pub running_silent : (store : Tables) → Stands wal.workload.tables (acts_at wal.workload (suc old.done)) store → IsSilent wal.workload wal.entries (suc old.done) → IsRunning model wal (record old { store = store; done = suc old.done })
   running_silent store stands silent = record {
     lists = running.lists;
     is = running.is;
@@ -109,9 +110,9 @@ module _ {D : Type 0} (seen : D → Option (List ℕ)) (may_leave : D → List �
   }
 
   -- an entry was appended, whatever it is: what it changes is told
-  pub running_entry : (entry : Entry) (journal : OnDisk D) (store : Tables) (done : ℕ) (commits : List ℕ) (confirmed : Lsn) → Lists seen may_leave journal (forms_of (one_more wal entry)) → FitsWalEntry entry → IsNextEntry wal.workload wal.entries entry
+  pub running_entry : (entry : Entry) (journal : OnDisk D) (store : Tables) (done : ℕ) (commits : List ℕ) (confirmed : Lsn) → Lists model journal (forms_of (one_more wal entry)) → FitsWalEntry entry → IsNextEntry wal.workload wal.entries entry
       → length (one_more wal entry).entries < 2 ^ 40 → Stands wal.workload.tables (acts_at wal.workload done) store → IsSilent wal.workload (one_more wal entry).entries done → commits ≡ commit_places 1 (one_more wal entry).entries
-      → confirmed ≡ confirmed_of (one_more wal entry) → IsRunning seen may_leave (one_more wal entry) (record old { journal = journal; store = store; done = done; commits = commits; confirmed = confirmed })
+      → confirmed ≡ confirmed_of (one_more wal entry) → IsRunning model (one_more wal entry) (record old { journal = journal; store = store; done = done; commits = commits; confirmed = confirmed })
   running_entry entry journal store done commits confirmed lists fits next few stands silent commits_are confirmed_is = record {
     lists = lists;
     is = go_on wal entry running.is fits next;
@@ -133,7 +134,7 @@ module _ {D : Type 0} (seen : D → Option (List ℕ)) (may_leave : D → List �
 
 -- ---- a step that was run
 
-module _ {D : Type 0} (seen : D → Option (List ℕ)) (may_leave : D → List ℕ → Type 0) (wal : Wal) (old : Demo D) (running : IsRunning seen may_leave wal old) (left : old.done < length old.steps) where
+module _ {D : Type 0} (model : DiskModel D) (wal : Wal) (old : Demo D) (running : IsRunning model wal old) (left : old.done < length old.steps) where
   -- it is one of the workload's
   left_in : old.done < length (steps_of wal.workload)
   left_in = omega (arith, left, ap (λ (l : List Step). length l) running.steps)
@@ -162,21 +163,21 @@ module _ {D : Type 0} (seen : D → Option (List ℕ)) (may_leave : D → List �
     with_none = ap (λ (l : List Entry). let x : Wal = record wal { entries = l } in x) (append-nil wal.entries)
 
     -- nothing was committed
-    pub ran_silent : IsNextRun wal.workload old.done None store → Ran seen may_leave wal (old.done + 1) [] old stepped
+    pub ran_silent : IsNextRun wal.workload old.done None store → Ran model wal (old.done + 1) [] old stepped
     ran_silent next =
         let added = added_one None next in
         let silent = silent_next wal.workload wal.entries old.done running.silent left_in (log_more None next) in
-        let here : IsRunning seen may_leave wal (record old { store = store; done = suc old.done }) = running_silent seen may_leave wal old running store (stands_next None next) silent in
-        let moved : IsRunning seen may_leave wal stepped = subst (λ (n : ℕ). IsRunning seen may_leave wal (record old { store = store; done = n })) (sym more) here in
+        let here : IsRunning model wal (record old { store = store; done = suc old.done }) = running_silent model wal old running store (stands_next None next) silent in
+        let moved : IsRunning model wal stepped = subst (λ (n : ℕ). IsRunning model wal (record old { store = store; done = n })) (sym more) here in
         record {
-          running = subst (λ (x : Wal). IsRunning seen may_leave x stepped) (sym (ap (with_entries wal) added ∙ with_none)) moved;
+          running = subst (λ (x : Wal). IsRunning model x stepped) (sym (ap (with_entries wal) added ∙ with_none)) moved;
           done = refl;
         }
 
     -- the disk is as it was: it holds the wal, and nothing of what the step adds
-    pub left_alone : (new : Demo D) (upto : ℕ) → new.journal ≡ old.journal → LeavesRun may_leave wal upto [] old new
+    pub left_alone : (new : Demo D) (upto : ℕ) → new.journal ≡ old.journal → LeavesRun model wal upto [] old new
     left_alone new upto same crashed may =
-        let there : may_leave old.journal.disk crashed = subst (λ (j : OnDisk D). may_leave j.disk crashed) same may in
+        let there : model.may_leave old.journal.disk crashed = subst (λ (j : OnDisk D). model.may_leave j.disk crashed) same may in
         let is : crashed ≡ running.lists.bytes = running.lists.only crashed there in
         (wal, subst (λ (bytes : List ℕ). IsWal bytes wal) (sym is) (record { forms = forms_of wal; journal = running.lists.spelled; are = running.is; few = running.few }), record { count = 0; is = sym with_none })
 
@@ -194,34 +195,34 @@ module _ {D : Type 0} (seen : D → Option (List ℕ)) (may_leave : D → List �
       next_entry = commit_next wal.workload wal.entries old.done running.silent left_in messages (log_more (Some messages) next)
 
       few_more : length wal.entries + 1 < 2 ^ 40
-      few_more = omega (arith, small, count_is seen may_leave wal old running)
+      few_more = omega (arith, small, count_is model wal old running)
 
       wal_more : with_entries wal (added_by wal old.done (old.done + 1) []) ≡ one_more wal entry
       wal_more = ap (with_entries wal) (added_one (Some messages) next)
 
       -- the commit was appended
-      pub ran_logged : (new : Demo D) → IsLogged seen may_leave messages stepped new → IsRunOf stepped new → (new.done ≡ old.done + 1) × (new.store ≡ store) → Ran seen may_leave wal (old.done + 1) [] old new
+      pub ran_logged : (new : Demo D) → IsLogged model messages stepped new → IsRunOf stepped new → (new.done ≡ old.done + 1) × (new.store ≡ store) → Ran model wal (old.done + 1) [] old new
       ran_logged new logged same stays =
           let form : entry_form (Commits (old.done + 1) messages) ≡ entry_form entry = ap entry_form same_entry in
-          let lists = lists_push seen may_leave new.journal wal entry (entry_form (Commits (old.done + 1) messages)) form (logged.lists (forms_of wal) running.lists) in
+          let lists = lists_push model new.journal wal entry (entry_form (Commits (old.done + 1) messages)) form (logged.lists (forms_of wal) running.lists) in
           let silent = silent_behind wal.workload wal.entries old.done running.silent left_in messages (log_more (Some messages) next) in
-          let number : length old.journal.places ≡ 1 + length wal.entries = count_is seen may_leave wal old running in
+          let number : length old.journal.places ≡ 1 + length wal.entries = count_is model wal old running in
           let commits : new.commits ≡ commit_places 1 (one_more wal entry).entries =
           logged.commits ∙ ap (λ (l : List ℕ). l ++ length old.journal.places ∷ []) running.commits ∙ ap (λ (n : ℕ). commit_places 1 wal.entries ++ n ∷ []) number ∙ sym (places_append 1 wal.entries (entry ∷ [])) in
           let confirmed : old.confirmed ≡ confirmed_of (one_more wal entry) = running.confirmed ∙ sym (confirmed_from-append (record { 0 = 0 }) wal.entries (entry ∷ [])) in
-          let here : IsRunning seen may_leave (one_more wal entry) (record old { journal = new.journal; store = store; done = suc old.done; commits = new.commits; confirmed = old.confirmed }) =
-          running_entry seen may_leave wal old running entry new.journal store (suc old.done) new.commits old.confirmed lists fits_entry next_entry (omega (arith, few_more, length-append wal.entries (entry ∷ []))) (stands_next (Some messages) next) silent commits confirmed in
+          let here : IsRunning model (one_more wal entry) (record old { journal = new.journal; store = store; done = suc old.done; commits = new.commits; confirmed = old.confirmed }) =
+          running_entry model wal old running entry new.journal store (suc old.done) new.commits old.confirmed lists fits_entry next_entry (omega (arith, few_more, length-append wal.entries (entry ∷ []))) (stands_next (Some messages) next) silent commits confirmed in
           let is : record old { journal = new.journal; store = store; done = suc old.done; commits = new.commits; confirmed = old.confirmed } ≡ new =
           ap (λ (n : ℕ). let x : Demo D = record old { journal = new.journal; store = store; done = n; commits = new.commits } in x) (sym more ∙ sym stays.0)
           ∙ ap (λ (s : Tables). let x : Demo D = record old { journal = new.journal; store = s; done = new.done; commits = new.commits } in x) (sym stays.1) ∙ sym same in
           record {
-            running = subst (λ (x : Wal). IsRunning seen may_leave x new) (sym wal_more) (subst (IsRunning seen may_leave (one_more wal entry)) is here);
+            running = subst (λ (x : Wal). IsRunning model x new) (sym wal_more) (subst (IsRunning model (one_more wal entry)) is here);
             done = stays.0;
           }
 
       -- or it was being appended
-      pub left_logged : (new : Demo D) → LeavesLogged seen may_leave messages stepped new → LeavesRun may_leave wal (old.done + 1) [] old new
+      pub left_logged : (new : Demo D) → LeavesLogged model messages stepped new → LeavesRun model wal (old.done + 1) [] old new
       left_logged new leaves =
           let form : entry_form (Commits (old.done + 1) messages) ≡ entry_form entry = ap entry_form same_entry in
-          subst (λ (l : List Entry). LeavesWal may_leave new.journal.disk (IsLeftOf wal l)) (sym (added_one (Some messages) next))
-          (leaves_push may_leave new.journal.disk wal entry (entry_form (Commits (old.done + 1) messages)) form running.is few_more fits_entry next_entry (leaves (forms_of wal) running.lists))
+          subst (λ (l : List Entry). LeavesWal model new.journal.disk (IsLeftOf wal l)) (sym (added_one (Some messages) next))
+          (leaves_push model new.journal.disk wal entry (entry_form (Commits (old.done + 1) messages)) form running.is few_more fits_entry next_entry (leaves (forms_of wal) running.lists))

@@ -1,12 +1,13 @@
 -- The rows that a select shows are those of its history at the place between the two groups.
 use Rattle.std.proofs.Common.{◌≡◌, ℕ, ◌≤◌, Option, List, [], length, sym, ap, subst, arith}
+use Rattle.dbl_disk.specs.Model.{DiskModel}
 use Rattle.dbl_model_table.specs.declared.row.Key.{Key}
 use Rattle.dbl_model_table.specs.declared.table.RawRow.{RawRow}
 use Rattle.dbl_model_table.specs.declared.table.TableName.{TableName}
 use Rattle.dbl_source.specs.SourceModel.Answered.{IsSelectAnswer}
 use Rattle.dbl_source.specs.SourceModel.Selected.{Selects}
 use Rattle.dbl_source.specs.SourceModel.Standings.{SourceState, HasState}
-use Rattle.dbl_source.specs.SourceLog.declared.place.Place.{Place}
+use Rattle.dbl_source.specs.SourceLog.declared.reader_position.ReaderPosition.{ReaderPosition}
 use Rattle.dbl_demo_workload.specs.Script.declared.script.Step.{Step}
 use Rattle.dbl_demo_workload.specs.DemoWal.CrashState.{added_by, with_entries}
 use Rattle.dbl_demo_workload.specs.DemoWal.Standings.{history_in, standing_in}
@@ -22,11 +23,11 @@ use Rattle.dbl_demo_laws.specs.SourceLaws.{wal_of}
 use Rattle.dbl_demo_laws.proofs.CallLemmas.{leads}
 use Rattle.dbl_demo_laws.proofs.PromiseLemmas.{commits_added}
 
-module _ {D : Type 0} (seen : D → Option (List ℕ)) (may_leave : D → List ℕ → Type 0) (old new : Demo D) (wal : Wal) (of_old : IsDemo seen may_leave wal old) (table : TableName) (above : Option Key) (limit : ℕ) (rows : List RawRow) where
+module _ {D : Type 0} (model : DiskModel D) (old new : Demo D) (wal : Wal) (of_old : IsDemo model wal old) (table : TableName) (above : Option Key) (limit : ℕ) (rows : List RawRow) where
   abbrev next : Wal
   next = with_entries wal (added_by wal old.done (second_end old) [])
 
-  shows : Released seen may_leave wal (second_end old) [] old new → AnswersRows seen may_leave table above limit old new rows → Selects table above limit (history_in wal) (history_in next) rows
+  shows : Released model wal (second_end old) [] old new → AnswersRows model table above limit old new rows → Selects table above limit (history_in wal) (history_in next) rows
   shows done answer =
       let silent = of_old.running.silent in
       let long : length old.steps ≡ length (steps_of wal.workload) = ap (λ (l : List Step). length l) of_old.running.steps in
@@ -34,10 +35,10 @@ module _ {D : Type 0} (seen : D → Option (List ℕ)) (may_leave : D → List �
       let first : next_end old ≤ length old.steps = end_within old.steps old.done there in
       let last : second_end old ≤ length old.steps = end_within old.steps (next_end old) first in
       selects_answered done.is.running.lists.bytes wal old.done (next_end old) (second_end old) table above limit rows silent (end_later old.steps old.done) (end_later old.steps (next_end old)) (omega (arith, last, long))
-      (wal_of seen may_leave new next done.is.running) (answer.are wal of_old)
+      (wal_of model new next done.is.running) (answer.are wal of_old)
 
-  pub lead_select : (s : SourceState) → HasDemoState seen may_leave old s → Released seen may_leave wal (second_end old) [] old new → AnswersRows seen may_leave table above limit old new rows → HasState (HasDemoState seen may_leave) new (IsSelectAnswer (Unit {0}) table above limit rows s)
+  pub lead_select : (s : SourceState) → HasDemoState model old s → Released model wal (second_end old) [] old new → AnswersRows model table above limit old new rows → HasState (HasDemoState model) new (IsSelectAnswer (Unit {0}) table above limit rows s)
   lead_select s stands done answer =
-      leads seen may_leave old new wal next s (IsSelectAnswer (Unit {0}) table above limit rows) of_old done.is stands
-      (subst (λ (p : Option Place). IsSelectAnswer (Unit {0}) table above limit rows (standing_in wal old.place) (standing_in next p)) (sym answer.reader.place)
+      leads model old new wal next s (IsSelectAnswer (Unit {0}) table above limit rows) of_old done.is stands
+      (subst (λ (p : Option ReaderPosition). IsSelectAnswer (Unit {0}) table above limit rows (standing_in wal old.place) (standing_in next p)) (sym answer.reader.place)
       (standing_moves wal (added_by wal old.done (second_end old) []) old.place (commits_added wal old.done (second_end old)) of_old.running.reader.placed, λ honest. shows done answer))

@@ -2,6 +2,7 @@
 use Rattle.std.proofs.Common.{◌≡◌, ◌∙◌, ℕ, ◌≤◌, false, Option, List, [], length, refl, ap, subst, arith}
 use Rattle.std.specs.Prelude.{Result, Ok, Err}
 use Rattle.dbl_base.specs.Streams.{FaultCounted}
+use Rattle.dbl_disk.specs.Model.{DiskModel}
 use Rattle.dbl_journal.specs.Growth as journals
 use Rattle.dbl_source.specs.SourceLog.declared.error.SourceError.{SourceError}
 use Rattle.dbl_source.specs.SourceLog.declared.error.SourceError.TheVariants.{Failed}
@@ -31,53 +32,53 @@ second_none steps done all =
     let once : group_end steps done ≡ done = end_none steps done (omega (arith, all)) in
     ap (group_end steps) once ∙ once
 
-module _ {D : Type 0} (seen : D → Option (List ℕ)) (may_leave : D → List ℕ → Type 0) (faults : D → ℕ) {parts whole : Demo D} (is : parts ≡ whole) (mid : Demo D) (same : IsRunOf (within parts) mid) (runs : Runs seen may_leave faults parts (next_end parts) [] mid)
+module _ {D : Type 0} (model : DiskModel D) {parts whole : Demo D} (is : parts ≡ whole) (mid : Demo D) (same : IsRunOf (within parts) mid) (runs : Runs model parts (next_end parts) [] mid)
     (end : mid.done ≡ next_end parts) where
   -- the rows of the source between the groups
-  pub rows_shown : (table : TableName) (above : Option Key) (limit : ℕ) (rows : List RawRow) → ((tables : List DemoTable) (past : List Accepted) → Stands tables past mid.store → AreRowsShown tables past table above limit rows) → (wal : Wal) → IsDemo seen may_leave wal parts
+  pub rows_shown : (table : TableName) (above : Option Key) (limit : ℕ) (rows : List RawRow) → ((tables : List DemoTable) (past : List Accepted) → Stands tables past mid.store → AreRowsShown tables past table above limit rows) → (wal : Wal) → IsDemo model wal parts
       → AreRowsShown wal.workload.tables (acts_at wal.workload (next_end parts)) table above limit rows
   rows_shown table above limit rows shown wal of_old =
-      let first = runs wal (running_live seen may_leave wal parts false of_old.running) in
+      let first = runs wal (running_live model wal parts false of_old.running) in
       subst (λ (n : ℕ). AreRowsShown wal.workload.tables (acts_at wal.workload n) table above limit rows) first.done (shown wal.workload.tables (acts_at wal.workload mid.done) first.running.stands)
 
-  module _ (new : Demo D) (again : IsRunOf mid new) (left : (wal : Wal) → IsRunning seen may_leave wal mid → LeavesRun may_leave wal (next_end mid) [] mid new) (come : journals.ExtendsJournal seen may_leave parts.journal mid.journal) (later : faults parts.journal.disk ≤ faults mid.journal.disk)
-      (come_again : journals.ExtendsJournal seen may_leave mid.journal new.journal) (later_again : faults mid.journal.disk ≤ faults new.journal.disk) where
+  module _ (new : Demo D) (again : IsRunOf mid new) (left : (wal : Wal) → IsRunning model wal mid → LeavesRun model wal (next_end mid) [] mid new) (come : journals.ExtendsJournal model parts.journal mid.journal) (later : model.faults parts.journal.disk ≤ model.faults mid.journal.disk)
+      (come_again : journals.ExtendsJournal model mid.journal new.journal) (later_again : model.faults mid.journal.disk ≤ model.faults new.journal.disk) where
     ends : next_end mid ≡ second_end parts
     ends = ap (λ (d : Demo D). group_end d.steps mid.done) same ∙ ap (group_end parts.steps) end
 
     same_both : IsRunOf (within parts) new
     same_both = again ∙ ap (λ (d : Demo D). let x : Demo D = record d { journal = new.journal; store = new.store; done = new.done; commits = new.commits } in x) same
 
-    left_both : Leaves seen may_leave faults parts (second_end parts) [] new
+    left_both : Leaves model parts (second_end parts) [] new
     left_both wal r =
         let first = runs wal r in
-        let between = wal_between seen may_leave wal (within parts) mid (next_end parts) (end_later parts.steps parts.done) first in
-        left_all seen may_leave wal (within parts) mid (next_end parts) (end_later parts.steps parts.done) first new (second_end parts) (second_end parts) (end_later parts.steps (next_end parts)) (omega arith)
-        (subst (λ (n : ℕ). LeavesRun may_leave between n [] mid new) ends (left between first.running))
+        let between = wal_between model wal (within parts) mid (next_end parts) (end_later parts.steps parts.done) first in
+        left_all model wal (within parts) mid (next_end parts) (end_later parts.steps parts.done) first new (second_end parts) (second_end parts) (end_later parts.steps (next_end parts)) (omega arith)
+        (subst (λ (n : ℕ). LeavesRun model between n [] mid new) ends (left between first.running))
 
-    runs_both : ((wal : Wal) → IsRunning seen may_leave wal mid → Ran seen may_leave wal (next_end mid) [] mid new) → Runs seen may_leave faults parts (second_end parts) [] new
+    runs_both : ((wal : Wal) → IsRunning model wal mid → Ran model wal (next_end mid) [] mid new) → Runs model parts (second_end parts) [] new
     runs_both second wal r =
         let first = runs wal r in
-        let between = wal_between seen may_leave wal (within parts) mid (next_end parts) (end_later parts.steps parts.done) first in
-        ran_on seen may_leave wal (within parts) mid (next_end parts) (end_later parts.steps parts.done) first new (second_end parts) (end_later parts.steps (next_end parts)) (subst (λ (n : ℕ). Ran seen may_leave between n [] mid new) ends (second between first.running))
+        let between = wal_between model wal (within parts) mid (next_end parts) (end_later parts.steps parts.done) first in
+        ran_on model wal (within parts) mid (next_end parts) (end_later parts.steps parts.done) first new (second_end parts) (end_later parts.steps (next_end parts)) (subst (λ (n : ℕ). Ran model between n [] mid new) ends (second between first.running))
 
-    come_both : journals.ExtendsJournal seen may_leave parts.journal new.journal
+    come_both : journals.ExtendsJournal model parts.journal new.journal
     come_both gate most h = come_again gate most (come gate most h)
 
     -- it fails in the second group
-    pub fails_again : {T : Type 0} (Answers : Demo D → Demo D → T → Type 0) (result : Result T SourceError) (e : SourceError) → result ≡ Err e → (e ≡ Failed → FaultCounted (faults mid.journal.disk) (faults new.journal.disk)) → RunsStepsAndWrites seen may_leave faults (second_end whole) [] (Answers whole) whole new result
+    pub fails_again : {T : Type 0} (Answers : Demo D → Demo D → T → Type 0) (result : Result T SourceError) (e : SourceError) → result ≡ Err e → (e ≡ Failed → FaultCounted (model.faults mid.journal.disk) (model.faults new.journal.disk)) → RunsStepsAndWrites model (second_end whole) [] (Answers whole) whole new result
     fails_again Answers result e told failed =
-        subst (λ (s : Demo D). RunsStepsAndWrites seen may_leave faults (second_end s) [] (Answers s) s new result) is
-        (fails seen may_leave faults parts (second_end parts) [] (Answers parts) new result e told left_both (dead_is seen may_leave faults parts new same_both) (kept_is seen may_leave faults parts new same_both) come_both (omega (arith, later, later_again))
+        subst (λ (s : Demo D). RunsStepsAndWrites model (second_end s) [] (Answers s) s new result) is
+        (fails model parts (second_end parts) [] (Answers parts) new result e told left_both (dead_is model parts new same_both) (kept_is model parts new same_both) come_both (omega (arith, later, later_again))
         (λ same_error. omega (arith, later, failed same_error)))
 
     -- it answers behind both
-    pub answers_again : {T : Type 0} (Answers : Demo D → Demo D → T → Type 0) (x : T) → ((wal : Wal) → IsRunning seen may_leave wal mid → Ran seen may_leave wal (next_end mid) [] mid new) → new.done ≡ next_end mid → Answers parts (answering new) x
-        → RunsStepsAndWrites seen may_leave faults (second_end whole) [] (Answers whole) whole (answering new) (Ok x)
+    pub answers_again : {T : Type 0} (Answers : Demo D → Demo D → T → Type 0) (x : T) → ((wal : Wal) → IsRunning model wal mid → Ran model wal (next_end mid) [] mid new) → new.done ≡ next_end mid → Answers parts (answering new) x
+        → RunsStepsAndWrites model (second_end whole) [] (Answers whole) whole (answering new) (Ok x)
     answers_again Answers x second done holds =
-        subst (λ (s : Demo D). RunsStepsAndWrites seen may_leave faults (second_end s) [] (Answers s) s (answering new) (Ok x)) is
-        (answers seen may_leave faults parts (second_end parts) [] (Answers parts) (answering new) (Ok x) x refl (releases_is seen may_leave faults parts (second_end parts) [] new (second_none parts.steps parts.done) tt same_both (runs_both second)) (done ∙ ends) left_both refl come_both
+        subst (λ (s : Demo D). RunsStepsAndWrites model (second_end s) [] (Answers s) s (answering new) (Ok x)) is
+        (answers model parts (second_end parts) [] (Answers parts) (answering new) (Ok x) x refl (releases_is model parts (second_end parts) [] new (second_none parts.steps parts.done) tt same_both (runs_both second)) (done ∙ ends) left_both refl come_both
         (omega (arith, later, later_again)) holds)
 
     pub kept_both : IsReaderKept parts (answering new)
-    kept_both = let kept = kept_is seen may_leave faults parts new same_both in record { place = kept.place; ended = kept.ended }
+    kept_both = let kept = kept_is model parts new same_both in record { place = kept.place; ended = kept.ended }

@@ -2,6 +2,7 @@
 use Rattle.std.specs.Prelude.{◌≡◌, ℕ, ◌≤◌, false, IsTrue, is_none, is_some, IfOk, OnOk, OnErr, Option, Some, None, Result, Err, List, [], length}
 use Rattle.dbl_base.specs.declared.lsn.Lsn.{Lsn}
 use Rattle.dbl_base.specs.Streams.{FaultCounted}
+use Rattle.dbl_disk.specs.Model.{DiskModel}
 use Rattle.dbl_model_table.specs.declared.row.Key.{Key}
 use Rattle.dbl_model_table.specs.declared.table.RawRow.{RawRow}
 use Rattle.dbl_model_table.specs.declared.table.RawTable.{RawTable}
@@ -10,7 +11,7 @@ use Rattle.dbl_source.specs.ModelHistory.History.{entry_of}
 use Rattle.dbl_source.specs.SourceModel.declared.started.Started.{Started}
 use Rattle.dbl_source.specs.SourceModel.declared.started.Started.TheVariants.{Ready, Gone}
 use Rattle.dbl_journal.specs.Growth as journals
-use Rattle.dbl_source.specs.SourceLog.declared.place.Place.{Place}
+use Rattle.dbl_source.specs.SourceLog.declared.reader_position.ReaderPosition.{ReaderPosition}
 use Rattle.dbl_source.specs.SourceLog.Histories.{history_of}
 use Rattle.dbl_source.specs.SourceLog.Numbers.{lsn_of}
 use Rattle.dbl_source.specs.SourceLog.declared.error.SourceError.{SourceError}
@@ -31,15 +32,15 @@ pub record IsReaderKept {D : Type 0} (old new : Demo D) : Type 0 where
   pub ended : new.ended ≡ old.ended
 
 -- The effect of a call that ran the steps up to the first so many, and wrote these entries of its own.
-pub record RunsStepsAndWrites {D T : Type 0} (seen : D → Option (List ℕ)) (may_leave : D → List ℕ → Type 0) (faults : D → ℕ) (upto : ℕ) (own : List Entry) (Answers : Demo D → T → Type 0) (old new : Demo D) (result : Result T SourceError) : Type 0 where
-  pub released : OnOk result (ReleasesSteps seen may_leave upto own old new)
-  pub first : LeavesFirst seen may_leave upto own old new
+pub record RunsStepsAndWrites {D T : Type 0} (model : DiskModel D) (upto : ℕ) (own : List Entry) (Answers : Demo D → T → Type 0) (old new : Demo D) (result : Result T SourceError) : Type 0 where
+  pub released : OnOk result (ReleasesSteps model upto own old new)
+  pub first : LeavesFirst model upto own old new
   pub group : OnOk result (new.done ≡ upto)
   pub live : OnOk result (IsTrue new.live)
   pub dead : OnErr result (new.live ≡ false)
-  pub come : journals.ExtendsJournal seen may_leave old.journal new.journal
-  pub later : faults old.journal.disk ≤ faults new.journal.disk
-  pub failed : result ≡ Err Failed → FaultCounted (faults old.journal.disk) (faults new.journal.disk)
+  pub come : journals.ExtendsJournal model old.journal new.journal
+  pub later : model.faults old.journal.disk ≤ model.faults new.journal.disk
+  pub failed : result ≡ Err Failed → FaultCounted (model.faults old.journal.disk) (model.faults new.journal.disk)
   pub reader : OnErr result (IsReaderKept old new)
   pub answers : IfOk result (λ answer. Answers new answer)
 
@@ -54,7 +55,7 @@ pub record AnswersHead {D : Type 0} (old new : Demo D) (lsn : Lsn) : Type 0 wher
   pub is : lsn ≡ lsn_of (length new.commits)
 
 -- The position of a reader that starts after an LSN; none if the log there is gone.
-abbrev pub place_after : Lsn → Started → Option Place
+abbrev pub place_after : Lsn → Started → Option ReaderPosition
 place_after after Ready = Some (record { after = after; commits = 0; begun = false; change = 0; table = 0 })
 place_after after (Gone first) = None
 
@@ -65,29 +66,29 @@ pub record AnswersStart {D : Type 0} (after : Lsn) (old new : Demo D) (started :
   pub ended : new.ended ≡ false
 
 -- A call returned the rows after the first group.
-pub record AnswersRows {D : Type 0} (seen : D → Option (List ℕ)) (may_leave : D → List ℕ → Type 0) (table : TableName) (above : Option Key) (limit : ℕ) (old new : Demo D) (rows : List RawRow) : Type 0 where
+pub record AnswersRows {D : Type 0} (model : DiskModel D) (table : TableName) (above : Option Key) (limit : ℕ) (old new : Demo D) (rows : List RawRow) : Type 0 where
   pub reader : IsReaderKept old new
-  pub are : (wal : Wal) → IsDemo seen may_leave wal old → AreRowsShown wal.workload.tables (acts_at wal.workload (next_end old)) table above limit rows
+  pub are : (wal : Wal) → IsDemo model wal old → AreRowsShown wal.workload.tables (acts_at wal.workload (next_end old)) table above limit rows
 
 -- A call returned no value.
 pub record AnswersNothing {D : Type 0} (old new : Demo D) (done : Unit {0}) : Type 0 where
   pub reader : IsReaderKept old new
 
 -- Groups were run until there was a commit to be read, or no step was left; then this was read.
-pub record ReadAfter {D : Type 0} (seen : D → Option (List ℕ)) (may_leave : D → List ℕ → Type 0) (wal : Wal) (place : Place) (old new : Demo D) (read : Option (List ℕ)) : Type 0 where
+pub record ReadAfter {D : Type 0} (model : DiskModel D) (wal : Wal) (place : ReaderPosition) (old new : Demo D) (read : Option (List ℕ)) : Type 0 where
   pub on : ReadsOn wal.workload wal.entries place old.done new.done old.done
-  pub next : ReadsNext seen may_leave (with_entries wal (added_by wal old.done new.done [])) place new read
+  pub next : ReadsNext model (with_entries wal (added_by wal old.done new.done [])) place new read
 
 -- The effect of a read: what it added to the log, and what it returned.
-pub record AddsRead {D : Type 0} (seen : D → Option (List ℕ)) (may_leave : D → List ℕ → Type 0) (faults : D → ℕ) (old new : Demo D) (result : Result (Option (List ℕ)) SourceError) : Type 0 where
+pub record AddsRead {D : Type 0} (model : DiskModel D) (old new : Demo D) (result : Result (Option (List ℕ)) SourceError) : Type 0 where
   pub all : IfOk result (λ read. read ≡ None → new.done ≡ length new.steps)
-  pub reads : (wal : Wal) (place : Place) → IsDemo seen may_leave wal old → old.place ≡ Some place → IfOk result (λ read. ReadAfter seen may_leave wal place old new read)
-  pub first : LeavesRead seen may_leave old new
+  pub reads : (wal : Wal) (place : ReaderPosition) → IsDemo model wal old → old.place ≡ Some place → IfOk result (λ read. ReadAfter model wal place old new read)
+  pub first : LeavesRead model old new
   pub live : OnOk result (IsTrue new.live)
   pub dead : OnErr result (new.live ≡ false)
-  pub come : journals.ExtendsJournal seen may_leave old.journal new.journal
-  pub later : faults old.journal.disk ≤ faults new.journal.disk
-  pub failed : result ≡ Err Failed → FaultCounted (faults old.journal.disk) (faults new.journal.disk)
+  pub come : journals.ExtendsJournal model old.journal new.journal
+  pub later : model.faults old.journal.disk ≤ model.faults new.journal.disk
+  pub failed : result ≡ Err Failed → FaultCounted (model.faults old.journal.disk) (model.faults new.journal.disk)
   pub reading : is_some new.place ≡ is_some old.place
   pub ended : IfOk result (λ read. new.ended ≡ is_none read)
   pub still : OnErr result (new.ended ≡ old.ended)

@@ -1,9 +1,10 @@
 -- What a call of the source adds to its log: the entries of its steps, and its own.
-use Rattle.std.specs.Prelude.{◌≡◌, ℕ, ◌≤◌, nat_lt, if◌then◌else◌, Option, Some, List, [], ◌∷◌, length}
+use Rattle.std.specs.Prelude.{◌≡◌, ℕ, ◌≤◌, nat_lt, if◌then◌else◌, Some, List, [], ◌∷◌, length}
 use Rattle.dbl_base.specs.declared.lsn.Lsn.{Lsn}
+use Rattle.dbl_disk.specs.Model.{DiskModel}
 use Rattle.dbl_source.specs.SourceModel.declared.started.Started.{Started}
 use Rattle.dbl_source.specs.SourceModel.declared.started.Started.TheVariants.{Ready, Gone}
-use Rattle.dbl_source.specs.SourceLog.declared.place.Place.{Place}
+use Rattle.dbl_source.specs.SourceLog.declared.reader_position.ReaderPosition.{ReaderPosition}
 use Rattle.dbl_source.specs.SourceLog.Sent.{index_of}
 use Rattle.dbl_demo_workload.specs.DemoWal.declared.entry.Entry.{Entry}
 use Rattle.dbl_demo_workload.specs.DemoWal.declared.entry.Entry.TheVariants.{Marks, Confirms}
@@ -30,39 +31,39 @@ abbrev pub confirm_of : Lsn → Lsn → List Entry
 confirm_of old upto = if nat_lt old.0 upto.0 then Confirms upto ∷ [] else []
 
 -- The source represents the log with what the call added.
-pub record Released {D : Type 0} (seen : D → Option (List ℕ)) (may_leave : D → List ℕ → Type 0) (wal : Wal) (upto : ℕ) (own : List Entry) (old new : Demo D) : Type 0 where
-  pub is : IsDemo seen may_leave (with_entries wal (added_by wal old.done upto own)) new
+pub record Released {D : Type 0} (model : DiskModel D) (wal : Wal) (upto : ℕ) (own : List Entry) (old new : Demo D) : Type 0 where
+  pub is : IsDemo model (with_entries wal (added_by wal old.done upto own)) new
   pub done : new.done ≡ upto
 
 -- After a call that succeeds the log has all entries of the steps that it ran, and its own.
-abbrev pub ReleasesSteps : {D : Type 0} → (D → Option (List ℕ)) → (D → List ℕ → Type 0) → ℕ → List Entry → Demo D → Demo D → Type 0
-ReleasesSteps seen may_leave upto own old new = (wal : Wal) → IsDemo seen may_leave wal old → Released seen may_leave wal upto own old new
+abbrev pub ReleasesSteps : {D : Type 0} → DiskModel D → ℕ → List Entry → Demo D → Demo D → Type 0
+ReleasesSteps model upto own old new = (wal : Wal) → IsDemo model wal old → Released model wal upto own old new
 
 -- After every answer of a call, a crash leaves a first part of what the call adds.
-abbrev pub LeavesFirst : {D : Type 0} → (D → Option (List ℕ)) → (D → List ℕ → Type 0) → ℕ → List Entry → Demo D → Demo D → Type 0
-LeavesFirst seen may_leave upto own old new =
-    (wal : Wal) → IsDemo seen may_leave wal old → LeavesWal may_leave new.journal.disk (IsLeftOf wal (added_by wal old.done upto own))
+abbrev pub LeavesFirst : {D : Type 0} → DiskModel D → ℕ → List Entry → Demo D → Demo D → Type 0
+LeavesFirst model upto own old new =
+    (wal : Wal) → IsDemo model wal old → LeavesWal model new.journal.disk (IsLeftOf wal (added_by wal old.done upto own))
 
 -- The source represents the log with what a read added.
-pub record ReadOn {D : Type 0} (seen : D → Option (List ℕ)) (may_leave : D → List ℕ → Type 0) (wal : Wal) (old new : Demo D) : Type 0 where
-  pub place : Place
+pub record ReadOn {D : Type 0} (model : DiskModel D) (wal : Wal) (old new : Demo D) : Type 0 where
+  pub place : ReaderPosition
   pub was : old.place ≡ Some place
   pub on : ReadsOn wal.workload wal.entries place old.done new.done old.done
-  pub is : IsDemo seen may_leave (with_entries wal (added_by wal old.done new.done [])) new
+  pub is : IsDemo model (with_entries wal (added_by wal old.done new.done [])) new
 
 -- A read that succeeds adds the entries of the groups that it ran.
-abbrev pub ReadsOnTo : {D : Type 0} → (D → Option (List ℕ)) → (D → List ℕ → Type 0) → Demo D → Demo D → Type 0
-ReadsOnTo seen may_leave old new = (wal : Wal) → IsDemo seen may_leave wal old → ReadOn seen may_leave wal old new
+abbrev pub ReadsOnTo : {D : Type 0} → DiskModel D → Demo D → Demo D → Type 0
+ReadsOnTo model old new = (wal : Wal) → IsDemo model wal old → ReadOn model wal old new
 
 -- After every answer of a read, a crash leaves a first part of what it adds by its end.
-abbrev pub LeavesRead : {D : Type 0} → (D → Option (List ℕ)) → (D → List ℕ → Type 0) → Demo D → Demo D → Type 0
-LeavesRead seen may_leave old new = (wal : Wal) (place : Place) → IsDemo seen may_leave wal old → old.place ≡ Some place
-    → LeavesWal may_leave new.journal.disk (λ left. (upto : ℕ) × ReadsOn wal.workload wal.entries place old.done upto old.done × IsLeftOf wal (added_by wal old.done upto []) left)
+abbrev pub LeavesRead : {D : Type 0} → DiskModel D → Demo D → Demo D → Type 0
+LeavesRead model old new = (wal : Wal) (place : ReaderPosition) → IsDemo model wal old → old.place ≡ Some place
+    → LeavesWal model new.journal.disk (λ left. (upto : ℕ) × ReadsOn wal.workload wal.entries place old.done upto old.done × IsLeftOf wal (added_by wal old.done upto []) left)
 
 -- No step is left, and no commit that the reader hasn't read whole.
 pub record HasReadWhole {D : Type 0} (wal : Wal) (demo : Demo D) : Type 0 where
   pub done : demo.done ≡ length demo.steps
-  pub read : (place : Place) → demo.place ≡ Some place → length (logged_in wal.entries) ≤ index_of place
+  pub read : (place : ReaderPosition) → demo.place ≡ Some place → length (logged_in wal.entries) ≤ index_of place
 
 -- ---- the answer of a call
 

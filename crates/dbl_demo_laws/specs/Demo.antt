@@ -3,6 +3,7 @@ use Rattle.std.specs.Prelude.{◌≡◌, ℕ, ◌<◌, ◌≤◌, Bool, false, I
 use Rattle.std.specs.List.{All, AllByRecursion}
 use Rattle.std.specs.BTreeSet.{BTreeSet}
 use Rattle.dbl_base.specs.declared.lsn.Lsn.{Lsn}
+use Rattle.dbl_disk.specs.Model.{DiskModel}
 use Rattle.dbl_model_table.specs.declared.table.TableName.{TableName}
 use Rattle.dbl_source.specs.SourceModel.Standings.{SourceState}
 use Rattle.dbl_journal.specs.Growth.{HasCome}
@@ -10,7 +11,7 @@ use Rattle.dbl_journal.specs.Stored.{Lists, OnDisk, count_of}
 use Rattle.dbl_source.specs.SourceLog.declared.logged.LogTable.{LogTable}
 use Rattle.dbl_source.specs.SourceLog.declared.logged.Logged.{Logged}
 use Rattle.dbl_source.specs.SourceLog.declared.logged.Logged.TheVariants.{Changes, Mark}
-use Rattle.dbl_source.specs.SourceLog.declared.place.Place.{Place}
+use Rattle.dbl_source.specs.SourceLog.declared.reader_position.ReaderPosition.{ReaderPosition}
 use Rattle.dbl_source.specs.SourceLog.Numbers.{commit_limit}
 use Rattle.dbl_source.specs.SourceLog.Sent.{index_of, told_at, IsPlaceIn}
 use Rattle.dbl_source.specs.SourceLog.Readings.{Describes}
@@ -37,21 +38,21 @@ pub record Demo (D : Type 0) : Type 0 where
   pub done : ℕ
   pub commits : List ℕ
   pub confirmed : Lsn
-  pub place : Option Place
+  pub place : Option ReaderPosition
   pub described : BTreeSet ℕ
   pub held : Option Logged
   pub ended : Bool
   pub live : Bool
 
 -- The reader is at a position of the log, knows the tables described to it, and caches its commit, or none.
-pub record IsReader (tables : List LogTable) (log : List Logged) (place : Option Place) (described : BTreeSet ℕ) (held : Option Logged) : Type 0 where
-  pub placed : (p : Place) → place ≡ Some p → IsPlaceIn log p
-  pub recalled : (p : Place) → place ≡ Some p → Describes described (told_at tables log p)
-  pub held_is : (p : Place) (logged : Logged) → place ≡ Some p → held ≡ Some logged → slice_get log (index_of p) ≡ Some logged
+pub record IsReader (tables : List LogTable) (log : List Logged) (place : Option ReaderPosition) (described : BTreeSet ℕ) (held : Option Logged) : Type 0 where
+  pub placed : (p : ReaderPosition) → place ≡ Some p → IsPlaceIn log p
+  pub recalled : (p : ReaderPosition) → place ≡ Some p → Describes described (told_at tables log p)
+  pub held_is : (p : ReaderPosition) (logged : Logged) → place ≡ Some p → held ≡ Some logged → slice_get log (index_of p) ≡ Some logged
 
 -- Between calls and within one: the disk has this log, with each commit of the steps that were done.
-pub record IsRunning {D : Type 0} (seen : D → Option (List ℕ)) (may_leave : D → List ℕ → Type 0) (wal : Wal) (demo : Demo D) : Type 0 where
-  pub lists : Lists seen may_leave demo.journal (forms_of wal)
+pub record IsRunning {D : Type 0} (model : DiskModel D) (wal : Wal) (demo : Demo D) : Type 0 where
+  pub lists : Lists model demo.journal (forms_of wal)
   pub is : IsWalOf (forms_of wal) wal
   pub few : length wal.entries < disk_limit
   pub names : demo.names ≡ map (λ table. table.info.name) wal.workload.tables
@@ -71,40 +72,40 @@ IsMark (Mark value) = Unit {0}
 -- No step is left, and after the reader, which is between transactions, the log has only watermarks.
 pub record HasReachedEnd {D : Type 0} (wal : Wal) (demo : Demo D) : Type 0 where
   pub done : demo.done ≡ length demo.steps
-  pub read : (place : Place) → demo.place ≡ Some place → AllByRecursion IsMark (drop (index_of place) (logged_in wal.entries))
-  pub whole : (place : Place) → demo.place ≡ Some place → place.begun ≡ false
+  pub read : (place : ReaderPosition) → demo.place ≡ Some place → AllByRecursion IsMark (drop (index_of place) (logged_in wal.entries))
+  pub whole : (place : ReaderPosition) → demo.place ≡ Some place → place.begun ≡ false
 
 -- The source can be used, and represents this log.
-pub record IsDemo {D : Type 0} (seen : D → Option (List ℕ)) (may_leave : D → List ℕ → Type 0) (wal : Wal) (demo : Demo D) : Type 0 where
+pub record IsDemo {D : Type 0} (model : DiskModel D) (wal : Wal) (demo : Demo D) : Type 0 where
   pub live : IsTrue demo.live
-  pub running : IsRunning seen may_leave wal demo
+  pub running : IsRunning model wal demo
   -- The answer of the last read is still true.
   pub ended : IsTrue demo.ended → HasReachedEnd wal demo
 
 -- The state of the source: the history and the confirmed position of its log, and what was read.
-abbrev pub HasDemoState : {D : Type 0} → (D → Option (List ℕ)) → (D → List ℕ → Type 0) → Demo D → SourceState → Type 0
-HasDemoState seen may_leave demo s = (wal : Wal) × IsDemo seen may_leave wal demo × (s ≡ standing_in wal demo.place)
+abbrev pub HasDemoState : {D : Type 0} → DiskModel D → Demo D → SourceState → Type 0
+HasDemoState model demo s = (wal : Wal) × IsDemo model wal demo × (s ≡ standing_in wal demo.place)
 
 -- ---- what no call undoes
 
 -- The source's log is of this workload, a crash leaves only logs of it, and the journal has a limit.
-pub record HasKept {D : Type 0} (seen : D → Option (List ℕ)) (may_leave : D → List ℕ → Type 0) (script : List ℕ) (gate most : ℕ) (demo : Demo D) : Type 0 where
-  pub come : HasCome seen may_leave gate most demo.journal
-  pub stands : IsTrue demo.live → (wal : Wal) × IsDemo seen may_leave wal demo × (wal.script ≡ script)
-  pub crash : LeavesWal may_leave demo.journal.disk (λ wal. wal.script ≡ script)
+pub record HasKept {D : Type 0} (model : DiskModel D) (script : List ℕ) (gate most : ℕ) (demo : Demo D) : Type 0 where
+  pub come : HasCome model gate most demo.journal
+  pub stands : IsTrue demo.live → (wal : Wal) × IsDemo model wal demo × (wal.script ≡ script)
+  pub crash : LeavesWal model demo.journal.disk (λ wal. wal.script ≡ script)
 
 -- The new source extends the old one: the same workload, a crash leaves only logs of it, and the disk stays bounded.
-abbrev pub ExtendsDemo : {D : Type 0} → (D → Option (List ℕ)) → (D → List ℕ → Type 0) → Demo D → Demo D → Type 0
-ExtendsDemo seen may_leave old new = (script : List ℕ) (gate most : ℕ) → HasKept seen may_leave script gate most old → HasKept seen may_leave script gate most new
+abbrev pub ExtendsDemo : {D : Type 0} → DiskModel D → Demo D → Demo D → Type 0
+ExtendsDemo model old new = (script : List ℕ) (gate most : ℕ) → HasKept model script gate most old → HasKept model script gate most new
 
 -- ---- what is true of its parts for every disk
 
 -- The parts of a source between calls: its journal, store, steps, commits and reader.
-pub record HasParts {D : Type 0} (journal : OnDisk D) (store : Tables) (steps : List Step) (done : ℕ) (commits : List ℕ) (place : Option Place) (live : Bool) : Type 0 where
-  pub subsequent : HasRunSteps steps done store
+pub record HasParts {D : Type 0} (journal : OnDisk D) (store : Tables) (steps : List Step) (done : ℕ) (commits : List ℕ) (place : Option ReaderPosition) (live : Bool) : Type 0 where
+  pub has_run : HasRunSteps steps done store
   pub usable : IsTrue live → IsTrue journal.live
   -- The first entry is no commit.
   pub few : IsTrue journal.live → length commits < count_of journal
   pub there : IsTrue journal.live → All (λ number. number < count_of journal) commits
   -- A reader has passed no more commits than a journal has entries.
-  pub near : (p : Place) → place ≡ Some p → p.commits ≤ commit_limit
+  pub near : (p : ReaderPosition) → place ≡ Some p → p.commits ≤ commit_limit

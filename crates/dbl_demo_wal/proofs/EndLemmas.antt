@@ -2,7 +2,7 @@
 use Rattle.std.proofs.Common.{◌≡◌, ◌∙◌, ◌⊎◌, ℕ, zero, suc, ◌+◌, ◌<◌, ◌≤◌, List, ◌++◌, length, drop, refl, sym, ap, subst, arith, inl, inr}
 use Rattle.std.proofs.lemmas.Bool.{cases_lt}
 use Rattle.std.proofs.lemmas.List.{length-drop, nil_from_length}
-use Rattle.dbl_tables_laws.specs.SourceLog.declared.place.Place.{Place}
+use Rattle.dbl_tables_laws.specs.SourceLog.declared.reader_position.ReaderPosition.{ReaderPosition}
 use Rattle.dbl_tables_laws.specs.SourceLog.Sent.{index_of}
 use Rattle.dbl_script.specs.declared.script.Step.{Step}
 use Rattle.dbl_demo_wal.specs.declared.entry.Entry.{Entry}
@@ -17,7 +17,7 @@ use Rattle.dbl_demo_wal.specs.LogLaws.{ReadsEndOnce}
 end_none : (steps : List Step) (done : ℕ) → length steps ≤ done → group_end steps done ≡ done
 end_none steps done le = omega (arith, ap group_size (nil_from_length (drop done steps) (omega (arith, le, length-drop done steps))))
 
-module _ (w : Workload) (entries : List Entry) (place : Place) (done : ℕ) where
+module _ (w : Workload) (entries : List Entry) (place : ReaderPosition) (done : ℕ) where
   -- ---- one end at most
 
   past : (upto : ℕ) {from : ℕ} → length (steps_of w) ≤ from → ReadsOn w entries place done upto from → upto ≡ from

@@ -207,8 +207,8 @@ a_select =
         second = refl;
         is = is;
         shown = shown;
-        before = subst (Shown (example_name_row (codes "a") ∷ [])) (sym first_is) shown_first;
-        subsequent = subst (Shown (example_name_row (codes "b") ∷ [])) (sym last_is) shown_last;
+        at_call = subst (Shown (example_name_row (codes "a") ∷ [])) (sym first_is) shown_first;
+        at_return = subst (Shown (example_name_row (codes "b") ∷ [])) (sym last_is) shown_last;
         answered = selects_answered bytes wal 0 4 7 example_wal_name None 10 example_both_rows silent (omega arith) (omega arith) (omega arith) is shown;
       },
     )

@@ -11,7 +11,7 @@ use Rattle.dbl_tables_laws.specs.SourceModel.Leaves.{MayFollow}
 use Rattle.dbl_tables_laws.proofs.SourceModelGrowthLemmas.{marks_on}
 use Rattle.dbl_tables_laws.specs.SourceLog.declared.logged.Logged.{Logged}
 use Rattle.dbl_tables_laws.specs.SourceLog.declared.logged.Logged.TheVariants.{Changes, Mark}
-use Rattle.dbl_tables_laws.specs.SourceLog.declared.place.Place.{Place}
+use Rattle.dbl_tables_laws.specs.SourceLog.declared.reader_position.ReaderPosition.{ReaderPosition}
 use Rattle.dbl_tables_laws.specs.SourceLog.Histories.{history_of}
 use Rattle.dbl_tables_laws.specs.SourceLog.Sent.{told_at, IsPlaceIn}
 use Rattle.dbl_tables_laws.proofs.SourceLogLogLemmas.{log_grows_to, log_marks}
@@ -34,18 +34,18 @@ module _ (wal : Wal) (more : List Entry) (are : AreCommits more) where
   pub confirmed_stays : confirmed_of (with_entries wal more) ≡ confirmed_of wal
   confirmed_stays = confirmed_from-append (record { 0 = 0 }) wal.entries more ∙ confirmed_commits (confirmed_of wal) more are
 
-  pub left_follows : (place : Option Place) → MayFollow (standing_in wal place) (left_in (with_entries wal more))
+  pub left_follows : (place : Option ReaderPosition) → MayFollow (standing_in wal place) (left_in (with_entries wal more))
   left_follows place = record { grows = history_grows; confirmed = confirmed_stays }
 
 -- what was read stays, whatever is added
-pub reading_stays : (wal : Wal) (more : List Entry) (place : Option Place) → ((p : Place) → place ≡ Some p → IsPlaceIn (logged_in wal.entries) p) → option_map (wal_reading (with_entries wal more)) place ≡ option_map (wal_reading wal) place
+pub reading_stays : (wal : Wal) (more : List Entry) (place : Option ReaderPosition) → ((p : ReaderPosition) → place ≡ Some p → IsPlaceIn (logged_in wal.entries) p) → option_map (wal_reading (with_entries wal more)) place ≡ option_map (wal_reading wal) place
 reading_stays wal more None placed = refl
 reading_stays wal more (Some p) placed =
     let logged = filter_map-append logged_by wal.entries more in
     let told = stays (tables_of wal) (logged_in wal.entries) (logged_in more) p (placed p refl) in
     ap (λ (ms : List Message). Some (let r : Reading = record { after = p.after; messages = ms } in r)) (ap (λ (log : List Logged). told_at (tables_of wal) log p) logged ∙ told)
 
-pub standing_moves : (wal : Wal) (more : List Entry) (place : Option Place) → AreCommits more → ((p : Place) → place ≡ Some p → IsPlaceIn (logged_in wal.entries) p) → Moved (standing_in wal place) (standing_in (with_entries wal more) place)
+pub standing_moves : (wal : Wal) (more : List Entry) (place : Option ReaderPosition) → AreCommits more → ((p : ReaderPosition) → place ≡ Some p → IsPlaceIn (logged_in wal.entries) p) → Moved (standing_in wal place) (standing_in (with_entries wal more) place)
 standing_moves wal more place are placed = record { grows = history_grows wal more are; confirmed = confirmed_stays wal more are; reading = reading_stays wal more place placed }
 
 -- ---- a mark
@@ -70,7 +70,7 @@ module _ (wal : Wal) (more : List Entry) (are : AreCommits more) (steps : ℕ) (
       ∙ confirmed_from-append (record { 0 = 0 }) (wal.entries ++ more) (entry.Marks steps value ∷ [])
       ∙ confirmed_stays wal more are
 
-  pub standing_marks : (place : Option Place) → ((p : Place) → place ≡ Some p → IsPlaceIn (logged_in wal.entries) p) → IsMarked value (standing_in wal place) (standing_in (with_entries wal (marked more steps value)) place)
+  pub standing_marks : (place : Option ReaderPosition) → ((p : ReaderPosition) → place ≡ Some p → IsPlaceIn (logged_in wal.entries) p) → IsMarked value (standing_in wal place) (standing_in (with_entries wal (marked more steps value)) place)
   standing_marks place placed = record { marks = history_marks; confirmed = confirmed_marks; reading = reading_stays wal (marked more steps value) place placed }
 
 -- ---- a confirmed position
@@ -93,7 +93,7 @@ module _ (wal : Wal) (more : List Entry) (are : AreCommits more) (upto : Lsn) wh
       ap (confirmed_from (record { 0 = 0 })) (sym (append_assoc wal.entries more (entry.Confirms upto ∷ [])))
       ∙ confirmed_from-append (record { 0 = 0 }) (wal.entries ++ more) (entry.Confirms upto ∷ [])
 
-  pub standing_confirms : (place : Option Place) → (confirmed_of wal).0 ≤ upto.0 → ((p : Place) → place ≡ Some p → IsPlaceIn (logged_in wal.entries) p)
+  pub standing_confirms : (place : Option ReaderPosition) → (confirmed_of wal).0 ≤ upto.0 → ((p : ReaderPosition) → place ≡ Some p → IsPlaceIn (logged_in wal.entries) p)
       → IsConfirmed upto (standing_in wal place) (standing_in (with_entries wal (confirming more upto)) place)
   standing_confirms place le placed = record {
     grows = history_confirms;

@@ -1,9 +1,10 @@
 -- What a crash leaves of a wal follows what the source stood for.
 use Rattle.std.proofs.Common.{◌≡◌, ◌∙◌, ℕ, ◌≤◌, max, Option, Some, List, take, refl, sym, ap, subst, arith, inl, inr}
 use Rattle.dbl_base.specs.declared.lsn.Lsn.{Lsn}
+use Rattle.dbl_disk.specs.Model.{DiskModel}
 use Rattle.dbl_tables_laws.specs.SourceModel.Standings.{CrashState}
 use Rattle.dbl_tables_laws.specs.SourceModel.Leaves.{MayFollow, MayFollowMark, MayFollowConfirm}
-use Rattle.dbl_tables_laws.specs.SourceLog.declared.place.Place.{Place}
+use Rattle.dbl_tables_laws.specs.SourceLog.declared.reader_position.ReaderPosition.{ReaderPosition}
 use Rattle.dbl_demo_wal.specs.declared.entry.Entry.{Entry}
 use Rattle.dbl_demo_wal.specs.declared.entry.Entry.TheVariants as entry
 use Rattle.dbl_demo_wal.specs.Wals.{Wal}
@@ -16,21 +17,21 @@ use Rattle.dbl_demo_wal.proofs.GrowsLemmas.{left_follows, marked, history_marks,
 
 -- ---- what is left is one of the wals that a call leaves
 
-module _ {D : Type 0} (may_leave : D → List ℕ → Type 0) (disk : D) (P : Wal → Type 0) where
-  pub left_as : (l : CrashState) → LeavesWal may_leave disk P → MayLeaveWal may_leave disk l → (wal : Wal) × P wal × (l ≡ left_in wal)
+module _ {D : Type 0} (model : DiskModel D) (disk : D) (P : Wal → Type 0) where
+  pub left_as : (l : CrashState) → LeavesWal model disk P → MayLeaveWal model disk l → (wal : Wal) × P wal × (l ≡ left_in wal)
   left_as l leaves may =
       let here = leaves may.crashed may.may in
       (here.0, here.2, may.left ∙ ap left_in (one_wal may.crashed may.wal here.0 may.is here.1))
 
-  pub some_left : (seen : D → Option (List ℕ)) → ((disk : D) (bytes : List ℕ) → seen disk ≡ Some bytes → may_leave disk bytes) → (bytes : List ℕ) → seen disk ≡ Some bytes → LeavesWal may_leave disk P → (l : CrashState) × MayLeaveWal may_leave disk l
-  some_left seen may_be_left bytes told leaves =
+  pub some_left : ((disk : D) (bytes : List ℕ) → model.seen disk ≡ Some bytes → model.may_leave disk bytes) → (bytes : List ℕ) → model.seen disk ≡ Some bytes → LeavesWal model disk P → (l : CrashState) × MayLeaveWal model disk l
+  some_left may_be_left bytes told leaves =
       let may = may_be_left disk bytes told in
       let here = leaves bytes may in
       (left_in here.0, record { crashed = bytes; may = may; wal = here.0; is = here.1; left = refl })
 
 -- ---- commits, with a mark or a confirmed position behind them
 
-module _ (wal : Wal) (more : List Entry) (are : AreCommits more) (place : Option Place) (left : Wal) where
+module _ (wal : Wal) (more : List Entry) (are : AreCommits more) (place : Option ReaderPosition) (left : Wal) where
   -- the first ones of some commits
   pub follows_commits : (count : ℕ) → left ≡ with_entries wal (take count more) → MayFollow (standing_in wal place) (left_in left)
   follows_commits count is = subst (λ (x : Wal). MayFollow (standing_in wal place) (left_in x)) (sym is) (left_follows wal (take count more) (take_are count more are) place)

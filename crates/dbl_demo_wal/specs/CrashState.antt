@@ -1,5 +1,6 @@
 -- What a crash leaves of a source's log in any call.
 use Rattle.std.specs.Prelude.{◌≡◌, ℕ, List, ◌++◌, take}
+use Rattle.dbl_disk.specs.Model.{DiskModel}
 use Rattle.dbl_demo_wal.specs.declared.entry.Entry.{Entry}
 use Rattle.dbl_demo_wal.specs.Wals.{Wal, IsWal}
 use Rattle.dbl_demo_wal.specs.Groups.{released}
@@ -18,5 +19,5 @@ pub record IsLeftOf (wal : Wal) (added : List Entry) (left : Wal) : Type 0 where
   pub is : left ≡ with_entries wal (take count added)
 
 -- A crash leaves the log with a first part of the entries that the call adds, none or more.
-abbrev pub LeavesWal : {D : Type 0} → (D → List ℕ → Type 0) → D → (Wal → Type 0) → Type 0
-LeavesWal may_leave disk P = (crashed : List ℕ) → may_leave disk crashed → (wal : Wal) × IsWal crashed wal × P wal
+abbrev pub LeavesWal : {D : Type 0} → DiskModel D → D → (Wal → Type 0) → Type 0
+LeavesWal model disk P = (crashed : List ℕ) → model.may_leave disk crashed → (wal : Wal) × IsWal crashed wal × P wal

@@ -48,8 +48,8 @@ pub record IsSelectExample (bytes : List ℕ) (wal : Wal) : Type 0 where
   pub is : IsWal bytes (with_entries wal (added_by wal 0 7 []))
   pub shown : AreRowsShown wal.workload.tables (acts_at wal.workload 4) example_wal_name None 10 example_both_rows
   -- Other rows are committed at the call and at the return.
-  pub before : AreRowsShown wal.workload.tables (acts_at wal.workload 0) example_wal_name None 10 (example_name_row (codes "a") ∷ [])
-  pub subsequent : AreRowsShown wal.workload.tables (acts_at wal.workload 7) example_wal_name None 10 (example_name_row (codes "b") ∷ [])
+  pub at_call : AreRowsShown wal.workload.tables (acts_at wal.workload 0) example_wal_name None 10 (example_name_row (codes "a") ∷ [])
+  pub at_return : AreRowsShown wal.workload.tables (acts_at wal.workload 7) example_wal_name None 10 (example_name_row (codes "b") ∷ [])
   pub answered : Selects example_wal_name None 10 (history_in wal) (history_in (with_entries wal (added_by wal 0 7 []))) example_both_rows
 
 -- The example's log and select exist.

@@ -3,7 +3,7 @@ use Rattle.std.specs.Prelude.{◌≡◌, ◌⊎◌, ℕ, zero, suc, ◌+◌, ◌
 use Rattle.dbl_pgmsg.specs.declared.messages.Message.{Message}
 use Rattle.dbl_script.specs.declared.script.Step.{Step}
 use Rattle.dbl_script.specs.declared.script.Step.TheVariants as step
-use Rattle.dbl_tables_laws.specs.SourceLog.declared.place.Place.{Place}
+use Rattle.dbl_tables_laws.specs.SourceLog.declared.reader_position.ReaderPosition.{ReaderPosition}
 use Rattle.dbl_tables_laws.specs.SourceLog.declared.logged.Logged.{Logged}
 use Rattle.dbl_tables_laws.specs.SourceLog.Sent.{index_of}
 use Rattle.dbl_demo_wal.specs.declared.entry.Entry.{Entry}
@@ -41,14 +41,14 @@ abbrev pub released : Workload → ℕ → ℕ → List Entry
 released w done upto = entries_of_steps w done (upto - done)
 
 -- The log has a commit that a reader at this position hasn't read whole.
-abbrev pub HasUnread : List Logged → Place → Type 0
+abbrev pub HasUnread : List Logged → ReaderPosition → Type 0
 HasUnread log place = index_of place < length log
 
 -- After so many steps there is a commit to be read.
-abbrev pub EndsRead : Workload → List Entry → Place → ℕ → ℕ → Type 0
+abbrev pub EndsRead : Workload → List Entry → ReaderPosition → ℕ → ℕ → Type 0
 EndsRead w entries place done upto = HasUnread (logged_in (entries ++ released w done upto)) place
 
 -- A read runs one group, and then others until there is a commit to be read or no step is left.
-pub data ReadsOn (w : Workload) (entries : List Entry) (place : Place) (done upto : ℕ) : ℕ → Type 0 where
+pub data ReadsOn (w : Workload) (entries : List Entry) (place : ReaderPosition) (done upto : ℕ) : ℕ → Type 0 where
   stops : (from : ℕ) → upto ≡ group_end (steps_of w) from → EndsRead w entries place done upto ⊎ (length (steps_of w) ≤ upto) → ReadsOn w entries place done upto from
   goes : (from : ℕ) → (¬ EndsRead w entries place done (group_end (steps_of w) from)) → ReadsOn w entries place done upto (group_end (steps_of w) from) → ReadsOn w entries place done upto from

@@ -1,9 +1,10 @@
 -- Theorems over the definitions of a workload's log.
 use Rattle.std.specs.Prelude.{◌≡◌, ◌↔◌, ℕ, ◌≤◌, List, [], ◌∷◌, ◌++◌, length, reverse, codes}
 use Rattle.dbl_disk.specs.Disks.{IsOnly}
+use Rattle.dbl_disk.specs.Model.{DiskModel}
 use Rattle.dbl_pgmsg.specs.declared.messages.Message.{Message}
 use Rattle.dbl_tables_laws.specs.SourceModel.Standings.{CrashState}
-use Rattle.dbl_tables_laws.specs.SourceLog.declared.place.Place.{Place}
+use Rattle.dbl_tables_laws.specs.SourceLog.declared.reader_position.ReaderPosition.{ReaderPosition}
 use Rattle.dbl_demo_wal.specs.declared.entry.Entry.{Entry}
 use Rattle.dbl_demo_wal.specs.declared.entry.Entry.TheVariants.{Marks, Confirms}
 use Rattle.dbl_demo_wal.specs.Groups.{ReadsOn}
@@ -13,16 +14,16 @@ use Rattle.dbl_demo_wal.specs.Workloads.{Workload, steps_of}
 
 -- A read that begins after so many steps ends after exactly one number of them.
 abbrev pub ReadsEndOnce : Type 0
-ReadsEndOnce = (w : Workload) (entries : List Entry) (place : Place) (done : ℕ) → done ≤ length (steps_of w)
+ReadsEndOnce = (w : Workload) (entries : List Entry) (place : ReaderPosition) (done : ℕ) → done ≤ length (steps_of w)
     → (upto : ℕ) × ReadsOn w entries place done upto done × ((other : ℕ) → ReadsOn w entries place done other done → other ≡ upto)
 
 -- What was read since a start is the first part of what is sent after it.
 abbrev pub ReadingsAreSent : Type 0
-ReadingsAreSent = (wal : Wal) (place : Place) → (rest : List Message) × (messages_sent wal place.after ≡ reverse (wal_reading wal place).messages ++ rest)
+ReadingsAreSent = (wal : Wal) (place : ReaderPosition) → (rest : List Message) × (messages_sent wal place.after ≡ reverse (wal_reading wal place).messages ++ rest)
 
 -- If a crash can leave the bytes of one log only, it leaves only the state that they represent.
-abbrev pub LeavesOneWal : {D : Type 0} → (D → List ℕ → Type 0) → Type 0
-LeavesOneWal {D} may_leave = (disk : D) (bytes : List ℕ) (wal : Wal) (l : CrashState) → IsWal bytes wal → may_leave disk bytes → IsOnly bytes (may_leave disk) → MayLeaveWal may_leave disk l ↔ (l ≡ left_in wal)
+abbrev pub LeavesOneWal : {D : Type 0} → DiskModel D → Type 0
+LeavesOneWal {D} model = (disk : D) (bytes : List ℕ) (wal : Wal) (l : CrashState) → IsWal bytes wal → model.may_leave disk bytes → IsOnly bytes (model.may_leave disk) → MayLeaveWal model disk l ↔ (l ≡ left_in wal)
 
 -- ---- a log exists
 

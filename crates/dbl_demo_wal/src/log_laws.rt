@@ -22,5 +22,5 @@ pub fn a_wal_stands()
 
 /// If a crash can leave the bytes of one log only, it leaves the state that they represent.
 pub fn one_wal_is_left<D: Disk>()
-    ensures { LeavesOneWal D.may_leave }
+    ensures { LeavesOneWal D.Disk }
 {}

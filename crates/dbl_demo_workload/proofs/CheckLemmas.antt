@@ -139,7 +139,7 @@ run_begins old goes = record {
   so = λ w entries is none. (is.stands, (let silent : IsSilent w entries old.done = subst (HasFound w entries old.done) none is.found in silent.none_between));
 }
 
-module _ (old now : Checked) (number : ℕ) (run : IsRunTo old now number) (committed : Option (List Message)) (store : Tables) (subsequent : HasRunSteps now.prepared.steps.items (number + 1) store) (next : RunsNext now number committed store) where
+module _ (old now : Checked) (number : ℕ) (run : IsRunTo old now number) (committed : Option (List Message)) (store : Tables) (has_run : HasRunSteps now.prepared.steps.items (number + 1) store) (next : RunsNext now number committed store) where
   steps_same : now.prepared.steps.items ≡ old.prepared.steps.items
   steps_same = ap (λ (x : Checked). x.prepared.steps.items) run.same
 
@@ -150,7 +150,7 @@ module _ (old now : Checked) (number : ℕ) (run : IsRunTo old now number) (comm
   alone_on = ap (λ (x : Checked). one_on x number store) run.same
 
   pub goes_on : CanGoOn (one_on now number store)
-  goes_on = record { subsequent = subsequent; rows = run.goes.rows; named = run.goes.named }
+  goes_on = record { has_run = has_run; rows = run.goes.rows; named = run.goes.named }
 
   -- it committed nothing
   pub run_goes : committed ≡ None → IsRunTo old (one_on now number store) (number + 1)
@@ -192,13 +192,13 @@ module _ (old now : Checked) (number : ℕ) (run : IsRunTo old now number) (comm
 -- the steps, as the code has them
 module _ (old now : Checked) (number : ℕ) (run : IsRunTo old now number) (steps : List Step) (are : steps ≡ now.prepared.steps.items) where
   pub behind_here : HasRunSteps steps number now.prepared.store
-  behind_here = subst (λ (s : List Step). HasRunSteps s number now.prepared.store) (sym are) (subst (λ (n : ℕ). HasRunSteps now.prepared.steps.items n now.prepared.store) run.at run.goes.subsequent)
+  behind_here = subst (λ (s : List Step). HasRunSteps s number now.prepared.store) (sym are) (subst (λ (n : ℕ). HasRunSteps now.prepared.steps.items n now.prepared.store) run.at run.goes.has_run)
 
   pub left_here : (last : ℕ) → number < last → last ≤ length old.prepared.steps.items → number < length steps
   left_here last lt le = omega (arith, lt, le, ap (λ (l : List Step). length l) (are ∙ ap (λ (x : Checked). x.prepared.steps.items) run.same))
 
   pub behind_at : (n : ℕ) (store : Tables) → HasRunSteps steps n store → HasRunSteps now.prepared.steps.items n store
-  behind_at n store subsequent = subst (λ (s : List Step). HasRunSteps s n store) are subsequent
+  behind_at n store has_run = subst (λ (s : List Step). HasRunSteps s n store) are has_run
 
   pub runs_next : (committed : Option (List Message)) (store : Tables) → ((w : Workload) → steps ≡ steps_of w → Stands w.tables (acts_at w number) now.prepared.store → IsNextRun w number committed store) → RunsNext now number committed store
   runs_next committed store ran w all stands = ran w (are ∙ all) stands
@@ -215,7 +215,7 @@ module _ (old now : Checked) (number : ℕ) (run : IsRunTo old now number) (stor
   alone_left = ap (λ (x : Checked). let y : Checked = record x { prepared = record x.prepared { store = store } } in y) run.same
 
   pub goes_left : HasRunSteps now.prepared.steps.items number store → CanGoOn left_with
-  goes_left subsequent = record { subsequent = subst (λ (n : ℕ). HasRunSteps now.prepared.steps.items n store) (sym run.at) subsequent; rows = run.goes.rows; named = run.goes.named }
+  goes_left has_run = record { has_run = subst (λ (n : ℕ). HasRunSteps now.prepared.steps.items n store) (sym run.at) has_run; rows = run.goes.rows; named = run.goes.named }
 
 -- no step was left to be run
 pub run_none : (old now : Checked) (number steps : ℕ) → IsRunTo old now number → steps ≡ number → steps ≤ length old.prepared.steps.items → RunsTo steps old now (Ok None)

@@ -2,6 +2,7 @@
 use Rattle.std.proofs.Common.{◌≡◌, ◌∙◌, ℕ, zero, suc, ◌+◌, ◌<◌, ◌≤◌, Option, None, Some, List, [], ◌∷◌, ◌++◌, length, take, refl, sym, ap, subst, arith, inl, inr}
 use Rattle.std.specs.Prelude.{slice_get, option_to_list, IfSome}
 use Rattle.std.proofs.lemmas.List.{length-map}
+use Rattle.dbl_disk.specs.Model.{DiskModel}
 use Rattle.dbl_pgmsg.specs.declared.messages.Message.{Message}
 use Rattle.dbl_tables.specs.Stands.{Stands}
 use Rattle.dbl_demo_wal.specs.declared.entry.Entry.{Entry}
@@ -111,15 +112,15 @@ module _ (forms : List (List ℕ)) (checked : Checked) (o : IsOpened forms check
 
 -- ---- a journal that is read
 
-module _ {D : Type 0} (seen : D → Option (List ℕ)) (may_leave : D → List ℕ → Type 0) (faults : D → ℕ) where
-  pub not_read : (F : Type 0) (journal : OnDisk D) → (F → ⊥) → IsReadOnly seen may_leave faults F journal journal
+module _ {D : Type 0} (model : DiskModel D) where
+  pub not_read : (F : Type 0) (journal : OnDisk D) → (F → ⊥) → IsReadOnly model F journal journal
   not_read F journal none = record {
     disk = record { same = refl; crash = λ crashed may. may; later = omega arith; cause = λ failed. absurd (none failed); steady = λ fine bytes told. refl };
     same = refl;
     lists = λ forms lists. lists;
   }
 
-  pub read_on : (F : Type 0) (first second third : OnDisk D) → IsReadOnly seen may_leave faults ⊥ first second → IsReadOnly seen may_leave faults F second third → IsReadOnly seen may_leave faults F first third
+  pub read_on : (F : Type 0) (first second third : OnDisk D) → IsReadOnly model ⊥ first second → IsReadOnly model F second third → IsReadOnly model F first third
   read_on F first second third a b = record {
     disk = record {
       same = b.disk.same ∙ a.disk.same;
@@ -133,7 +134,7 @@ module _ {D : Type 0} (seen : D → Option (List ℕ)) (may_leave : D → List �
   }
 
   -- two answers that both tell that the disk failed, or both don't
-  pub read_moved : (F G : Type 0) (old new : OnDisk D) → (G → F) → (F → G) → IsReadOnly seen may_leave faults F old new → IsReadOnly seen may_leave faults G old new
+  pub read_moved : (F G : Type 0) (old new : OnDisk D) → (G → F) → (F → G) → IsReadOnly model F old new → IsReadOnly model G old new
   read_moved F G old new to from a = record {
     disk = record { same = a.disk.same; crash = a.disk.crash; later = a.disk.later; cause = λ g. a.disk.cause (to g); steady = λ none. a.disk.steady (λ f. none (from f)) };
     same = a.same;
@@ -153,29 +154,29 @@ take_all [] (suc n) le = refl
 take_all {A = A} (x ∷ xs) zero le = absurd (omega (arith, le))
 take_all {A = A} (x ∷ xs) (suc n) le = ap (λ (l : List A). x ∷ l) (take_all xs n (omega (arith, le)))
 
-module _ {D : Type 0} (seen : D → Option (List ℕ)) (may_leave : D → List ℕ → Type 0) (faults : D → ℕ) where
+module _ {D : Type 0} (model : DiskModel D) where
   -- the entries before this number were checked
   pub record IsCheckedTo (old now : OnDisk D) (was is : Checked) (number : ℕ) : Type 0 where
     pub parts : HasReadParts number is
-    pub read : IsReadOnly seen may_leave faults ⊥ old now
-    pub so : (forms : List (List ℕ)) → Lists seen may_leave old forms → (first : List ℕ) (others : List (List ℕ)) → forms ≡ first ∷ others → IsOpened (first ∷ []) was → IsOpened (take number forms) is
+    pub read : IsReadOnly model ⊥ old now
+    pub so : (forms : List (List ℕ)) → Lists model old forms → (first : List ℕ) (others : List (List ℕ)) → forms ≡ first ∷ others → IsOpened (first ∷ []) was → IsOpened (take number forms) is
 
   pub check_begins : (journal : OnDisk D) (checked : Checked) → HasReadParts 1 checked → IsCheckedTo journal journal checked checked 1
   check_begins journal checked parts = record {
     parts = parts;
-    read = not_read seen may_leave faults ⊥ journal (λ no. no);
+    read = not_read model ⊥ journal (λ no. no);
     so = λ forms lists first others are opened. subst (λ (fs : List (List ℕ)). IsOpened (take 1 fs) checked) (sym are) opened;
   }
 
-  module _ (old now next : OnDisk D) (was is : Checked) (number : ℕ) (to : IsCheckedTo old now was is number) (bytes : List ℕ) (read : IsReadOnly seen may_leave faults ⊥ now next)
-      (found : (forms : List (List ℕ)) → Lists seen may_leave now forms → slice_get forms number ≡ Some bytes) where
-    there : (forms : List (List ℕ)) → Lists seen may_leave old forms → slice_get forms number ≡ Some bytes
+  module _ (old now next : OnDisk D) (was is : Checked) (number : ℕ) (to : IsCheckedTo old now was is number) (bytes : List ℕ) (read : IsReadOnly model ⊥ now next)
+      (found : (forms : List (List ℕ)) → Lists model now forms → slice_get forms number ≡ Some bytes) where
+    there : (forms : List (List ℕ)) → Lists model old forms → slice_get forms number ≡ Some bytes
     there forms lists = found forms (to.read.lists forms lists)
 
     pub check_goes : (new : Checked) → Checks number bytes is new (Ok tt) → HasReadParts (number + 1) new → IsCheckedTo old next was new (number + 1)
     check_goes new checks parts = record {
       parts = parts;
-      read = read_on seen may_leave faults ⊥ old now next to.read read;
+      read = read_on model ⊥ old now next to.read read;
       so = λ forms lists first others are opened. (
           let o = to.so forms lists first others are opened in
           let here = there forms lists in
@@ -186,7 +187,7 @@ module _ {D : Type 0} (seen : D → Option (List ℕ)) (may_leave : D → List �
     }
 
     -- the entry is the first bad one, or memory ran out
-    pub check_stops : (new : Checked) (e : DemoError) → Checks number bytes is new (Err e) → (forms : List (List ℕ)) → Lists seen may_leave old forms → ChecksAll forms was new (Err e)
+    pub check_stops : (new : Checked) (e : DemoError) → Checks number bytes is new (Err e) → (forms : List (List ℕ)) → Lists model old forms → ChecksAll forms was new (Err e)
     check_stops new e checks forms lists first others are opened =
         let o = to.so forms lists first others are opened in
         let here = there forms lists in
@@ -200,7 +201,7 @@ module _ {D : Type 0} (seen : D → Option (List ℕ)) (may_leave : D → List �
         told (demo.Script e) says bad = absurd says
         told (demo.Model e) says bad = absurd says
 
-  pub check_ends : (old now : OnDisk D) (was is : Checked) (number : ℕ) → IsCheckedTo old now was is number → count_of old ≤ number → (forms : List (List ℕ)) → Lists seen may_leave old forms → ChecksAll forms was is (Ok tt)
+  pub check_ends : (old now : OnDisk D) (was is : Checked) (number : ℕ) → IsCheckedTo old now was is number → count_of old ≤ number → (forms : List (List ℕ)) → Lists model old forms → ChecksAll forms was is (Ok tt)
   check_ends old now was is number to all forms lists first others are opened =
       let count : length old.places ≡ length forms = ap (λ (l : List Extent). length l) lists.places ∙ length-places forms 8 in
       subst (λ (fs : List (List ℕ)). IsOpened fs is) (take_all forms number (omega (arith, all, count))) (to.so forms lists first others are opened)

@@ -4,6 +4,7 @@ use Rattle.std.specs.Prelude.{◌≢◌, ◌↔◌, IsTrue, Result, Ok, Err, IfS
 use Rattle.std.specs.List.{All}
 use Rattle.std.proofs.lemmas.List.Elements.{All-nil}
 use Rattle.dbl_base.specs.Streams.{FaultCounted}
+use Rattle.dbl_disk.specs.Model.{DiskModel}
 use Rattle.dbl_pgmsg.specs.declared.messages.Message.{Message}
 use Rattle.dbl_model_table.proofs.Capturable.{capturable}
 use Rattle.dbl_journal.specs.declared.error.JournalError.{JournalError}
@@ -45,7 +46,7 @@ first_read forms first checked there b fits none commits confirmed =
 pub first_parts : (first : List ℕ) (checked : Checked) → BeginsWithWorkload first checked.prepared → IfSome checked.prepared.rows FitAnEntry → checked.done ≡ 0 → checked.commits.items ≡ [] → HasReadParts 1 checked
 first_parts first checked b fits none commits = record {
   goes = record {
-    subsequent = subst (λ (n : ℕ). HasRunSteps checked.prepared.steps.items n checked.prepared.store) (sym none) (begins_batch b.0 b.1 checked.prepared b.3 b.4);
+    has_run = subst (λ (n : ℕ). HasRunSteps checked.prepared.steps.items n checked.prepared.store) (sym none) (begins_batch b.0 b.1 checked.prepared b.3 b.4);
     rows = fits;
     named = (b.0, b.1, b.3, b.4.names);
   };
@@ -68,8 +69,8 @@ first_missing (form ∷ forms) none = absurd (omega (arith, none))
 
 -- ---- what the reading of the first entry answers
 
-module _ {D : Type 0} (seen : D → Option (List ℕ)) (may_leave : D → List ℕ → Type 0) (journal : OnDisk D) where
-  pub first_none : (e : DemoError) → e ≡ demo.BadEntry 0 → count_of journal ≡ 0 → (forms : List (List ℕ)) → Lists seen may_leave journal forms → ReadsFirst forms (Err e)
+module _ {D : Type 0} (model : DiskModel D) (journal : OnDisk D) where
+  pub first_none : (e : DemoError) → e ≡ demo.BadEntry 0 → count_of journal ≡ 0 → (forms : List (List ℕ)) → Lists model journal forms → ReadsFirst forms (Err e)
   first_none e is none forms lists =
       let listed : length journal.places ≡ length forms = ap (λ (l : List Extent). length l) lists.places ∙ length-places forms 8 in
       inr (inr (is, first_missing forms (sym listed ∙ none)))
@@ -118,22 +119,22 @@ pub workload_kind : {P : Type 0} (e : DemoError) → (e ≡ demo.Memory) ⊎ ((e
 workload_kind e (inl memory) = inl memory
 workload_kind e (inr bad) = inr bad.0
 
-module _ {D : Type 0} (seen : D → Option (List ℕ)) (may_leave : D → List ℕ → Type 0) (faults : D → ℕ) (old new : OnDisk D) where
+module _ {D : Type 0} (model : DiskModel D) (old new : OnDisk D) where
   -- the call answered something else, or passed the error on
-  pub read_ok : {A B : Type 0} (a : A) (b : B) → IsReadOnly seen may_leave faults (FailsByJournal (Ok a)) old new → IsReadOnly seen may_leave faults (FailsByJournal (Ok b)) old new
-  read_ok a b read = read_moved seen may_leave faults (FailsByJournal (Ok a)) (FailsByJournal (Ok b)) old new (λ f. absurd (let t = f in cc)) (λ f. absurd (let t = f in cc)) read
+  pub read_ok : {A B : Type 0} (a : A) (b : B) → IsReadOnly model (FailsByJournal (Ok a)) old new → IsReadOnly model (FailsByJournal (Ok b)) old new
+  read_ok a b read = read_moved model (FailsByJournal (Ok a)) (FailsByJournal (Ok b)) old new (λ f. absurd (let t = f in cc)) (λ f. absurd (let t = f in cc)) read
 
-  pub read_none : {A : Type 0} (a : A) → IsReadOnly seen may_leave faults (FailsByJournal (Ok a)) old new → IsReadOnly seen may_leave faults ⊥ old new
-  read_none a read = read_moved seen may_leave faults (FailsByJournal (Ok a)) ⊥ old new (λ f. absurd f) (λ f. let t = f in cc) read
+  pub read_none : {A : Type 0} (a : A) → IsReadOnly model (FailsByJournal (Ok a)) old new → IsReadOnly model ⊥ old new
+  read_none a read = read_moved model (FailsByJournal (Ok a)) ⊥ old new (λ f. absurd f) (λ f. let t = f in cc) read
 
-  pub read_done : {A : Type 0} (a : A) → IsReadOnly seen may_leave faults ⊥ old new → IsReadOnly seen may_leave faults (FailsByJournal (Ok a)) old new
-  read_done a read = read_moved seen may_leave faults ⊥ (FailsByJournal (Ok a)) old new (λ f. let t = f in cc) (λ f. absurd f) read
+  pub read_done : {A : Type 0} (a : A) → IsReadOnly model ⊥ old new → IsReadOnly model (FailsByJournal (Ok a)) old new
+  read_done a read = read_moved model ⊥ (FailsByJournal (Ok a)) old new (λ f. let t = f in cc) (λ f. absurd f) read
 
-  pub read_other : {A B : Type 0} (a : A) (e : DemoError) → (FailsByJournal {T = B} (Err e) → ⊥) → IsReadOnly seen may_leave faults (FailsByJournal (Ok a)) old new → IsReadOnly seen may_leave faults (FailsByJournal {T = B} (Err e)) old new
-  read_other {B = B} a e none read = read_moved seen may_leave faults (FailsByJournal (Ok a)) (FailsByJournal {T = B} (Err e)) old new (λ f. absurd (none f)) (λ f. absurd (let t = f in cc)) read
+  pub read_other : {A B : Type 0} (a : A) (e : DemoError) → (FailsByJournal {T = B} (Err e) → ⊥) → IsReadOnly model (FailsByJournal (Ok a)) old new → IsReadOnly model (FailsByJournal {T = B} (Err e)) old new
+  read_other {B = B} a e none read = read_moved model (FailsByJournal (Ok a)) (FailsByJournal {T = B} (Err e)) old new (λ f. absurd (none f)) (λ f. absurd (let t = f in cc)) read
 
-  pub read_err : {A B : Type 0} (e : DemoError) → IsReadOnly seen may_leave faults (FailsByJournal {T = A} (Err e)) old new → IsReadOnly seen may_leave faults (FailsByJournal {T = B} (Err e)) old new
-  read_err {A = A} {B = B} e read = read_moved seen may_leave faults (FailsByJournal {T = A} (Err e)) (FailsByJournal {T = B} (Err e)) old new (λ f. same f) (λ f. same f) read
+  pub read_err : {A B : Type 0} (e : DemoError) → IsReadOnly model (FailsByJournal {T = A} (Err e)) old new → IsReadOnly model (FailsByJournal {T = B} (Err e)) old new
+  read_err {A = A} {B = B} e read = read_moved model (FailsByJournal {T = A} (Err e)) (FailsByJournal {T = B} (Err e)) old new (λ f. same f) (λ f. same f) read
     where
       same : {X Y : Type 0} → ◌≡◌ {A = Result X DemoError} (Err e) (Err (demo.Journal journal.Failed)) → ◌≡◌ {A = Result Y DemoError} (Err e) (Err (demo.Journal journal.Failed))
       same f = let is : e ≡ demo.Journal journal.Failed = (let t = f in cc) in cc
@@ -177,11 +178,11 @@ failed_of (journal.NotAJournal at) same = cc
 failed_of (journal.EntryTooLong len) same = cc
 failed_of journal.Memory same = cc
 
-module _ {D : Type 0} (seen : D → Option (List ℕ)) (may_leave : D → List ℕ → Type 0) (faults : D → ℕ) (old new : OnDisk D) (r : Result (List ℕ) JournalError)
-    (same : new ≡ record old { disk = new.disk }) (told : seen new.disk ≡ seen old.disk) (crash : (crashed : List ℕ) → may_leave new.disk crashed ↔ may_leave old.disk crashed)
-    (lists : (forms : List (List ℕ)) → Lists seen may_leave old forms → Lists seen may_leave new forms) (later : faults old.disk ≤ faults new.disk)
-    (failed : r ≡ Err journal.Failed → FaultCounted (faults old.disk) (faults new.disk)) (steady : r ≢ Err journal.Failed → IsSteady seen faults old.disk new.disk) where
-  pub entry_read : (F : Type 0) → (F → r ≡ Err journal.Failed) → ((F → ⊥) → r ≢ Err journal.Failed) → IsReadOnly seen may_leave faults F old new
+module _ {D : Type 0} (model : DiskModel D) (old new : OnDisk D) (r : Result (List ℕ) JournalError)
+    (same : new ≡ record old { disk = new.disk }) (told : model.seen new.disk ≡ model.seen old.disk) (crash : (crashed : List ℕ) → model.may_leave new.disk crashed ↔ model.may_leave old.disk crashed)
+    (lists : (forms : List (List ℕ)) → Lists model old forms → Lists model new forms) (later : model.faults old.disk ≤ model.faults new.disk)
+    (failed : r ≡ Err journal.Failed → FaultCounted (model.faults old.disk) (model.faults new.disk)) (steady : r ≢ Err journal.Failed → IsSteady model old.disk new.disk) where
+  pub entry_read : (F : Type 0) → (F → r ≡ Err journal.Failed) → ((F → ⊥) → r ≢ Err journal.Failed) → IsReadOnly model F old new
   entry_read F to from = record {
     disk = record { same = told; crash = λ crashed may. (crash crashed).0 may; later = later; cause = λ f. failed (to f); steady = λ none. steady (from none) };
     same = same;
@@ -189,10 +190,10 @@ module _ {D : Type 0} (seen : D → Option (List ℕ)) (may_leave : D → List �
   }
 
   -- it answered the entry
-  pub entry_ok : {T : Type 0} (x : T) (bytes : List ℕ) → r ≡ Ok bytes → IsReadOnly seen may_leave faults (FailsByJournal (Ok x)) old new
+  pub entry_ok : {T : Type 0} (x : T) (bytes : List ℕ) → r ≡ Ok bytes → IsReadOnly model (FailsByJournal (Ok x)) old new
   entry_ok x bytes was = entry_read (FailsByJournal (Ok x)) (λ f. cc) (λ none at. (let contra : Ok bytes ≡ Err journal.Failed = sym was ∙ at in cc))
 
-  pub entry_err : {T : Type 0} (e : JournalError) (f : DemoError) → r ≡ Err e → f ≡ journal_error e → IsReadOnly seen may_leave faults (FailsByJournal {T = T} (Err f)) old new
+  pub entry_err : {T : Type 0} (e : JournalError) (f : DemoError) → r ≡ Err e → f ≡ journal_error e → IsReadOnly model (FailsByJournal {T = T} (Err f)) old new
   entry_err e f was is =
       entry_read (FailsByJournal (Err f))
       (λ fails. (let here : f ≡ demo.Journal journal.Failed = cc in was ∙ ap (λ (x : JournalError). Err x) (failed_of e (sym is ∙ here))))

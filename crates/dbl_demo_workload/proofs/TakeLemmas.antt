@@ -107,7 +107,7 @@ parts_more number old new parts goes pushed = record {
 pub parts_on : (number : ℕ) (old new : Checked) → HasReadParts number old → new ≡ record old { confirmed = new.confirmed } → HasReadParts (number + 1) new
 parts_on number old new parts same =
     let moved : HasReadParts (number + 1) (record old { confirmed = new.confirmed }) = record {
-      goes = record { subsequent = parts.goes.subsequent; rows = parts.goes.rows; named = parts.goes.named };
+      goes = record { has_run = parts.goes.has_run; rows = parts.goes.rows; named = parts.goes.named };
       few = omega (arith, parts.few);
       there = All-weaker (λ (n : ℕ). n < number) (λ (n : ℕ). n < number + 1) (λ n lt. omega (arith, lt)) old.commits.items parts.there;
     } in

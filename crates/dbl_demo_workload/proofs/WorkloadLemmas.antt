@@ -76,10 +76,10 @@ all_at P (y ∷ xs) (suc n) x all there = all_at P xs n x all.1 there
 
 -- each step that was read can be run
 pub runnable_at : (steps : List Step) (done : ℕ) (store : Tables) (step : Step) → HasRunSteps steps done store → slice_get steps done ≡ Some step → IsRunnable step
-runnable_at steps done store step subsequent there =
-    let filled = scripts_filled (lines_of subsequent.script) in
-    let all : AllByRecursion IsRunnable (steps_of subsequent.w) = subst (λ (s : Script). AllByRecursion IsRunnable s.steps) (sym subsequent.is.script) (runnable_steps _ filled.steps) in
-    all_at IsRunnable steps done step (subst (AllByRecursion IsRunnable) (sym subsequent.are) all) there
+runnable_at steps done store step has_run there =
+    let filled = scripts_filled (lines_of has_run.script) in
+    let all : AllByRecursion IsRunnable (steps_of has_run.w) = subst (λ (s : Script). AllByRecursion IsRunnable s.steps) (sym has_run.is.script) (runnable_steps _ filled.steps) in
+    all_at IsRunnable steps done step (subst (AllByRecursion IsRunnable) (sym has_run.are) all) there
 
 pub get_there : {A : Type 0} (xs : List A) (n : ℕ) (x : A) → n < length xs → x ≡ get_or xs n x → slice_get xs n ≡ Some x
 get_there [] n x lt is = absurd (omega (arith, lt))
@@ -99,15 +99,15 @@ module _ (steps : List Step) (done : ℕ) (step : Step) (new : Tables) (there : 
     all_ran (Ok committed) ran = next_ran committed ran
     all_ran (Err e) ran = tt
 
-  module _ (old : Tables) (subsequent : HasRunSteps steps done old) where
+  module _ (old : Tables) (has_run : HasRunSteps steps done old) where
     abbrev Behind : Option (List Message) → Type 0
-    Behind committed = IsRun subsequent.w.tables (acts_at subsequent.w done) step committed new
+    Behind committed = IsRun has_run.w.tables (acts_at has_run.w done) step committed new
 
     pub all_fit : {E : Type 0} (r : Result (Option (List Message)) E) → IfOk r Behind → IfOk r (λ committed. IfSome committed FitAnEntry)
-    all_fit (Ok committed) ran = fits_entry subsequent.script subsequent.w subsequent.is (done + 1) (log_at subsequent.w done) committed (next_ran subsequent.w subsequent.are committed ran).log ran.short
+    all_fit (Ok committed) ran = fits_entry has_run.script has_run.w has_run.is (done + 1) (log_at has_run.w done) committed (next_ran has_run.w has_run.are committed ran).log ran.short
     all_fit (Err e) ran = tt
 
     pub all_behind : {E : Type 0} → done < length steps → (r : Result (Option (List Message)) E) → IfOk r Behind → OnOk r (HasRunSteps steps (done + 1) new)
     all_behind left (Ok committed) ran =
-        record { script = subsequent.script; w = subsequent.w; is = subsequent.is; are = subsequent.are; there = omega (arith, left); stands = (next_ran subsequent.w subsequent.are committed ran).stands }
+        record { script = has_run.script; w = has_run.w; is = has_run.is; are = has_run.are; there = omega (arith, left); stands = (next_ran has_run.w has_run.are committed ran).stands }
     all_behind left (Err e) ran = tt

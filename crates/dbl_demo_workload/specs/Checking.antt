@@ -49,7 +49,7 @@ pub record IsChecked (w : Workload) (entries : List Entry) (checked : Checked) :
 
 -- The check can continue after any entries: the store has the state after some steps of a workload.
 pub record CanGoOn (checked : Checked) : Type 0 where
-  pub subsequent : HasRunSteps checked.prepared.steps.items checked.done checked.prepared.store
+  pub has_run : HasRunSteps checked.prepared.steps.items checked.done checked.prepared.store
   pub rows : IfSome checked.prepared.rows FitAnEntry
   pub named : AreTableNames checked.prepared.names.items
 

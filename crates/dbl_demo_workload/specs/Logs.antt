@@ -1,6 +1,7 @@
--- For private clauses: how a log is opened.
-use Rattle.std.specs.Prelude.{◌≡◌, ◌≢◌, ◌⊎◌, ℕ, ◌<◌, Option, Result, Ok, Err, List, [], ◌∷◌, length}
+-- How a log is read when it is opened.
+use Rattle.std.specs.Prelude.{◌≡◌, ◌≢◌, ◌⊎◌, ℕ, ◌<◌, Result, Ok, Err, List, [], ◌∷◌, length}
 use Rattle.std.specs.List.{All}
+use Rattle.dbl_disk.specs.Model.{DiskModel}
 use Rattle.dbl_journal.specs.Stored.{Lists, OnDisk}
 use Rattle.dbl_journal.specs.declared.error.JournalError.TheVariants as journal
 use Rattle.dbl_demo_wal.specs.Entries.{workload_form}
@@ -40,10 +41,10 @@ abbrev pub IsReadFault : DemoError → Type 0
 IsReadFault e = (e ≡ demo.Memory) ⊎ (IsFailed e ⊎ ((index : ℕ) × (e ≡ demo.BadEntry index)))
 
 -- The journal after a call that only read it, whether its disk failed or not.
-pub record IsReadOnly {D : Type 0} (seen : D → Option (List ℕ)) (may_leave : D → List ℕ → Type 0) (faults : D → ℕ) (failed : Type 0) (old new : OnDisk D) : Type 0 where
-  pub disk : Keeps seen may_leave faults failed old.disk new.disk
+pub record IsReadOnly {D : Type 0} (model : DiskModel D) (failed : Type 0) (old new : OnDisk D) : Type 0 where
+  pub disk : Keeps model failed old.disk new.disk
   pub same : new ≡ record old { disk = new.disk }
-  pub lists : (forms : List (List ℕ)) → Lists seen may_leave old forms → Lists seen may_leave new forms
+  pub lists : (forms : List (List ℕ)) → Lists model old forms → Lists model new forms
 
 -- The entries so far are the first ones of a source's log, and this is the state after them.
 pub record IsOpened (forms : List (List ℕ)) (state : Checked) : Type 0 where

@@ -55,11 +55,10 @@ fn read_entry<D: Disk>(
 ) -> Result<Bytes, DemoError>
     requires live { IsTrue journal.old.live }
     requires within { number < count_of journal.old }
-    ensures found { (forms : List (List ℕ)) → Lists D.seen D.may_leave journal.old forms
+    ensures found { (forms : List (List ℕ)) → Lists D.Disk journal.old forms
         → IfOk result (λ bytes. slice_get forms number ≡ Some bytes) }
     ensures kinds { IfErr result (λ e. (e ≡ DemoError.Memory) ⊎ IsFailed e) }
-    ensures read { IsReadOnly D.seen D.may_leave D.faults
-        (FailsByJournal result) journal.old journal.new }
+    ensures read { IsReadOnly D.Disk (FailsByJournal result) journal.old journal.new }
 {
     Ok(journal.entry(alloc, number)?)
 }
@@ -67,11 +66,10 @@ fn read_entry<D: Disk>(
 // The state after the first entry, which is missing if the journal is empty.
 fn read_first<D: Disk>(alloc: Global, journal: &mut Journal<D>) -> Result<Checked, DemoError>
     requires { IsTrue journal.old.live }
-    ensures first { (forms : List (List ℕ)) → Lists D.seen D.may_leave journal.old forms
+    ensures first { (forms : List (List ℕ)) → Lists D.Disk journal.old forms
         → ReadsFirst forms result }
     ensures kinds { IfErr result (λ e. IsReadFault e) }
-    ensures read { IsReadOnly D.seen D.may_leave D.faults
-        (FailsByJournal result) journal.old journal.new }
+    ensures read { IsReadOnly D.Disk (FailsByJournal result) journal.old journal.new }
     ensures parts { IfOk result (HasReadParts 1) }
     ensures some { OnOk result (0 < count_of journal.old) }
     ensures small { count_of journal.old < disk_limit }
@@ -98,12 +96,11 @@ fn check_entries<D: Disk>(
     requires live { IsTrue journal.old.live }
     requires some { 0 < count_of journal.old }
     requires parts { HasReadParts 1 checked.old }
-    ensures checks { (forms : List (List ℕ)) → Lists D.seen D.may_leave journal.old forms
+    ensures checks { (forms : List (List ℕ)) → Lists D.Disk journal.old forms
         → ChecksAll forms checked.old checked.new result }
     ensures parts { OnOk result (HasReadParts (count_of journal.old) checked.new) }
     ensures kinds { IfErr result (λ e. IsReadFault e) }
-    ensures read { IsReadOnly D.seen D.may_leave D.faults
-        (FailsByJournal result) journal.old journal.new }
+    ensures read { IsReadOnly D.Disk (FailsByJournal result) journal.old journal.new }
 {
     for number in 1..journal.count() {
         let entry = read_entry(alloc, journal, number)?;
@@ -116,15 +113,14 @@ fn check_entries<D: Disk>(
 /// the others.
 pub fn check_log<D: Disk>(alloc: Global, journal: &mut Journal<D>) -> Result<Checked, DemoError>
     requires { IsTrue journal.old.live }
-    ensures opened { (forms : List (List ℕ)) → Lists D.seen D.may_leave journal.old forms
+    ensures opened { (forms : List (List ℕ)) → Lists D.Disk journal.old forms
         → ReadsLog forms result }
     ensures found { IfOk result (λ checked. checked.prepared.rows ≡ None) }
     ensures named { IfOk result (λ checked. AreTableNames checked.prepared.names.items) }
     ensures parts { IfOk result (HasReadParts (count_of journal.old)) }
     ensures small { count_of journal.old < disk_limit }
     ensures kinds { IfErr result (λ e. IsReadFault e) }
-    ensures read { IsReadOnly D.seen D.may_leave D.faults
-        (FailsByJournal result) journal.old journal.new }
+    ensures read { IsReadOnly D.Disk (FailsByJournal result) journal.old journal.new }
 {
     let mut checked = read_first(alloc, journal)?;
     check_entries(alloc, journal, &mut checked)?;

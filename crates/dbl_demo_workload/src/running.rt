@@ -84,13 +84,13 @@ pub fn run_next(
     steps: &[Step],
     done: usize,
 ) -> Result<Option<Seq<Message>>, AllocError>
-    requires subsequent { HasRunSteps steps.now done store.old }
+    requires has_run { HasRunSteps steps.now done store.old }
     requires left { done < length steps.now }
     ensures ran { (w : Workload) → steps.now ≡ steps_of w
         → Stands w.tables (acts_at w done) store.old
         → IfOk result (λ committed. IsNextRun w done committed store.new) }
     ensures fits { IfOk result (λ committed. IfSome committed FitAnEntry) }
-    ensures subsequent { OnOk result (HasRunSteps steps.now (done + 1) store.new) }
+    ensures has_run { OnOk result (HasRunSteps steps.now (done + 1) store.new) }
     ensures kept { OnErr result (HasRunSteps steps.now done store.new) }
     ensures stays { (w : Workload) → steps.now ≡ steps_of w
         → Stands w.tables (acts_at w done) store.old

@@ -49,6 +49,6 @@ Follows step old new = (crashed : List ℕ) → new crashed → (before : List �
 abbrev pub IsCalled : Option ℕ → Option ℕ → Type 0
 IsCalled old new = (count : ℕ) → old ≡ Some count → new ≡ Some (incremented count)
 
--- a crash leaves exactly these bytes
+-- a crash leaves no other bytes than these
 abbrev pub IsOnly : List ℕ → (List ℕ → Type 0) → Type 0
 IsOnly bytes may_leave = (crashed : List ℕ) → may_leave crashed → crashed ≡ bytes

@@ -2,6 +2,7 @@
 use Rattle.std.specs.Prelude.{◌≡◌, ℕ, ◌+◌, ◌-◌, ◌^◌, ◌<◌, min, Option, Some, None, Result, IsErr}
 use Rattle.dbl_base.specs.Streams.{FailsOnlyIfCounted, incremented}
 use Rattle.dbl_disk.specs.Disks.{IsCalled}
+use Rattle.dbl_disk.specs.Model.{DiskModel}
 
 -- the inner disk, the number of calls still to be forwarded, and the number refused
 pub record Fused (D : Type 0) : Type 0 where
@@ -10,10 +11,10 @@ pub record Fused (D : Type 0) : Type 0 where
   pub refused : ℕ
 
 -- A call of a fused disk: one call of the inner disk as long as calls are left, and after that a failure.
-pub record Burns {D T E : Type 0} (faults : D → ℕ) (calls : D → Option ℕ) (old new : Fused D) (result : Result T E) : Type 0 where
+pub record Burns {D T E : Type 0} (model : DiskModel D) (old new : Fused D) (result : Result T E) : Type 0 where
   pub left : new.left ≡ old.left - 1
-  pub passed : 0 < old.left → FailsOnlyIfCounted (IsErr result) (faults old.inner) (faults new.inner)
-  pub once : 0 < old.left → IsCalled (calls old.inner) (calls new.inner)
+  pub passed : 0 < old.left → FailsOnlyIfCounted (IsErr result) (model.faults old.inner) (model.faults new.inner)
+  pub once : 0 < old.left → IsCalled (model.calls old.inner) (model.calls new.inner)
   pub counted : 0 < old.left → new.refused ≡ old.refused
   pub blown : old.left ≡ 0 → IsErr result
   pub kept : old.left ≡ 0 → new.inner ≡ old.inner
@@ -25,9 +26,9 @@ all_calls None refused = None
 all_calls (Some passed) refused = Some (min (passed + refused) (2 ^ 64 - 1))
 
 -- the faults of the inner disk and of the fuse, a saturating sum
-abbrev pub fuse_faults : {D : Type 0} → (D → ℕ) → Fused D → ℕ
-fuse_faults faults fused = min (faults fused.inner + fused.refused) (2 ^ 64 - 1)
+abbrev pub fuse_faults : {D : Type 0} → DiskModel D → Fused D → ℕ
+fuse_faults model fused = min (model.faults fused.inner + fused.refused) (2 ^ 64 - 1)
 
 -- the calls made of the inner disk, if known, and those refused by the fuse, a saturating sum
-abbrev pub fuse_calls : {D : Type 0} → (D → Option ℕ) → Fused D → Option ℕ
-fuse_calls calls fused = all_calls (calls fused.inner) fused.refused
+abbrev pub fuse_calls : {D : Type 0} → DiskModel D → Fused D → Option ℕ
+fuse_calls model fused = all_calls (model.calls fused.inner) fused.refused

@@ -1,3 +1,4 @@
 pub mod Disks
 pub mod Fuse
 pub mod Memory
+pub mod Model

@@ -55,9 +55,9 @@ pub trait Disk {
         ensures called { IsCalled (calls self.old) (calls self.new) };
 
     /// Writes the bytes at the offset; a gap before them reads as zeros. Until a sync a crash may
-    /// leave any bytes there and past the old end. After `Failed` only this range may have changed.
+    /// leave any bytes there and past the old end; after `Failed` a read may return such too.
     ///
-    /// A write whose end would reach `DISK_LIMIT` fails without any effect.
+    /// A write whose end would reach `DISK_LIMIT` fails and changes no contents.
     fn write_at(&mut self, at: u64, bytes: &[u8]) -> Result<(), Failed>
         requires { (old : List ℕ) → seen self.old ≡ Some old → disk_limit ≤ at + length bytes.now →
             half_limit ≤ length old }
@@ -77,7 +77,7 @@ pub trait Disk {
             OnOk result (faults self.new ≡ faults self.old) }
         ensures called { IsCalled (calls self.old) (calls self.new) };
 
-    /// Makes the contents stable: after `Ok` a crash leaves exactly what a read returns.
+    /// Makes the contents stable: after `Ok` a crash leaves exactly them, if they are known.
     fn sync(&mut self) -> Result<(), Failed>
         ensures stable { (bytes : List ℕ) → seen self.old ≡ Some bytes →
             OnOk result (IsOnly bytes (may_leave self.new)) }
@@ -89,6 +89,6 @@ pub trait Disk {
             OnOk result (faults self.new ≡ faults self.old) }
         ensures called { IsCalled (calls self.old) (calls self.new) };
 
-    /// A crash may leave the contents that a read returns.
+    /// A crash may leave the contents that a read returns, if they are known.
     ghost seen_may_be_left: { (disk : Self) (bytes : List ℕ) → seen disk ≡ Some bytes → may_leave disk bytes };
 }

@@ -10,8 +10,8 @@ use std::marker::Model;
 use std::rt::Files;
 
 /// A disk over a file, which is opened, or created if absent, at the first call; contracts don't
-/// know its contents. An error, or a write that accepts no byte, counts as a fault; a call
-/// interrupted by a signal is retried.
+/// know its contents. An error, or a write that accepts no byte, counts as a fault; a read or a
+/// write that a signal interrupts is retried after it was counted.
 #[derive(Drop)]
 pub struct FileDisk<'a, R: Files> {
     files: &'a R,

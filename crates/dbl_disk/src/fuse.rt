@@ -71,9 +71,9 @@ impl<D: Disk> Disk for FuseDisk<D> {
 
     ghost may_leave = { λ f crashed. D.may_leave f.inner crashed };
 
-    ghost faults = { λ f. fuse_faults D.faults f };
+    ghost faults = { λ f. fuse_faults D.Disk f };
 
-    ghost calls = { λ f. fuse_calls D.calls f };
+    ghost calls = { λ f. fuse_calls D.Disk f };
 
     ghost seen_may_be_left = { λ f bytes told. D.seen_may_be_left f.inner bytes told };
 
@@ -85,11 +85,11 @@ impl<D: Disk> Disk for FuseDisk<D> {
         ensures crash { (crashed : List ℕ) → D.may_leave self.new.inner crashed ↔
             D.may_leave self.old.inner crashed }
         ensures cause { FailsOnlyIfCounted (IsErr result)
-            (fuse_faults D.faults self.old) (fuse_faults D.faults self.new) }
+            (fuse_faults D.Disk self.old) (fuse_faults D.Disk self.new) }
         ensures steady { (bytes : List ℕ) → D.seen self.old.inner ≡ Some bytes →
-            OnOk result (fuse_faults D.faults self.new ≡ fuse_faults D.faults self.old) }
-        ensures called { IsCalled (fuse_calls D.calls self.old) (fuse_calls D.calls self.new) }
-        ensures fuse { Burns D.faults D.calls self.old self.new result }
+            OnOk result (fuse_faults D.Disk self.new ≡ fuse_faults D.Disk self.old) }
+        ensures called { IsCalled (fuse_calls D.Disk self.old) (fuse_calls D.Disk self.new) }
+        ensures fuse { Burns D.Disk self.old self.new result }
     {
         take_call(&mut self.left, &mut self.refused)?;
         self.inner.len()
@@ -105,11 +105,11 @@ impl<D: Disk> Disk for FuseDisk<D> {
         ensures crash { (crashed : List ℕ) → D.may_leave self.new.inner crashed ↔
             D.may_leave self.old.inner crashed }
         ensures cause { FailsOnlyIfCounted (IsErr result)
-            (fuse_faults D.faults self.old) (fuse_faults D.faults self.new) }
+            (fuse_faults D.Disk self.old) (fuse_faults D.Disk self.new) }
         ensures steady { (bytes : List ℕ) → D.seen self.old.inner ≡ Some bytes →
-            OnOk result (fuse_faults D.faults self.new ≡ fuse_faults D.faults self.old) }
-        ensures called { IsCalled (fuse_calls D.calls self.old) (fuse_calls D.calls self.new) }
-        ensures fuse { Burns D.faults D.calls self.old self.new result }
+            OnOk result (fuse_faults D.Disk self.new ≡ fuse_faults D.Disk self.old) }
+        ensures called { IsCalled (fuse_calls D.Disk self.old) (fuse_calls D.Disk self.new) }
+        ensures fuse { Burns D.Disk self.old self.new result }
     {
         take_call(&mut self.left, &mut self.refused)?;
         self.inner.read_at(at, buffer)
@@ -132,11 +132,11 @@ impl<D: Disk> Disk for FuseDisk<D> {
         ensures untried { disk_limit ≤ at + length bytes.now → (crashed : List ℕ) →
             D.may_leave self.new.inner crashed ↔ D.may_leave self.old.inner crashed }
         ensures cause { FailsOnlyIfCounted (IsErr result)
-            (fuse_faults D.faults self.old) (fuse_faults D.faults self.new) }
+            (fuse_faults D.Disk self.old) (fuse_faults D.Disk self.new) }
         ensures steady { (bytes : List ℕ) → D.seen self.old.inner ≡ Some bytes →
-            OnOk result (fuse_faults D.faults self.new ≡ fuse_faults D.faults self.old) }
-        ensures called { IsCalled (fuse_calls D.calls self.old) (fuse_calls D.calls self.new) }
-        ensures fuse { Burns D.faults D.calls self.old self.new result }
+            OnOk result (fuse_faults D.Disk self.new ≡ fuse_faults D.Disk self.old) }
+        ensures called { IsCalled (fuse_calls D.Disk self.old) (fuse_calls D.Disk self.new) }
+        ensures fuse { Burns D.Disk self.old self.new result }
     {
         take_call(&mut self.left, &mut self.refused)?;
         self.inner.write_at(at, bytes)
@@ -149,11 +149,11 @@ impl<D: Disk> Disk for FuseDisk<D> {
         ensures crash { (crashed : List ℕ) → D.may_leave self.new.inner crashed →
             D.may_leave self.old.inner crashed }
         ensures cause { FailsOnlyIfCounted (IsErr result)
-            (fuse_faults D.faults self.old) (fuse_faults D.faults self.new) }
+            (fuse_faults D.Disk self.old) (fuse_faults D.Disk self.new) }
         ensures steady { (bytes : List ℕ) → D.seen self.old.inner ≡ Some bytes →
-            OnOk result (fuse_faults D.faults self.new ≡ fuse_faults D.faults self.old) }
-        ensures called { IsCalled (fuse_calls D.calls self.old) (fuse_calls D.calls self.new) }
-        ensures fuse { Burns D.faults D.calls self.old self.new result }
+            OnOk result (fuse_faults D.Disk self.new ≡ fuse_faults D.Disk self.old) }
+        ensures called { IsCalled (fuse_calls D.Disk self.old) (fuse_calls D.Disk self.new) }
+        ensures fuse { Burns D.Disk self.old self.new result }
     {
         take_call(&mut self.left, &mut self.refused)?;
         self.inner.sync()

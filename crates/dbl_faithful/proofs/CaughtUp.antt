@@ -94,11 +94,11 @@ module _ (identity : Identity) (infos : List TableInfo) (commits before later : 
   fresh_start records fit is ahead caught log snapshots placed = record {
     fit = fit;
     spelled = is;
-    ahead = ahead;
+    after_start = ahead;
     kept = records;
     own = [];
     parted = sym (append-nil records);
-    caught = caught;
+    agrees_up_to = caught;
     few = none_le (length (next_told infos later));
     sending = tt;
     log = subst (IsExactLog identity (events_since infos start commits) records) (nothing_sent (length (events_since infos start before))) log;
@@ -163,7 +163,7 @@ take_short (suc n) (x ∷ xs) = let rest : length (take n xs) ≤ length xs = ta
 pub sent_records_are_caught_up : SentRecordsAreCaughtUp
 sent_records_are_caught_up identity infos commits before commit later start far sent records more zipped up =
     let told : List ToldEvent = events_since infos start commits in
-    let parts : told ≡ events_since infos start before ++ events_of_commits infos (commit ∷ later) = told_parts infos start commits before (commit ∷ later) up.spelled up.ahead in
+    let parts : told ≡ events_since infos start before ++ events_of_commits infos (commit ∷ later) = told_parts infos start commits before (commit ∷ later) up.spelled up.after_start in
     let kinds = behind_changes identity infos start commits up.fit.in_range in
     let stands : (j : ℕ) (item : Record) → slice_get more j ≡ Some item → (t : ToldEvent) × (slice_get (events_of_commit infos commit) (sent + j) ≡ Some t) × IsPrint identity t item =
     (λ j item at. (
@@ -196,11 +196,11 @@ sent_records_are_caught_up identity infos commits before commit later start far 
     record {
       fit = up.fit;
       spelled = up.spelled;
-      ahead = up.ahead;
+      after_start = up.after_start;
       kept = up.kept;
       own = up.own ++ more;
       parted = ap (λ (l : List Record). l ++ more) up.parted ∙ append_assoc up.kept up.own more;
-      caught = up.caught;
+      agrees_up_to = up.agrees_up_to;
       few = enough_left sent (length more) (length (events_of_commit infos commit)) (length (drop sent (events_of_commit infos commit))) (drop_length sent (events_of_commit infos commit)) left up.few;
       sending = subst (λ (l : List ToldEvent). AllZip (IsClearPrint identity) l (up.own ++ more)) (sym (take-add sent (length more) (events_of_commit infos commit)))
           (zip_append (IsClearPrint identity) (take sent (events_of_commit infos commit)) (take (length more) (drop sent (events_of_commit infos commit))) up.own more up.sending zipped);
@@ -227,23 +227,23 @@ index_on a s w e = omega (arith, e)
 pub commits_are_caught_up : CommitsAreCaughtUp
 commits_are_caught_up identity infos commits before commit later start far sent records all up =
     let next : IsCommitAmong infos commits before commit later = record { fit = up.fit; spelled = up.spelled } in
-    let from : moment_at commits start ≤ moment_after before = subst (λ (l : List Commit). moment_at l start ≤ moment_after before) (sym up.spelled) (start_moment start before (commit ∷ later) up.ahead) in
+    let from : moment_at commits start ≤ moment_after before = subst (λ (l : List Commit). moment_at l start ≤ moment_after before) (sym up.spelled) (start_moment start before (commit ∷ later) up.after_start) in
     let whole : AllZip (IsClearPrint identity) (events_of_commit infos commit) up.own =
     subst (λ (l : List ToldEvent). AllZip (IsClearPrint identity) l up.own) (take_all sent (events_of_commit infos commit) (subst (λ (k : ℕ). length (events_of_commit infos commit) ≤ k) (sym all) (le_refl (length (events_of_commit infos commit))))) up.sending in
     record {
       fit = up.fit;
       spelled = split_next commits before commit later up.spelled;
-      ahead = up.ahead.1;
+      after_start = up.after_start.1;
       kept = records;
       own = [];
       parted = sym (append-nil records);
-      caught = subst (λ (l : List Record). AgreesUpTo identity infos commits (moment_at commits start) l (moment_after (before ++ commit ∷ []))) (sym up.parted)
-          (all_prints_are_caught identity infos commits before commit later (moment_at commits start) up.kept up.own next whole from up.caught);
+      agrees_up_to = subst (λ (l : List Record). AgreesUpTo identity infos commits (moment_at commits start) l (moment_after (before ++ commit ∷ []))) (sym up.parted)
+          (all_prints_are_caught identity infos commits before commit later (moment_at commits start) up.kept up.own next whole from up.agrees_up_to);
       few = none_le (length (next_told infos later));
       sending = tt;
       log = subst (IsExactLog identity (events_since infos start commits) records)
           (index_on (length (events_since infos start before)) sent (length (events_since infos start (before ++ commit ∷ [])))
-          (told_next infos start before commit up.ahead.0 ∙ ap (λ (k : ℕ). length (events_since infos start before) + k) (sym all))) up.log;
+          (told_next infos start before commit up.after_start.0 ∙ ap (λ (k : ℕ). length (events_since infos start before) + k) (sym all))) up.log;
       snapshots = up.snapshots;
       placed = up.placed;
     }
@@ -335,7 +335,7 @@ module _ (identity : Identity) (infos : List TableInfo) (commits before : List C
   -- all earlier events were put
   put_here : ArePutBefore identity (records ++ take n snapshot) told mark.lsn.0
   put_here number t at lt =
-      elim (at_cases (events_since infos start before) (events_of_commits infos (mark ∷ later)) number t (ap (λ (l : List ToldEvent). slice_get l number) (sym (told_parts infos start commits before (mark ∷ later) up.spelled up.ahead)) ∙ at)) [
+      elim (at_cases (events_since infos start before) (events_of_commits infos (mark ∷ later)) number t (ap (λ (l : List ToldEvent). slice_get l number) (sym (told_parts infos start commits before (mark ∷ later) up.spelled up.after_start)) ∙ at)) [
         | inl early ↦ (
             let index : number < up.log.count = soon number (length (events_since infos start before)) up.log.count (slice_get-lt (events_since infos start before) number t early) up.log.not_after in
             let first = first_print identity told (behind_rise infos start 0 commits up.fit.rise) (behind_changes identity infos start commits up.fit.in_range) records up.log.count number t up.log.exact at index in
@@ -396,8 +396,8 @@ snapshots_are_caught_up identity infos commits before mark later start far low a
     let next : IsCommitAmong infos commits before mark later = record { fit = up.fit; spelled = up.spelled } in
     let none : up.own ≡ [] = none_own (IsClearPrint identity) (next_told infos (mark ∷ later)) up.own up.sending in
     let same : records ≡ up.kept = up.parted ∙ (ap (λ (l : List Record). up.kept ++ l) none ∙ append-nil up.kept) in
-    let caught : AgreesUpTo identity infos commits (moment_at commits start) records (moment_after before) = subst (λ (l : List Record). AgreesUpTo identity infos commits (moment_at commits start) l (moment_after before)) (sym same) up.caught in
-    fresh_start identity infos commits before (mark ∷ later) start mark.lsn.0 (records ++ take n snapshot) up.fit up.spelled up.ahead
+    let caught : AgreesUpTo identity infos commits (moment_at commits start) records (moment_after before) = subst (λ (l : List Record). AgreesUpTo identity infos commits (moment_at commits start) l (moment_after before)) (sym same) up.agrees_up_to in
+    fresh_start identity infos commits before (mark ∷ later) start mark.lsn.0 (records ++ take n snapshot) up.fit up.spelled up.after_start
     (parts_of_snapshots_are_caught identity infos commits before mark later (moment_at commits start) low above closed records snapshot now n next (mark_is_silent mark high) in_time listed clear right subsequent under told_to caught)
     (window_log identity infos commits before mark later start far low above closed records snapshot now n high beyond in_time listed right up)
     (window_right identity infos commits before mark later start far low above closed records snapshot now n high beyond in_time listed right up)
@@ -438,12 +438,12 @@ longer_histories_are_caught_up identity infos commits before later more start fa
     record {
       fit = fit;
       spelled = ap (λ (l : List Commit). l ++ more) up.spelled ∙ append_assoc before later more;
-      ahead = all_append (λ (c : Commit). start < c.lsn.0) later more up.ahead ahead;
+      after_start = all_append (λ (c : Commit). start < c.lsn.0) later more up.after_start ahead;
       kept = up.kept;
       own = up.own;
       parted = up.parted;
-      caught = subst (λ (s : ℕ). AgreesUpTo identity infos (commits ++ more) s up.kept (moment_after before)) (sym begins)
-          (longer_histories_are_caught identity infos commits more (moment_at commits start) (moment_after before) up.kept (moment_at-most commits start) (within_all (moment_after before) (moment_after later) (moment_after commits) size) over up.caught);
+      agrees_up_to = subst (λ (s : ℕ). AgreesUpTo identity infos (commits ++ more) s up.kept (moment_after before)) (sym begins)
+          (longer_histories_are_caught identity infos commits more (moment_at commits start) (moment_after before) up.kept (moment_at-most commits start) (within_all (moment_after before) (moment_after later) (moment_after commits) size) over up.agrees_up_to);
       few = next.0;
       sending = next.1;
       log = subst (λ (l : List ToldEvent). IsExactLog identity l records (length (events_since infos start before) + sent)) (sym told_are)
@@ -465,10 +465,10 @@ caught_now identity infos commits before (commit ∷ later) start sent kept own 
 
 pub caught_up_logs_are_right : CaughtUpLogsAreRight
 caught_up_logs_are_right identity infos commits before later start far sent moment records le up =
-    let from : moment_at commits start ≤ moment_after before = subst (λ (l : List Commit). moment_at l start ≤ moment_after before) (sym up.spelled) (start_moment start before later up.ahead) in
+    let from : moment_at commits start ≤ moment_after before = subst (λ (l : List Commit). moment_at l start ≤ moment_after before) (sym up.spelled) (start_moment start before later up.after_start) in
     let caught : AgreesUpTo identity infos commits (moment_at commits start) records (moment_after before) =
     subst (λ (l : List Record). AgreesUpTo identity infos commits (moment_at commits start) l (moment_after before)) (sym up.parted)
-    (caught_now identity infos commits before later start sent up.kept up.own up.fit up.spelled from up.sending up.few up.caught) in
+    (caught_now identity infos commits before later start sent up.kept up.own up.fit up.spelled from up.sending up.few up.agrees_up_to) in
     (earlier_moments_are_caught identity infos commits (moment_at commits start) moment (moment_after before) records le caught, (up.log.count, up.log.exact), up.snapshots)
 
 among_first : (k a s b : ℕ) → k < a → a + s ≤ b → k < b
@@ -477,7 +477,7 @@ among_first k a s b lt le = omega (arith, lt, le)
 pub delivered_events_are_put : DeliveredEventsArePut
 delivered_events_are_put identity infos commits before later start far sent records up number t at =
     let told : List ToldEvent = events_since infos start commits in
-    let parts : told ≡ events_since infos start before ++ events_of_commits infos later = told_parts infos start commits before later up.spelled up.ahead in
+    let parts : told ≡ events_since infos start before ++ events_of_commits infos later = told_parts infos start commits before later up.spelled up.after_start in
     let here : slice_get told number ≡ Some t = ap (λ (l : List ToldEvent). slice_get l number) parts ∙ at_left (events_since infos start before) (events_of_commits infos later) number t at in
     let index : number < up.log.count = among_first number (length (events_since infos start before)) sent up.log.count (slice_get-lt (events_since infos start before) number t at) up.log.not_after in
     let first = first_print identity told (behind_rise infos start 0 commits up.fit.rise) (behind_changes identity infos start commits up.fit.in_range) records up.log.count number t up.log.exact here index in

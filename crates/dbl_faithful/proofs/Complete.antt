@@ -34,19 +34,19 @@ done_told identity records lsn (info ∷ infos) (cursor ∷ cursors) right done 
   where
     by : IsRightCursor identity records lsn info cursor → IsDone identity records info
     by (inl unread) = two_ways cursor.done done.0 unread.1
-    by (inr told) = record { place = told.place; item = told.item; stands = told.stands; through = cursor.last; tells = subst (λ (b : Bool). ReportsProgress identity info told.item cursor.last b) done.0 told.tells }
+    by (inr told) = record { place = told.place; item = told.item; stands = told.stands; through = cursor.last; reports = subst (λ (b : Bool). ReportsProgress identity info told.item cursor.last b) done.0 told.reports }
 
 pub complete_stores_are_images : CompleteStoresAreImages
 complete_stores_are_images history confirmed records offset topic text fit faithful done top =
     let commits : List Commit = captured_commits history offset in
     let begins = faithful_stores_are_caught_up history confirmed records offset fit faithful in
-    let facts : AreFitCommits offset.infos commits = begins.up.fit in
-    let rise : AreRising 0 (lsns (begins.before ++ begins.later)) = subst (λ (l : List Commit). AreRising 0 (lsns l)) begins.up.spelled facts.rise in
-    let moment : moment_at commits offset.lsn.0 ≡ moment_after begins.before = ap (λ (l : List Commit). moment_at l offset.lsn.0) begins.up.spelled ∙ end_moment offset.lsn.0 begins.before begins.later rise begins.ends in
+    let facts : AreFitCommits offset.infos commits = begins.delivered.fit in
+    let rise : AreRising 0 (lsns (begins.before ++ begins.later)) = subst (λ (l : List Commit). AreRising 0 (lsns l)) begins.delivered.spelled facts.rise in
+    let moment : moment_at commits offset.lsn.0 ≡ moment_after begins.before = ap (λ (l : List Commit). moment_at l offset.lsn.0) begins.delivered.spelled ∙ end_moment offset.lsn.0 begins.before begins.later rise begins.ends in
     let low : last_moment offset.infos commits (moment_at commits offset.start.0) records ≤ moment_at commits offset.lsn.0 =
     subst (λ (m : ℕ). last_moment offset.infos commits (moment_at commits offset.start.0) records ≤ m) (sym moment)
-    (complete_reach offset.identity offset.infos commits begins.before begins.later offset.start.0 (top_position records) 0 offset.lsn.0 records begins.up begins.ends top) in
-    let all : AllByRecursion (IsDone offset.identity records) offset.infos = done_told offset.identity records offset.lsn.0 offset.infos offset.cursors faithful.subsequent.offset_is.cursors done in
+    (complete_reach offset.identity offset.infos commits begins.before begins.later offset.start.0 (top_position records) 0 offset.lsn.0 records begins.delivered begins.ends top) in
+    let all : AllByRecursion (IsDone offset.identity records) offset.infos = done_told offset.identity records offset.lsn.0 offset.infos offset.cursors faithful.lags.offset_is.cursors done in
     let there = done_logs_have_images offset.identity offset.infos commits (moment_at commits offset.start.0) (moment_at commits offset.lsn.0) records topic text facts faithful.aged faithful.named low all in
     record {
       image = there.0;

@@ -58,13 +58,13 @@ lsn_position history offset start (inr at) = inr at
 pub faithful_stores_are_caught_up : FaithfulStoresAreCaughtUp
 faithful_stores_are_caught_up history confirmed records offset fit faithful =
     let commits : List Commit = captured_commits history offset in
-    let subsequent : IsBehind history confirmed records offset = faithful.subsequent in
-    let facts : AreFitCommits offset.infos commits = fit_commits history offset.infos fit subsequent.offset_is.infos in
-    let end : IsEnded commits offset.lsn.0 = ended_at offset.infos history offset.lsn.0 (lsn_position history offset subsequent.offset_is.start subsequent.offset_is.lsn) in
+    let lags : IsBehind history confirmed records offset = faithful.lags in
+    let facts : AreFitCommits offset.infos commits = fit_commits history offset.infos fit lags.offset_is.infos in
+    let end : IsEnded commits offset.lsn.0 = ended_at offset.infos history offset.lsn.0 (lsn_position history offset lags.offset_is.start lags.offset_is.lsn) in
     let rise : AreRising 0 (lsns (end.before ++ end.later)) = subst (λ (l : List Commit). AreRising 0 (lsns l)) end.spelled facts.rise in
     let moment : moment_at commits offset.lsn.0 ≡ moment_after end.before = ap (λ (l : List Commit). moment_at l offset.lsn.0) end.spelled ∙ end_moment offset.lsn.0 end.before end.later rise end.ends in
     let ahead : AllByRecursion (λ c. offset.start.0 < c.lsn.0) end.later =
-    all_weaker (λ (c : Commit). offset.lsn.0 < c.lsn.0) (λ (c : Commit). offset.start.0 < c.lsn.0) end.later (λ c lt. over offset.start.0 offset.lsn.0 c.lsn.0 subsequent.offset_is.order lt) (end_after offset.lsn.0 end.before end.later rise end.ends) in
+    all_weaker (λ (c : Commit). offset.lsn.0 < c.lsn.0) (λ (c : Commit). offset.start.0 < c.lsn.0) end.later (λ c lt. over offset.start.0 offset.lsn.0 c.lsn.0 lags.offset_is.order lt) (end_after offset.lsn.0 end.before end.later rise end.ends) in
     let told_are : events_since offset.infos offset.start.0 commits ≡ events_since offset.infos offset.start.0 end.before ++ events_since offset.infos offset.start.0 end.later =
     ap (events_since offset.infos offset.start.0) end.spelled ∙ events_since-append offset.infos offset.start.0 end.before end.later in
     let put : ArePut offset.identity records (events_since offset.infos offset.start.0 end.before) =
@@ -73,27 +73,27 @@ faithful_stores_are_caught_up history confirmed records offset fit faithful =
     let low : t.commit.lsn.0 ≤ offset.lsn.0 =
     at_all (λ (c : Commit). c.lsn.0 ≤ offset.lsn.0) (commits_since offset.start.0 end.before) found.place t.commit
     (all_filter (λ (c : Commit). c.lsn.0 ≤ offset.lsn.0) (λ (c : Commit). nat_lt offset.start.0 c.lsn.0) end.before (end_under offset.lsn.0 end.before end.later rise end.ends)) found.commit_at in
-    subsequent.put number t
+    lags.has_records number t
     (ap (λ (l : List ToldEvent). slice_get l number) told_are ∙ at_left (events_since offset.infos offset.start.0 end.before) (events_since offset.infos offset.start.0 end.later) number t at)
     (subst (λ (p : ℕ). p ≤ offset.lsn.0) (sym (event_position offset.infos (commits_since offset.start.0 end.before) t found)) low))) in
     record {
       before = end.before;
       later = end.later;
       ends = end.ends;
-      up = put_logs_are_caught_up offset.identity offset.infos commits end.before end.later offset.start.0 (top_position records) records facts end.spelled ahead put
+      delivered = put_logs_are_caught_up offset.identity offset.infos commits end.before end.later offset.start.0 (top_position records) records facts end.spelled ahead put
           (subst (IsAged offset.identity offset.infos commits (moment_at commits offset.start.0) records) moment faithful.aged) faithful.agrees faithful.named faithful.exact faithful.snapshots (top_has records);
     }
 
 pub cursors_were_told : CursorsWereTold
-cursors_were_told history confirmed records offset table info cursor subsequent captured at =
-    let found = zip_at (IsRightCursor offset.identity records offset.lsn.0) offset.infos offset.cursors table cursor subsequent.offset_is.cursors at in
+cursors_were_told history confirmed records offset table info cursor lags captured at =
+    let found = zip_at (IsRightCursor offset.identity records offset.lsn.0) offset.infos offset.cursors table cursor lags.offset_is.cursors at in
     let one : found.0 ≡ info = first_some found.0 info (sym found.1 ∙ captured) in
     by (subst (λ (i : TableInfo). IsRightCursor offset.identity records offset.lsn.0 i cursor) one found.2)
   where
     by : IsRightCursor offset.identity records offset.lsn.0 info cursor → (key : Key) → IsUpTo cursor.last key → IsTold offset.identity offset.infos records table key
     by (inl unread) key up_to = absurd (subst (λ (bound : Option Key). IsUpTo bound key) unread.0 up_to)
     by (inr told) key up_to =
-        told_bounds offset.identity offset.infos records table info told.item cursor.last cursor.done captured (contains_at records told.place told.item told.stands) told.tells key up_to
+        told_bounds offset.identity offset.infos records table info told.item cursor.last cursor.done captured (contains_at records told.place told.item told.stands) told.reports key up_to
 
 pub faithful_records_stand : FaithfulRecordsStand
 faithful_records_stand history confirmed records offset place item faithful at = by (bool_case (is_change_record item))
@@ -121,7 +121,7 @@ caught_up_stores_are_faithful history confirmed records offset before later far 
     let commits : List Commit = captured_commits history offset in
     let le : moment_at commits offset.lsn.0 ≤ moment_after before = subst (λ (l : List Commit). moment_at l offset.lsn.0 ≤ moment_after before) (sym up.spelled) (start_moment offset.lsn.0 before later above) in
     let right = caught_up_logs_are_right offset.identity offset.infos commits before later offset.start.0 far sent (moment_at commits offset.lsn.0) records le up in
-    record { agrees = right.0.agrees; exact = right.1; snapshots = right.2; aged = right.0.aged; named = right.0.named; subsequent = record { offset_is = is; put = put } }
+    record { agrees = right.0.agrees; exact = right.1; snapshots = right.2; aged = right.0.aged; named = right.0.named; lags = record { offset_is = is; has_records = put } }
   where
     not_both : (p l : ℕ) → p ≤ l → l < p → ⊥
     not_both p l le lt = omega (arith, le, lt)

@@ -136,13 +136,13 @@ module _ (history : History) (more : List RawCommit) (confirmed : Lsn) (records 
       (at_all (λ (c : Commit). offset.lsn.0 < c.lsn.0) (commits_since offset.start.0 new) found.place t.commit (all_filter (λ (c : Commit). offset.lsn.0 < c.lsn.0) (λ (c : Commit). nat_lt offset.start.0 c.lsn.0) new high) found.commit_at)
 
   still_behind : IsFitHistory (longer history more) → IsBehind history confirmed records offset → IsBehind (longer history more) confirmed records offset
-  still_behind fit subsequent =
-      let high : AllByRecursion (λ (c : Commit). offset.lsn.0 < c.lsn.0) new = typed_more offset.infos (λ n. offset.lsn.0 < n) more (behind_lsn history more fit.rising offset subsequent.offset_is.start subsequent.offset_is.lsn) in
+  still_behind fit lags =
+      let high : AllByRecursion (λ (c : Commit). offset.lsn.0 < c.lsn.0) new = typed_more offset.infos (λ n. offset.lsn.0 < n) more (behind_lsn history more fit.rising offset lags.offset_is.start lags.offset_is.lsn) in
       record {
-        offset_is = still_offset subsequent.offset_is;
-        put = λ number t at le. elim (at_cases (events_since offset.infos offset.start.0 (captured_commits history offset)) (events_since offset.infos offset.start.0 new) number t
+        offset_is = still_offset lags.offset_is;
+        has_records = λ number t at le. elim (at_cases (events_since offset.infos offset.start.0 (captured_commits history offset)) (events_since offset.infos offset.start.0 new) number t
             (ap (λ (l : List ToldEvent). slice_get l number) (sym (ap (events_since offset.infos offset.start.0) list ∙ events_since-append offset.infos offset.start.0 (captured_commits history offset) new)) ∙ at)) [
-              | inl known ↦ subsequent.put number t known le
+              | inl known ↦ lags.has_records number t known le
               | inr late ↦ absurd (not_both t.event.position offset.lsn.0 le (new_event high late.0 t late.1))
             ];
       }
@@ -155,15 +155,15 @@ module _ (history : History) (more : List RawCommit) (confirmed : Lsn) (records 
 
   still_faithful : IsFitHistory history → IsFitHistory (longer history more) → IsFaithfulTo history confirmed records offset → IsFaithfulTo (longer history more) confirmed records offset
   still_faithful fit fit_longer faithful =
-      let is : IsOffsetOf history confirmed records offset = faithful.subsequent.offset_is in
+      let is : IsOffsetOf history confirmed records offset = faithful.lags.offset_is in
       let begins = faithful_stores_are_caught_up history confirmed records offset fit faithful in
       let facts : AreFitCommits offset.infos (captured_commits (longer history more) offset) = fit_commits (longer history more) offset.infos fit_longer (still_infos is.infos) in
       let far : AllByRecursion (λ (c : Commit). top_position records < c.lsn.0) new = typed_more offset.infos (λ n. top_position records < n) more (behind_top history more fit_longer.rising records (λ place item at. faithful_records_stand history confirmed records offset place item faithful at)) in
       let high : AllByRecursion (λ (c : Commit). offset.lsn.0 < c.lsn.0) new = typed_more offset.infos (λ n. offset.lsn.0 < n) more (behind_lsn history more fit_longer.rising offset is.start is.lsn) in
       let up : HasDeliveredUpTo offset.identity offset.infos (captured_commits (longer history more) offset) offset.start.0 (top_position records) begins.before (begins.later ++ new) 0 records =
       subst (λ (l : List Commit). HasDeliveredUpTo offset.identity offset.infos l offset.start.0 (top_position records) begins.before (begins.later ++ new) 0 records) (sym list)
-      (longer_histories_are_caught_up offset.identity offset.infos (captured_commits history offset) begins.before begins.later new offset.start.0 (top_position records) 0 records (subst (AreFitCommits offset.infos) list facts) (pairs new far high is.order) begins.up) in
-      let rises : AreRising 0 (lsns (begins.before ++ begins.later)) = subst (λ (l : List Commit). AreRising 0 (lsns l)) begins.up.spelled (fit_commits history offset.infos fit is.infos).rise in
+      (longer_histories_are_caught_up offset.identity offset.infos (captured_commits history offset) begins.before begins.later new offset.start.0 (top_position records) 0 records (subst (AreFitCommits offset.infos) list facts) (pairs new far high is.order) begins.delivered) in
+      let rises : AreRising 0 (lsns (begins.before ++ begins.later)) = subst (λ (l : List Commit). AreRising 0 (lsns l)) begins.delivered.spelled (fit_commits history offset.infos fit is.infos).rise in
       caught_up_stores_are_faithful (longer history more) confirmed records offset begins.before (begins.later ++ new) (top_position records) 0
       (all_append (λ (c : Commit). offset.lsn.0 < c.lsn.0) begins.later new (end_after offset.lsn.0 begins.before begins.later rises begins.ends) high)
       (still_offset is) up
@@ -174,7 +174,7 @@ pub longer_histories_keep_offsets : LongerHistoriesKeepOffsets
 longer_histories_keep_offsets old new more confirmed records offset grown marks =
     let same : longer old more ≡ new = sym (is_longer old new more grown) in (
       λ is. subst (λ (h : History). IsOffsetOf h confirmed records offset) same (still_offset old more confirmed records offset marks is),
-      λ fit subsequent. subst (λ (h : History). IsBehind h confirmed records offset) same (still_behind old more confirmed records offset marks (subst IsFitHistory (sym same) fit) subsequent),
+      λ fit lags. subst (λ (h : History). IsBehind h confirmed records offset) same (still_behind old more confirmed records offset marks (subst IsFitHistory (sym same) fit) lags),
     )
 
 pub longer_histories_stay_faithful : LongerHistoriesStayFaithful

@@ -26,7 +26,7 @@ use Rattle.dbl_faithful.proofs.Onward.{passing}
 more_told : (identity : Identity) (records more : List Record) (lsn : ℕ) (info : TableInfo) (cursor : Cursor) → IsRightCursor identity records lsn info cursor → IsRightCursor identity (records ++ more) lsn info cursor
 more_told identity records more lsn info cursor (inl unread) = inl unread
 more_told identity records more lsn info cursor (inr told) =
-    inr (record { place = told.place; item = told.item; stands = at_left records more told.place told.item told.stands; tells = told.tells; not_after = told.not_after })
+    inr (record { place = told.place; item = told.item; stands = at_left records more told.place told.item told.stands; reports = told.reports; not_after = told.not_after })
 
 more_offset : (history : History) (confirmed : Lsn) (records more : List Record) (offset : Offset) → IsOffsetOf history confirmed records offset → IsOffsetOf history confirmed (records ++ more) offset
 more_offset history confirmed records more offset is = record {
@@ -43,9 +43,9 @@ more_offset history confirmed records more offset is = record {
 pub more_records_keep_offsets : MoreRecordsKeepOffsets
 more_records_keep_offsets history confirmed records more offset = (
   more_offset history confirmed records more offset,
-  λ subsequent. record {
-    offset_is = more_offset history confirmed records more offset subsequent.offset_is;
-    put = λ number event at le. put_more offset.identity records more event (subsequent.put number event at le);
+  λ lags. record {
+    offset_is = more_offset history confirmed records more offset lags.offset_is;
+    has_records = λ number event at le. put_more offset.identity records more event (lags.has_records number event at le);
   },
 )
 
@@ -55,7 +55,7 @@ never_both : (a b c : ℕ) → a < b → b ≤ c → c ≡ a → ⊥
 never_both a b c lt le e = omega (arith, lt, le, e)
 
 pub start_offsets_lag : StartOffsetsLag
-start_offsets_lag history confirmed records offset same is = record { offset_is = is; put = λ number t at le. absurd (none_told number t at le) }
+start_offsets_lag history confirmed records offset same is = record { offset_is = is; has_records = λ number t at le. absurd (none_told number t at le) }
   where
     none_told : (number : ℕ) (t : ToldEvent) → slice_get (events_since offset.infos offset.start.0 (captured_commits history offset)) number ≡ Some t → t.event.position ≤ offset.lsn.0 → ⊥
     none_told number t at le =
@@ -77,7 +77,7 @@ confirms_stay_faithful history confirmed next records offset le faithful = recor
   snapshots = faithful.snapshots;
   aged = faithful.aged;
   named = faithful.named;
-  subsequent = record { offset_is = confirmed_offset history confirmed next records offset le faithful.subsequent.offset_is; put = faithful.subsequent.put };
+  lags = record { offset_is = confirmed_offset history confirmed next records offset le faithful.lags.offset_is; has_records = faithful.lags.has_records };
 }
 
 -- ---- a later session
@@ -117,7 +117,7 @@ module _ (history : History) (confirmed : Lsn) (records : List Record) (old : Of
     snapshots = faithful.snapshots;
     aged = faithful.aged;
     named = faithful.named;
-    subsequent = record { offset_is = raised_offset faithful.subsequent.offset_is; put = faithful.subsequent.put };
+    lags = record { offset_is = raised_offset faithful.lags.offset_is; has_records = faithful.lags.has_records };
   }
 
 pub later_sessions_stay_faithful : LaterSessionsStayFaithful

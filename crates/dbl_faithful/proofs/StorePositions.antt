@@ -274,6 +274,6 @@ repeated_commits_stand_together history records offset rise =
       later = next.back;
       spelled = whole ∙ ap (λ (l : List RawCommit). first.front ++ (l ++ next.back)) same;
       unread = first.under;
-      again = subst (AllByRecursion (λ (c : RawCommit). (low < c.lsn.0) × (c.lsn.0 ≤ top))) same middle;
-      new = pairs low top next.back (all_right (λ (c : RawCommit). low < c.lsn.0) next.front next.back over) (λ n. top < n) next.over;
+      redelivered = subst (AllByRecursion (λ (c : RawCommit). (low < c.lsn.0) × (c.lsn.0 ≤ top))) same middle;
+      undelivered = pairs low top next.back (all_right (λ (c : RawCommit). low < c.lsn.0) next.front next.back over) (λ n. top < n) next.over;
     }

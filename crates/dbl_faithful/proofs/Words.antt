@@ -136,7 +136,7 @@ contains_at xs k x at = (k, slice_get-lt xs k x at, get_or_from_slice_get xs k x
 
 done_tells : (identity : Identity) (infos : List TableInfo) (records : List Record) (table : ℕ) (key : Key) (info : TableInfo) → slice_get infos table ≡ Some info → IsDone identity records info → IsTold identity infos records table key
 done_tells identity infos records table key info captured done =
-    record { info = info; captured = captured; item = done.item; stands = contains_at records done.place done.item done.stands; through = done.through; done = true; tells = done.tells; covers = inl refl }
+    record { info = info; captured = captured; item = done.item; stands = contains_at records done.place done.item done.stands; through = done.through; done = true; tells = done.reports; covers = inl refl }
 
 -- where nothing is held there is no row, and where a row is held there is one
 no_row : (columns : List Column) (row : Option (List Val)) → HoldsJsonTexts None (option_map (row_json_texts columns) row) → row ≡ None
@@ -197,7 +197,7 @@ pub complete_reach : (identity : Identity) (infos : List TableInfo) (commits bef
 complete_reach identity infos commits before later start far sent position records up ends le =
     let rise : AreRising 0 (lsns (before ++ later)) = subst (λ (l : List Commit). AreRising 0 (lsns l)) up.spelled up.fit.rise in
     let above : AllByRecursion (λ c. position < c.lsn.0) later = end_after position before later rise ends in
-    let from : moment_at commits start ≤ moment_after before = subst (λ (l : List Commit). moment_at l start ≤ moment_after before) (sym up.spelled) (start_moment start before later up.ahead) in
+    let from : moment_at commits start ≤ moment_after before = subst (λ (l : List Commit). moment_at l start ≤ moment_after before) (sym up.spelled) (start_moment start before later up.after_start) in
     let one : (item : Record) → item.position ≤ far → record_moment infos commits item ≤ moment_after before =
     (λ item low. subst (λ (l : List Commit). record_moment infos l item ≤ moment_after before) (sym up.spelled)
     (subst (λ (n : ℕ). n ≤ moment_after before)

@@ -47,12 +47,12 @@ pub record HasDeliveredUpTo (identity : Identity) (infos : List TableInfo) (comm
   pub fit : AreFitCommits infos commits
   pub spelled : commits ≡ before ++ later
   -- The start isn't after the delivered commits.
-  pub ahead : AllByRecursion (λ commit. start < commit.lsn.0) later
+  pub after_start : AllByRecursion (λ commit. start < commit.lsn.0) later
   -- The log when the next commit came, and the records sent of that commit.
   pub kept : List Record
   pub own : List Record
   pub parted : records ≡ kept ++ own
-  pub caught : AgreesUpTo identity infos commits (moment_at commits start) kept (moment_after before)
+  pub agrees_up_to : AgreesUpTo identity infos commits (moment_at commits start) kept (moment_after before)
   pub few : sent ≤ length (next_told infos later)
   pub sending : AllZip (IsClearPrint identity) (take sent (next_told infos later)) own
   -- The log as a whole, for any division of its records.

@@ -148,8 +148,8 @@ pub record IsPutAhead (identity : Identity) (records : List Record) (place : ℕ
   pub stands : slice_get records earlier ≡ Some first
   pub is : IsPrint identity event first
 
--- No snapshot's row overwrites a later change: each is fresh, is the source's row at its own position, and follows the records of all
--- earlier events.
+-- No snapshot's row overwrites a later change: each is fresh, is the source's row at its own position, and follows a record of each event
+-- above the start and below that position.
 abbrev pub SnapshotRowsOverwriteNothing : Type 0
 SnapshotRowsOverwriteNothing = (identity : Identity) (infos : List TableInfo) (commits : List Commit) (start : ℕ)
     (records : List Record) (place : ℕ) (item : Record)
@@ -166,7 +166,7 @@ pub record IsDone (identity : Identity) (records : List Record) (info : TableInf
   pub item : Record
   pub stands : slice_get records place ≡ Some item
   pub through : Option Key
-  pub tells : ReportsProgress identity info item through true
+  pub reports : ReportsProgress identity info item through true
 
 -- If every snapshot is done and no record is after a point in the history at which the log is aged, a consumer has the image of the
 -- source's rows of that point.

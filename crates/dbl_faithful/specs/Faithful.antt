@@ -31,7 +31,7 @@ pub record IsFaithfulTo (history : History) (confirmed : Lsn) (records : List Re
   pub aged : IsAged offset.identity offset.infos (captured_commits history offset) (moment_at (captured_commits history offset) offset.start.0) records
       (moment_at (captured_commits history offset) offset.lsn.0)
   pub named : HasNamedRows offset.identity offset.infos records
-  pub subsequent : IsBehind history confirmed records offset
+  pub lags : IsBehind history confirmed records offset
 
 -- Whether a commit's contents are no watermark.
 abbrev pub HasNoMark : RawBody → Type 0

@@ -27,7 +27,7 @@ pub record IsCursorTold (identity : Identity) (records : List Record) (lsn : ℕ
   pub place : ℕ
   pub item : Record
   pub stands : slice_get records place ≡ Some item
-  pub tells : ReportsProgress identity info item cursor.last cursor.done
+  pub reports : ReportsProgress identity info item cursor.last cursor.done
   pub not_after : item.position ≤ lsn
 
 -- Whether the progress of a table is that of a record of the log, or nothing was read of the table.
@@ -76,5 +76,5 @@ pub record IsOffsetOf (history : History) (confirmed : Lsn) (records : List Reco
 -- the log.
 pub record IsBehind (history : History) (confirmed : Lsn) (records : List Record) (offset : Offset) : Type 0 where
   pub offset_is : IsOffsetOf history confirmed records offset
-  pub put : (number : ℕ) (event : ToldEvent) → slice_get (events_since offset.infos offset.start.0 (typed offset.infos history)) number ≡ Some event
+  pub has_records : (number : ℕ) (event : ToldEvent) → slice_get (events_since offset.infos offset.start.0 (typed offset.infos history)) number ≡ Some event
       → event.event.position ≤ offset.lsn.0 → HasRecordOfEvent offset.identity records event

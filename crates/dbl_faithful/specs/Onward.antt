@@ -57,13 +57,13 @@ pub record GoesOnward (config : Config) (old new : Stores) : Type 0 where
 
 -- ---- only positions after the stored offset
 
--- Whether each record's position is before those that follow.
+-- Whether each record's place (its position, then its ordinal) is before those of the records that follow.
 abbrev pub PlacesRise : List Record → Type 0
 PlacesRise [] = Unit {0}
 PlacesRise (item ∷ items) = AllByRecursion (λ later. IsBefore (place_of item) (place_of later)) items × PlacesRise items
 
--- Whether the appended records are after a position, each after those before it. The position is the LSN that was stored when the session
--- began, or its start if none was.
+-- Whether records were only appended, at positions above `from` and at places that rise. For a session `from` is the LSN that was stored
+-- when it began, or the start of its first offset if none was stored.
 pub record Adds (from : ℕ) (old new : List Record) : Type 0 where
   pub more : List Record
   pub is : new ≡ old ++ more

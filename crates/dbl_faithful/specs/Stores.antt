@@ -73,8 +73,8 @@ pub record StandTogether (history : History) (records : List Record) (offset : O
   pub later : List RawCommit
   pub spelled : history.commits ≡ before ++ (repeated history records offset ++ later)
   pub unread : AllByRecursion (λ commit. commit.lsn.0 ≤ offset.lsn.0) before
-  pub again : AllByRecursion (λ commit. (offset.lsn.0 < commit.lsn.0) × (commit.lsn.0 ≤ top_position records)) (repeated history records offset)
-  pub new : AllByRecursion (λ commit. (offset.lsn.0 < commit.lsn.0) × (top_position records < commit.lsn.0)) later
+  pub redelivered : AllByRecursion (λ commit. (offset.lsn.0 < commit.lsn.0) × (commit.lsn.0 ≤ top_position records)) (repeated history records offset)
+  pub undelivered : AllByRecursion (λ commit. (offset.lsn.0 < commit.lsn.0) × (top_position records < commit.lsn.0)) later
 
 -- The redelivered commits lie between those up to the offset and those after the log.
 abbrev pub RepeatedCommitsStandTogether : Type 0

@@ -1,10 +1,11 @@
 -- What the calls of a store leave, call by call.
-use Rattle.std.proofs.Common.{◌∙◌, ℕ, List, Option, arith}
+use Rattle.std.proofs.Common.{◌∙◌, arith}
+use Rattle.dbl_disk.specs.Model.{DiskModel}
 use Rattle.dbl_journal.specs.Calls.{Keeps}
 
-module _ {D : Type 0} (seen : D → Option (List ℕ)) (may_leave : D → List ℕ → Type 0) (faults : D → ℕ) where
+module _ {D : Type 0} (model : DiskModel D) where
   -- a disk that was kept, and kept again
-  pub keeps_on : (failed : Type 0) (first second third : D) → Keeps seen may_leave faults ⊥ first second → Keeps seen may_leave faults failed second third → Keeps seen may_leave faults failed first third
+  pub keeps_on : (failed : Type 0) (first second third : D) → Keeps model ⊥ first second → Keeps model failed second third → Keeps model failed first third
   keeps_on failed first second third a b = record {
     same = b.same ∙ a.same;
     crash = λ crashed may. a.crash crashed (b.crash crashed may);
@@ -14,7 +15,7 @@ module _ {D : Type 0} (seen : D → Option (List ℕ)) (may_leave : D → List �
   }
 
   -- the same failure, as another error
-  pub keeps_told_as : (failed told : Type 0) (old new : D) → (told → failed) → (failed → told) → Keeps seen may_leave faults failed old new → Keeps seen may_leave faults told old new
+  pub keeps_told_as : (failed told : Type 0) (old new : D) → (told → failed) → (failed → told) → Keeps model failed old new → Keeps model told old new
   keeps_told_as failed told old new back on k = record {
     same = k.same;
     crash = k.crash;

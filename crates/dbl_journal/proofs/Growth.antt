@@ -1,6 +1,7 @@
 -- Journals that come of one another.
-use Rattle.std.proofs.Common.{◌≡◌, ◌⊎◌, ◌∙◌, inl, inr, ℕ, ◌+◌, ◌^◌, ◌≤◌, List, [], ◌∷◌, ◌++◌, length, Option, Some, sym, ap, subst, arith}
+use Rattle.std.proofs.Common.{◌≡◌, ◌⊎◌, ◌∙◌, inl, inr, ℕ, ◌+◌, ◌^◌, ◌≤◌, List, [], ◌∷◌, ◌++◌, length, Some, sym, ap, subst, arith}
 use Rattle.std.specs.Prelude.{IsTrue, max}
+use Rattle.dbl_disk.specs.Model.{DiskModel}
 use Rattle.dbl_journal.specs.Form.{IsEntry, IsJournal, up_to_gate}
 use Rattle.dbl_journal.specs.Stored.{LeavesEntries, Lists, OnDisk, size}
 use Rattle.dbl_journal.specs.Growth.{ExtendsJournal, HasCome, ReachesFrom}
@@ -20,20 +21,19 @@ no_more gate most before entries left entry old new short same on was now (inr e
     let push = length-up_to_gate-push entries entry in
     (omega (arith, on, first, second, push), omega (arith, was, now, first, second, push, short))
 
-module _ {D : Type 0} (seen : D → Option (List ℕ)) (may_leave : D → List ℕ → Type 0) where
-  pub comes_self : (journal : OnDisk D) → ExtendsJournal seen may_leave journal journal
+module _ {D : Type 0} (model : DiskModel D) where
+  pub comes_self : (journal : OnDisk D) → ExtendsJournal model journal journal
   comes_self journal gate most has = has
 
-  pub comes_on : (first second third : OnDisk D) → ExtendsJournal seen may_leave first second → ExtendsJournal seen may_leave second third → ExtendsJournal seen may_leave first third
+  pub comes_on : (first second third : OnDisk D) → ExtendsJournal model first second → ExtendsJournal model second third → ExtendsJournal model first third
   comes_on first second third a b gate most has = b gate most (a gate most has)
 
   -- an append to a journal that could be used, whatever it answered
-  pub comes_by_append : ((disk : D) (bytes : List ℕ) → seen disk ≡ Some bytes → may_leave disk bytes) → (old new : OnDisk D) (entry : List ℕ) → IsEntry entry → IsTrue old.live
-      → ((entries : List (List ℕ)) → Lists seen may_leave old entries → IsTrue new.live → Lists seen may_leave new (entries ++ entry ∷ []))
-      → ((entries : List (List ℕ)) → Lists seen may_leave old entries → LeavesEntries may_leave new.disk (λ left. (left ≡ entries) ⊎ (left ≡ entries ++ entry ∷ [])))
-      → ((entries : List (List ℕ)) (before after : List ℕ) → Lists seen may_leave old entries → seen old.disk ≡ Some before → seen new.disk ≡ Some after → length after ≤ max (length before) (size (entries ++ entry ∷ [])))
-      → ((before : List ℕ) → seen old.disk ≡ Some before → (after : List ℕ) × (seen new.disk ≡ Some after))
-      → ExtendsJournal seen may_leave old new
+  pub comes_by_append : ((disk : D) (bytes : List ℕ) → model.seen disk ≡ Some bytes → model.may_leave disk bytes) → (old new : OnDisk D) (entry : List ℕ) → IsEntry entry → IsTrue old.live
+      → ((entries : List (List ℕ)) → Lists model old entries → IsTrue new.live → Lists model new (entries ++ entry ∷ []))
+      → ((entries : List (List ℕ)) → Lists model old entries → LeavesEntries model new.disk (λ left. (left ≡ entries) ⊎ (left ≡ entries ++ entry ∷ [])))
+      → ((entries : List (List ℕ)) (before after : List ℕ) → Lists model old entries → model.seen old.disk ≡ Some before → model.seen new.disk ≡ Some after → length after ≤ max (length before) (size (entries ++ entry ∷ [])))
+      → ((before : List ℕ) → model.seen old.disk ≡ Some before → (after : List ℕ) × (model.seen new.disk ≡ Some after)) → ExtendsJournal model old new
   comes_by_append may_be_left old new entry short live added left grows told_on gate most has =
       let listed = has.lists live in
       let entries = listed.0 in
@@ -50,13 +50,13 @@ module _ {D : Type 0} (seen : D → Option (List ℕ)) (may_leave : D → List �
       }
 
   -- a journal with the same parts comes of what the other does
-  pub comes_at : (parts whole new : OnDisk D) → parts ≡ whole → ExtendsJournal seen may_leave parts new → ExtendsJournal seen may_leave whole new
-  comes_at parts whole new same comes = subst (λ (j : OnDisk D). ExtendsJournal seen may_leave j new) same comes
+  pub comes_at : (parts whole new : OnDisk D) → parts ≡ whole → ExtendsJournal model parts new → ExtendsJournal model whole new
+  comes_at parts whole new same comes = subst (λ (j : OnDisk D). ExtendsJournal model j new) same comes
 
   -- the disk of a journal that comes of one with entries goes on telling its bytes
-  pub told_from : (old new : OnDisk D) (entries : List (List ℕ)) → ExtendsJournal seen may_leave old new → Lists seen may_leave old entries → (after : List ℕ) × (seen new.disk ≡ Some after)
+  pub told_from : (old new : OnDisk D) (entries : List (List ℕ)) → ExtendsJournal model old new → Lists model old entries → (after : List ℕ) × (model.seen new.disk ≡ Some after)
   told_from old new entries comes lists =
-      let has : HasCome seen may_leave 0 (length lists.bytes) old =
+      let has : HasCome model 0 (length lists.bytes) old =
       record {
         lists = λ live. (entries, lists);
         told = (lists.bytes, lists.told);
@@ -68,10 +68,10 @@ module _ {D : Type 0} (seen : D → Option (List ℕ)) (may_leave : D → List �
       (comes 0 (length lists.bytes) has).told
 
   -- the bytes of a journal that comes of one with entries
-  pub grown_from : (old new : OnDisk D) (entries : List (List ℕ)) (before after : List ℕ) → ExtendsJournal seen may_leave old new → Lists seen may_leave old entries → seen old.disk ≡ Some before → seen new.disk ≡ Some after
+  pub grown_from : (old new : OnDisk D) (entries : List (List ℕ)) (before after : List ℕ) → ExtendsJournal model old new → Lists model old entries → model.seen old.disk ≡ Some before → model.seen new.disk ≡ Some after
       → ReachesFrom (length (up_to_gate entries)) (length before) after
   grown_from old new entries before after comes lists was told =
-      let has : HasCome seen may_leave (length (up_to_gate entries)) (length before) old =
+      let has : HasCome model (length (up_to_gate entries)) (length before) old =
       record {
         lists = λ live. (entries, lists);
         told = (before, was);

@@ -15,7 +15,7 @@ body entry = to_be_bytes w32 (length entry) ++ entry
 abbrev pub frame : List ℕ → List ℕ
 frame entry = 1 ∷ body entry
 
--- the bytes of a journal before its last commit byte
+-- the bytes of a journal before its unset commit byte
 unfoldable pub up_to_gate : List (List ℕ) → List ℕ
 up_to_gate entries = magic ++ flat_map frame entries
 

@@ -1,5 +1,6 @@
 -- What no call of a journal undoes.
-use Rattle.std.specs.Prelude.{◌≡◌, ℕ, ◌+◌, ◌^◌, ◌≤◌, IsTrue, Option, Some, List, length, max}
+use Rattle.std.specs.Prelude.{◌≡◌, ℕ, ◌+◌, ◌^◌, ◌≤◌, IsTrue, Some, List, length, max}
+use Rattle.dbl_disk.specs.Model.{DiskModel}
 use Rattle.dbl_journal.specs.Form.{IsJournal, up_to_gate}
 use Rattle.dbl_journal.specs.Stored.{Lists, OnDisk}
 
@@ -16,17 +17,12 @@ pub record ReachesFrom (gate most : ℕ) (bytes : List ℕ) : Type 0 where
   pub short : length bytes ≤ max most (length (up_to_gate entries) + growth_room)
 
 -- a usable journal lists some entries, and its disk has known contents, which reach from the offset as above
-pub record HasCome
-    {D : Type 0}
-    (seen : D → Option (List ℕ))
-    (may_leave : D → List ℕ → Type 0)
-    (gate most : ℕ)
-    (journal : OnDisk D) : Type 0 where
-  pub lists : IsTrue journal.live → (entries : List (List ℕ)) × Lists seen may_leave journal entries
-  pub told : (bytes : List ℕ) × (seen journal.disk ≡ Some bytes)
-  pub reaches : (bytes : List ℕ) → seen journal.disk ≡ Some bytes → ReachesFrom gate most bytes
+pub record HasCome {D : Type 0} (model : DiskModel D) (gate most : ℕ) (journal : OnDisk D) : Type 0 where
+  pub lists : IsTrue journal.live → (entries : List (List ℕ)) × Lists model journal entries
+  pub told : (bytes : List ℕ) × (model.seen journal.disk ≡ Some bytes)
+  pub reaches : (bytes : List ℕ) → model.seen journal.disk ≡ Some bytes → ReachesFrom gate most bytes
 
 -- The new journal extends the old one: its contents stay known, its unset commit byte never moves back, and the disk grows to at most 2^30
 -- bytes past it.
-abbrev pub ExtendsJournal : {D : Type 0} → (D → Option (List ℕ)) → (D → List ℕ → Type 0) → OnDisk D → OnDisk D → Type 0
-ExtendsJournal seen may_leave old new = (gate most : ℕ) → HasCome seen may_leave gate most old → HasCome seen may_leave gate most new
+abbrev pub ExtendsJournal : {D : Type 0} → DiskModel D → OnDisk D → OnDisk D → Type 0
+ExtendsJournal model old new = (gate most : ℕ) → HasCome model gate most old → HasCome model gate most new

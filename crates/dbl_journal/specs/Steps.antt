@@ -2,6 +2,7 @@
 use Rattle.std.specs.Prelude.{◌≡◌, ◌≢◌, ℕ, ◌+◌, Option, Some, None, List, ◌∷◌, ◌++◌, length, drop}
 use Rattle.std.specs.List.{All}
 use Rattle.dbl_disk.specs.Disks.{IsOnly}
+use Rattle.dbl_disk.specs.Model.{DiskModel}
 use Rattle.dbl_disk.specs.declared.extent.Extent.{Extent}
 use Rattle.dbl_journal.specs.Form.{IsClosed, IsEntry, body, frame, up_to_gate}
 use Rattle.dbl_journal.specs.Stored.{places_from}
@@ -28,8 +29,8 @@ pub record IsStaged (bytes : List ℕ) (entries : List (List ℕ)) (entry : List
   pub each : All IsEntry entries
 
 -- the disk has known contents in which the entry is written but not committed, and a crash leaves exactly those
-pub record Stages {D : Type 0} (seen : D → Option (List ℕ)) (may_leave : D → List ℕ → Type 0) (disk : D) (entries : List (List ℕ)) (entry : List ℕ) : Type 0 where
+pub record Stages {D : Type 0} (model : DiskModel D) (disk : D) (entries : List (List ℕ)) (entry : List ℕ) : Type 0 where
   pub bytes : List ℕ
-  pub told : seen disk ≡ Some bytes
-  pub only : IsOnly bytes (may_leave disk)
+  pub told : model.seen disk ≡ Some bytes
+  pub only : IsOnly bytes (model.may_leave disk)
   pub staged : IsStaged bytes entries entry

@@ -1,10 +1,11 @@
 -- A journal on a disk.
-use Rattle.std.specs.Prelude.{◌≡◌, ℕ, ◌+◌, ◌<◌, ◌≤◌, Bool, IsTrue, Option, Some, List, [], ◌∷◌, length}
+use Rattle.std.specs.Prelude.{◌≡◌, ℕ, ◌+◌, ◌<◌, ◌≤◌, Bool, IsTrue, Some, List, [], ◌∷◌, length}
 use Rattle.dbl_disk.specs.Disks.{IsOnly, disk_limit}
+use Rattle.dbl_disk.specs.Model.{DiskModel}
 use Rattle.dbl_disk.specs.declared.extent.Extent.{Extent}
 use Rattle.dbl_journal.specs.Form.{IsJournal, up_to_gate}
 
--- the disk, the offset of the last commit byte, the extents of the entries, and whether the journal is usable
+-- the disk, the offset of the unset commit byte, the extents of the entries, and whether the journal is usable
 pub record OnDisk (D : Type 0) : Type 0 where
   pub disk : D
   pub gate : ℕ
@@ -15,7 +16,7 @@ pub record OnDisk (D : Type 0) : Type 0 where
 abbrev pub count_of : {D : Type 0} → OnDisk D → ℕ
 count_of journal = length journal.places
 
--- the number of bytes that a journal of these entries takes, including its last commit byte
+-- the number of bytes that a journal of these entries takes, including its unset commit byte
 abbrev pub size : List (List ℕ) → ℕ
 size entries = length (up_to_gate entries) + 1
 
@@ -26,30 +27,30 @@ places_from gate (entry ∷ entries) = record { at = gate + 5; length = length e
 
 -- The journal lists these entries: it is usable, its disk has known contents, which are a journal of the entries, and a crash leaves
 -- exactly those.
-pub record Lists {D : Type 0} (seen : D → Option (List ℕ)) (may_leave : D → List ℕ → Type 0) (journal : OnDisk D) (entries : List (List ℕ)) : Type 0 where
+pub record Lists {D : Type 0} (model : DiskModel D) (journal : OnDisk D) (entries : List (List ℕ)) : Type 0 where
   pub live : IsTrue journal.live
   pub bytes : List ℕ
-  pub told : seen journal.disk ≡ Some bytes
-  pub only : IsOnly bytes (may_leave journal.disk)
+  pub told : model.seen journal.disk ≡ Some bytes
+  pub only : IsOnly bytes (model.may_leave journal.disk)
   pub spelled : IsJournal bytes entries
   pub gate : journal.gate ≡ length (up_to_gate entries)
   pub places : journal.places ≡ places_from 8 entries
 
 -- for a disk with known contents the fault count hasn't risen: no call failed and was retried
-abbrev pub IsSteady : {D : Type 0} → (D → Option (List ℕ)) → (D → ℕ) → D → D → Type 0
-IsSteady seen faults old new = (bytes : List ℕ) → seen old ≡ Some bytes → faults new ≡ faults old
+abbrev pub IsSteady : {D : Type 0} → DiskModel D → D → D → Type 0
+IsSteady model old new = (bytes : List ℕ) → model.seen old ≡ Some bytes → model.faults new ≡ model.faults old
 
 -- a crash may leave a journal of these entries
-abbrev pub MayLeaveEntries : {D : Type 0} → (D → List ℕ → Type 0) → D → List (List ℕ) → Type 0
-MayLeaveEntries may_leave disk entries = (crashed : List ℕ) × may_leave disk crashed × IsJournal crashed entries
+abbrev pub MayLeaveEntries : {D : Type 0} → DiskModel D → D → List (List ℕ) → Type 0
+MayLeaveEntries model disk entries = (crashed : List ℕ) × model.may_leave disk crashed × IsJournal crashed entries
 
 -- a crash leaves a journal, whose entries satisfy the predicate
-abbrev pub LeavesEntries : {D : Type 0} → (D → List ℕ → Type 0) → D → (List (List ℕ) → Type 0) → Type 0
-LeavesEntries may_leave disk P = (crashed : List ℕ) → may_leave disk crashed → (entries : List (List ℕ)) × IsJournal crashed entries × P entries
+abbrev pub LeavesEntries : {D : Type 0} → DiskModel D → D → (List (List ℕ) → Type 0) → Type 0
+LeavesEntries model disk P = (crashed : List ℕ) → model.may_leave disk crashed → (entries : List (List ℕ)) × IsJournal crashed entries × P entries
 
--- The invariant of journals: the last commit byte's offset is small, and in a usable journal within the disk and at least the number of
+-- The invariant of journals: the unset commit byte's offset is small, and in a usable journal within the disk and at least the number of
 -- entries.
-pub record IsPlaced {D : Type 0} (seen : D → Option (List ℕ)) (disk : D) (gate : ℕ) (places : List Extent) (live : Bool) : Type 0 where
+pub record IsPlaced {D : Type 0} (model : DiskModel D) (disk : D) (gate : ℕ) (places : List Extent) (live : Bool) : Type 0 where
   pub small : gate < disk_limit
   pub few : IsTrue live → length places ≤ gate
-  pub there : IsTrue live → (bytes : List ℕ) → seen disk ≡ Some bytes → gate < length bytes
+  pub there : IsTrue live → (bytes : List ℕ) → model.seen disk ≡ Some bytes → gate < length bytes

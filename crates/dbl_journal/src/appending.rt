@@ -54,11 +54,11 @@ pub(crate) fn write_entry<D: Disk>(disk: &mut D, gate: u64, bytes: &[u8]) -> Res
     ensures room { OnOk result (gate + 1 + length bytes.now < disk_limit) }
     ensures kept { (old : List ℕ) (entries : List (List ℕ)) → IsOnly old (D.may_leave disk.old) →
         IsJournal old entries → gate ≡ length (up_to_gate entries) →
-        LeavesEntries D.may_leave disk.new (λ left. left ≡ entries) }
+        LeavesEntries D.Disk disk.new (λ left. left ≡ entries) }
     ensures staged { (old : List ℕ) (entries : List (List ℕ)) (entry : List ℕ) →
         D.seen disk.old ≡ Some old → IsOnly old (D.may_leave disk.old) → IsJournal old entries →
         gate ≡ length (up_to_gate entries) → bytes.now ≡ body entry ++ 0 ∷ [] →
-        OnOk result (Stages D.seen D.may_leave disk.new entries entry) }
+        OnOk result (Stages D.Disk disk.new entries entry) }
     ensures reaches { (new : List ℕ) → D.seen disk.new ≡ Some new →
         OnOk result (gate + 1 + length bytes.now ≤ length new) }
     ensures told { (old : List ℕ) → D.seen disk.old ≡ Some old → (new : List ℕ) ×
@@ -78,13 +78,10 @@ pub(crate) fn write_entry<D: Disk>(disk: &mut D, gate: u64, bytes: &[u8]) -> Res
 pub(crate) fn set_commit_byte<D: Disk>(disk: &mut D, gate: u64) -> Result<(), Failed>
     requires { gate + 1 < disk_limit }
     ensures one_of { (entries : List (List ℕ)) (entry : List ℕ) →
-        Stages D.seen D.may_leave disk.old entries entry → gate ≡ length (up_to_gate entries) →
-        IsEntry entry →
-        LeavesEntries D.may_leave disk.new (λ left. (left ≡ entries) ⊎
-        (left ≡ entries ++ entry ∷ [])) }
+        Stages D.Disk disk.old entries entry → gate ≡ length (up_to_gate entries) → IsEntry entry →
+        LeavesEntries D.Disk disk.new (λ left. (left ≡ entries) ⊎ (left ≡ entries ++ entry ∷ [])) }
     ensures opened { (entries : List (List ℕ)) (entry : List ℕ) →
-        Stages D.seen D.may_leave disk.old entries entry → gate ≡ length (up_to_gate entries) →
-        IsEntry entry →
+        Stages D.Disk disk.old entries entry → gate ≡ length (up_to_gate entries) → IsEntry entry →
         OnOk result ((new : List ℕ) × (D.seen disk.new ≡ Some new) ×
         IsOnly new (D.may_leave disk.new) × IsJournal new (entries ++ entry ∷ [])) }
     ensures told { (old : List ℕ) → D.seen disk.old ≡ Some old → (new : List ℕ) ×

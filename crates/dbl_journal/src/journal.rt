@@ -44,7 +44,7 @@ impl<D: Disk> Model for Journal<D> {
 
     ghost view = { λ j. record { disk = j.disk; gate = j.gate; places = j.places.items; live = j.live } };
 
-    ghost invariant = { λ j. IsPlaced D.seen j.disk j.gate j.places.items j.live };
+    ghost invariant = { λ j. IsPlaced D.Disk j.disk j.gate j.places.items j.live };
 }
 
 impl<D: Disk> Journal<D> {
@@ -53,15 +53,15 @@ impl<D: Disk> Journal<D> {
     pub fn make(alloc: Global, mut disk: D) -> Result<Journal<D>, Refused<D, JournalError>>
         requires { (bytes : List ℕ) → D.seen disk ≡ Some bytes → bytes ≡ [] }
         ensures made { D.seen disk ≡ Some [] →
-            IfOk result (λ journal. Lists D.seen D.may_leave journal []) }
+            IfOk result (λ journal. Lists D.Disk journal []) }
         ensures live { IfOk result (λ journal. IsTrue journal.live) }
         ensures count { IfOk result (λ journal. count_of journal ≡ 0) }
         ensures refused { IfErr result (λ refused. refused.error ≡ JournalError.Failed) }
         ensures left { IfErr result
             (λ refused. Follows (Torn 0 9) (D.may_leave disk) (D.may_leave refused.disk)) }
         ensures makes { MatchResult result
-            (λ journal. Makes D.seen D.faults (size []) ⊥ disk journal.disk)
-            (λ refused. Makes D.seen D.faults (size [])
+            (λ journal. Makes D.Disk (size []) ⊥ disk journal.disk)
+            (λ refused. Makes D.Disk (size [])
             (refused.error ≡ JournalError.Failed) disk refused.disk) }
     {
         match start(&mut disk, b"DBLJRNL1\0") {
@@ -79,12 +79,12 @@ impl<D: Disk> Journal<D> {
     }
 
     /// Opens the journal on the disk, as a crash may have left it: a sync, and then a few bytes of
-    /// each entry are read. A crash then leaves exactly what was read, unless the first call
-    /// failed. It stops at the first failed call.
+    /// each entry are read. A crash then leaves exactly the disk's contents, if they are known and
+    /// the first call didn't fail. It stops at the first failed call.
     pub fn open(alloc: Global, mut disk: D) -> Result<Journal<D>, Refused<D, JournalError>>
         ensures opened { (bytes : List ℕ) → D.seen disk ≡ Some bytes →
             IfOk result (λ journal. (entries : List (List ℕ)) × IsJournal bytes entries ×
-            Lists D.seen D.may_leave journal entries) }
+            Lists D.Disk journal entries) }
         ensures refused { (bytes : List ℕ) → D.seen disk ≡ Some bytes →
             IfErr result (λ refused. (at : ℕ) → refused.error ≡ JournalError.NotAJournal at →
             IsFaultAt bytes at) }
@@ -99,9 +99,8 @@ impl<D: Disk> Journal<D> {
         ensures short { IfErr result
             (λ refused. (len : ℕ) → refused.error ≢ JournalError.EntryTooLong len) }
         ensures keeps { MatchResult result
-            (λ journal. Keeps D.seen D.may_leave D.faults ⊥ disk journal.disk)
-            (λ refused. Keeps D.seen D.may_leave D.faults
-            (refused.error ≡ JournalError.Failed) disk refused.disk) }
+            (λ journal. Keeps D.Disk ⊥ disk journal.disk)
+            (λ refused. Keeps D.Disk (refused.error ≡ JournalError.Failed) disk refused.disk) }
     {
         match scan(alloc, &mut disk) {
             Ok(found) => Ok(Journal {
@@ -114,23 +113,22 @@ impl<D: Disk> Journal<D> {
         }
     }
 
-    /// Appends an entry: a write and a sync after the last commit byte, then a write and a sync of
+    /// Appends an entry: a write and a sync after the unset commit byte, then a write and a sync of
     /// that byte. After `Failed` the journal isn't live; the other errors come before the first
     /// disk call.
     pub fn append(&mut self, alloc: Global, entry: &[u8]) -> Result<(), JournalError>
         requires { IsTrue self.old.live }
-        ensures added { (entries : List (List ℕ)) → Lists D.seen D.may_leave self.old entries →
-            OnOk result (Lists D.seen D.may_leave self.new (entries ++ entry.now ∷ [])) }
-        ensures left { (entries : List (List ℕ)) → Lists D.seen D.may_leave self.old entries →
-            LeavesEntries D.may_leave self.new.disk (λ left. (left ≡ entries) ⊎
+        ensures added { (entries : List (List ℕ)) → Lists D.Disk self.old entries →
+            OnOk result (Lists D.Disk self.new (entries ++ entry.now ∷ [])) }
+        ensures left { (entries : List (List ℕ)) → Lists D.Disk self.old entries →
+            LeavesEntries D.Disk self.new.disk (λ left. (left ≡ entries) ⊎
             (left ≡ entries ++ entry.now ∷ [])) }
         ensures grows { (entries : List (List ℕ)) (old new : List ℕ) →
-            Lists D.seen D.may_leave self.old entries → D.seen self.old.disk ≡ Some old →
+            Lists D.Disk self.old entries → D.seen self.old.disk ≡ Some old →
             D.seen self.new.disk ≡ Some new →
             length new ≤ max (length old) (size (entries ++ entry.now ∷ [])) }
-        ensures comes { ExtendsJournal D.seen D.may_leave self.old self.new }
-        ensures puts { PutLeaves D.seen D.faults (result ≡ Err JournalError.Failed)
-            self.old self.new }
+        ensures comes { ExtendsJournal D.Disk self.old self.new }
+        ensures puts { PutLeaves D.Disk (result ≡ Err JournalError.Failed) self.old self.new }
         ensures live { OnOk result (IsTrue self.new.live) }
         ensures count { OnOk result (count_of self.new ≡ count_of self.old + 1) }
         ensures too_long { (len : ℕ) → (result ≡ Err (JournalError.EntryTooLong len)) ↔
@@ -152,18 +150,17 @@ impl<D: Disk> Journal<D> {
     pub fn append_built(&mut self, mut bytes: Vec<u8>) -> Result<(), JournalError>
         requires live { IsTrue self.old.live }
         requires room { 4 ≤ length bytes.items }
-        ensures added { (entries : List (List ℕ)) → Lists D.seen D.may_leave self.old entries →
-            OnOk result (Lists D.seen D.may_leave self.new (entries ++ drop 4 bytes.items ∷ [])) }
-        ensures left { (entries : List (List ℕ)) → Lists D.seen D.may_leave self.old entries →
-            LeavesEntries D.may_leave self.new.disk (λ left. (left ≡ entries) ⊎
+        ensures added { (entries : List (List ℕ)) → Lists D.Disk self.old entries →
+            OnOk result (Lists D.Disk self.new (entries ++ drop 4 bytes.items ∷ [])) }
+        ensures left { (entries : List (List ℕ)) → Lists D.Disk self.old entries →
+            LeavesEntries D.Disk self.new.disk (λ left. (left ≡ entries) ⊎
             (left ≡ entries ++ drop 4 bytes.items ∷ [])) }
         ensures grows { (entries : List (List ℕ)) (old new : List ℕ) →
-            Lists D.seen D.may_leave self.old entries → D.seen self.old.disk ≡ Some old →
+            Lists D.Disk self.old entries → D.seen self.old.disk ≡ Some old →
             D.seen self.new.disk ≡ Some new →
             length new ≤ max (length old) (size (entries ++ drop 4 bytes.items ∷ [])) }
-        ensures comes { ExtendsJournal D.seen D.may_leave self.old self.new }
-        ensures puts { PutLeaves D.seen D.faults (result ≡ Err JournalError.Failed)
-            self.old self.new }
+        ensures comes { ExtendsJournal D.Disk self.old self.new }
+        ensures puts { PutLeaves D.Disk (result ≡ Err JournalError.Failed) self.old self.new }
         ensures live { OnOk result (IsTrue self.new.live) }
         ensures count { OnOk result (count_of self.new ≡ count_of self.old + 1) }
         ensures too_long { (len : ℕ) → (result ≡ Err (JournalError.EntryTooLong len)) ↔
@@ -192,10 +189,10 @@ impl<D: Disk> Journal<D> {
     pub fn entry(&mut self, alloc: Global, number: u64) -> Result<Bytes, JournalError>
         requires live { IsTrue self.old.live }
         requires within { number < count_of self.old }
-        ensures found { (entries : List (List ℕ)) → Lists D.seen D.may_leave self.old entries →
+        ensures found { (entries : List (List ℕ)) → Lists D.Disk self.old entries →
             IfOk result (λ bytes. slice_get entries number ≡ Some bytes) }
-        ensures lists { (entries : List (List ℕ)) → Lists D.seen D.may_leave self.old entries →
-            Lists D.seen D.may_leave self.new entries }
+        ensures lists { (entries : List (List ℕ)) → Lists D.Disk self.old entries →
+            Lists D.Disk self.new entries }
         ensures same { self.new ≡ record self.old { disk = self.new.disk } }
         ensures seen { D.seen self.new.disk ≡ D.seen self.old.disk }
         ensures crash { (crashed : List ℕ) → D.may_leave self.new.disk crashed ↔
@@ -205,7 +202,7 @@ impl<D: Disk> Journal<D> {
         ensures journal { (at : ℕ) → result ≢ Err (JournalError.NotAJournal at) }
         ensures short { (len : ℕ) → result ≢ Err (JournalError.EntryTooLong len) }
         ensures steady { result ≢ Err JournalError.Failed →
-            IsSteady D.seen D.faults self.old.disk self.new.disk }
+            IsSteady D.Disk self.old.disk self.new.disk }
     {
         let place = self.places[number as usize];
         let mut bytes = vec![in alloc; 0u8; place.length as usize]?;
@@ -222,7 +219,7 @@ impl<D: Disk> Journal<D> {
         self.places.len() as u64
     }
 
-    /// Whether the journal is usable, that is no append has failed.
+    /// Whether the journal is usable, that is no append has ended with `Failed`.
     pub fn is_live(&self) -> bool
         ensures { result ≡ self.now.live }
     {

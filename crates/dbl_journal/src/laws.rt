@@ -12,8 +12,7 @@ pub fn journals_are_read_once()
         IsJournal bytes second → first ≡ second }
 {}
 
-/// Bytes are either a journal or invalid, never both, and the offset at which they are invalid is
-/// unique.
+/// Bytes are never both a journal and invalid, and the offset at which they are invalid is unique.
 pub fn journals_or_faults()
     ensures not_both { (bytes : List ℕ) (entries : List (List ℕ)) (at : ℕ) →
         IsJournal bytes entries → ¬ IsFaultAt bytes at }
@@ -21,21 +20,18 @@ pub fn journals_or_faults()
         IsFaultAt bytes second → first ≡ second }
 {}
 
-/// A journal has at most one list of entries, of known count; a crash leaves that list, with or
-/// without an entry being appended.
+/// A journal has at most one list of entries, of known count; a crash leaves exactly that list, or,
+/// during an append, that list with or without the entry.
 pub fn lists_are_one<D: Disk>()
     ensures one { (journal : OnDisk D) (first second : List (List ℕ)) →
-        Lists D.seen D.may_leave journal first → Lists D.seen D.may_leave journal second →
-        first ≡ second }
+        Lists D.Disk journal first → Lists D.Disk journal second → first ≡ second }
     ensures counted { (journal : OnDisk D) (entries : List (List ℕ)) →
-        Lists D.seen D.may_leave journal entries → count_of journal ≡ length entries }
+        Lists D.Disk journal entries → count_of journal ≡ length entries }
     ensures left { (journal : OnDisk D) (entries left : List (List ℕ)) →
-        Lists D.seen D.may_leave journal entries → MayLeaveEntries D.may_leave journal.disk left →
-        left ≡ entries }
+        Lists D.Disk journal entries → MayLeaveEntries D.Disk journal.disk left → left ≡ entries }
     ensures listed { (journal : OnDisk D) (entries : List (List ℕ)) →
-        Lists D.seen D.may_leave journal entries →
-        MayLeaveEntries D.may_leave journal.disk entries }
+        Lists D.Disk journal entries → MayLeaveEntries D.Disk journal.disk entries }
     ensures one_of { (disk : D) (entries left : List (List ℕ)) (entry : List ℕ) →
-        LeavesEntries D.may_leave disk (λ l. (l ≡ entries) ⊎ (l ≡ entries ++ entry ∷ [])) →
-        MayLeaveEntries D.may_leave disk left → (left ≡ entries) ⊎ (left ≡ entries ++ entry ∷ []) }
+        LeavesEntries D.Disk disk (λ l. (l ≡ entries) ⊎ (l ≡ entries ++ entry ∷ [])) →
+        MayLeaveEntries D.Disk disk left → (left ≡ entries) ⊎ (left ≡ entries ++ entry ∷ []) }
 {}

@@ -12,7 +12,7 @@ use crate::journal::{ENTRY_LIMIT, MAGIC};
 use dbl_disk::{Disk, Extent};
 use std::alloc::Global;
 
-// The offset of the last commit byte, and the extent of each entry.
+// The offset of the unset commit byte, and the extent of each entry.
 #[derive(Debug, Drop)]
 pub(crate) struct Found {
     pub(crate) gate: u64,

@@ -1,4 +1,5 @@
 pub mod Gathering
 pub mod Writing
+pub mod Statuses
 pub mod Faults
 pub mod Says

@@ -2,16 +2,16 @@
 #![tactic(auto)]
 
 mod error;
-mod finished;
-mod halt;
 pub mod laws;
 mod line;
+mod run_error;
 mod saying;
+mod status;
 mod writer;
 
 pub use error::PrintError;
-pub use finished::Finished;
-pub use halt::Halt;
 pub use line::Line;
-pub use saying::{OUT_OF_MEMORY, OUTPUT_FAILED, say, write_text};
+pub use run_error::RunError;
+pub use saying::{OUT_OF_MEMORY, say, write_text};
+pub use status::Status;
 pub use writer::LineWriter;

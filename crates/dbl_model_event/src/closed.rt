@@ -27,7 +27,7 @@ impl KeyedRows {
         ensures rows { result ≡ rows.entries }
         ensures ordered { AreInKeyOrder result }
     {
-        // Reading the length shows the prover that the map's keys are in ascending order.
+        // For the prover alone: the length's contract says that the map's keys ascend.
         let _count = rows.len();
         KeyedRows { rows }
     }
@@ -37,6 +37,7 @@ impl KeyedRows {
         ensures rows { result.now.entries ≡ self.now }
         ensures ordered { AreInKeyOrder self.now }
     {
+        // For the prover alone, as in `make`.
         let _count = self.rows.len();
         &self.rows
     }

@@ -1,5 +1,6 @@
 ghost use Rattle.std.specs.Prelude.{◌≡◌, IfOk};
 
+use dbl_base::DeepCopy;
 use dbl_model_table::Key;
 use std::alloc::{AllocError, Global};
 
@@ -25,5 +26,11 @@ impl Cursor {
             last,
             done: self.done,
         })
+    }
+}
+
+impl DeepCopy for Cursor {
+    fn deep_copy(&self, alloc: Global) -> Result<Cursor, AllocError> {
+        self.copy(alloc)
     }
 }

@@ -3,49 +3,16 @@
 ghost use Rattle.std.specs.Prelude.{◌≡◌, IfOk};
 
 use crate::table::{RawColumn, RawRow, RawTable};
-use dbl_base::{Seq, Text};
+use dbl_base::DeepCopy;
 use std::alloc::{AllocError, Global};
 
-fn copy_columns(alloc: Global, columns: &Seq<RawColumn>) -> Result<Seq<RawColumn>, AllocError>
-    ensures { IfOk result (λ copied. copied ≡ columns.now) }
-{
-    let mut copied = Vec::new(alloc);
-    for column in columns.items() {
-        copied.push(RawColumn {
-            name: column.name.copy(alloc)?,
-            oid: column.oid,
-        })?;
+impl DeepCopy for RawColumn {
+    fn deep_copy(&self, alloc: Global) -> Result<RawColumn, AllocError> {
+        Ok(RawColumn {
+            name: self.name.copy(alloc)?,
+            oid: self.oid,
+        })
     }
-    Ok(Seq::make(copied))
-}
-
-fn copy_names(alloc: Global, names: &Seq<Text>) -> Result<Seq<Text>, AllocError>
-    ensures { IfOk result (λ copied. copied ≡ names.now) }
-{
-    let mut copied = Vec::new(alloc);
-    for name in names.items() {
-        copied.push(name.copy(alloc)?)?;
-    }
-    Ok(Seq::make(copied))
-}
-
-fn copy_cell(alloc: Global, cell: &Option<Text>) -> Result<Option<Text>, AllocError>
-    ensures { IfOk result (λ copied. copied ≡ cell.now) }
-{
-    match cell {
-        Some(text) => Ok(Some(text.copy(alloc)?)),
-        None => Ok(None),
-    }
-}
-
-fn copy_cells(alloc: Global, cells: &Seq<Option<Text>>) -> Result<Seq<Option<Text>>, AllocError>
-    ensures { IfOk result (λ copied. copied ≡ cells.now) }
-{
-    let mut copied = Vec::new(alloc);
-    for cell in cells.items() {
-        copied.push(copy_cell(alloc, cell)?)?;
-    }
-    Ok(Seq::make(copied))
 }
 
 impl RawTable {
@@ -55,8 +22,8 @@ impl RawTable {
     {
         Ok(RawTable {
             name: self.name.copy(alloc)?,
-            columns: copy_columns(alloc, &self.columns)?,
-            key: copy_names(alloc, &self.key)?,
+            columns: self.columns.copy(alloc)?,
+            key: self.key.copy(alloc)?,
         })
     }
 }
@@ -67,7 +34,13 @@ impl RawRow {
         ensures { IfOk result (λ row. row ≡ self.now) }
     {
         Ok(RawRow {
-            cells: copy_cells(alloc, &self.cells)?,
+            cells: self.cells.copy(alloc)?,
         })
+    }
+}
+
+impl DeepCopy for RawRow {
+    fn deep_copy(&self, alloc: Global) -> Result<RawRow, AllocError> {
+        self.copy(alloc)
     }
 }

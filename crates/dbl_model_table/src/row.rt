@@ -19,23 +19,13 @@ pub struct Row {
     pub cells: Seq<Val>,
 }
 
-fn copy_cells(alloc: Global, cells: &Seq<Val>) -> Result<Seq<Val>, AllocError>
-    ensures { IfOk result (λ copied. copied ≡ cells.now) }
-{
-    let mut copied = Vec::new(alloc);
-    for cell in cells.items() {
-        copied.push(cell.copy(alloc)?)?;
-    }
-    Ok(Seq::make(copied))
-}
-
 impl Key {
     /// An equal key.
     pub fn copy(&self, alloc: Global) -> Result<Key, AllocError>
         ensures { IfOk result (λ key. key ≡ self.now) }
     {
         Ok(Key {
-            cells: copy_cells(alloc, &self.cells)?,
+            cells: self.cells.copy(alloc)?,
         })
     }
 }
@@ -46,7 +36,7 @@ impl Row {
         ensures { IfOk result (λ row. row ≡ self.now) }
     {
         Ok(Row {
-            cells: copy_cells(alloc, &self.cells)?,
+            cells: self.cells.copy(alloc)?,
         })
     }
 }

@@ -2,7 +2,7 @@ ghost use Rattle.std.specs.Prelude.{◌≡◌, IsTrue, IfOk};
 ghost use Rattle.std.specs.List.{list_all};
 ghost use Rattle.dbl_model_table.specs.Tables.{is_name_byte, is_name, is_watermark, is_good_name, is_table};
 
-use dbl_base::{Seq, Text};
+use dbl_base::{DeepCopy, Seq, Text};
 use dbl_value::PgType;
 use std::alloc::{AllocError, Global};
 use std::fmt;
@@ -79,6 +79,12 @@ impl TableName {
     }
 }
 
+impl DeepCopy for TableName {
+    fn deep_copy(&self, alloc: Global) -> Result<TableName, AllocError> {
+        self.copy(alloc)
+    }
+}
+
 /// A column as in the source's catalogue: its name and its type's OID (`pg_attribute`).
 #[derive(Debug, Drop)]
 pub struct RawColumn {
@@ -124,17 +130,13 @@ pub struct TableInfo {
     pub ghost sound: { IsTrue (is_table name columns key) },
 }
 
-fn copy_columns(alloc: Global, columns: &Seq<Column>) -> Result<Seq<Column>, AllocError>
-    ensures { IfOk result (λ copied. copied ≡ columns.now) }
-{
-    let mut copied = Vec::new(alloc);
-    for column in columns.items() {
-        copied.push(Column {
-            name: column.name.copy(alloc)?,
-            ty: column.ty,
-        })?;
+impl DeepCopy for Column {
+    fn deep_copy(&self, alloc: Global) -> Result<Column, AllocError> {
+        Ok(Column {
+            name: self.name.copy(alloc)?,
+            ty: self.ty,
+        })
     }
-    Ok(Seq::make(copied))
 }
 
 impl TableInfo {
@@ -143,8 +145,14 @@ impl TableInfo {
         ensures { IfOk result (λ info. info ≡ self.now) }
     {
         let name = self.name.copy(alloc)?;
-        let columns = copy_columns(alloc, &self.columns)?;
+        let columns = self.columns.copy(alloc)?;
         let key = Seq::make(Vec::from_slice(alloc, self.key.items().as_slice())?);
         Ok(TableInfo { name, columns, key })
+    }
+}
+
+impl DeepCopy for TableInfo {
+    fn deep_copy(&self, alloc: Global) -> Result<TableInfo, AllocError> {
+        self.copy(alloc)
     }
 }

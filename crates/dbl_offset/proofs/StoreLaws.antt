@@ -6,6 +6,7 @@ use Rattle.std.proofs.lemmas.List.{length-take, get_or-take, take_more, take_all
 use Rattle.std.proofs.lemmas.List.Elements.{All-get_or, All-push}
 use Rattle.std.proofs.lemmas.Bool.{cases_lt}
 use Rattle.std.proofs.lemmas.Option.{slice_get_within, get_or_from_slice_get}
+use Rattle.dbl_disk.specs.Model.{DiskModel}
 use Rattle.dbl_journal.specs.Form.{IsJournal, IsFaultAt, up_to_gate}
 use Rattle.dbl_journal.specs.Stored.{LeavesEntries, size}
 use Rattle.dbl_journal.proofs.Appends.{length-up_to_gate-push}
@@ -83,9 +84,9 @@ one_bad_offset bytes m n first second =
 
 -- ---- what is left while an offset is stored
 
-pub leaves : {D : Type 0} (may_leave : D → List ℕ → Type 0) (disk : D) (entries : List (List ℕ)) (entry : List ℕ) (old : Option Offset) (offset : Offset) → All IsOffsetEntry entries → IsLastOf entries old → EncodesOffset entry offset
-    → LeavesEntries may_leave disk (λ left. (left ≡ entries) ⊎ (left ≡ entries ++ entry ∷ [])) → LeavesOffset may_leave disk (λ left. (left ≡ old) ⊎ (left ≡ Some offset))
-leaves may_leave disk entries entry old offset each last spells left crashed may =
+pub leaves : {D : Type 0} (model : DiskModel D) (disk : D) (entries : List (List ℕ)) (entry : List ℕ) (old : Option Offset) (offset : Offset) → All IsOffsetEntry entries → IsLastOf entries old → EncodesOffset entry offset
+    → LeavesEntries model disk (λ left. (left ≡ entries) ⊎ (left ≡ entries ++ entry ∷ [])) → LeavesOffset model disk (λ left. (left ≡ old) ⊎ (left ≡ Some offset))
+leaves model disk entries entry old offset each last spells left crashed may =
     let found = left crashed may in
     elim found.2 [
       | inl same ↦ (old, record { entries = entries; journal = subst (λ (l : List (List ℕ)). IsJournal crashed l) same found.1; each = each; last = last }, inl refl)
@@ -113,10 +114,10 @@ count_one bytes first second a b = a.is ∙ ap size (one_journal bytes a.entries
 pub store_counts : (bytes : List ℕ) (offset : Option Offset) → IsStore bytes offset → (count : ℕ) × Counts bytes count
 store_counts bytes offset store = (size store.entries, record { entries = store.entries; journal = store.journal; is = refl })
 
-pub store_grown : {D : Type 0} (seen : D → Option (List ℕ)) (may_leave : D → List ℕ → Type 0) (old new : StoreOn D) (offset : Option Offset) (before after : List ℕ) (count : ℕ) → ExtendsOffsets seen may_leave old new → HoldsOffset seen may_leave old offset
-    → seen old.journal.disk ≡ Some before → seen new.journal.disk ≡ Some after → Counts before count → (more : ℕ) × Counts after more × (count ≤ more) × (length after + 1 ≤ max (length before + 1) (more + 2 ^ 30))
-store_grown seen may_leave old new offset before after count comes held was told counts =
-    let far = grown_from seen may_leave old.journal new.journal held.entries before after comes held.lists was told in
+pub store_grown : {D : Type 0} (model : DiskModel D) (old new : StoreOn D) (offset : Option Offset) (before after : List ℕ) (count : ℕ) → ExtendsOffsets model old new → HoldsOffset model old offset
+    → model.seen old.journal.disk ≡ Some before → model.seen new.journal.disk ≡ Some after → Counts before count → (more : ℕ) × Counts after more × (count ≤ more) × (length after + 1 ≤ max (length before + 1) (more + 2 ^ 30))
+store_grown model old new offset before after count comes held was told counts =
+    let far = grown_from model old.journal new.journal held.entries before after comes held.lists was told in
     let is : Some held.lists.bytes ≡ Some before = sym held.lists.told ∙ was in
     let same : held.lists.bytes ≡ before = cc in
     let here : Counts before (size held.entries) = record { entries = held.entries; journal = subst (λ (b : List ℕ). IsJournal b held.entries) same held.lists.spelled; is = refl } in

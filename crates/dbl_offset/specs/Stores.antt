@@ -2,6 +2,7 @@
 use Rattle.std.specs.Prelude.{◌≡◌, ℕ, ◌+◌, IsTrue, Option, Some, None, List, [], ◌∷◌, ◌++◌, length, slice_get, take}
 use Rattle.std.specs.List.{All}
 use Rattle.dbl_disk.specs.Disks.{Torn}
+use Rattle.dbl_disk.specs.Model.{DiskModel}
 use Rattle.dbl_journal.specs.Form.{IsFaultAt, IsJournal}
 use Rattle.dbl_journal.specs.Growth as growth
 use Rattle.dbl_journal.specs.Stored.{OnDisk, Lists, size}
@@ -46,7 +47,7 @@ pub record HasBadOffset (bytes : List ℕ) (index : ℕ) : Type 0 where
 abbrev pub IsNoStoreAt : List ℕ → ℕ → Type 0
 IsNoStoreAt bytes at = IsFaultAt bytes at
 
--- The number of valid bytes of a store, those of its journal up to and including the last commit byte; bytes after them are ignored, and
+-- The number of valid bytes of a store, those of its journal up to and including the unset commit byte; bytes after them are ignored, and
 -- the next offset overwrites them.
 pub record Counts (bytes : List ℕ) (count : ℕ) : Type 0 where
   pub entries : List (List ℕ)
@@ -80,29 +81,29 @@ BeginsTorn old new = Torn 0 9 old new
 
 -- Whether the new store extends the old one, as after every call: the disk's contents stay known, no fewer bytes are valid, and fewer than
 -- 2^30 are after those, unless there were more before.
-abbrev pub ExtendsOffsets : {D : Type 0} → (D → Option (List ℕ)) → (D → List ℕ → Type 0) → StoreOn D → StoreOn D → Type 0
-ExtendsOffsets seen may_leave old new = growth.ExtendsJournal seen may_leave old.journal new.journal
+abbrev pub ExtendsOffsets : {D : Type 0} → DiskModel D → StoreOn D → StoreOn D → Type 0
+ExtendsOffsets model old new = growth.ExtendsJournal model old.journal new.journal
 
 -- What storing an offset leaves of a store's disk, by whether the call failed.
-abbrev pub PutLeaves : {D : Type 0} → (D → Option (List ℕ)) → (D → ℕ) → Type 0 → StoreOn D → StoreOn D → Type 0
-PutLeaves seen faults failed old new = calls.PutLeaves seen faults failed old.journal new.journal
+abbrev pub PutLeaves : {D : Type 0} → DiskModel D → Type 0 → StoreOn D → StoreOn D → Type 0
+PutLeaves model failed old new = calls.PutLeaves model failed old.journal new.journal
 
 -- Whether the store has this offset: it can be used, its disk's contents are known and a store of the offset, and a crash leaves nothing
 -- else.
-pub record HoldsOffset {D : Type 0} (seen : D → Option (List ℕ)) (may_leave : D → List ℕ → Type 0) (store : StoreOn D) (offset : Option Offset) : Type 0 where
+pub record HoldsOffset {D : Type 0} (model : DiskModel D) (store : StoreOn D) (offset : Option Offset) : Type 0 where
   pub entries : List (List ℕ)
-  pub lists : Lists seen may_leave store.journal entries
+  pub lists : Lists model store.journal entries
   pub each : All IsOffsetEntry entries
   pub last : IsLastOf entries offset
   pub offset_is : store.offset ≡ offset
 
 -- Whether a crash may leave a store of this offset.
-abbrev pub MayLeaveOffset : {D : Type 0} → (D → List ℕ → Type 0) → D → Option Offset → Type 0
-MayLeaveOffset may_leave disk offset = (crashed : List ℕ) × may_leave disk crashed × IsStore crashed offset
+abbrev pub MayLeaveOffset : {D : Type 0} → DiskModel D → D → Option Offset → Type 0
+MayLeaveOffset model disk offset = (crashed : List ℕ) × model.may_leave disk crashed × IsStore crashed offset
 
 -- Whether every crash leaves a store, of an offset with the property P.
-abbrev pub LeavesOffset : {D : Type 0} → (D → List ℕ → Type 0) → D → (Option Offset → Type 0) → Type 0
-LeavesOffset may_leave disk P = (crashed : List ℕ) → may_leave disk crashed → (offset : Option Offset) × IsStore crashed offset × P offset
+abbrev pub LeavesOffset : {D : Type 0} → DiskModel D → D → (Option Offset → Type 0) → Type 0
+LeavesOffset model disk P = (crashed : List ℕ) → model.may_leave disk crashed → (offset : Option Offset) × IsStore crashed offset × P offset
 
 -- A journal's error as one of the store.
 abbrev pub as_offset_error : JournalError → OffsetError

@@ -10,7 +10,8 @@ ghost use Rattle.dbl_journal.specs.Growth.{growth_room};
 
 use dbl_disk::Disk;
 
-/// Bytes encode at most one offset, and each offset that the format can represent has its bytes.
+/// Bytes encode at most one offset, and each valid offset that the format can represent has its
+/// bytes.
 pub fn offsets_are_spelled_once()
     ensures one { (bytes : List ℕ) (first second : Offset) → EncodesOffset bytes first →
         EncodesOffset bytes second → first ≡ second }
@@ -24,8 +25,8 @@ pub fn stores_are_read_once()
         IsStore bytes second → first ≡ second }
 {}
 
-/// Bytes are at most one of: a store, no journal, a journal with a bad offset. They have at most
-/// one bad offset.
+/// Bytes are at most one of: a store, no journal, a journal with a bad offset. The first bad offset
+/// is unique.
 pub fn stores_or_faults()
     ensures no_fault { (bytes : List ℕ) (offset : Option Offset) (at : ℕ) → IsStore bytes offset →
         ¬ IsNoStoreAt bytes at }
@@ -41,36 +42,36 @@ pub fn stores_or_faults()
 /// an offset is stored a crash leaves the old one or the new one.
 pub fn stores_hold_one_offset<D: Disk>()
     ensures one { (store : StoreOn D) (first second : Option Offset) →
-        HoldsOffset D.seen D.may_leave store first → HoldsOffset D.seen D.may_leave store second →
-        first ≡ second }
+        HoldsOffset D.Disk store first → HoldsOffset D.Disk store second → first ≡ second }
     ensures bytes { (store : StoreOn D) (offset : Option Offset) →
-        HoldsOffset D.seen D.may_leave store offset → (bytes : List ℕ) ×
+        HoldsOffset D.Disk store offset → (bytes : List ℕ) ×
         (D.seen (disk_of store) ≡ Some bytes) × IsStore bytes offset }
     ensures left { (store : StoreOn D) (offset left : Option Offset) →
-        HoldsOffset D.seen D.may_leave store offset → MayLeaveOffset D.may_leave (disk_of store) left →
+        HoldsOffset D.Disk store offset → MayLeaveOffset D.Disk (disk_of store) left →
         left ≡ offset }
     ensures held { (store : StoreOn D) (offset : Option Offset) →
-        HoldsOffset D.seen D.may_leave store offset → MayLeaveOffset D.may_leave (disk_of store) offset }
+        HoldsOffset D.Disk store offset → MayLeaveOffset D.Disk (disk_of store) offset }
     ensures one_of { (disk : D) (old left : Option Offset) (new : Offset) →
-        LeavesOffset D.may_leave disk (λ l. (l ≡ old) ⊎ (l ≡ Some new)) →
-        MayLeaveOffset D.may_leave disk left → (left ≡ old) ⊎ (left ≡ Some new) }
+        LeavesOffset D.Disk disk (λ l. (l ≡ old) ⊎ (l ≡ Some new)) →
+        MayLeaveOffset D.Disk disk left → (left ≡ old) ⊎ (left ≡ Some new) }
 {}
 
-/// The number of valid bytes of a store is unique. ExtendsOffsets is reflexive and transitive, keeps the
-/// disk's contents known and the valid bytes, and bounds the bytes after them.
+/// The number of valid bytes of a store is unique. `ExtendsOffsets` is reflexive and transitive,
+/// keeps the disk's contents known, lets the number of valid bytes never fall, and bounds the
+/// number of bytes after them.
 pub fn stores_come_of_stores<D: Disk>()
     ensures count { (bytes : List ℕ) (offset : Option Offset) → IsStore bytes offset → (count : ℕ) ×
         Counts bytes count }
     ensures one { (bytes : List ℕ) (first second : ℕ) → Counts bytes first → Counts bytes second →
         first ≡ second }
-    ensures itself { (store : StoreOn D) → ExtendsOffsets D.seen D.may_leave store store }
-    ensures on { (first second third : StoreOn D) → ExtendsOffsets D.seen D.may_leave first second →
-        ExtendsOffsets D.seen D.may_leave second third → ExtendsOffsets D.seen D.may_leave first third }
+    ensures itself { (store : StoreOn D) → ExtendsOffsets D.Disk store store }
+    ensures on { (first second third : StoreOn D) → ExtendsOffsets D.Disk first second →
+        ExtendsOffsets D.Disk second third → ExtendsOffsets D.Disk first third }
     ensures told { (old new : StoreOn D) (offset : Option Offset) →
-        ExtendsOffsets D.seen D.may_leave old new → HoldsOffset D.seen D.may_leave old offset →
+        ExtendsOffsets D.Disk old new → HoldsOffset D.Disk old offset →
         (after : List ℕ) × (D.seen (disk_of new) ≡ Some after) }
     ensures grown { (old new : StoreOn D) (offset : Option Offset) (before after : List ℕ)
-        (count : ℕ) → ExtendsOffsets D.seen D.may_leave old new → HoldsOffset D.seen D.may_leave old offset →
+        (count : ℕ) → ExtendsOffsets D.Disk old new → HoldsOffset D.Disk old offset →
         D.seen (disk_of old) ≡ Some before →
         D.seen (disk_of new) ≡ Some after → Counts before count → (more : ℕ) × Counts after more ×
         (count ≤ more) × (length after + 1 ≤ max (length before + 1) (more + growth_room)) }

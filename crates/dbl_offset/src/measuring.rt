@@ -75,6 +75,7 @@ fn add_table(before: u64, info: &TableInfo) -> u64
 fn add_integer(before: u64, number: &i64) -> u64
     ensures { Measures before 9 (FitsSigned w64 number.now) result }
 {
+    // For the prover alone: a number that is read is in its type's range.
     let _number = *number;
     before.saturating_add(9)
 }

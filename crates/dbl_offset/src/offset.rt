@@ -12,36 +12,17 @@ pub struct Offset {
     pub identity: Identity,
     /// The number of the session that stored it, counted from 1, at most 2^63.
     pub incarnation: u64,
-    /// The position from which reading restarts: the commits after this one are read.
+    /// The position at which the first session began to read: the commits after it are captured.
     pub start: Lsn,
-    /// The last commit of which all records were appended.
+    /// The last commit of which all records were appended, or the start before there is one. The
+    /// next session reads the commits after it.
     pub lsn: Lsn,
-    /// Where that commit ends.
+    /// Where that commit ends, or the start.
     pub end_lsn: Lsn,
     /// The captured tables, 1 to 64, of distinct names.
     pub infos: Seq<TableInfo>,
     /// The progress of each table's snapshot.
     pub cursors: Seq<Cursor>,
-}
-
-fn copy_infos(alloc: Global, infos: &Seq<TableInfo>) -> Result<Seq<TableInfo>, AllocError>
-    ensures { IfOk result (λ copied. copied ≡ infos.now) }
-{
-    let mut copied = Vec::new(alloc);
-    for info in infos.items() {
-        copied.push(info.copy(alloc)?)?;
-    }
-    Ok(Seq::make(copied))
-}
-
-fn copy_cursors(alloc: Global, cursors: &Seq<Cursor>) -> Result<Seq<Cursor>, AllocError>
-    ensures { IfOk result (λ copied. copied ≡ cursors.now) }
-{
-    let mut copied = Vec::new(alloc);
-    for cursor in cursors.items() {
-        copied.push(cursor.copy(alloc)?)?;
-    }
-    Ok(Seq::make(copied))
 }
 
 impl Offset {
@@ -55,8 +36,8 @@ impl Offset {
             start: self.start,
             lsn: self.lsn,
             end_lsn: self.end_lsn,
-            infos: copy_infos(alloc, &self.infos)?,
-            cursors: copy_cursors(alloc, &self.cursors)?,
+            infos: self.infos.copy(alloc)?,
+            cursors: self.cursors.copy(alloc)?,
         })
     }
 }

@@ -26,7 +26,7 @@ use std::marker::Model;
 
 /// The offset of a connector, on a disk. A crash while an offset is stored leaves the old one or
 /// the new one. The disk has a journal with an entry for each offset that was stored, of which the
-/// last is valid.
+/// last one counts.
 #[derive(Drop)]
 pub struct OffsetStore<D: Disk> {
     journal: Journal<D>,
@@ -64,14 +64,14 @@ fn read_last<D: Disk>(
     journal: &mut Journal<D>,
 ) -> Result<Option<Offset>, OffsetError>
     requires { IsTrue journal.old.live }
-    ensures each { (entries : List (List ℕ)) → Lists D.seen D.may_leave journal.old entries →
+    ensures each { (entries : List (List ℕ)) → Lists D.Disk journal.old entries →
         OnOk result (All IsOffsetEntry entries) }
-    ensures last { (entries : List (List ℕ)) → Lists D.seen D.may_leave journal.old entries →
+    ensures last { (entries : List (List ℕ)) → Lists D.Disk journal.old entries →
         IfOk result (IsLastOf entries) }
-    ensures lists { (entries : List (List ℕ)) → Lists D.seen D.may_leave journal.old entries →
-        Lists D.seen D.may_leave journal.new entries }
+    ensures lists { (entries : List (List ℕ)) → Lists D.Disk journal.old entries →
+        Lists D.Disk journal.new entries }
     ensures bad { (entries : List (List ℕ)) (index : ℕ) →
-        Lists D.seen D.may_leave journal.old entries → result ≡ Err (OffsetError.BadOffset index) →
+        Lists D.Disk journal.old entries → result ≡ Err (OffsetError.BadOffset index) →
         All IsOffsetEntry (take index entries) ×
         ((entry : List ℕ) × (slice_get entries index ≡ Some entry) × ¬ IsOffsetEntry entry) }
     ensures asked { IfOk result (λ last. IfSome last IsOffset) }
@@ -84,7 +84,7 @@ fn read_last<D: Disk>(
     ensures store { (at : ℕ) → result ≢ Err (OffsetError.NotAStore at) }
     ensures short { (len : ℕ) → result ≢ Err (OffsetError.TooLong len) }
     ensures steady { result ≢ Err OffsetError.Failed →
-        IsSteady D.seen D.faults journal.old.disk journal.new.disk }
+        IsSteady D.Disk journal.old.disk journal.new.disk }
 {
     let mut last = None;
     for index in 0..journal.count() {
@@ -99,15 +99,15 @@ impl<D: Disk> OffsetStore<D> {
     pub fn make(alloc: Global, disk: D) -> Result<OffsetStore<D>, Refused<D, OffsetError>>
         requires { (bytes : List ℕ) → D.seen disk ≡ Some bytes → bytes ≡ [] }
         ensures made { D.seen disk ≡ Some [] →
-            IfOk result (λ store. HoldsOffset D.seen D.may_leave store None) }
+            IfOk result (λ store. HoldsOffset D.Disk store None) }
         ensures live { IfOk result IsLive }
         ensures empty { IfOk result (λ store. store.offset ≡ None) }
         ensures refused { IfErr result (λ refused. refused.error ≡ OffsetError.Failed) }
         ensures left { IfErr result
             (λ refused. Follows BeginsTorn (D.may_leave disk) (D.may_leave refused.disk)) }
         ensures makes { MatchResult result
-            (λ store. Makes D.seen D.faults least_room ⊥ disk (disk_of store))
-            (λ refused. Makes D.seen D.faults least_room
+            (λ store. Makes D.Disk least_room ⊥ disk (disk_of store))
+            (λ refused. Makes D.Disk least_room
             (refused.error ≡ OffsetError.Failed) disk refused.disk) }
     {
         let journal = match Journal::make(alloc, disk) {
@@ -124,13 +124,13 @@ impl<D: Disk> OffsetStore<D> {
     }
 
     /// Opens the store on the disk, as a crash may have left it. Begins with a sync, and reads each
-    /// entry once. Unless the result is `Failed`, a crash from then on leaves exactly what was
-    /// read.
+    /// entry once. Unless the result is `Failed`, a crash from then on leaves exactly the disk's
+    /// contents, if they are known.
     pub fn open(alloc: Global, disk: D) -> Result<OffsetStore<D>, Refused<D, OffsetError>>
         ensures opened { (bytes : List ℕ) → D.seen disk ≡ Some bytes →
             IfOk result (λ store. IsStore bytes store.offset) }
         ensures holds { (bytes : List ℕ) → D.seen disk ≡ Some bytes →
-            IfOk result (λ store. HoldsOffset D.seen D.may_leave store store.offset) }
+            IfOk result (λ store. HoldsOffset D.Disk store store.offset) }
         ensures not_a_store { (bytes : List ℕ) (at : ℕ) → D.seen disk ≡ Some bytes → IfErr result
             (λ refused. refused.error ≡ OffsetError.NotAStore at → IsNoStoreAt bytes at) }
         ensures bad_offset { (bytes : List ℕ) (index : ℕ) → D.seen disk ≡ Some bytes → IfErr result
@@ -143,9 +143,8 @@ impl<D: Disk> OffsetStore<D> {
             (λ refused. refused.error ≢ OffsetError.Failed →
             IsOnly bytes (D.may_leave refused.disk)) }
         ensures keeps { MatchResult result
-            (λ store. Keeps D.seen D.may_leave D.faults ⊥ disk (disk_of store))
-            (λ refused. Keeps D.seen D.may_leave D.faults
-            (refused.error ≡ OffsetError.Failed) disk refused.disk) }
+            (λ store. Keeps D.Disk ⊥ disk (disk_of store))
+            (λ refused. Keeps D.Disk (refused.error ≡ OffsetError.Failed) disk refused.disk) }
     {
         let mut journal = match Journal::open(alloc, disk) {
             Ok(journal) => journal,
@@ -180,18 +179,16 @@ impl<D: Disk> OffsetStore<D> {
     pub fn store(&mut self, alloc: Global, offset: Offset) -> Result<(), OffsetError>
         requires live { IsLive self.old }
         requires offset { IsOffset offset }
-        ensures stored { (old : Option Offset) → HoldsOffset D.seen D.may_leave self.old old →
-            OnOk result (HoldsOffset D.seen D.may_leave self.new (Some offset)) }
-        ensures left { (old : Option Offset) → HoldsOffset D.seen D.may_leave self.old old →
-            LeavesOffset D.may_leave (disk_of self.new) (λ left. (left ≡ old) ⊎
-            (left ≡ Some offset)) }
+        ensures stored { (old : Option Offset) → HoldsOffset D.Disk self.old old →
+            OnOk result (HoldsOffset D.Disk self.new (Some offset)) }
+        ensures left { (old : Option Offset) → HoldsOffset D.Disk self.old old →
+            LeavesOffset D.Disk (disk_of self.new) (λ left. (left ≡ old) ⊎ (left ≡ Some offset)) }
         ensures grows { (old : Option Offset) (before after : List ℕ) →
-            HoldsOffset D.seen D.may_leave self.old old → D.seen (disk_of self.old) ≡ Some before →
+            HoldsOffset D.Disk self.old old → D.seen (disk_of self.old) ≡ Some before →
             D.seen (disk_of self.new) ≡ Some after →
             length after ≤ max (length before) (room_of self.old offset) }
-        ensures comes { ExtendsOffsets D.seen D.may_leave self.old self.new }
-        ensures puts { PutLeaves D.seen D.faults (result ≡ Err OffsetError.Failed)
-            self.old self.new }
+        ensures comes { ExtendsOffsets D.Disk self.old self.new }
+        ensures puts { PutLeaves D.Disk (result ≡ Err OffsetError.Failed) self.old self.new }
         ensures loads { OnOk result (self.new.offset ≡ Some offset) }
         ensures keeps { OnErr result (self.new.offset ≡ self.old.offset) }
         ensures live { OnOk result (IsLive self.new) }

@@ -109,6 +109,7 @@ fn optional_room(room: usize, before: &Option<OldTuple>) -> Option<usize>
 fn column_room(room: usize, item: &RelationColumn) -> Option<usize>
     ensures { Leaves room (length (column item.now)) (FitsColumn item.now) result }
 {
+    // For the prover alone: a number that is read is in its type's range.
     let _flags = item.flags;
     let _oid = item.oid;
     let _modifier = item.modifier;
@@ -160,6 +161,7 @@ fn names_room(room: usize, namespace: &Text, name: &Text) -> Option<usize>
 fn begin_room(room: usize, lsn: Lsn, time: &i64, xid: u32) -> Option<usize>
     ensures { Leaves room 21 (FitsFields (Message.Begin lsn time.now xid)) result }
 {
+    // For the prover alone: a number that is read is in its type's range.
     let _time = *time;
     room.checked_sub(21)
 }
@@ -168,6 +170,7 @@ fn commit_room(room: usize, flags: u8, lsn: Lsn, end_lsn: Lsn, time: &i64) -> Op
     ensures { Leaves room 26
         (FitsFields (Message.Commit flags lsn end_lsn time.now)) result }
 {
+    // For the prover alone: a number that is read is in its type's range.
     let _time = *time;
     room.checked_sub(26)
 }

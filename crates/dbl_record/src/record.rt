@@ -1,6 +1,6 @@
 ghost use Rattle.std.specs.Prelude.{◌≡◌, IfOk};
 
-use dbl_base::Text;
+use dbl_base::{DeepCopy, Text};
 use std::alloc::{AllocError, Global};
 
 /// A record of a topic: a change event, a tombstone or a progress record. Keys and values are
@@ -23,15 +23,6 @@ pub struct Record {
     pub oldkey: Option<Text>,
 }
 
-fn copy_of(alloc: Global, text: &Option<Text>) -> Result<Option<Text>, AllocError>
-    ensures { IfOk result (λ t. t ≡ text.now) }
-{
-    match text {
-        Some(text) => Ok(Some(text.copy(alloc)?)),
-        None => Ok(None),
-    }
-}
-
 impl Record {
     /// Copies the record.
     pub fn copy(&self, alloc: Global) -> Result<Record, AllocError>
@@ -39,13 +30,19 @@ impl Record {
     {
         Ok(Record {
             topic: self.topic.copy(alloc)?,
-            key: copy_of(alloc, &self.key)?,
-            value: copy_of(alloc, &self.value)?,
+            key: self.key.deep_copy(alloc)?,
+            value: self.value.deep_copy(alloc)?,
             position: self.position,
             ordinal: self.ordinal,
             last: self.last,
-            newkey: copy_of(alloc, &self.newkey)?,
-            oldkey: copy_of(alloc, &self.oldkey)?,
+            newkey: self.newkey.deep_copy(alloc)?,
+            oldkey: self.oldkey.deep_copy(alloc)?,
         })
+    }
+}
+
+impl DeepCopy for Record {
+    fn deep_copy(&self, alloc: Global) -> Result<Record, AllocError> {
+        self.copy(alloc)
     }
 }

@@ -21,7 +21,7 @@ use Rattle.dbl_source_model.proofs.CallLemmas.{moved_follows, marked_follows, mo
 use Rattle.dbl_source_log.specs.declared.logged.LogTable.{LogTable}
 use Rattle.dbl_source_log.specs.declared.logged.Logged.{Logged}
 use Rattle.dbl_source_log.specs.declared.logged.Logged.TheVariants.{Changes}
-use Rattle.dbl_source_log.specs.declared.place.Place.{Place}
+use Rattle.dbl_source_log.specs.declared.reader_position.ReaderPosition.{ReaderPosition}
 use Rattle.dbl_source_log.specs.Numbers.{lsn_of}
 use Rattle.dbl_source_log.specs.Sent.{index_of, told_at, IsPlaceIn}
 use Rattle.dbl_source_log.specs.Histories.{history_of}
@@ -68,7 +68,7 @@ pub went_fair : (old new : Played) → WentOn old new → KeepsPlayed old → Wa
 went_fair old new w kept fair = fair_same old.tables new.tables old.log (map Changes w.more) new.log old.asked new.asked old.rows new.rows w.tables w.log w.asked w.rows kept.before fair
 
 -- what was read is what it was
-pub messages_stay : (tables : List LogTable) (log more : List Logged) (place : Option Place) → ((p : Place) → place ≡ Some p → IsPlaceIn log p) → unwrap_or (option_map (told_at tables (log ++ more)) place) [] ≡ unwrap_or (option_map (told_at tables log) place) []
+pub messages_stay : (tables : List LogTable) (log more : List Logged) (place : Option ReaderPosition) → ((p : ReaderPosition) → place ≡ Some p → IsPlaceIn log p) → unwrap_or (option_map (told_at tables (log ++ more)) place) [] ≡ unwrap_or (option_map (told_at tables log) place) []
 messages_stay tables log more None placed = refl
 messages_stay tables log more (Some p) placed = told_at-grown tables log more p (placed p refl)
 
@@ -77,7 +77,7 @@ went_read old new w kept =
     ap (map spelling)
     (ap (λ (ts : List LogTable). unwrap_or (option_map (told_at ts new.log) new.place) []) w.tables
     ∙ ap (λ (l : List Logged). unwrap_or (option_map (told_at old.tables l) new.place) []) w.log
-    ∙ ap (λ (p : Option Place). unwrap_or (option_map (told_at old.tables (old.log ++ map Changes w.more)) p) []) w.place
+    ∙ ap (λ (p : Option ReaderPosition). unwrap_or (option_map (told_at old.tables (old.log ++ map Changes w.more)) p) []) w.place
     ∙ messages_stay old.tables old.log (map Changes w.more) old.place kept.placed)
 
 -- what holds at any rate holds behind an error
@@ -92,7 +92,7 @@ pub stood : (new : Played) (P : SourceState → Type 0) → IsTrue new.live → 
 stood new P live holds = record { standing = standing_of new; is = (live, refl); holds = holds }
 
 -- a place of a log is one of a longer log
-pub placed_on : (log more : List Logged) (p : Place) → IsPlaceIn log p → IsPlaceIn (log ++ more) p
+pub placed_on : (log more : List Logged) (p : ReaderPosition) → IsPlaceIn log p → IsPlaceIn (log ++ more) p
 placed_on log more p placed = record {
   few = omega (arith, placed.few, length-append log more);
   there = λ begun. omega (arith, placed.there begun, length-append log more);
@@ -165,7 +165,7 @@ module _ (old mid : Played) (s : SourceState) (w : WentOn old mid) (kept : Keeps
           }
 
   -- one message more, where the reader came from `place` to `next`
-  pub read_leads : (what : Last) (place next : Place) (message : Message) → mid.place ≡ Some place → next.after ≡ place.after → told_at mid.tables mid.log next ≡ message ∷ told_at mid.tables mid.log place
+  pub read_leads : (what : Last) (place next : ReaderPosition) (message : Message) → mid.place ≡ Some place → next.after ≡ place.after → told_at mid.tables mid.log next ≡ message ∷ told_at mid.tables mid.log place
       → HasState HasPlayedState (with_answer what (record mid { place = Some next })) (HasReadOneMore message s)
   read_leads what place next message at same told =
       record {
@@ -183,7 +183,7 @@ module _ (old mid : Played) (s : SourceState) (w : WentOn old mid) (kept : Keeps
       }
 
   -- none, at the end of the log
-  pub none_leads : (what : Last) (place : Place) → mid.place ≡ Some place → length mid.log ≤ index_of place → HasState HasPlayedState (with_answer what mid) (λ t. Moved s t × (WasFair mid → HasReadAll s t))
+  pub none_leads : (what : Last) (place : ReaderPosition) → mid.place ≡ Some place → length mid.log ≤ index_of place → HasState HasPlayedState (with_answer what mid) (λ t. Moved s t × (WasFair mid → HasReadAll s t))
   none_leads what place at ends =
       let end : SourceState = played_state mid.tables mid.log mid.confirmed (Some place) in
       let same : end ≡ standing_of mid = ap (played_state mid.tables mid.log mid.confirmed) (sym at) in

@@ -15,7 +15,7 @@ use Rattle.dbl_source_model.specs.Answered.{IsDescribed, IsHeaded, IsSelectAnswe
 use Rattle.dbl_source_model.specs.Calls.{Moved, IsMarked, IsHead, Starts, HasReadOneMore, HasReadAll, IsConfirmed}
 use Rattle.dbl_source_model.specs.Leaves.{MayFollow, MayFollowMark, MayFollowConfirm}
 use Rattle.dbl_source_model.specs.Trace.{Answer, Described, Head, Began, Read, Selected, Done, LastAnswerIs, is_ready}
-use Rattle.dbl_source_log.specs.declared.place.Place.{Place}
+use Rattle.dbl_source_log.specs.declared.reader_position.ReaderPosition.{ReaderPosition}
 use Rattle.dbl_source_log.specs.Numbers.{lsn_of}
 use Rattle.dbl_source_log.specs.Relations.{catalogue}
 use Rattle.dbl_source.specs.declared.asked.Last.{Last}
@@ -148,7 +148,7 @@ kept_end here (Some bytes) s t = (t.0, t.1, record { standing = t.2.standing; is
 -- whether there is a reader doesn't change
 reader_stays : (old here : Played) (read : Option (List ℕ)) → HasReadNext (with_release old) here read → SameReader old here
 reader_stays old here None has = ap (λ (p : Played). is_some p.place) has.is
-reader_stays old here (Some bytes) has = ap (λ (p : Played). is_some p.place) has.is ∙ sym (ap (λ (o : Option Place). is_some o) has.was)
+reader_stays old here (Some bytes) has = ap (λ (p : Played). is_some p.place) has.is ∙ sym (ap (λ (o : Option ReaderPosition). is_some o) has.was)
 
 -- the newest message is the one that was answered
 newest : (old here : Played) (read : Option (List ℕ)) → ReadBesides old here read → (trace_of (with_read read here)).answer ≡ Read read
@@ -172,22 +172,22 @@ read_ends old new read kept a =
 
 -- what it makes of a source that has a reader
 pub read_plays : (old new : Played) (read : Option (List ℕ)) → IsTrue (is_some old.place) → AnswersRead old read new
-    → (place : Place) × (what : Last) × (new ≡ with_answer what (record (with_release old) { place = Some place; ended = is_none read }))
+    → (place : ReaderPosition) × (what : Last) × (new ≡ with_answer what (record (with_release old) { place = Some place; ended = is_none read }))
 read_plays old new (Some bytes) some a = (a.has.next, answers.Message, a.is ∙ ap (with_read (Some bytes)) a.has.is)
 read_plays old new None some a = by old.place refl some
   where
     unmoved : new ≡ with_read None (with_release old)
     unmoved = a.is ∙ ap (with_read None) a.has.is
 
-    by : (o : Option Place) → old.place ≡ o → IsTrue (is_some o) → (place : Place) × (what : Last) × (new ≡ with_answer what (record (with_release old) { place = Some place; ended = true }))
+    by : (o : Option ReaderPosition) → old.place ≡ o → IsTrue (is_some o) → (place : ReaderPosition) × (what : Last) × (new ≡ with_answer what (record (with_release old) { place = Some place; ended = true }))
     by None at none = let never : false ≡ true = none in cc
-    by (Some place) at some_is = (place, answers.Nothing, unmoved ∙ ap (λ (o : Option Place). with_read None (record (with_release old) { place = o })) at)
+    by (Some place) at some_is = (place, answers.Nothing, unmoved ∙ ap (λ (o : Option ReaderPosition). with_read None (record (with_release old) { place = o })) at)
 
 some_none : (bytes : List ℕ) → Some bytes ≡ None → ⊥
 some_none bytes is = cc
 
 -- nothing is read at the end alone
-pub read_at_end : (old new : Played) (read : Option (List ℕ)) → AnswersRead old read new → read ≡ None → (place : Place) → new.place ≡ Some place → IsAtEnd new.log place
+pub read_at_end : (old new : Played) (read : Option (List ℕ)) → AnswersRead old read new → read ≡ None → (place : ReaderPosition) → new.place ≡ Some place → IsAtEnd new.log place
 read_at_end old new (Some bytes) a none place at = absurd (some_none bytes none)
 read_at_end old new None a none place at =
     let unmoved : new ≡ with_read None (with_release old) = a.is ∙ ap (with_read None) a.has.is in
@@ -287,12 +287,12 @@ start_played after old new (Ok started) p = (p.played.told, p.played.is)
 start_played after old new (Err e) p = tt
 
 pub read_played : (old new : Played) (r : Result (Option (List ℕ)) SourceError) → IsTrue (is_some old.place) → Plays 0 (IsUnfit (with_release old)) (before_of old) (AnswersRead old) old new r
-    → IfOk r (λ read. (place : Place) × (what : Last) × (new ≡ with_answer what (record (with_release old) { place = Some place; ended = is_none read })))
+    → IfOk r (λ read. (place : ReaderPosition) × (what : Last) × (new ≡ with_answer what (record (with_release old) { place = Some place; ended = is_none read })))
 read_played old new (Ok read) some p = read_plays old new read some p.played
 read_played old new (Err e) some p = tt
 
 pub read_ended : (old new : Played) (r : Result (Option (List ℕ)) SourceError) → Plays 0 (IsUnfit (with_release old)) (before_of old) (AnswersRead old) old new r
-    → IfOk r (λ read. (read ≡ None) → (place : Place) → new.place ≡ Some place → IsAtEnd new.log place)
+    → IfOk r (λ read. (read ≡ None) → (place : ReaderPosition) → new.place ≡ Some place → IsAtEnd new.log place)
 read_ended old new (Ok read) p = read_at_end old new read p.played
 read_ended old new (Err e) p = tt
 

@@ -8,7 +8,7 @@ use Rattle.dbl_pgmsg.specs.Grammar.{spelling}
 use Rattle.dbl_source_model.specs.Standings.{SourceState, CrashState, left_of}
 use Rattle.dbl_source_model.specs.Leaves.{Leaves, LeavesSome, MayFollow}
 use Rattle.dbl_source_model.specs.Trace.{Answer, LastAnswerIs}
-use Rattle.dbl_source_log.specs.declared.place.Place.{Place}
+use Rattle.dbl_source_log.specs.declared.reader_position.ReaderPosition.{ReaderPosition}
 use Rattle.dbl_source_log.specs.declared.error.SourceError.{SourceError}
 use Rattle.dbl_source_log.specs.declared.error.SourceError.TheVariants.{Failed, Memory}
 use Rattle.dbl_source.specs.Played.{Played, played_messages, standing_of, trace_of, before_of, past_move, called, with_release, with_fault}
@@ -156,7 +156,7 @@ held {T = T} G Follows answer K R own more commits done old new (Err e) p weaker
       taken = tt;
       untaken = went_read old new d.went p.kept;
       reading = tt;
-      unread = ap (λ (o : Option Place). is_some o) d.went.place;
+      unread = ap (λ (o : Option ReaderPosition). is_some o) d.went.place;
     }
 
 -- what holds of an answer and behind an error holds

@@ -16,7 +16,7 @@ use Rattle.dbl_source_model.specs.Calls.{Moved, IsMarked, head_after, head_of, I
 use Rattle.dbl_source_log.specs.declared.logged.LogTable.{LogTable}
 use Rattle.dbl_source_log.specs.declared.logged.Logged.{Logged}
 use Rattle.dbl_source_log.specs.declared.logged.Logged.TheVariants.{Changes, Mark}
-use Rattle.dbl_source_log.specs.declared.place.Place.{Place}
+use Rattle.dbl_source_log.specs.declared.reader_position.ReaderPosition.{ReaderPosition}
 use Rattle.dbl_source_log.specs.Numbers.{lsn_of, commits_upto}
 use Rattle.dbl_source_log.specs.TextRows.{TextRows, no_text_rows}
 use Rattle.dbl_source_model.specs.ModelCommit.Stated.{commits_of}
@@ -34,32 +34,32 @@ use Rattle.dbl_source.specs.Fairness.{IsFair}
 use Rattle.dbl_source.specs.Played.{reading_at, played_state}
 
 -- the reader, where there is one, is at a place of the log
-abbrev pub IsAtPlace : List Logged → Option Place → Type 0
-IsAtPlace log place = (p : Place) → place ≡ Some p → IsPlaceIn log p
+abbrev pub IsAtPlace : List Logged → Option ReaderPosition → Type 0
+IsAtPlace log place = (p : ReaderPosition) → place ≡ Some p → IsPlaceIn log p
 
 module _ (tables : List LogTable) (log : List Logged) (confirmed : Lsn) where
-  pub reading_stays : (more : List Logged) (place : Option Place) → IsAtPlace log place → option_map (reading_at tables (log ++ more)) place ≡ option_map (reading_at tables log) place
+  pub reading_stays : (more : List Logged) (place : Option ReaderPosition) → IsAtPlace log place → option_map (reading_at tables (log ++ more)) place ≡ option_map (reading_at tables log) place
   reading_stays more None at = refl
   reading_stays more (Some p) at = ap (λ (ms : List Message). let r : Reading = record { after = p.after; messages = ms } in Some r) (told_at-grown tables log more p (at p refl))
 
   -- other clients committed
-  pub moved : (more : List (List Message)) (place : Option Place) → IsAtPlace log place → Moved (played_state tables log confirmed place) (played_state tables (log ++ map Changes more) confirmed place)
+  pub moved : (more : List (List Message)) (place : Option ReaderPosition) → IsAtPlace log place → Moved (played_state tables log confirmed place) (played_state tables (log ++ map Changes more) confirmed place)
   moved more place at = record { grows = log_grows tables log more; confirmed = refl; reading = reading_stays (map Changes more) place at }
 
   -- a mark was written
-  pub marked_at : (value : List ℕ) (place : Option Place) → IsAtPlace log place → IsMarked value (played_state tables log confirmed place) (played_state tables (log ++ Mark value ∷ []) confirmed place)
+  pub marked_at : (value : List ℕ) (place : Option ReaderPosition) → IsAtPlace log place → IsMarked value (played_state tables log confirmed place) (played_state tables (log ++ Mark value ∷ []) confirmed place)
   marked_at value place at = record { marks = log_marks tables value log; confirmed = refl; reading = reading_stays (Mark value ∷ []) place at }
 
   -- nothing was committed
   pub grows_not : Grows (history_of tables log) (history_of tables log)
   grows_not = record { tables = refl; others = []; commits = sym (append-nil (history_of tables log).commits); are_others = tt; rising = is_rising tables log }
 
-  pub begun_after : (after : Lsn) (place : Option Place) → IsBegun after (played_state tables log confirmed place) (played_state tables log confirmed (Some (record { after = after; commits = 0; begun = false; change = 0; table = 0 })))
+  pub begun_after : (after : Lsn) (place : Option ReaderPosition) → IsBegun after (played_state tables log confirmed place) (played_state tables log confirmed (Some (record { after = after; commits = 0; begun = false; change = 0; table = 0 })))
   begun_after after place =
-      let p : Place = record { after = after; commits = 0; begun = false; change = 0; table = 0 } in
+      let p : ReaderPosition = record { after = after; commits = 0; begun = false; change = 0; table = 0 } in
       record { grows = grows_not; confirmed = refl; reading = ap (λ (ms : List Message). let r : Reading = record { after = after; messages = ms } in Some r) (told_waiting tables log p refl) }
 
-  pub gone_behind : (after : Lsn) (place : Option Place) → after.0 < confirmed.0 → IsGone after confirmed (played_state tables log confirmed place) (played_state tables log confirmed None)
+  pub gone_behind : (after : Lsn) (place : Option ReaderPosition) → after.0 < confirmed.0 → IsGone after confirmed (played_state tables log confirmed place) (played_state tables log confirmed None)
   gone_behind after place lt = record { grows = grows_not; confirmed = refl; reading = refl; later = lt; dropped = omega arith }
 
   -- ---- all was read
@@ -74,7 +74,7 @@ module _ (tables : List LogTable) (log : List Logged) (confirmed : Lsn) where
       )
 
   -- a reader at the end of a fair log has read all that stood when the log was shorter
-  pub read_all : (s : SourceState) (place : Place) → Grows s.history (history_of tables log) → IsFairLog tables log → IsPlaceIn log place → length log ≤ index_of place → HasReadAll s (played_state tables log confirmed (Some place))
+  pub read_all : (s : SourceState) (place : ReaderPosition) → Grows s.history (history_of tables log) → IsFairLog tables log → IsPlaceIn log place → length log ≤ index_of place → HasReadAll s (played_state tables log confirmed (Some place))
   read_all s place grows fair placed ends = record {
     each = λ reading is infos captured accepted. (
         let same : reading_at tables log place ≡ reading = cc in
@@ -83,7 +83,7 @@ module _ (tables : List LogTable) (log : List Logged) (confirmed : Lsn) where
   }
 
   -- what is read next is the next message of all that is sent
-  pub next_sent : (place next : Place) (m : Message) → next.after ≡ place.after → told_at tables log next ≡ m ∷ told_at tables log place → slice_get (sent_after tables place.after log) (length (told_at tables log place)) ≡ Some m
+  pub next_sent : (place next : ReaderPosition) (m : Message) → next.after ≡ place.after → told_at tables log next ≡ m ∷ told_at tables log place → slice_get (sent_after tables place.after log) (length (told_at tables log place)) ≡ Some m
   next_sent place next m same told =
       let past : List Message = told_at tables log place in
       let sent = reads_what_is_sent tables log next in
@@ -99,7 +99,7 @@ module _ (tables : List LogTable) (log : List Logged) (confirmed : Lsn) where
           ∙ ap Some (get_or_at (reverse past) m rest m (length past) (length-reverse past))
 
   -- at the end of the log there is none
-  pub none_next : (place : Place) → length log ≤ index_of place → slice_get (sent_after tables place.after log) (length (told_at tables log place)) ≡ None
+  pub none_next : (place : ReaderPosition) → length log ≤ index_of place → slice_get (sent_after tables place.after log) (length (told_at tables log place)) ≡ None
   none_next place ends =
       let first : ℕ = commits_upto place.after in
       let subsequent : List Logged = drop first log in
@@ -120,7 +120,7 @@ module _ (tables : List LogTable) (log : List Logged) (confirmed : Lsn) where
   pub head_is : head_of (history_of tables log).commits ≡ lsn_of (length log)
   head_is = let same : 0 + length log ≡ length log = omega arith in head_from no_text_rows 0 log ∙ ap lsn_of same
 
-  pub is_head : (s : SourceState) (place : Option Place) → Grows s.history (history_of tables log) → length s.history.commits ≤ length log → IsHead (lsn_of (length log)) s (played_state tables log confirmed place)
+  pub is_head : (s : SourceState) (place : Option ReaderPosition) → Grows s.history (history_of tables log) → length s.history.commits ≤ length log → IsHead (lsn_of (length log)) s (played_state tables log confirmed place)
   is_head s place grows le = record {
     place = length (history_of tables log).commits;
     not_before = omega (arith, le, length-history tables log);

@@ -5,7 +5,7 @@ use Rattle.dbl_pgmsg.specs.declared.messages.Message.{Message}
 use Rattle.dbl_pgmsg.specs.Grammar.{Fits, Spells, spelling}
 use Rattle.dbl_source_model.specs.Standings.{Reading, SourceState, CrashState, HasState}
 use Rattle.dbl_source_model.specs.Calls.{Moved, HasReadOneMore, HasReadAll}
-use Rattle.dbl_source_log.specs.declared.place.Place.{Place}
+use Rattle.dbl_source_log.specs.declared.reader_position.ReaderPosition.{ReaderPosition}
 use Rattle.dbl_source_log.specs.Sent.{told_at}
 use Rattle.dbl_source.specs.declared.asked.Last.{Last}
 use Rattle.dbl_source.specs.Played.{Played, played_messages, reading_at, with_answer}
@@ -19,10 +19,10 @@ no_reading reading is = cc
 
 module _ (old mid : Played) (s : SourceState) (w : WentOn old mid) (kept : KeepsPlayed old) (stands : HasPlayedState old s) where
   -- nothing, where there is no reader or it is at the end
-  nothing_leads : (what : Last) → ((place : Place) → mid.place ≡ Some place → IsAtEnd mid.log place) → HasState HasPlayedState (with_answer what mid) (λ t. Moved s t × (WasFair mid → HasReadAll s t))
+  nothing_leads : (what : Last) → ((place : ReaderPosition) → mid.place ≡ Some place → IsAtEnd mid.log place) → HasState HasPlayedState (with_answer what mid) (λ t. Moved s t × (WasFair mid → HasReadAll s t))
   nothing_leads what ends = by mid.place refl
     where
-      by : (o : Option Place) → mid.place ≡ o → HasState HasPlayedState (with_answer what mid) (λ t. Moved s t × (WasFair mid → HasReadAll s t))
+      by : (o : Option ReaderPosition) → mid.place ≡ o → HasState HasPlayedState (with_answer what mid) (λ t. Moved s t × (WasFair mid → HasReadAll s t))
       by None none =
           stood (with_answer what mid) (λ t. Moved s t × (WasFair mid → HasReadAll s t)) refl (
             went_moved old mid s w kept stands,
@@ -54,14 +54,14 @@ pub read_taken : (old mid new : Played) (read : Option (List ℕ)) → WentOn ol
     → MatchOption read (map spelling (played_messages new) ≡ map spelling (played_messages old)) (λ bytes. map spelling (played_messages new) ≡ bytes ∷ map spelling (played_messages old))
 read_taken old mid new None w kept read = ap (λ (p : Played). map spelling (played_messages p)) read.is ∙ went_read old mid w kept
 read_taken old mid new (Some bytes) w kept read =
-    let here : told_at mid.tables mid.log read.place ≡ played_messages mid = ap (λ (o : Option Place). unwrap_or (option_map (told_at mid.tables mid.log) o) []) (sym read.was) in
+    let here : told_at mid.tables mid.log read.place ≡ played_messages mid = ap (λ (o : Option ReaderPosition). unwrap_or (option_map (told_at mid.tables mid.log) o) []) (sym read.was) in
     ap (λ (p : Played). map spelling (played_messages p)) read.is
     ∙ ap (map spelling) read.told
     ∙ ap (λ (b : List ℕ). b ∷ map spelling (told_at mid.tables mid.log read.place)) (sym read.spelled.spelled)
     ∙ ap (λ (ms : List Message). bytes ∷ map spelling ms) here
     ∙ ap (λ (past : List (List ℕ)). bytes ∷ past) (went_read old mid w kept)
 
-same_place : (a b : Place) → Some a ≡ Some b → a ≡ b
+same_place : (a b : ReaderPosition) → Some a ≡ Some b → a ≡ b
 same_place a b is = cc
 
 -- where it answers, the next message has a spelling

@@ -7,7 +7,7 @@ use Rattle.dbl_pgmsg.specs.declared.messages.Message.{Message}
 use Rattle.dbl_pgmsg.specs.Grammar.{Fits}
 use Rattle.dbl_source_log.specs.declared.logged.LogTable.{LogTable}
 use Rattle.dbl_source_log.specs.declared.logged.Logged.{Logged}
-use Rattle.dbl_source_log.specs.declared.place.Place.{Place}
+use Rattle.dbl_source_log.specs.declared.reader_position.ReaderPosition.{ReaderPosition}
 use Rattle.dbl_source_log.specs.Sent.{index_of, told_at, IsPlaceIn}
 use Rattle.dbl_source.specs.declared.asked.Asked.{Asked}
 use Rattle.dbl_source_log.specs.declared.error.SourceError.{SourceError}
@@ -20,12 +20,12 @@ use Rattle.dbl_source.proofs.PlayLemmas.{next_sent}
 
 -- ---- the step
 
-entry_there : (log items : List Logged) (place : Place) (entry : Logged) (index : ℕ) → items ≡ log → index ≡ index_of place → index < length items → ((d : Logged) → entry ≡ get_or items index d) → slice_get log (index_of place) ≡ Some entry
+entry_there : (log items : List Logged) (place : ReaderPosition) (entry : Logged) (index : ℕ) → items ≡ log → index ≡ index_of place → index < length items → ((d : Logged) → entry ≡ get_or items index d) → slice_get log (index_of place) ≡ Some entry
 entry_there log items place entry index same at within is =
     ap (λ (l : List Logged). slice_get l (index_of place)) (sym same) ∙ ap (slice_get items) (sym at) ∙ slice_get-get_or items index entry within ∙ ap Some (sym (is entry))
 
 -- what is promised of a slice that has the tables, and an entry at its index in a slice that has the log
-pub steps_here : (tables slice : List LogTable) (log items : List Logged) (place : Place) (known : BTreeSet ℕ) (entry : Logged) (index number : ℕ) (result : Result Step SourceError) → slice ≡ tables → items ≡ log
+pub steps_here : (tables slice : List LogTable) (log items : List Logged) (place : ReaderPosition) (known : BTreeSet ℕ) (entry : Logged) (index number : ℕ) (result : Result Step SourceError) → slice ≡ tables → items ≡ log
     → index ≡ index_of place → number ≡ index_of place + 1 → index < length items → ((d : Logged) → entry ≡ get_or items index d) → IsPlaceIn log place → Describes known (told_at tables log place)
     → ((l : List Logged) → number ≡ index_of place + 1 → slice_get l (index_of place) ≡ Some entry → IsPlaceIn l place → Describes known (told_at slice l place) → Steps slice l place result)
     → Steps tables log place result
@@ -35,7 +35,7 @@ steps_here tables slice log items place known entry index number result same_tab
 
 -- ---- it has no spelling
 
-is_unfit : (s : Played) (place : Place) → s.place ≡ Some place → HasUnfit s.tables s.log place → IsUnfit s
+is_unfit : (s : Played) (place : ReaderPosition) → s.place ≡ Some place → HasUnfit s.tables s.log place → IsUnfit s
 is_unfit s place at unfit = (
   place,
   at,
@@ -43,7 +43,7 @@ is_unfit s place at unfit = (
 )
 
 -- why it wasn't read, of a source whose reader is at this place
-pub fails_to_read : (old new : Played) (place : Place) (e : SourceError) → old.place ≡ Some place → Steps old.tables old.log place (Err e) → (e ≡ Failed → new ≡ with_fault old) → (e ≡ Memory → new ≡ old) → FailsToRead old new e
+pub fails_to_read : (old new : Played) (place : ReaderPosition) (e : SourceError) → old.place ≡ Some place → Steps old.tables old.log place (Err e) → (e ≡ Failed → new ≡ with_fault old) → (e ≡ Memory → new ≡ old) → FailsToRead old new e
 fails_to_read old new place e at steps faulty same = elim steps [
   | inl memory ↦ inl (memory, same memory)
   | inr failed ↦ inr (failed.0, faulty failed.0, is_unfit old place at failed.1)
@@ -51,14 +51,14 @@ fails_to_read old new place e at steps faulty same = elim steps [
 
 -- ---- it was read
 
-same_place : (a b : Place) → Some a ≡ Some b → a ≡ b
+same_place : (a b : ReaderPosition) → Some a ≡ Some b → a ≡ b
 same_place a b is = cc
 
-pub next_played : (tables : List LogTable) (log : List Logged) (asked : List Asked) (place : Place) (at : Option Place) (known now : BTreeSet ℕ) (step : Step) (next : IsNext tables log place step) → Describes now (next.message ∷ told_at tables log place)
+pub next_played : (tables : List LogTable) (log : List Logged) (asked : List Asked) (place : ReaderPosition) (at : Option ReaderPosition) (known now : BTreeSet ℕ) (step : Step) (next : IsNext tables log place step) → Describes now (next.message ∷ told_at tables log place)
     → IsPlayed tables log asked at known → IsPlayed tables log asked (Some step.place) now
 next_played tables log asked place at known now step next all played = record {
   few = played.few;
   before = played.before;
   placed = λ p is. subst (IsPlaceIn log) (same_place step.place p is) next.placed;
-  recalled = λ p is. subst (λ (q : Place). Describes now (told_at tables log q)) (same_place step.place p is) (subst (Describes now) (sym next.told) all);
+  recalled = λ p is. subst (λ (q : ReaderPosition). Describes now (told_at tables log q)) (same_place step.place p is) (subst (Describes now) (sym next.told) all);
 }

@@ -35,7 +35,7 @@ HaveReturned s = (n : ℕ) (question : Asked) → slice_get s.asked n ≡ Some q
 abbrev pub FirstCommitsAreFair : Type 0
 FirstCommitsAreFair = (commits : List (List Message)) (old new : Played) → HaveReturned old → AddedFirst commits old new → WasFair (committed commits old) → WasFair new
 
--- A watermark keeps a source fair.
+-- A watermark of UTF-8 text keeps a source fair, if its history has room for it.
 abbrev pub MarksKeepFair : Type 0
 MarksKeepFair = (value : List ℕ) (s : Played) → IsUtf8 value → length s.log + 1 < commit_limit → HaveReturned s → WasFair s → WasFair (with_mark value s)
 
@@ -43,7 +43,8 @@ MarksKeepFair = (value : List ℕ) (s : Played) → IsUtf8 value → length s.lo
 abbrev pub CommitsKeepFair : Type 0
 CommitsKeepFair = (commits : List (List Message)) (s : Played) → HaveReturned s → IsFitHistory (history_of s.tables (committed commits s).log) → IsFairLog s.tables (committed commits s).log → WasFair s → WasFair (committed commits s)
 
--- A select keeps a source fair if its rows also are those of one position between its call and its return.
+-- A select keeps a source fair if its rows are those of one position between its call and its return, the commits inside of it are such as
+-- a server sends, and the history stays valid.
 abbrev pub SelectsKeepFair : Type 0
 SelectsKeepFair = (table : TableName) (above : Option Key) (limit from : ℕ) (inside : List (List Message)) (s : Played) → HaveReturned s → IsFitHistory (history_of s.tables (committed inside s).log) → IsFairLog s.tables (committed inside s).log
     → IsAnswered s.tables (committed inside s).log (question_of table above limit from (length s.log + length inside)) (next_rows s) → WasFair s → WasFair (with_select table above limit from inside s)

@@ -16,7 +16,7 @@ use Rattle.dbl_source_model.specs.Trace.{Answer, Described, Head, Began, Read, S
 use Rattle.dbl_source_log.specs.declared.logged.LogTable.{LogTable}
 use Rattle.dbl_source_log.specs.declared.logged.Logged.{Logged}
 use Rattle.dbl_source_log.specs.declared.logged.Logged.TheVariants.{Changes, Mark}
-use Rattle.dbl_source_log.specs.declared.place.Place.{Place}
+use Rattle.dbl_source_log.specs.declared.reader_position.ReaderPosition.{ReaderPosition}
 use Rattle.dbl_source_log.specs.Numbers.{lsn_of}
 use Rattle.dbl_source_log.specs.Sent.{told_at}
 use Rattle.dbl_source_log.specs.Histories.{history_of}
@@ -37,7 +37,7 @@ pub record Played : Type 0 where
   pub asked : List Asked
   pub log : List Logged
   pub confirmed : Lsn
-  pub place : Option Place
+  pub place : Option ReaderPosition
   pub plan : Plan
   pub last : Last
   pub ended : Bool
@@ -66,11 +66,11 @@ new_played tables moves rows fails = record {
 -- ---- its state as a source
 
 -- The messages read by a reader at this position.
-abbrev pub reading_at : List LogTable → List Logged → Place → Reading
+abbrev pub reading_at : List LogTable → List Logged → ReaderPosition → Reading
 reading_at tables log place = record { after = place.after; messages = told_at tables log place }
 
 -- The state of a source with this log, confirmed position and reader.
-abbrev pub played_state : List LogTable → List Logged → Lsn → Option Place → SourceState
+abbrev pub played_state : List LogTable → List Logged → Lsn → Option ReaderPosition → SourceState
 played_state tables log confirmed place = record { history = history_of tables log; confirmed = confirmed; reading = option_map (reading_at tables log) place }
 
 -- The state as a source.
@@ -173,7 +173,7 @@ abbrev pub started_at : Lsn → Played → Started
 started_at after s = if nat_lt after.0 s.confirmed.0 then Gone s.confirmed else Ready
 
 -- The reader's position after a start.
-abbrev pub place_of : Lsn → Started → Option Place
+abbrev pub place_of : Lsn → Started → Option ReaderPosition
 place_of after Ready = Some (record { after = after; commits = 0; begun = false; change = 0; table = 0 })
 place_of after (Gone first) = None
 

@@ -5,7 +5,7 @@ use Rattle.dbl_source_model.specs.ModelHistory.History.{IsRising}
 use Rattle.dbl_source_model.specs.ModelHistory.Fit.{IsFitHistory}
 use Rattle.dbl_source_model.specs.Standings.{Reading, SourceState, CrashState, left_of}
 use Rattle.dbl_source_model.specs.Stated.{IsReadRight}
-use Rattle.dbl_source_log.specs.declared.place.Place.{Place}
+use Rattle.dbl_source_log.specs.declared.reader_position.ReaderPosition.{ReaderPosition}
 use Rattle.dbl_source_log.proofs.LogLemmas.{is_rising}
 use Rattle.dbl_source_log.proofs.ReaderLemmas.{read_right}
 use Rattle.dbl_source.specs.Played.{Played, reading_at, standing_of}
@@ -39,7 +39,7 @@ rising_so source s a = subst (λ (t : SourceState). IsRising t.history) (sym a.1
 pub fit_so : (source : Played) (l : CrashState) → MayLeavePlayed source l → WasFair source → IsFitHistory l.history
 fit_so source l may fair = subst (λ (x : CrashState). IsFitHistory x.history) (sym may) fair.fit
 
-right_at : (source : Played) (place : Option Place) (r : Reading) → WasFair source → option_map (reading_at source.tables source.log) place ≡ Some r → IsReadRight (standing_of source).history r
+right_at : (source : Played) (place : Option ReaderPosition) (r : Reading) → WasFair source → option_map (reading_at source.tables source.log) place ≡ Some r → IsReadRight (standing_of source).history r
 right_at source None r fair is = cc
 right_at source (Some place) r fair is =
     let same : reading_at source.tables source.log place ≡ r = cc in

@@ -8,7 +8,7 @@ use Rattle.dbl_source_model.specs.Standings.{SourceState, CrashState, left_of}
 use Rattle.dbl_source_log.specs.declared.logged.LogTable.{LogTable}
 use Rattle.dbl_source_log.specs.declared.logged.Logged.{Logged}
 use Rattle.dbl_source_log.specs.declared.logged.Logged.TheVariants.{Changes}
-use Rattle.dbl_source_log.specs.declared.place.Place.{Place}
+use Rattle.dbl_source_log.specs.declared.reader_position.ReaderPosition.{ReaderPosition}
 use Rattle.dbl_source_log.specs.Sent.{sent_after, index_of, told_at, IsPlaceIn}
 use Rattle.dbl_source.specs.declared.asked.Asked.{Asked}
 use Rattle.dbl_source_log.specs.declared.error.SourceError.{SourceError}
@@ -32,12 +32,12 @@ abbrev pub WasFair : Played → Type 0
 WasFair s = IsFair s.tables s.log s.asked s.rows
 
 -- The message that a reader at this position reads next, None at the end of the log.
-abbrev pub next_message : Played → Place → Option Message
+abbrev pub next_message : Played → ReaderPosition → Option Message
 next_message s place = slice_get (sent_after s.tables place.after s.log) (length (told_at s.tables s.log place))
 
 -- Whether the next message has no encoding, so that a read fails.
 abbrev pub IsUnfit : Played → Type 0
-IsUnfit s = (place : Place) × (s.place ≡ Some place) × IsSomeAnd (next_message s place) (λ message. ¬ Fits message)
+IsUnfit s = (place : ReaderPosition) × (s.place ≡ Some place) × IsSomeAnd (next_message s place) (λ message. ¬ Fits message)
 
 -- Whether the plan is that after a call: the call is counted, and a fault if and only if it was planned to fail.
 abbrev pub HasCountedCall : Played → Plan → Type 0
@@ -58,7 +58,7 @@ pub record AddedFirst (commits : List (List Message)) (old new : Played) : Type 
 pub record KeepsPlayed (s : Played) : Type 0 where
   pub few : length s.log < commit_limit
   pub before : (n : ℕ) (question : Asked) → slice_get s.asked n ≡ Some question → question.upto ≤ length s.log
-  pub placed : (p : Place) → s.place ≡ Some p → IsPlaceIn s.log p
+  pub placed : (p : ReaderPosition) → s.place ≡ Some p → IsPlaceIn s.log p
 
 -- Whether some first ones of these commits were appended to the log.
 pub record HasPlayed (commits : List (List Message)) (old new : List Logged) : Type 0 where
@@ -73,14 +73,14 @@ HasFailed before own old new =
     (IsFullBy (length before) own old × (new ≡ with_fault (with_counted_call old))) ⊎ (IsPlannedToFail old × (¬ IsFullBy (length before) own old) × (new ≡ with_fault (committed before (with_counted_call old))))
 
 -- Whether a reader at this position has no more messages.
-abbrev pub IsAtEnd : List Logged → Place → Type 0
+abbrev pub IsAtEnd : List Logged → ReaderPosition → Type 0
 IsAtEnd log place = length log ≤ index_of place
 
 -- Whether these bytes are the next message, the reader is now after it, and nothing else changed.
 pub record IsReadBy (old new : Played) (bytes : List ℕ) : Type 0 where
-  pub place : Place
+  pub place : ReaderPosition
   pub was : old.place ≡ Some place
-  pub next : Place
+  pub next : ReaderPosition
   pub is : new ≡ record old { place = Some next }
   pub same : next.after ≡ place.after
   pub message : Message
@@ -89,22 +89,22 @@ pub record IsReadBy (old new : Played) (bytes : List ℕ) : Type 0 where
 
 -- Whether the step reads the next message of a source with a reader.
 pub record ReadsNextMessage (s : Played) (step : Step) : Type 0 where
-  pub place : Place
+  pub place : ReaderPosition
   pub was : s.place ≡ Some place
   pub next : IsNext s.tables s.log place step
 
 -- Whether nothing is left to be read, and nothing changed.
 pub record IsUnmoved (old new : Played) : Type 0 where
   pub is : new ≡ old
-  pub ends : (place : Place) → old.place ≡ Some place → IsAtEnd old.log place
+  pub ends : (place : ReaderPosition) → old.place ≡ Some place → IsAtEnd old.log place
 
 -- Whether a read failed: a fault is counted if the message has no encoding, and nothing changed if memory ran out.
 abbrev pub FailsToRead : Played → Played → SourceError → Type 0
 FailsToRead old new e = ((e ≡ Memory) × (new ≡ old)) ⊎ ((e ≡ Failed) × (new ≡ with_fault old) × IsUnfit old)
 
 -- The invariant of the parts of each played source.
-pub record IsPlayed (tables : List LogTable) (log : List Logged) (asked : List Asked) (place : Option Place) (described : BTreeSet ℕ) : Type 0 where
+pub record IsPlayed (tables : List LogTable) (log : List Logged) (asked : List Asked) (place : Option ReaderPosition) (described : BTreeSet ℕ) : Type 0 where
   pub few : length log < commit_limit
   pub before : (n : ℕ) (question : Asked) → slice_get asked n ≡ Some question → question.upto ≤ length log
-  pub placed : (p : Place) → place ≡ Some p → IsPlaceIn log p
-  pub recalled : (p : Place) → place ≡ Some p → Describes described (told_at tables log p)
+  pub placed : (p : ReaderPosition) → place ≡ Some p → IsPlaceIn log p
+  pub recalled : (p : ReaderPosition) → place ≡ Some p → Describes described (told_at tables log p)

@@ -1,7 +1,7 @@
 ghost use Rattle.std.specs.Prelude.{◌≡◌, [], map, option_copied, IfOk, slice_index_or};
 ghost use Rattle.dbl_source.specs.Played.{question_of};
 
-use dbl_base::Lsn;
+use dbl_base::{Lsn, copy_items};
 use dbl_model_table::{Key, RawRow, TableName};
 use dbl_source_model::Started;
 use std::alloc::{AllocError, Global};
@@ -38,13 +38,10 @@ pub(crate) fn rows_at(
     ensures { IfOk result (λ found.
         found.items ≡ slice_index_or (map (λ rows. rows.items) rows.now.items) number []) }
 {
-    let mut copied = Vec::new(alloc);
-    if let Some(found) = rows.get(number) {
-        for row in found {
-            copied.push(row.copy(alloc)?)?;
-        }
+    match rows.get(number) {
+        Some(found) => copy_items(alloc, found.as_slice()),
+        None => Ok(Vec::new(alloc)),
     }
-    Ok(copied)
 }
 
 fn key_of(alloc: Global, above: Option<&Key>) -> Result<Option<Key>, AllocError>

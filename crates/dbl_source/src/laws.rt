@@ -25,17 +25,19 @@ pub fn first_commits_are_fair()
     ensures { FirstCommitsAreFair }
 {}
 
-/// A watermark keeps a played source fair.
+/// A watermark of UTF-8 text keeps a played source fair, if its history has room for it.
 pub fn marks_keep_fair()
     ensures { MarksKeepFair }
 {}
 
-/// Other clients' commits that are such as a server sends keep a valid source fair.
+/// Other clients' commits that are such as a server sends keep a played source fair, if its history
+/// stays valid.
 pub fn commits_keep_fair()
     ensures { CommitsKeepFair }
 {}
 
-/// A select whose rows are of one position keeps a played source fair.
+/// A select keeps a played source fair, if its rows are of one position between its call and its
+/// return, the commits inside of it are such as a server sends, and the history stays valid.
 pub fn selects_keep_fair()
     ensures { SelectsKeepFair }
 {}
@@ -45,8 +47,8 @@ pub fn selects_have_returned()
     ensures { SelectsHaveReturned }
 {}
 
-/// A played source is fair for each position of its select, and isn't with rows of an earlier
-/// position.
+/// An example: a played source is fair for each position of its select, and isn't with rows of an
+/// earlier position.
 pub fn fair_sources_stand()
     ensures { FairSourcesStand }
 {}

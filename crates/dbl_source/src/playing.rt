@@ -22,7 +22,7 @@ use crate::{ScriptedSource, SourceError};
 use dbl_base::{Bytes, Lsn, Seq, Text};
 use dbl_model_table::{Key, RawRow, RawTable, TableName};
 use dbl_pgmsg::Message;
-use dbl_source_log::{Logged, Place, Step, commits_upto, lsn_of, next_step, remember};
+use dbl_source_log::{Logged, ReaderPosition, Step, commits_upto, lsn_of, next_step, remember};
 use dbl_source_model::Started;
 
 impl ScriptedSource {
@@ -169,7 +169,7 @@ impl ScriptedSource {
                 first: self.confirmed,
             };
         }
-        self.place = Some(Place {
+        self.place = Some(ReaderPosition {
             after,
             commits: 0,
             begun: false,

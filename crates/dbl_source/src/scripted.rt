@@ -26,7 +26,7 @@ use crate::moves::Move;
 use crate::{Source, SourceError};
 use dbl_base::{Bytes, FaultPlan, Lsn, Text};
 use dbl_model_table::{Key, RawRow, RawTable, TableName};
-use dbl_source_log::{LogTable, Logged, Place};
+use dbl_source_log::{LogTable, Logged, ReaderPosition};
 use dbl_source_model::Started;
 use std::alloc::Global;
 use std::collections::BTreeSet;
@@ -48,7 +48,7 @@ pub struct ScriptedSource {
     pub(crate) asked: Vec<Asked>,
     pub(crate) log: Vec<Logged>,
     pub(crate) confirmed: Lsn,
-    pub(crate) place: Option<Place>,
+    pub(crate) place: Option<ReaderPosition>,
     // The tables that Relations have described since the last start.
     pub(crate) described: BTreeSet<u32>,
     pub(crate) plan: FaultPlan,
@@ -269,10 +269,10 @@ impl Source for ScriptedSource {
         ensures planned { FailsAsPlanned 0 (IsUnfit (with_release self.old)) self.old self.new result }
         ensures memory { result ≡ Err Memory
             → AddedFirst (before_of self.old) (past_move self.old) self.new }
-        ensures played { IfOk result (λ read. (place : Place) × (what : Last)
+        ensures played { IfOk result (λ read. (place : ReaderPosition) × (what : Last)
             × (self.new ≡ with_answer what
             (record (with_release self.old) { place = Some place; ended = is_none read }))) }
-        ensures ends { IfOk result (λ read. (read ≡ None) → (place : Place)
+        ensures ends { IfOk result (λ read. (read ≡ None) → (place : ReaderPosition)
             → self.new.place ≡ Some place → IsAtEnd self.new.log place) }
     {
         self.play_read()

@@ -90,8 +90,9 @@ pub trait Source {
         ensures cause { FailsOnlyIfCounted (result ≡ Err Failed) (faults self.old) (faults self.new) };
 
     /// Begins reading again, with the first commit after the LSN; or answers `Gone` if the log
-    /// after it was dropped, with the first position after which reading could begin. Only log up
-    /// to the confirmed position is ever dropped.
+    /// after it was dropped, with a position above the LSN and not above the confirmed one, since
+    /// only log up to there is ever dropped. (It is to be the first one after which reading can
+    /// begin, which no clause says.)
     fn start(&mut self, after: Lsn) -> Result<Started, SourceError>
         requires { IsTrue (is_live self.old) }
         ensures started { MovesTo stands self.old self.new result (Starts after) }
@@ -110,7 +111,8 @@ pub trait Source {
         ensures comes { comes_of self.old self.new }
         ensures cause { FailsOnlyIfCounted (result ≡ Err Failed) (faults self.old) (faults self.new) };
 
-    /// The bytes of the next message; None if every commit that existed at the call was read.
+    /// The bytes of the next message, or None. If the source conforms and the messages that it sent
+    /// have no error, None says that every commit that existed at the call was read.
     fn read(&mut self) -> Result<Option<Bytes>, SourceError>
         requires live { IsTrue (is_live self.old) }
         requires reading { IsTrue (is_reading self.old) }
@@ -134,8 +136,8 @@ pub trait Source {
         ensures cause { FailsOnlyIfCounted (result ≡ Err Failed) (faults self.old) (faults self.new) };
 
     /// The first `limit` rows of the table with a key above `above` (all if None), in key order, at
-    /// one position between the call and the return. No row is above a key of other types, and a
-    /// missing table has none.
+    /// one position between the call and the return, if the source conforms. No row is above a key
+    /// of other types, and a missing table has none.
     fn select(
         &mut self,
         table: &TableName,
@@ -220,8 +222,8 @@ pub trait Source {
     ghost fit: { (source : Self) (l : CrashState) → may_leave source l → honest source
         → IsFitHistory l.history };
 
-    /// The messages read of a conforming source state the first commits after the start, for any
-    /// captured tables.
+    /// The messages read of a conforming source state the first commits after the start, up to the
+    /// first message with an error, for any captured tables.
     ghost right: { (source : Self) (s : SourceState) (r : Reading) → stands source s → honest source
         → s.reading ≡ Some r → IsReadRight s.history r };
 

@@ -6,25 +6,25 @@ use Rattle.std.proofs.lemmas.Option.{slice_get_within, get_or_from_slice_get}
 use Rattle.dbl_pgmsg.specs.declared.messages.Message.{Message}
 use Rattle.dbl_source_log.specs.declared.logged.LogTable.{LogTable}
 use Rattle.dbl_source_log.specs.declared.logged.Logged.{Logged}
-use Rattle.dbl_source_log.specs.declared.place.Place.{Place}
+use Rattle.dbl_source_log.specs.declared.reader_position.ReaderPosition.{ReaderPosition}
 use Rattle.dbl_source_log.specs.Numbers.{commits_upto}
 use Rattle.dbl_source_log.specs.Sent.{oids_of, messages_in, onto_relations, told_changes, begin_message, commit_message, told_commit, told_from, told_whole, index_of, oids_at, told_part, told_open, told_at, IsPlaceIn}
 use Rattle.dbl_source_log.proofs.SentLemmas.{take_none, slice_get-drop, told_changes-append, told_from-append}
 
 -- the places that a reader comes to
-abbrev pub begun_at : Place → Place
+abbrev pub begun_at : ReaderPosition → ReaderPosition
 begun_at place = record { after = place.after; commits = place.commits; begun = true; change = 0; table = 0 }
 
-abbrev pub table_looked_at : Place → ℕ → Place
+abbrev pub table_looked_at : ReaderPosition → ℕ → ReaderPosition
 table_looked_at place table = record { after = place.after; commits = place.commits; begun = true; change = place.change; table = table }
 
-abbrev pub change_told : Place → Place
+abbrev pub change_told : ReaderPosition → ReaderPosition
 change_told place = record { after = place.after; commits = place.commits; begun = true; change = place.change + 1; table = 0 }
 
-abbrev pub commit_told : Place → Place
+abbrev pub commit_told : ReaderPosition → ReaderPosition
 commit_told place = record { after = place.after; commits = place.commits + 1; begun = false; change = 0; table = 0 }
 
-module _ (tables : List LogTable) (log : List Logged) (place : Place) where
+module _ (tables : List LogTable) (log : List Logged) (place : ReaderPosition) where
   abbrev pub whole : List Message
   whole = told_whole tables place.after place.commits log
 

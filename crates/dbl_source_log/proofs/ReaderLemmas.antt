@@ -17,7 +17,7 @@ use Rattle.dbl_source_model.specs.Stated.{commits_after, to_state, ReadsRight, I
 use Rattle.dbl_source_log.specs.declared.logged.LogTable.{LogTable}
 use Rattle.dbl_source_log.specs.declared.logged.Logged.{Logged}
 use Rattle.dbl_source_log.specs.declared.logged.Logged.TheVariants.{Changes, Mark}
-use Rattle.dbl_source_log.specs.declared.place.Place.{Place}
+use Rattle.dbl_source_log.specs.declared.reader_position.ReaderPosition.{ReaderPosition}
 use Rattle.dbl_source_log.specs.Numbers.{lsn_of, end_lsn_of, commits_upto}
 use Rattle.dbl_source_log.specs.Relations.{relation_at, mark_message}
 use Rattle.dbl_source_log.specs.Sent.{described_in, oids_of, messages_in, onto_relation, onto_relations, told_changes, begin_message, commit_message, told_commit, told_from, told_at}
@@ -74,7 +74,7 @@ fair_behind P zero xs all = all
 fair_behind P (suc n) [] all = tt
 fair_behind P (suc n) (x ∷ xs) all = fair_behind P n xs all.1
 
-pub read_right : (tables : List LogTable) (log : List Logged) (place : Place) → IsFairLog tables log → IsReadRight (history_of tables log) (record { after = place.after; messages = told_at tables log place })
+pub read_right : (tables : List LogTable) (log : List Logged) (place : ReaderPosition) → IsFairLog tables log → IsReadRight (history_of tables log) (record { after = place.after; messages = told_at tables log place })
 read_right tables log place fair infos captured =
     right_front infos place.after commits (told_at tables log place) (told_from tables (first + 1) subsequent []) (at_front tables log place) whole_right
   where

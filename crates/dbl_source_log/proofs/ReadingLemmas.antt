@@ -11,7 +11,7 @@ use Rattle.dbl_source_model.specs.ModelCommit.Past.{relation_of}
 use Rattle.dbl_source_model.specs.ModelCommit.Stated.{list_of}
 use Rattle.dbl_source_log.specs.declared.logged.LogTable.{LogTable}
 use Rattle.dbl_source_log.specs.declared.logged.Logged.{Logged}
-use Rattle.dbl_source_log.specs.declared.place.Place.{Place}
+use Rattle.dbl_source_log.specs.declared.reader_position.ReaderPosition.{ReaderPosition}
 use Rattle.dbl_source_log.specs.Relations.{relation_at}
 use Rattle.dbl_source_log.specs.Sent.{oids_of, messages_in, onto_relation, onto_relations, index_of, told_at, IsPlaceIn}
 use Rattle.dbl_source_log.proofs.SentLemmas.{onto_relations-append}
@@ -23,13 +23,13 @@ use Rattle.dbl_source_log.specs.declared.reading.Missing.{Missing}
 use Rattle.dbl_source_log.specs.Readings.{Describes, IsMissing, LeadsTo, Steps}
 
 -- the step to the place behind a message reads the next one, where the reader has read the message there
-pub leads_steps : (tables : List LogTable) (log : List Logged) (place next : Place) (m : Message) (r : Result Step SourceError) → IfOk r (LeadsTo m next)
+pub leads_steps : (tables : List LogTable) (log : List Logged) (place next : ReaderPosition) (m : Message) (r : Result Step SourceError) → IfOk r (LeadsTo m next)
     → IfErr r (λ e. (e ≡ Memory) ⊎ ((e ≡ Failed) × (¬ Fits m))) → next.after ≡ place.after → told_at tables log next ≡ m ∷ told_at tables log place → IsPlaceIn log next → Steps tables log place r
 leads_steps tables log place next m (Ok step) leads fault same told placed = record {
   message = m;
   spelled = leads.spelled;
   told = ap (told_at tables log) leads.place_is ∙ told;
-  same = ap (λ (p : Place). p.after) leads.place_is ∙ same;
+  same = ap (λ (p : ReaderPosition). p.after) leads.place_is ∙ same;
   placed = subst (IsPlaceIn log) (sym leads.place_is) placed;
   described = leads.described;
 }
@@ -80,7 +80,7 @@ all_looked_at oids table none = take_all table oids (beyond oids table none)
 
 -- ---- inside of a change
 
-module _ (tables : List LogTable) (log : List Logged) (place : Place) (entry : Logged) (m : Message) (there : slice_get log (index_of place) ≡ Some entry) (begun : place.begun ≡ true) (change : slice_get (messages_in entry) place.change ≡ Some m) where
+module _ (tables : List LogTable) (log : List Logged) (place : ReaderPosition) (entry : Logged) (m : Message) (there : slice_get log (index_of place) ≡ Some entry) (begun : place.begun ≡ true) (change : slice_get (messages_in entry) place.change ≡ Some m) where
   -- what was read so far, by the tables of the next change
   told_here : told_at tables log place ≡ onto_relations tables (take place.table (oids_of m)) (base tables log place entry)
   told_here =

@@ -9,7 +9,7 @@ use Rattle.dbl_source_model.specs.ModelCommit.Past.{relation_of}
 use Rattle.dbl_source_model.specs.ModelCommit.Stated.{list_of}
 use Rattle.dbl_source_log.specs.declared.logged.LogTable.{LogTable}
 use Rattle.dbl_source_log.specs.declared.logged.Logged.{Logged}
-use Rattle.dbl_source_log.specs.declared.place.Place.{Place}
+use Rattle.dbl_source_log.specs.declared.reader_position.ReaderPosition.{ReaderPosition}
 use Rattle.dbl_source_log.specs.Numbers.{commits_upto}
 use Rattle.dbl_source_log.specs.Relations.{relation_at}
 use Rattle.dbl_source_log.specs.Sent.{oids_of, messages_in, onto_relation, onto_relations, told_changes, begin_message, commit_message, told_commit, told_from, told_whole, index_of, told_part, told_open, told_at, IsPlaceIn}
@@ -138,7 +138,7 @@ module _ (tables : List LogTable) where
   behind_more (suc first) (suc n) [] more le = absurd (omega arith)
   behind_more (suc first) n (entry ∷ log) more le = behind_more first n log more (omega arith)
 
-  open_stays : (log more : List Logged) (place : Place) (b : Bool) (past : List Message) → place.begun ≡ b → (IsTrue b → index_of place < length log)
+  open_stays : (log more : List Logged) (place : ReaderPosition) (b : Bool) (past : List Message) → place.begun ≡ b → (IsTrue b → index_of place < length log)
       → told_open tables place (slice_get (log ++ more) (index_of place)) past ≡ told_open tables place (slice_get log (index_of place)) past
   open_stays log more place true past is there = ap (λ (o : Option Logged). told_open tables place o past) (there_more log more (index_of place) (there refl))
   open_stays log more place false past is there = not_begun (slice_get (log ++ more) (index_of place)) ∙ sym (not_begun (slice_get log (index_of place)))
@@ -147,7 +147,7 @@ module _ (tables : List LogTable) where
       not_begun None = refl
       not_begun (Some entry) = ap (λ (t : Bool). if t then told_part tables place entry past else past) is
 
-  pub told_at-grown : (log more : List Logged) (place : Place) → IsPlaceIn log place → told_at tables (log ++ more) place ≡ told_at tables log place
+  pub told_at-grown : (log more : List Logged) (place : ReaderPosition) → IsPlaceIn log place → told_at tables (log ++ more) place ≡ told_at tables log place
   told_at-grown log more place placed =
       ap (λ (l : List Logged). told_open tables place (slice_get (log ++ more) (index_of place)) (told_from tables (commits_upto place.after + 1) l [])) (behind_more (commits_upto place.after) place.commits log more placed.few)
       ∙ open_stays log more place place.begun (told_whole tables place.after place.commits log) refl placed.there
@@ -166,7 +166,7 @@ module _ (tables : List LogTable) where
       (on_top_twice all (m ∷ all) (told_changes tables rest (m ∷ all)) (on_top_one m all) (on_changes rest (m ∷ all)))
 
   -- so many messages of a commit that is open are told before all of it is
-  pub part_before : (place : Place) (entry : Logged) (past : List Message) → IsOnTop (told_part tables place entry past) (told_commit tables (index_of place + 1) entry past)
+  pub part_before : (place : ReaderPosition) (entry : Logged) (past : List Message) → IsOnTop (told_part tables place entry past) (told_commit tables (index_of place + 1) entry past)
   part_before place entry past =
       let c : ℕ = place.change in
       let ms : List Message = messages_in entry in
@@ -182,7 +182,7 @@ module _ (tables : List LogTable) where
       (on_top_one (commit_message (index_of place + 1)) all)
 
   -- what is left of a log behind the whole commits that were read
-  left_behind : (place : Place) (o : Option Logged) (rest : List Logged) (past : List Message) → IsOnTop (told_open tables place o past) (told_from tables (index_of place + 1) (list_of o ++ rest) past)
+  left_behind : (place : ReaderPosition) (o : Option Logged) (rest : List Logged) (past : List Message) → IsOnTop (told_open tables place o past) (told_from tables (index_of place + 1) (list_of o ++ rest) past)
   left_behind place None rest past = on_log (index_of place + 1) rest past
   left_behind place (Some entry) rest past =
       let whole : List Message = told_commit tables (index_of place + 1) entry past in
@@ -194,13 +194,13 @@ module _ (tables : List LogTable) where
       by false = on_commit (index_of place + 1) entry past
 
   -- at the end of the log nothing is left
-  pub none_left : (place : Place) (log : List Logged) (past : List Message) → length (drop (commits_upto place.after) log) ≤ place.commits
+  pub none_left : (place : ReaderPosition) (log : List Logged) (past : List Message) → length (drop (commits_upto place.after) log) ≤ place.commits
       → told_open tables place (slice_get log (index_of place)) past ≡ past
   none_left place log past le =
       ap (λ (o : Option Logged). told_open tables place o past)
       (slice_get_past log (index_of place) (omega (arith, le, length-drop (commits_upto place.after) log)))
 
-  pub at_front : (log : List Logged) (place : Place) → IsOnTop (told_at tables log place) (told_from tables (commits_upto place.after + 1) (drop (commits_upto place.after) log) [])
+  pub at_front : (log : List Logged) (place : ReaderPosition) → IsOnTop (told_at tables log place) (told_from tables (commits_upto place.after + 1) (drop (commits_upto place.after) log) [])
   at_front log place = elim (nat_cases place.commits (length subsequent)) [
     | inl within ↦ subst (IsOnTop (told_at tables log place)) (sym (all_is (omega (arith, within)))) (subst (λ (o : Option Logged). IsOnTop (told_open tables place o whole) (told_from tables (index_of place + 1) (list_of (slice_get subsequent place.commits) ++ drop (suc place.commits) subsequent) whole)) (slice_get-drop (commits_upto place.after) place.commits log) (left_behind place (slice_get subsequent place.commits) (drop (suc place.commits) subsequent) whole))
     | inr past_end ↦ subst (λ (l : List Message). IsOnTop l (told_from tables (commits_upto place.after + 1) subsequent [])) (sym (none_left place log whole past_end)) (subst (λ (l : List Logged). IsOnTop whole (told_from tables (commits_upto place.after + 1) l [])) (take_all place.commits subsequent past_end) (on_top whole))

@@ -16,7 +16,7 @@ use Rattle.dbl_source_model.specs.Stated.{commits_after, IsReadRight}
 use Rattle.dbl_source_model.specs.Selected.{rows_up_to}
 use Rattle.dbl_source_log.specs.declared.logged.LogTable.{LogTable}
 use Rattle.dbl_source_log.specs.declared.logged.Logged.{Logged}
-use Rattle.dbl_source_log.specs.declared.place.Place.{Place}
+use Rattle.dbl_source_log.specs.declared.reader_position.ReaderPosition.{ReaderPosition}
 use Rattle.dbl_source_log.specs.Relations.{relation_at}
 use Rattle.dbl_source_log.specs.declared.logged.Logged.TheVariants.{Changes}
 use Rattle.dbl_source_log.specs.Sent.{oids_of, sent_after, index_of, told_at, IsPlaceIn}
@@ -48,16 +48,16 @@ FitLogsHaveTheirRows = (tables : List LogTable) (log : List Logged) (infos : Lis
 
 -- The messages that a reader of a fair log has read are correct, at any position.
 abbrev pub FairLogsAreReadRight : Type 0
-FairLogsAreReadRight = (tables : List LogTable) (log : List Logged) (place : Place) → IsFairLog tables log → IsReadRight (history_of tables log) (record { after = place.after; messages = told_at tables log place })
+FairLogsAreReadRight = (tables : List LogTable) (log : List Logged) (place : ReaderPosition) → IsFairLog tables log → IsReadRight (history_of tables log) (record { after = place.after; messages = told_at tables log place })
 
 -- A reader at the end of a fair log has read every commit after its start.
 abbrev pub ReadersAtTheEndHaveReadAll : Type 0
-ReadersAtTheEndHaveReadAll = (tables : List LogTable) (log : List Logged) (place : Place) (infos : List TableInfo) → IsFairLog tables log → IsPlaceIn log place → length log ≤ index_of place
+ReadersAtTheEndHaveReadAll = (tables : List LogTable) (log : List Logged) (place : ReaderPosition) (infos : List TableInfo) → IsFairLog tables log → IsPlaceIn log place → length log ≤ index_of place
     → length (commits_after place.after (history_of tables log).commits) ≤ length (commits_of infos (told_at tables log place))
 
 -- The messages read up to a position stay the same when the log grows.
 abbrev pub ReadMessagesStay : Type 0
-ReadMessagesStay = (tables : List LogTable) (log more : List Logged) (place : Place) → IsPlaceIn log place → told_at tables (log ++ more) place ≡ told_at tables log place
+ReadMessagesStay = (tables : List LogTable) (log more : List Logged) (place : ReaderPosition) → IsPlaceIn log place → told_at tables (log ++ more) place ≡ told_at tables log place
 
 -- The history of a log grows with it, unless a watermark was written.
 abbrev pub LogsThatGrowHaveHistoriesThatGrow : Type 0
@@ -65,7 +65,7 @@ LogsThatGrowHaveHistoriesThatGrow = (tables : List LogTable) (log : List Logged)
 
 -- The messages that were read are a prefix of those that are sent.
 abbrev pub ReadersReadWhatIsSent : Type 0
-ReadersReadWhatIsSent = (tables : List LogTable) (log : List Logged) (place : Place) → (rest : List Message) × (sent_after tables place.after log ≡ reverse (told_at tables log place) ++ rest)
+ReadersReadWhatIsSent = (tables : List LogTable) (log : List Logged) (place : ReaderPosition) → (rest : List Message) × (sent_after tables place.after log ≡ reverse (told_at tables log place) ++ rest)
 
 -- The messages sent of a log are a prefix of those sent after it grows.
 abbrev pub SentMessagesStay : Type 0

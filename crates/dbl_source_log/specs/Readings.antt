@@ -7,7 +7,7 @@ use Rattle.dbl_pgmsg.specs.Grammar.{Fits, Spells}
 use Rattle.dbl_source_model.specs.ModelCommit.Past.{relation_of}
 use Rattle.dbl_source_log.specs.declared.logged.LogTable.{LogTable}
 use Rattle.dbl_source_log.specs.declared.logged.Logged.{Logged}
-use Rattle.dbl_source_log.specs.declared.place.Place.{Place}
+use Rattle.dbl_source_log.specs.declared.reader_position.ReaderPosition.{ReaderPosition}
 use Rattle.dbl_source_log.specs.Sent.{described_in, onto_relations, told_at, IsPlaceIn}
 use Rattle.dbl_source_log.specs.declared.error.SourceError.{SourceError}
 use Rattle.dbl_source_log.specs.declared.error.SourceError.TheVariants.{Failed, Memory}
@@ -20,7 +20,7 @@ Describes described past = (oid : ℕ) → contains nat_cmp described oid ≡ is
 
 -- Whether the step reads the next message of a log for a reader at a position: its bytes are the message's, and its position is after that
 -- message.
-pub record IsNext (tables : List LogTable) (log : List Logged) (place : Place) (step : Step) : Type 0 where
+pub record IsNext (tables : List LogTable) (log : List Logged) (place : ReaderPosition) (step : Step) : Type 0 where
   pub message : Message
   pub spelled : Spells step.bytes message
   pub told : told_at tables log step.place ≡ message ∷ told_at tables log place
@@ -29,15 +29,15 @@ pub record IsNext (tables : List LogTable) (log : List Logged) (place : Place) (
   pub described : step.described ≡ described_in message
 
 -- Whether the next message has no encoding.
-pub record HasUnfit (tables : List LogTable) (log : List Logged) (place : Place) : Type 0 where
+pub record HasUnfit (tables : List LogTable) (log : List Logged) (place : ReaderPosition) : Type 0 where
   pub message : Message
-  pub next : Place
+  pub next : ReaderPosition
   pub same : next.after ≡ place.after
   pub told : told_at tables log next ≡ message ∷ told_at tables log place
   pub unfit : ¬ Fits message
 
 -- Whether one more message was read, or it has no encoding, or memory ran out.
-abbrev pub Steps : List LogTable → List Logged → Place → Result Step SourceError → Type 0
+abbrev pub Steps : List LogTable → List Logged → ReaderPosition → Result Step SourceError → Type 0
 Steps tables log place result = MatchResult result (IsNext tables log place) (λ e. (e ≡ Memory) ⊎ ((e ≡ Failed) × HasUnfit tables log place))
 
 -- ---- for private clauses
@@ -52,7 +52,7 @@ abbrev pub FindsMissingRelation : List LogTable → List ℕ → ℕ → List Me
 FindsMissingRelation tables oids from base found = MatchOption found (onto_relations tables oids base ≡ onto_relations tables (take from oids) base) (IsMissing tables oids from base)
 
 -- Whether the step reads this message and leads to this position.
-pub record LeadsTo (message : Message) (place : Place) (step : Step) : Type 0 where
+pub record LeadsTo (message : Message) (place : ReaderPosition) (step : Step) : Type 0 where
   pub spelled : Spells step.bytes message
   pub place_is : step.place ≡ place
   pub described : step.described ≡ described_in message

@@ -9,7 +9,7 @@ use Rattle.dbl_source_model.specs.ModelCommit.Stated.{list_of}
 use Rattle.dbl_source_log.specs.declared.logged.LogTable.{LogTable}
 use Rattle.dbl_source_log.specs.declared.logged.Logged.{Logged}
 use Rattle.dbl_source_log.specs.declared.logged.Logged.TheVariants.{Changes, Mark}
-use Rattle.dbl_source_log.specs.declared.place.Place.{Place}
+use Rattle.dbl_source_log.specs.declared.reader_position.ReaderPosition.{ReaderPosition}
 use Rattle.dbl_source_log.specs.Numbers.{lsn_of, end_lsn_of, xid_of, time_of, commits_upto}
 use Rattle.dbl_source_log.specs.Relations.{relation_at, mark_message}
 
@@ -73,7 +73,7 @@ abbrev pub told_whole : List LogTable → Lsn → ℕ → List Logged → List M
 told_whole tables after commits log = told_from tables (commits_upto after + 1) (take commits (drop (commits_upto after) log)) []
 
 -- The index in the log of the commit that is being read or is next.
-abbrev pub index_of : Place → ℕ
+abbrev pub index_of : ReaderPosition → ℕ
 index_of place = commits_upto place.after + place.commits
 
 -- The OIDs that the change at an index of a commit names.
@@ -81,20 +81,20 @@ abbrev pub oids_at : Logged → ℕ → List ℕ
 oids_at entry change = unwrap_or (option_map oids_of (slice_get (messages_in entry) change)) []
 
 -- The messages of an open commit: its Begin, the changes that were read, and the Relations of the checked tables of the next change.
-abbrev pub told_part : List LogTable → Place → Logged → List Message → List Message
+abbrev pub told_part : List LogTable → ReaderPosition → Logged → List Message → List Message
 told_part tables place entry past =
     onto_relations tables (take place.table (oids_at entry place.change)) (told_changes tables (take place.change (messages_in entry)) (begin_message (index_of place + 1) ∷ past))
 
 -- The messages read so far with those of the open commit, if there is one and its Begin was read.
-abbrev pub told_open : List LogTable → Place → Option Logged → List Message → List Message
+abbrev pub told_open : List LogTable → ReaderPosition → Option Logged → List Message → List Message
 told_open tables place None past = past
 told_open tables place (Some entry) past = if place.begun then told_part tables place entry past else past
 
 -- The messages that a reader at this position has read, for any position.
-abbrev pub told_at : List LogTable → List Logged → Place → List Message
+abbrev pub told_at : List LogTable → List Logged → ReaderPosition → List Message
 told_at tables log place = told_open tables place (slice_get log (index_of place)) (told_whole tables place.after place.commits log)
 
 -- Whether the position is in the log or at its end. The messages read up to such a position stay the same when the log grows.
-pub record IsPlaceIn (log : List Logged) (place : Place) : Type 0 where
+pub record IsPlaceIn (log : List Logged) (place : ReaderPosition) : Type 0 where
   pub few : place.commits ≤ length log - commits_upto place.after
   pub there : IsTrue place.begun → index_of place < length log

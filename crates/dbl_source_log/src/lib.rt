@@ -4,7 +4,7 @@
 mod error;
 mod laws;
 mod logged;
-mod place;
+mod reader_position;
 mod reading;
 mod relations;
 mod transactions;
@@ -16,7 +16,7 @@ pub use laws::{
     readers_at_the_end_have_read_all, readers_read_what_is_sent, sent_messages_stay,
 };
 pub use logged::{LogTable, Logged};
-pub use place::Place;
+pub use reader_position::ReaderPosition;
 pub use reading::{Step, next_step, remember};
 pub use relations::{mark_message, relation_at};
 pub use transactions::{begin_message, commit_message, commits_upto, lsn_of, oid_at};

@@ -12,8 +12,8 @@ ghost use Rattle.dbl_source_log.specs.Readings.{Describes, Steps, FindsMissingRe
 ghost use Rattle.dbl_source_log.specs.Numbers.{number_limit};
 
 use crate::{
-    LogTable, Logged, Place, SourceError, begin_message, commit_message, mark_message, oid_at,
-    relation_at,
+    LogTable, Logged, ReaderPosition, SourceError, begin_message, commit_message, mark_message,
+    oid_at, relation_at,
 };
 use dbl_base::{Bytes, Text};
 use dbl_pgmsg::{Message, encode};
@@ -24,7 +24,7 @@ use std::collections::BTreeSet;
 #[derive(Debug, Drop)]
 pub struct Step {
     pub bytes: Bytes,
-    pub place: Place,
+    pub place: ReaderPosition,
     pub described: Option<u32>,
 }
 
@@ -46,7 +46,7 @@ fn described_by(message: &Message) -> Option<u32>
 }
 
 // Fails if the message has no encoding.
-fn step_to(alloc: Global, message: &Message, place: Place) -> Result<Step, SourceError>
+fn step_to(alloc: Global, message: &Message, place: ReaderPosition) -> Result<Step, SourceError>
     ensures leads { IfOk result (LeadsTo message.now place) }
     ensures fault { IfErr result (λ e. (e ≡ SourceError.Memory)
         ⊎ ((e ≡ SourceError.Failed) × (¬ Fits message.now))) }
@@ -92,7 +92,7 @@ fn next_missing(
 }
 
 // The commit begins.
-fn first_step(alloc: Global, place: Place, number: u64) -> Result<Step, SourceError>
+fn first_step(alloc: Global, place: ReaderPosition, number: u64) -> Result<Step, SourceError>
     requires { number < number_limit }
     ensures { (tables : List LogTable) (log : List Logged) (entry : Logged)
         → number ≡ index_of place + 1 → place.begun ≡ false
@@ -102,7 +102,7 @@ fn first_step(alloc: Global, place: Place, number: u64) -> Result<Step, SourceEr
     step_to(
         alloc,
         &begin_message(number),
-        Place {
+        ReaderPosition {
             begun: true,
             change: 0,
             table: 0,
@@ -116,7 +116,7 @@ fn change_step(
     alloc: Global,
     tables: &[LogTable],
     described: &BTreeSet<u32>,
-    place: Place,
+    place: ReaderPosition,
     message: &Message,
 ) -> Result<Step, SourceError>
     requires { place.change + 1 < 2 ^ 64 }
@@ -130,7 +130,7 @@ fn change_step(
         Some(Missing { relation, table }) => step_to(
             alloc,
             &relation,
-            Place {
+            ReaderPosition {
                 begun: true,
                 table,
                 ..place
@@ -139,7 +139,7 @@ fn change_step(
         None => step_to(
             alloc,
             message,
-            Place {
+            ReaderPosition {
                 begun: true,
                 change: place.change + 1,
                 table: 0,
@@ -150,7 +150,7 @@ fn change_step(
 }
 
 // The commit ends.
-fn last_step(alloc: Global, place: Place, number: u64) -> Result<Step, SourceError>
+fn last_step(alloc: Global, place: ReaderPosition, number: u64) -> Result<Step, SourceError>
     requires number { number < number_limit }
     requires place { place.commits + 1 < 2 ^ 64 }
     ensures { (tables : List LogTable) (log : List Logged) (entry : Logged)
@@ -162,7 +162,7 @@ fn last_step(alloc: Global, place: Place, number: u64) -> Result<Step, SourceErr
     step_to(
         alloc,
         &commit_message(number),
-        Place {
+        ReaderPosition {
             commits: place.commits + 1,
             begun: false,
             change: 0,
@@ -177,7 +177,7 @@ fn mark_step(
     alloc: Global,
     tables: &[LogTable],
     described: &BTreeSet<u32>,
-    place: Place,
+    place: ReaderPosition,
     value: &Text,
 ) -> Result<Step, SourceError>
     requires { place.change ≡ 0 }
@@ -196,7 +196,7 @@ fn inner_step(
     tables: &[LogTable],
     entry: &Logged,
     described: &BTreeSet<u32>,
-    place: Place,
+    place: ReaderPosition,
     number: u64,
 ) -> Result<Step, SourceError>
     requires number { number < number_limit }
@@ -228,7 +228,7 @@ pub fn next_step(
     tables: &[LogTable],
     entry: &Logged,
     described: &BTreeSet<u32>,
-    place: Place,
+    place: ReaderPosition,
     number: u64,
 ) -> Result<Step, SourceError>
     requires number { number < number_limit }

@@ -24,6 +24,6 @@ pub record MayFollowConfirm (upto : Lsn) (s : SourceState) (l : CrashState) : Ty
 abbrev pub Leaves : {S : Type 0} → (S → SourceState → Type 0) → (S → CrashState → Type 0) → S → S → (SourceState → CrashState → Type 0) → Type 0
 Leaves stands may_leave old new P = (s : SourceState) (l : CrashState) → stands old s → may_leave new l → P s l
 
--- Whether a crash after a call leaves something that P relates to the source's state before it.
+-- Whether a crash after a call can leave something, if the source had a state before it.
 abbrev pub LeavesSome : {S : Type 0} → (S → SourceState → Type 0) → (S → CrashState → Type 0) → S → S → Type 0
 LeavesSome stands may_leave old new = (s : SourceState) → stands old s → (l : CrashState) × may_leave new l

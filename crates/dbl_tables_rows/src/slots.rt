@@ -172,7 +172,7 @@ fn release_there(slots: &mut Slots, key: &Key, session: &Text)
     }
 }
 
-/// ReleasesKey the session's lock on a key, and discards the row under it. Takes no memory.
+/// Releases the session's lock on a key, and discards the row under it. Takes no memory.
 pub fn release(slots: &mut Slots, key: &Key, session: &Text)
     ensures { ReleasesKey key.now session.now slots.old slots.new }
 {

@@ -1,6 +1,7 @@
 -- What a topic log on a disk holds, and what a crash leaves of it.
-use Rattle.std.proofs.Common.{◌≡◌, ◌⊎◌, ℕ, ◌+◌, ◌^◌, ◌≤◌, Some, List, [], ◌∷◌, ◌++◌, length, Option, refl, sym, ap, subst, ◌∙◌, arith, inl, inr}
+use Rattle.std.proofs.Common.{◌≡◌, ◌⊎◌, ℕ, ◌+◌, ◌^◌, ◌≤◌, Some, List, [], ◌∷◌, ◌++◌, length, refl, sym, ap, subst, ◌∙◌, arith, inl, inr}
 use Rattle.std.proofs.lemmas.List.{take_all}
+use Rattle.dbl_disk.specs.Model.{DiskModel}
 use Rattle.dbl_record.specs.declared.record.Record.{Record}
 use Rattle.std.specs.Prelude.{false, max, IsTrue}
 use Rattle.dbl_journal.specs.Form.{IsJournal, up_to_gate}
@@ -18,19 +19,19 @@ use Rattle.dbl_topic.specs.Logs.{AreLogEntries, IsLog, IsLogEntry, log_size}
 use Rattle.dbl_topic.specs.Sinks.{IsLeftByPut, IsLeftByWhole}
 use Rattle.dbl_topic.proofs.LogLaws.{entries-push, forms_of, length-entries}
 
-module _ {D : Type 0} (seen : D → Option (List ℕ)) (may_leave : D → List ℕ → Type 0) where
-  pub one_held : (log : OnDisk D) (first second : List (List Record)) → HoldsGroups seen may_leave log first → HoldsGroups seen may_leave log second → first ≡ second
+module _ {D : Type 0} (model : DiskModel D) where
+  pub one_held : (log : OnDisk D) (first second : List (List Record)) → HoldsGroups model log first → HoldsGroups model log second → first ≡ second
   one_held log first second a b =
       let told = sym a.lists.told ∙ b.lists.told in
       let same : a.lists.bytes ≡ b.lists.bytes = cc in
-      one_log b.lists.bytes first second (subst (λ (i : List ℕ). IsLog i first) same (log_of seen may_leave log first a)) (log_of seen may_leave log second b)
+      one_log b.lists.bytes first second (subst (λ (i : List ℕ). IsLog i first) same (log_of model log first a)) (log_of model log second b)
 
-  pub counted_held : (log : OnDisk D) (groups : List (List Record)) → HoldsGroups seen may_leave log groups → count_of log ≡ length groups
+  pub counted_held : (log : OnDisk D) (groups : List (List Record)) → HoldsGroups model log groups → count_of log ≡ length groups
   counted_held log groups held = ap length held.lists.places ∙ length-places held.entries 8 ∙ length-entries held.entries groups held.are
 
   -- what a journal leaves while the entry of a group is appended
   pub leaves_put : (disk : D) (entries : List (List ℕ)) (groups : List (List Record)) (entry : List ℕ) (group : List Record) → AreLogEntries entries groups → IsLogEntry entry group
-      → LeavesEntries may_leave disk (λ left. (left ≡ entries) ⊎ (left ≡ entries ++ entry ∷ [])) → LeavesGroups may_leave disk (IsLeftByWhole groups group)
+      → LeavesEntries model disk (λ left. (left ≡ entries) ⊎ (left ≡ entries ++ entry ∷ [])) → LeavesGroups model disk (IsLeftByWhole groups group)
   leaves_put disk entries groups entry group are is leaves crashed may =
       let here = leaves crashed may in
       elim here.2 [
@@ -39,8 +40,8 @@ module _ {D : Type 0} (seen : D → Option (List ℕ)) (may_leave : D → List �
       ]
 
 -- a log that holds groups is kept
-pub has_groups : {D : Type 0} (seen : D → Option (List ℕ)) (may_leave : D → List ℕ → Type 0) (log : OnDisk D) (groups : List (List Record)) → HoldsGroups seen may_leave log groups → HasGroups seen may_leave log
-has_groups seen may_leave log groups held = record { holds = λ live. (groups, held); leaves = leaves_held seen may_leave log groups held }
+pub has_groups : {D : Type 0} (model : DiskModel D) (log : OnDisk D) (groups : List (List Record)) → HoldsGroups model log groups → HasGroups model log
+has_groups model log groups held = record { holds = λ live. (groups, held); leaves = leaves_held model log groups held }
 
 -- where an append failed, a journal that can be used is as it was
 pub still_there : {D : Type 0} (P : OnDisk D → Type 0) (e : JournalError) (old new : OnDisk D) → (e ≡ journal.Failed → new.live ≡ false) → ((e ≡ journal.Failed → ⊥) → new ≡ old) → IsTrue new.live → P old → P new
@@ -54,28 +55,28 @@ pub part_of_whole : (groups : List (List Record)) (group : List Record) (left : 
 part_of_whole groups group left some (inl e) = inl e
 part_of_whole groups group left some (inr e) = inr (length group, some, omega arith, e ∙ ap (λ (g : List Record). groups ++ g ∷ []) (sym (take_all (length group) group (omega arith))))
 
-module _ {D : Type 0} (may_leave : D → List ℕ → Type 0) (disk : D) (groups : List (List Record)) (group : List Record) where
-  pub left_by_put : (left : List (List Record)) → 1 ≤ length group → LeavesGroups may_leave disk (IsLeftByWhole groups group) → MayLeaveGroups may_leave disk left → IsLeftByPut groups group left
+module _ {D : Type 0} (model : DiskModel D) (disk : D) (groups : List (List Record)) (group : List Record) where
+  pub left_by_put : (left : List (List Record)) → 1 ≤ length group → LeavesGroups model disk (IsLeftByWhole groups group) → MayLeaveGroups model disk left → IsLeftByPut groups group left
   left_by_put left some leaves may =
       let here = leaves may.0 may.1 in
       part_of_whole groups group left some (subst (λ (x : List (List Record)). IsLeftByWhole groups group x) (one_log may.0 here.0 left here.1 may.2) here.2)
 
-  pub leaves_any : LeavesGroups may_leave disk (IsLeftByWhole groups group) → LeavesGroups may_leave disk (λ left. Unit {0})
+  pub leaves_any : LeavesGroups model disk (IsLeftByWhole groups group) → LeavesGroups model disk (λ left. Unit {0})
   leaves_any leaves crashed may = let here = leaves crashed may in (here.0, here.1, tt)
 
 -- where what is left is a log of some groups, and the disk tells its bytes, some groups may be left
-pub some_left : {D : Type 0} (seen : D → Option (List ℕ)) (may_leave : D → List ℕ → Type 0) → ((disk : D) (bytes : List ℕ) → seen disk ≡ Some bytes → may_leave disk bytes) → (disk : D) (bytes : List ℕ) → seen disk ≡ Some bytes
-    → (P : List (List Record) → Type 0) → LeavesGroups may_leave disk P → (left : List (List Record)) × MayLeaveGroups may_leave disk left
-some_left seen may_leave may_be_left disk bytes told P leaves =
+pub some_left : {D : Type 0} (model : DiskModel D) → ((disk : D) (bytes : List ℕ) → model.seen disk ≡ Some bytes → model.may_leave disk bytes) → (disk : D) (bytes : List ℕ) → model.seen disk ≡ Some bytes
+    → (P : List (List Record) → Type 0) → LeavesGroups model disk P → (left : List (List Record)) × MayLeaveGroups model disk left
+some_left model may_be_left disk bytes told P leaves =
     let may = may_be_left disk bytes told in
     let here = leaves bytes may in
     (here.0, (bytes, may, here.1))
 
 -- what a log has become that comes of one with groups
-pub log_grown : {D : Type 0} (seen : D → Option (List ℕ)) (may_leave : D → List ℕ → Type 0) (old new : OnDisk D) (groups : List (List Record)) (before after : List ℕ) → ExtendsJournal seen may_leave old new → HoldsGroups seen may_leave old groups
-    → seen old.disk ≡ Some before → seen new.disk ≡ Some after → (entries : List (List ℕ)) × IsJournal after entries × (log_size groups ≤ size entries) × (length after ≤ max (length before) (length (up_to_gate entries) + 2 ^ 30))
-log_grown seen may_leave old new groups before after comes held was told =
-    let far = grown_from seen may_leave old new held.entries before after comes held.lists was told in
+pub log_grown : {D : Type 0} (model : DiskModel D) (old new : OnDisk D) (groups : List (List Record)) (before after : List ℕ) → ExtendsJournal model old new → HoldsGroups model old groups
+    → model.seen old.disk ≡ Some before → model.seen new.disk ≡ Some after → (entries : List (List ℕ)) × IsJournal after entries × (log_size groups ≤ size entries) × (length after ≤ max (length before) (length (up_to_gate entries) + 2 ^ 30))
+log_grown model old new groups before after comes held was told =
+    let far = grown_from model old new held.entries before after comes held.lists was told in
     let forms = ap size (forms_of held.entries groups held.are) in
     (far.entries, far.journal, omega (arith, far.on, forms), far.short)
 

@@ -1,6 +1,7 @@
 -- The properties of the topic log and of the in-memory sink that the trait requires: a crash leaves exactly the known groups.
-use Rattle.std.proofs.Common.{◌≡◌, ℕ, List, [], ◌∷◌, Option, Some, refl, sym, ap, subst, ◌∙◌}
+use Rattle.std.proofs.Common.{◌≡◌, ℕ, List, [], ◌∷◌, Some, refl, sym, ap, subst, ◌∙◌}
 use Rattle.std.specs.Prelude.{IsTrue}
+use Rattle.dbl_disk.specs.Model.{DiskModel}
 use Rattle.dbl_record.specs.declared.record.Record.{Record}
 use Rattle.dbl_record.proofs.GroupLaws.{one_group}
 use Rattle.dbl_journal.specs.Stored.{OnDisk}
@@ -25,22 +26,22 @@ pub one_log : (bytes : List ℕ) (first second : List (List Record)) → IsLog b
 one_log bytes first second a b =
     one_entries b.entries first second (subst (λ (es : List (List ℕ)). AreLogEntries es first) (one_journal bytes a.entries b.entries a.journal b.journal) a.are) b.are
 
-module _ {D : Type 0} (seen : D → Option (List ℕ)) (may_leave : D → List ℕ → Type 0) where
+module _ {D : Type 0} (model : DiskModel D) where
   -- the contents of a log with these groups are a topic log of them
-  pub log_of : (log : OnDisk D) (groups : List (List Record)) (held : HoldsGroups seen may_leave log groups) → IsLog held.lists.bytes groups
+  pub log_of : (log : OnDisk D) (groups : List (List Record)) (held : HoldsGroups model log groups) → IsLog held.lists.bytes groups
   log_of log groups held = record { entries = held.entries; journal = held.lists.spelled; are = held.are }
 
   -- a crash of a log with these groups leaves no others
-  pub only_held : (log : OnDisk D) (groups left : List (List Record)) → HoldsGroups seen may_leave log groups → MayLeaveGroups may_leave log.disk left → left ≡ groups
+  pub only_held : (log : OnDisk D) (groups left : List (List Record)) → HoldsGroups model log groups → MayLeaveGroups model log.disk left → left ≡ groups
   only_held log groups left held may =
       one_log held.lists.bytes left groups (subst (λ (crashed : List ℕ). IsLog crashed left) (held.lists.only may.0 may.1) may.2) (log_of log groups held)
 
   -- a crash of a log with these groups may leave them
-  pub may_leave_held : ((disk : D) (bytes : List ℕ) → seen disk ≡ Some bytes → may_leave disk bytes) → (log : OnDisk D) (groups : List (List Record)) → HoldsGroups seen may_leave log groups → MayLeaveGroups may_leave log.disk groups
+  pub may_leave_held : ((disk : D) (bytes : List ℕ) → model.seen disk ≡ Some bytes → model.may_leave disk bytes) → (log : OnDisk D) (groups : List (List Record)) → HoldsGroups model log groups → MayLeaveGroups model log.disk groups
   may_leave_held may_be_left log groups held = (held.lists.bytes, may_be_left log.disk held.lists.bytes held.lists.told, log_of log groups held)
 
   -- a crash of a log with these groups leaves a topic log
-  pub leaves_held : (log : OnDisk D) (groups : List (List Record)) → HoldsGroups seen may_leave log groups → LeavesGroups may_leave log.disk (λ groups. Unit {0})
+  pub leaves_held : (log : OnDisk D) (groups : List (List Record)) → HoldsGroups model log groups → LeavesGroups model log.disk (λ groups. Unit {0})
   leaves_held log groups held crashed may = (groups, subst (λ (i : List ℕ). IsLog i groups) (sym (held.lists.only crashed may)) (log_of log groups held), tt)
 
 -- an in-memory sink has at most one list of groups

@@ -71,7 +71,8 @@ pub enum TopicError {
     /// The journal's error, other than `Memory`.
     #[error("{0}")]
     Journal(JournalError),
-    /// The number, from 0, of the first entry that isn't an encoded group of 1 to 1,000 records.
+    /// The number, from 0, of an entry that isn't an encoded group of 1 to 1,000 records, the first
+    /// such one if a log is opened.
     #[error("bad entry {index}")]
     BadEntry { index: u64 },
     #[error("out of memory")]

@@ -83,18 +83,18 @@ fn read_entry<D: Disk>(
 ) -> Result<Vec<Record>, TopicError>
     requires live { IsTrue journal.old.live }
     requires within { number < count_of journal.old }
-    ensures read { (entries : List (List ℕ)) → Lists D.seen D.may_leave journal.old entries →
+    ensures read { (entries : List (List ℕ)) → Lists D.Disk journal.old entries →
         IfOk result (λ group. (entry : List ℕ) × (slice_get entries number ≡ Some entry) ×
         IsLogEntry entry group.items) }
     ensures bad { (entries : List (List ℕ)) (index : ℕ) →
-        Lists D.seen D.may_leave journal.old entries → result ≡ Err (TopicError.BadEntry index) →
+        Lists D.Disk journal.old entries → result ≡ Err (TopicError.BadEntry index) →
         (index ≡ number) × (entry : List ℕ) × (slice_get entries number ≡ Some entry) ×
         ((group : List Record) → ¬ IsLogEntry entry group) }
     ensures few { IfOk result (λ group. (1 ≤ length group.items) × (length group.items ≤ 1000)) }
     ensures errors { IfErr result (λ error. (error ≡ TopicError.Memory) ⊎
         ((error ≡ TopicError.BadEntry number) ⊎ (error ≡ TopicError.Journal JournalError.Failed))) }
-    ensures lists { (entries : List (List ℕ)) → Lists D.seen D.may_leave journal.old entries →
-        Lists D.seen D.may_leave journal.new entries }
+    ensures lists { (entries : List (List ℕ)) → Lists D.Disk journal.old entries →
+        Lists D.Disk journal.new entries }
     ensures same { journal.new ≡ record journal.old { disk = journal.new.disk } }
     ensures seen { D.seen journal.new.disk ≡ D.seen journal.old.disk }
     ensures crash { (crashed : List ℕ) → D.may_leave journal.new.disk crashed ↔
@@ -102,7 +102,7 @@ fn read_entry<D: Disk>(
     ensures cause { FailsOnlyIfCounted (result ≡ Err (TopicError.Journal JournalError.Failed))
         (D.faults journal.old.disk) (D.faults journal.new.disk) }
     ensures steady { result ≢ Err (TopicError.Journal JournalError.Failed) →
-        IsSteady D.seen D.faults journal.old.disk journal.new.disk }
+        IsSteady D.Disk journal.old.disk journal.new.disk }
 {
     let entry = journal.entry(alloc, number)?;
     group_of(alloc, entry.items(), number)
@@ -111,17 +111,17 @@ fn read_entry<D: Disk>(
 // Checks each entry once.
 fn check_entries<D: Disk>(alloc: Global, journal: &mut Journal<D>) -> Result<(), TopicError>
     requires { IsTrue journal.old.live }
-    ensures good { (entries : List (List ℕ)) → Lists D.seen D.may_leave journal.old entries →
+    ensures good { (entries : List (List ℕ)) → Lists D.Disk journal.old entries →
         OnOk result ((groups : List (List Record)) × AreLogEntries entries groups) }
     ensures bad { (entries : List (List ℕ)) (index : ℕ) →
-        Lists D.seen D.may_leave journal.old entries → result ≡ Err (TopicError.BadEntry index) →
+        Lists D.Disk journal.old entries → result ≡ Err (TopicError.BadEntry index) →
         (before : List (List Record)) × (entry : List ℕ) ×
         AreLogEntries (take index entries) before × (slice_get entries index ≡ Some entry) ×
         ((group : List Record) → ¬ IsLogEntry entry group) }
     ensures journal { (fault : JournalError) → result ≡ Err (TopicError.Journal fault) →
         fault ≡ JournalError.Failed }
-    ensures lists { (entries : List (List ℕ)) → Lists D.seen D.may_leave journal.old entries →
-        Lists D.seen D.may_leave journal.new entries }
+    ensures lists { (entries : List (List ℕ)) → Lists D.Disk journal.old entries →
+        Lists D.Disk journal.new entries }
     ensures live { journal.new.live ≡ journal.old.live }
     ensures seen { D.seen journal.new.disk ≡ D.seen journal.old.disk }
     ensures crash { (crashed : List ℕ) → D.may_leave journal.new.disk crashed →
@@ -129,7 +129,7 @@ fn check_entries<D: Disk>(alloc: Global, journal: &mut Journal<D>) -> Result<(),
     ensures cause { FailsOnlyIfCounted (result ≡ Err (TopicError.Journal JournalError.Failed))
         (D.faults journal.old.disk) (D.faults journal.new.disk) }
     ensures steady { result ≢ Err (TopicError.Journal JournalError.Failed) →
-        IsSteady D.seen D.faults journal.old.disk journal.new.disk }
+        IsSteady D.Disk journal.old.disk journal.new.disk }
 {
     'entries: for number in 0..journal.count() {
         let _group = read_entry(alloc, journal, number)?;
@@ -143,7 +143,7 @@ impl<D: Disk> TopicLog<D> {
     pub fn make(alloc: Global, disk: D) -> Result<TopicLog<D>, Refused<D, TopicError>>
         requires { (bytes : List ℕ) → D.seen disk ≡ Some bytes → bytes ≡ [] }
         ensures made { D.seen disk ≡ Some [] →
-            IfOk result (λ log. HoldsGroups D.seen D.may_leave log []) }
+            IfOk result (λ log. HoldsGroups D.Disk log []) }
         ensures live { IfOk result (λ log. IsTrue log.live) }
         ensures count { IfOk result (λ log. count_of log ≡ 0) }
         ensures refused { IfErr result
@@ -151,8 +151,8 @@ impl<D: Disk> TopicLog<D> {
         ensures left { IfErr result
             (λ refused. Follows (Torn 0 9) (D.may_leave disk) (D.may_leave refused.disk)) }
         ensures makes { MatchResult result
-            (λ log. Makes D.seen D.faults (log_size []) ⊥ disk log.disk)
-            (λ refused. Makes D.seen D.faults (log_size [])
+            (λ log. Makes D.Disk (log_size []) ⊥ disk log.disk)
+            (λ refused. Makes D.Disk (log_size [])
             (refused.error ≡ TopicError.Journal JournalError.Failed) disk refused.disk) }
     {
         match Journal::make(alloc, disk) {
@@ -165,11 +165,12 @@ impl<D: Disk> TopicLog<D> {
     }
 
     /// Opens the topic log on the disk, as a crash may have left it: it syncs first, and reads each
-    /// entry once. After every answer but `Failed` a crash leaves exactly what was read.
+    /// entry once. After every answer but `Failed` a crash leaves exactly the disk's contents, if
+    /// they are known.
     pub fn open(alloc: Global, disk: D) -> Result<TopicLog<D>, Refused<D, TopicError>>
         ensures opened { (bytes : List ℕ) → D.seen disk ≡ Some bytes →
             IfOk result (λ log. (groups : List (List Record)) × IsLog bytes groups ×
-            HoldsGroups D.seen D.may_leave log groups) }
+            HoldsGroups D.Disk log groups) }
         ensures bad { (bytes : List ℕ) → D.seen disk ≡ Some bytes →
             IfErr result (λ refused. (index : ℕ) → refused.error ≡ TopicError.BadEntry index →
             HasBadEntry bytes index) }
@@ -185,8 +186,8 @@ impl<D: Disk> TopicLog<D> {
             (λ refused. refused.error ≢ TopicError.Journal JournalError.Failed →
             IsOnly bytes (D.may_leave refused.disk)) }
         ensures keeps { MatchResult result
-            (λ log. Keeps D.seen D.may_leave D.faults ⊥ disk log.disk)
-            (λ refused. Keeps D.seen D.may_leave D.faults
+            (λ log. Keeps D.Disk ⊥ disk log.disk)
+            (λ refused. Keeps D.Disk
             (refused.error ≡ TopicError.Journal JournalError.Failed) disk refused.disk) }
     {
         match Journal::open(alloc, disk) {
@@ -203,19 +204,17 @@ impl<D: Disk> TopicLog<D> {
         requires live { IsTrue self.old.live }
         requires within { number < count_of self.old }
         ensures found { (groups : List (List Record)) →
-            HoldsGroups D.seen D.may_leave self.old groups →
+            HoldsGroups D.Disk self.old groups →
             IfOk result (λ group. slice_get groups number ≡ Some group.items) }
         ensures few { IfOk result
             (λ group. (1 ≤ length group.items) × (length group.items ≤ 1000)) }
         ensures good { (groups : List (List Record)) (index : ℕ) →
-            HoldsGroups D.seen D.may_leave self.old groups →
-            result ≢ Err (TopicError.BadEntry index) }
+            HoldsGroups D.Disk self.old groups → result ≢ Err (TopicError.BadEntry index) }
         ensures errors { IfErr result (λ error. (error ≡ TopicError.Memory) ⊎
             ((error ≡ TopicError.BadEntry number) ⊎
             (error ≡ TopicError.Journal JournalError.Failed))) }
         ensures holds { (groups : List (List Record)) →
-            HoldsGroups D.seen D.may_leave self.old groups →
-            HoldsGroups D.seen D.may_leave self.new groups }
+            HoldsGroups D.Disk self.old groups → HoldsGroups D.Disk self.new groups }
         ensures same { self.new ≡ record self.old { disk = self.new.disk } }
         ensures seen { D.seen self.new.disk ≡ D.seen self.old.disk }
         ensures crash { (crashed : List ℕ) → D.may_leave self.new.disk crashed ↔
@@ -223,7 +222,7 @@ impl<D: Disk> TopicLog<D> {
         ensures cause { FailsOnlyIfCounted (result ≡ Err (TopicError.Journal JournalError.Failed))
             (D.faults self.old.disk) (D.faults self.new.disk) }
         ensures steady { result ≢ Err (TopicError.Journal JournalError.Failed) →
-            IsSteady D.seen D.faults self.old.disk self.new.disk }
+            IsSteady D.Disk self.old.disk self.new.disk }
     {
         read_entry(self.alloc, &mut self.journal, number)
     }
@@ -251,10 +250,10 @@ fn check_log<D: Disk>(
     mut journal: Journal<D>,
 ) -> Result<TopicLog<D>, Refused<D, TopicError>>
     requires { IsTrue journal.live }
-    ensures good { (entries : List (List ℕ)) → Lists D.seen D.may_leave journal entries →
+    ensures good { (entries : List (List ℕ)) → Lists D.Disk journal entries →
         IfOk result (λ log. (groups : List (List Record)) × AreLogEntries entries groups ×
-        HoldsGroups D.seen D.may_leave log groups) }
-    ensures bad { (entries : List (List ℕ)) → Lists D.seen D.may_leave journal entries →
+        HoldsGroups D.Disk log groups) }
+    ensures bad { (entries : List (List ℕ)) → Lists D.Disk journal entries →
         IfErr result (λ refused. (index : ℕ) → refused.error ≡ TopicError.BadEntry index →
         (before : List (List Record)) × (entry : List ℕ) ×
         AreLogEntries (take index entries) before × (slice_get entries index ≡ Some entry) ×
@@ -266,8 +265,8 @@ fn check_log<D: Disk>(
         MatchResult result (λ log. IsOnly bytes (D.may_leave log.disk))
         (λ refused. IsOnly bytes (D.may_leave refused.disk)) }
     ensures keeps { MatchResult result
-        (λ log. Keeps D.seen D.may_leave D.faults ⊥ journal.disk log.disk)
-        (λ refused. Keeps D.seen D.may_leave D.faults
+        (λ log. Keeps D.Disk ⊥ journal.disk log.disk)
+        (λ refused. Keeps D.Disk
         (refused.error ≡ TopicError.Journal JournalError.Failed) journal.disk refused.disk) }
 {
     match check_entries(alloc, &mut journal) {
@@ -283,23 +282,23 @@ impl<D: Disk> Sink for TopicLog<D> {
     ghost use Rattle.dbl_topic.specs.Held.{ExtendsTopics, HoldsGroups, LeavesGroups, MayLeaveGroups};
     ghost use Rattle.dbl_topic.specs.SinkLaws.{leaves_held, may_leave_held, only_held};
 
-    ghost holds = { λ log groups. HoldsGroups D.seen D.may_leave log groups };
+    ghost holds = { λ log groups. HoldsGroups D.Disk log groups };
 
-    ghost may_leave = { λ log groups. MayLeaveGroups D.may_leave log.disk groups };
+    ghost may_leave = { λ log groups. MayLeaveGroups D.Disk log.disk groups };
 
-    ghost leaves_groups = { λ log. LeavesGroups D.may_leave log.disk (λ groups. Unit {0}) };
+    ghost leaves_groups = { λ log. LeavesGroups D.Disk log.disk (λ groups. Unit {0}) };
 
-    ghost comes_of = { λ old new. ExtendsTopics D.seen D.may_leave old new };
+    ghost comes_of = { λ old new. ExtendsTopics D.Disk old new };
 
     ghost is_live = { λ log. log.live };
 
     ghost faults = { λ log. D.faults log.disk };
 
-    ghost only = { λ log groups left held may. only_held D.seen D.may_leave log groups left held may };
+    ghost only = { λ log groups left held may. only_held _ log groups left held may };
 
-    ghost may = { λ log groups held. may_leave_held D.seen D.may_leave D.seen_may_be_left log groups held };
+    ghost may = { λ log groups held. may_leave_held _ D.seen_may_be_left log groups held };
 
-    ghost whole = { λ log groups held. leaves_held D.seen D.may_leave log groups held };
+    ghost whole = { λ log groups held. leaves_held _ log groups held };
 
     ghost comes_self = { λ log. record { journal = λ gate most has. has; groups = λ kept. kept } };
 
@@ -312,22 +311,21 @@ impl<D: Disk> Sink for TopicLog<D> {
         requires live { IsTrue self.old.live }
         requires handful { IsHandful group.now.items }
         ensures added { (groups : List (List Record)) →
-            HoldsGroups D.seen D.may_leave self.old groups →
-            OnOk result (HoldsGroups D.seen D.may_leave self.new (groups ++ group.now.items ∷ [])) }
+            HoldsGroups D.Disk self.old groups →
+            OnOk result (HoldsGroups D.Disk self.new (groups ++ group.now.items ∷ [])) }
         ensures kept { (groups : List (List Record)) →
-            HoldsGroups D.seen D.may_leave self.old groups → OnErr result
-            (result ≢ Err SinkError.Failed → HoldsGroups D.seen D.may_leave self.new groups) }
+            HoldsGroups D.Disk self.old groups → OnErr result
+            (result ≢ Err SinkError.Failed → HoldsGroups D.Disk self.new groups) }
         ensures left { (groups left : List (List Record)) →
-            HoldsGroups D.seen D.may_leave self.old groups →
-            MayLeaveGroups D.may_leave self.new.disk left →
+            HoldsGroups D.Disk self.old groups → MayLeaveGroups D.Disk self.new.disk left →
             IsLeftByPut groups group.now.items left }
         ensures whole { (groups : List (List Record)) →
-            HoldsGroups D.seen D.may_leave self.old groups →
-            LeavesGroups D.may_leave self.new.disk (λ left. Unit {0}) }
+            HoldsGroups D.Disk self.old groups →
+            LeavesGroups D.Disk self.new.disk (λ left. Unit {0}) }
         ensures some { (groups : List (List Record)) →
-            HoldsGroups D.seen D.may_leave self.old groups → (left : List (List Record)) ×
-            MayLeaveGroups D.may_leave self.new.disk left }
-        ensures comes { ExtendsTopics D.seen D.may_leave self.old self.new }
+            HoldsGroups D.Disk self.old groups → (left : List (List Record)) ×
+            MayLeaveGroups D.Disk self.new.disk left }
+        ensures comes { ExtendsTopics D.Disk self.old self.new }
         ensures live { result ≢ Err SinkError.Failed → IsTrue self.new.live }
         ensures dead { result ≡ Err SinkError.Failed → self.new.live ≡ false }
         ensures too_long { (len : ℕ) → result ≡ Err (SinkError.TooLong len) →
@@ -338,14 +336,13 @@ impl<D: Disk> Sink for TopicLog<D> {
             (D.faults self.old.disk) (D.faults self.new.disk) }
 
         ensures one_of { (groups : List (List Record)) →
-            HoldsGroups D.seen D.may_leave self.old groups →
-            LeavesGroups D.may_leave self.new.disk (IsLeftByWhole groups group.now.items) }
+            HoldsGroups D.Disk self.old groups →
+            LeavesGroups D.Disk self.new.disk (IsLeftByWhole groups group.now.items) }
         ensures grows { (groups : List (List Record)) (old new : List ℕ) →
-            HoldsGroups D.seen D.may_leave self.old groups → D.seen self.old.disk ≡ Some old →
+            HoldsGroups D.Disk self.old groups → D.seen self.old.disk ≡ Some old →
             D.seen self.new.disk ≡ Some new →
             length new ≤ max (length old) (log_size (groups ++ group.now.items ∷ [])) }
-        ensures puts { PutLeaves D.seen D.faults (result ≡ Err SinkError.Failed)
-            self.old self.new }
+        ensures puts { PutLeaves D.Disk (result ≡ Err SinkError.Failed) self.old self.new }
         ensures exactly { (len : ℕ) → (result ≡ Err (SinkError.TooLong len)) ↔
             ((group_limit < length (group_form group.now.items)) ×
             (len ≡ told_length group.now.items)) }

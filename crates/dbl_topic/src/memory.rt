@@ -1,5 +1,5 @@
 ghost use Rattle.std.specs.Prelude.{◌≡◌, ◌≢◌, ◌↔◌, ℕ, ◌+◌, ◌<◌, ◌++◌, List, [], ◌∷◌, length, Bool, true, false, IsTrue};
-ghost use Rattle.std.specs.Prelude.{IsErr, IfOk, OnOk, OnErr, Contains};
+ghost use Rattle.std.specs.Prelude.{IsErr, OnOk, OnErr, Contains};
 ghost use Rattle.dbl_base.specs.Streams.{FailsOnlyIfCounted, incremented};
 ghost use Rattle.dbl_base.specs.Memory.{new_plan};
 ghost use Rattle.dbl_record.specs.declared.record.Record.{Record};
@@ -8,7 +8,7 @@ ghost use Rattle.dbl_record.specs.Groups.{group_form};
 ghost use Rattle.dbl_topic.specs.Sinks.{IsLeftByPut, told_length, group_limit};
 
 use crate::{GROUP_LIMIT, Sink, SinkError};
-use dbl_base::FaultPlan;
+use dbl_base::{FaultPlan, copy_items};
 use dbl_record::{Record, group_length};
 use std::alloc::{AllocError, Global};
 use std::marker::Model;
@@ -55,16 +55,6 @@ impl MemSink {
     {
         &self.records
     }
-}
-
-fn copies(alloc: Global, group: &[Record]) -> Result<Vec<Record>, AllocError>
-    ensures { IfOk result (λ copies. copies.items ≡ group.now) }
-{
-    let mut copies = Vec::with_capacity(alloc, group.len())?;
-    'copying: for item in group {
-        copies.push(item.copy(alloc)?)?;
-    }
-    Ok(copies)
 }
 
 // Appends the records and their number.
@@ -160,7 +150,7 @@ impl Sink for MemSink {
         if len > GROUP_LIMIT {
             return Err(SinkError::TooLong { len });
         }
-        let group = copies(self.alloc, group)?;
+        let group = copy_items(self.alloc, group)?;
         gather(&mut self.records, &mut self.sizes, group)?;
         Ok(())
     }

@@ -1,6 +1,6 @@
 ghost use Rattle.std.specs.Prelude.{◌≡◌, IfOk};
 
-use dbl_base::{Bytes, Seq, Text};
+use dbl_base::{Bytes, DeepCopy, Seq, Text};
 use std::alloc::{AllocError, Global};
 
 /// The value of a cell. Values are ordered by kind, in this order, then by value; texts and byte
@@ -40,5 +40,11 @@ impl Val {
             Val::Stamp(moment) => Val::Stamp(*moment),
             Val::StampTz(instant) => Val::StampTz(*instant),
         })
+    }
+}
+
+impl DeepCopy for Val {
+    fn deep_copy(&self, alloc: Global) -> Result<Val, AllocError> {
+        self.copy(alloc)
     }
 }

@@ -64,11 +64,10 @@ pub(crate) fn overlaid_row(alloc: Global, cells: &Seq<Cell>, row: Row) -> Result
     })
 }
 
-/// Shows the prover that the rows are in the order of their keys.
+/// For the prover alone: the length's contract says that the rows are in the order of their keys.
 pub(crate) fn in_order(rows: &HeldRows)
     ensures { AreInKeyOrder rows.now.entries }
 {
-    // Reading the length shows the prover that the map's keys are in ascending order.
     let _count = rows.len();
 }
 

@@ -3,7 +3,7 @@
 
 use dbl_base::{StdInput, StdOutput, Text};
 use dbl_disk::FileDisk;
-use dblog_run::{Halt, run, say};
+use dblog_run::{Disks, RunError, run, say};
 use std::alloc::AllocError;
 use std::env;
 use std::io::{self, ErrorKind};
@@ -42,19 +42,22 @@ fn main(rt: HostRuntime) -> ExitCode {
     let mut output = StdOutput::make(io::writer(&rt));
     let status = match words(&rt) {
         Ok(words) => {
-            let finished = run(
+            let disks = Disks {
+                wal: FileDisk::make(&rt, "dblog.wal"),
+                topics: FileDisk::make(&rt, "dblog.topics"),
+                offsets: FileDisk::make(&rt, "dblog.offsets"),
+            };
+            let outcome = run(
                 rt.alloc(),
                 &words,
                 now_ms(&rt),
                 &mut StdInput::make(rt.reader()),
                 &mut output,
-                FileDisk::make(&rt, "dblog.wal"),
-                FileDisk::make(&rt, "dblog.topics"),
-                FileDisk::make(&rt, "dblog.offsets"),
+                disks,
             );
-            finished.status
+            outcome.end
         }
-        Err(AllocError) => say(rt.alloc(), Halt::Memory, &mut output),
+        Err(AllocError) => say(rt.alloc(), RunError::Memory, &mut output),
     };
-    ExitCode::from(status)
+    ExitCode::from(status.code())
 }

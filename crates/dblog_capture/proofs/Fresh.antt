@@ -1,18 +1,21 @@
 -- Stores of a workload of which nothing was done are kept, and as the connector promises.
 use Rattle.std.proofs.Common.{◌≡◌, ◌∙◌, ℕ, ◌≤◌, Option, Some, None, IsSome, List, [], ◌∷◌, ◌++◌, length, refl, sym, ap, subst, arith, length-append}
 use Rattle.std.specs.List.{flat_map}
+use Rattle.dbl_disk.specs.Model.{DiskModel}
 use Rattle.dbl_journal.specs.Form.{IsClosed, frame, up_to_gate, magic}
 use Rattle.dbl_journal.proofs.Appends.{length-body, length-magic}
 use Rattle.dbl_model_table.specs.declared.config.Config.{Config}
 use Rattle.dbl_offset.specs.declared.offset.Offset.{Offset}
 use Rattle.dbl_offset.specs.Stores.{BeginsTorn, IsLastOf, IsStore}
 use Rattle.dblog_init.specs.DemoLaws.Made.{IsFreshWal}
+use Rattle.dblog_init.specs.declared.disks.Disks.{Disks}
 use Rattle.dblog_init.specs.Disks.{HasStoredBytes}
 use Rattle.dblog_init.specs.Fresh.{IsEmptyLog, IsEmptyStore}
+use Rattle.dblog_connect.specs.Disks.{AreKeptDisks}
 use Rattle.dblog_connect.specs.Promise.Contents.{Contents}
 use Rattle.dblog_connect.specs.Promise.Goes.{Advances}
 use Rattle.dblog_connect.specs.Promise.Headline.{Guarantees, GuaranteesAfterCrash}
-use Rattle.dblog_connect.specs.Promise.Kept.{AreKept, IsKept}
+use Rattle.dblog_connect.specs.Promise.Kept.{IsKept}
 use Rattle.dblog_connect.proofs.PromiseFreshLaws.{fresh_stores_are_kept}
 use Rattle.dblog_connect.proofs.PromiseKeptLaws.{kept_runs_are_promised, what_stays_goes_on}
 
@@ -42,7 +45,7 @@ fresh_promised complete asks workload w t f none wal log store =
         held = fresh.0;
         read = fresh.1.read;
         kept = fresh.1.kept;
-        came = record {
+        predecessor = record {
           wal = w;
           topics = t;
           offsets = f;
@@ -51,16 +54,16 @@ fresh_promised complete asks workload w t f none wal log store =
           may_offsets = store;
           old = fresh.0;
           read = fresh.1.read;
-          goes = stays_gone (asks fresh.0) fresh.0;
+          advances = stays_gone (asks fresh.0) fresh.0;
         };
       };
-      promised = promised_still complete fresh.0 none fresh.1.kept;
+      guarantees = promised_still complete fresh.0 none fresh.1.kept;
     }
 
-module _ {W T F : Type 0} (seen_wal : W → Option (List ℕ)) (wals : W → List ℕ → Type 0) (seen_topics : T → Option (List ℕ)) (logs : T → List ℕ → Type 0) (seen_offsets : F → Option (List ℕ)) (stores : F → List ℕ → Type 0) where
-  pub made_kept : (workload : List ℕ) (w : W) (t : T) (f : F) → HasStoredBytes seen_wal wals (IsFreshWal workload) w → HasStoredBytes seen_topics logs IsEmptyLog t → HasStoredBytes seen_offsets stores IsEmptyStore f
-      → AreKept (seen_wal w) (seen_topics t) (seen_offsets f) (wals w) (logs t) (stores f)
-  made_kept workload w t f wal topics offsets = record {
+module _ {W T F : Type 0} (wal_model : DiskModel W) (topics_model : DiskModel T) (offsets_model : DiskModel F) where
+  pub made_kept : (workload : List ℕ) (made : Disks W T F) → HasStoredBytes wal_model (IsFreshWal workload) made.wal → HasStoredBytes topics_model IsEmptyLog made.topics → HasStoredBytes offsets_model IsEmptyStore made.offsets
+      → AreKeptDisks wal_model topics_model offsets_model made
+  made_kept workload made wal topics offsets = record {
     wal = subst IsSome (sym wal.told) refl;
     topics = subst IsSome (sym topics.told) refl;
     offsets = subst IsSome (sym offsets.told) refl;
@@ -70,30 +73,30 @@ module _ {W T F : Type 0} (seen_wal : W → Option (List ℕ)) (wals : W → Lis
   }
 
   -- the promise, from what was made: it is told of fresh stores alone
-  pub promised_fresh : (complete : Type 0) (asks : Contents → Option Config) (workload : List ℕ) (made_wal : W) (made_topics : T) (made_offsets : F) (w t f : List ℕ)
-      → HasStoredBytes seen_wal wals (IsFreshWal workload) made_wal → HasStoredBytes seen_topics logs IsEmptyLog made_topics → HasStoredBytes seen_offsets stores IsEmptyStore made_offsets
-      → GuaranteesAfterCrash complete asks (wals made_wal) (logs made_topics) (stores made_offsets) w t f → GuaranteesAfterCrash complete asks (IsFreshWal workload) IsEmptyLog IsEmptyStore w t f
-  promised_fresh complete asks workload made_wal made_topics made_offsets w t f wal topics offsets is =
+  pub promised_fresh : (complete : Type 0) (asks : Contents → Option Config) (workload : List ℕ) (made : Disks W T F) (w t f : List ℕ)
+      → HasStoredBytes wal_model (IsFreshWal workload) made.wal → HasStoredBytes topics_model IsEmptyLog made.topics → HasStoredBytes offsets_model IsEmptyStore made.offsets
+      → GuaranteesAfterCrash complete asks (wal_model.may_leave made.wal) (topics_model.may_leave made.topics) (offsets_model.may_leave made.offsets) w t f → GuaranteesAfterCrash complete asks (IsFreshWal workload) IsEmptyLog IsEmptyStore w t f
+  promised_fresh complete asks workload made w t f wal topics offsets is =
       let left = is.left in
-      let came = left.came in
+      let predecessor = left.predecessor in
       record {
         left = record {
           held = left.held;
           read = left.read;
           kept = left.kept;
-          came = record {
-            wal = came.wal;
-            topics = came.topics;
-            offsets = came.offsets;
-            may_wal = subst (IsFreshWal workload) (sym (wal.only came.wal came.may_wal)) wal.is;
-            may_topics = subst IsEmptyLog (sym (topics.only came.topics came.may_topics)) topics.is;
-            may_offsets = subst IsEmptyStore (sym (offsets.only came.offsets came.may_offsets)) offsets.is;
-            old = came.old;
-            read = came.read;
-            goes = came.goes;
+          predecessor = record {
+            wal = predecessor.wal;
+            topics = predecessor.topics;
+            offsets = predecessor.offsets;
+            may_wal = subst (IsFreshWal workload) (sym (wal.only predecessor.wal predecessor.may_wal)) wal.is;
+            may_topics = subst IsEmptyLog (sym (topics.only predecessor.topics predecessor.may_topics)) topics.is;
+            may_offsets = subst IsEmptyStore (sym (offsets.only predecessor.offsets predecessor.may_offsets)) offsets.is;
+            old = predecessor.old;
+            read = predecessor.read;
+            advances = predecessor.advances;
           };
         };
-        promised = is.promised;
+        guarantees = is.guarantees;
       }
 
 -- ---- bytes of an offset's disk that can be no store, or one without an offset alone

@@ -9,6 +9,7 @@ use Rattle.dbl_capture_work.specs.declared.halt.Halt.{Halt}
 use Rattle.dbl_capture_work.specs.declared.halt.Halt.TheVariants as halt
 use Rattle.dbl_capture_work.specs.declared.report.Ending.{Ending}
 use Rattle.dbl_capture_work.specs.declared.report.Ending.TheVariants.{Complete, Budget}
+use Rattle.dblog_init.specs.declared.disks.Disks.{Disks}
 use Rattle.dblog_init.specs.declared.error.Store.{Store}
 use Rattle.dblog_init.specs.declared.error.Store.TheVariants.{Wal, Topics, Offsets}
 use Rattle.dblog_connect.specs.declared.error.ConnectError.{ConnectError}
@@ -21,13 +22,16 @@ use Rattle.dblog_connect.specs.Promise.Goes.{Advances}
 use Rattle.dblog_connect.specs.Promise.Headline.{GuaranteesAfterCrash}
 use Rattle.dblog_capture.specs.Halts.{halt_status}
 use Rattle.dblog_capture.specs.Reports.{ending_status}
+use Rattle.dbl_lines.specs.declared.status.Status.{Status}
+use Rattle.dbl_lines.specs.declared.status.Status.TheVariants.{Done, BudgetSpent, StartMismatch, MalformedLog, Unsupported, SourceFailed, TopicsFailed}
+use Rattle.dbl_lines.specs.declared.status.Status.TheVariants.{OffsetsFailed, StdinFailed, StdoutFailed, OutOfMemory, InvalidStore, LogGone}
 use Rattle.dbl_lines.specs.Says.{IsCutShort}
-use Rattle.dbl_lines.specs.Faults.{output_failed_status}
 use Rattle.dblog_capture.specs.Runs.{WroteNothing}
 use Rattle.dblog_capture.specs.Ends.{IsSessionStatus, SaysSession, connect_status, session_status, store_status}
 use Rattle.dbl_lines.proofs.SayLemmas.{cut_other}
+use Rattle.dbl_disk.specs.Model.{DiskModel}
 
-pub says_status : (end : ConnectEnd) (status : ℕ) (before after : Option (List ℕ)) → SaysSession end status before after → (status ≡ session_status end) ⊎ IsCutShort status
+pub says_status : (end : ConnectEnd) (status : Status) (before after : Option (List ℕ)) → SaysSession end status before after → (status ≡ session_status end) ⊎ IsCutShort status
 says_status end status before after (inl (inl said)) = inl said.0
 says_status end status before after (inl (inr cut)) = inr (inl cut.0)
 says_status end status before after (inr (inl said)) = inr (inr said.0)
@@ -36,10 +40,10 @@ says_status end status before after (inr (inr cut)) = inr (inl cut.0)
 -- ---- the statuses of halts
 
 -- a session's own halts: the log is malformed, its content isn't supported, no incarnation is left, or the log lacks what it needs
-abbrev IsHaltStatus : ℕ → Type 0
-IsHaltStatus status = (status ≡ 5) ⊎ ((status ≡ 6) ⊎ ((status ≡ 14) ⊎ ((status ≡ 15) ⊎ (status ≡ 12))))
+abbrev IsHaltStatus : Status → Type 0
+IsHaltStatus status = (status ≡ MalformedLog) ⊎ ((status ≡ Unsupported) ⊎ ((status ≡ InvalidStore) ⊎ ((status ≡ LogGone) ⊎ (status ≡ OutOfMemory))))
 
-txn_status : (e : TxnError) (status : ℕ) → status ≡ transaction_status e → IsHaltStatus status
+txn_status : (e : TxnError) (status : Status) → status ≡ transaction_status e → IsHaltStatus status
 txn_status txn.OutsideTransaction status is = inl is
 txn_status txn.NestedBegin status is = inl is
 txn_status (txn.CommitMismatch begin commit) status is = inl is
@@ -56,7 +60,7 @@ txn_status (txn.Value table column error) status is = inr (inl is)
 txn_status txn.BadMark status is = inl is
 txn_status txn.Memory status is = inr (inr (inr (inr is)))
 
-own_status : (h : Halt) → IsOwnHalt h → (status : ℕ) → status ≡ halt_status h → IsHaltStatus status
+own_status : (h : Halt) → IsOwnHalt h → (status : Status) → status ≡ halt_status h → IsHaltStatus status
 own_status (halt.Message number error) own status is = inl is
 own_status (halt.Txn number error) own status is = txn_status error status is
 own_status (halt.Chunk table row) own status is = inl is
@@ -74,14 +78,14 @@ own_status halt.Sink own status is = absurd own
 own_status halt.Offsets own status is = absurd own
 own_status halt.Memory own status is = absurd own
 
-halt_other : (n status : ℕ) → (n ≢ 5) × (n ≢ 6) × (n ≢ 14) × (n ≢ 15) × (n ≢ 12) → IsHaltStatus status → status ≡ n → ⊥
+halt_other : (n status : Status) → (n ≢ MalformedLog) × (n ≢ Unsupported) × (n ≢ InvalidStore) × (n ≢ LogGone) × (n ≢ OutOfMemory) → IsHaltStatus status → status ≡ n → ⊥
 halt_other n status other (inl is) same = other.0 (sym same ∙ is)
 halt_other n status other (inr (inl is)) same = other.1 (sym same ∙ is)
 halt_other n status other (inr (inr (inl is))) same = other.2 (sym same ∙ is)
 halt_other n status other (inr (inr (inr (inl is)))) same = other.3 (sym same ∙ is)
 halt_other n status other (inr (inr (inr (inr is)))) same = other.4 (sym same ∙ is)
 
-halt_known : (status : ℕ) → IsHaltStatus status → IsSessionStatus status
+halt_known : (status : Status) → IsHaltStatus status → IsSessionStatus status
 halt_known status (inl is) = inr (inr (inr (inl is)))
 halt_known status (inr (inl is)) = inr (inr (inr (inr (inl is))))
 halt_known status (inr (inr (inl is))) = inr (inr (inr (inr (inr (inl is)))))
@@ -90,10 +94,10 @@ halt_known status (inr (inr (inr (inr is)))) = inr (inr (inr (inr (inr (inr (inr
 
 -- ---- the status of a session is one of these
 
-cut_known : (status : ℕ) → IsCutShort status → IsSessionStatus status
+cut_known : (status : Status) → IsCutShort status → IsSessionStatus status
 cut_known status cut = inr (inr (inr (inr (inr (inr (inr (inr (inr cut))))))))
 
-error_known : (e : ConnectError) → IsConnectError e → (status : ℕ) → status ≡ connect_status e → IsSessionStatus status
+error_known : (e : ConnectError) → IsConnectError e → (status : Status) → status ≡ connect_status e → IsSessionStatus status
 error_known (connect.Failed Wal) kind status is = inr (inr (inr (inr (inr (inr (inr (inl is)))))))
 error_known (connect.Failed Topics) kind status is = inr (inr (inr (inr (inr (inr (inr (inr (inl (inl is)))))))))
 error_known (connect.Failed Offsets) kind status is = inr (inr (inr (inr (inr (inr (inr (inr (inl (inr is)))))))))
@@ -104,20 +108,20 @@ error_known connect.NotStarted kind status is = inr (inr (inl is))
 error_known (connect.Halted h) kind status is = halt_known status (own_status h kind status is)
 error_known connect.Memory kind status is = cut_known status (inr is)
 
-ending_known : (ending : Ending) (status : ℕ) → status ≡ ending_status ending → IsSessionStatus status
+ending_known : (ending : Ending) (status : Status) → status ≡ ending_status ending → IsSessionStatus status
 ending_known Complete status is = inl is
 ending_known Budget status is = inr (inl is)
 
-own_known : (end : ConnectEnd) → IfErr end IsConnectError → (status : ℕ) → status ≡ session_status end → IsSessionStatus status
+own_known : (end : ConnectEnd) → IfErr end IsConnectError → (status : Status) → status ≡ session_status end → IsSessionStatus status
 own_known (Ok summary) kind status is = ending_known summary.ending status is
 own_known (Err e) kind status is = error_known e kind status is
 
-pub session_known : (end : ConnectEnd) → IfErr end IsConnectError → (status : ℕ) (before after : Option (List ℕ)) → SaysSession end status before after → IsSessionStatus status
+pub session_known : (end : ConnectEnd) → IfErr end IsConnectError → (status : Status) (before after : Option (List ℕ)) → SaysSession end status before after → IsSessionStatus status
 session_known end kind status before after says = elim (says_status end status before after says) [ inl is ↦ own_known end kind status is | inr cut ↦ cut_known status cut ]
 
 -- ---- it is no other one
 
-pub session_other : (n status : ℕ) → (n ≢ 0) × (n ≢ 3) × (n ≢ 4) × (n ≢ 5) × (n ≢ 6) → (n ≢ 14) × (n ≢ 15) × (n ≢ 7) × (n ≢ 8) × (n ≢ 9) → (n ≢ 11) × (n ≢ 12) → IsSessionStatus status → status ≡ n → ⊥
+pub session_other : (n status : Status) → (n ≢ Done) × (n ≢ BudgetSpent) × (n ≢ StartMismatch) × (n ≢ MalformedLog) × (n ≢ Unsupported) → (n ≢ InvalidStore) × (n ≢ LogGone) × (n ≢ SourceFailed) × (n ≢ TopicsFailed) × (n ≢ OffsetsFailed) → (n ≢ StdoutFailed) × (n ≢ OutOfMemory) → IsSessionStatus status → status ≡ n → ⊥
 session_other n status own other short (inl is) same = own.0 (sym same ∙ is)
 session_other n status own other short (inr (inl is)) same = own.1 (sym same ∙ is)
 session_other n status own other short (inr (inr (inl is))) same = own.2 (sym same ∙ is)
@@ -130,13 +134,13 @@ session_other n status own other short (inr (inr (inr (inr (inr (inr (inr (inr (
 session_other n status own other short (inr (inr (inr (inr (inr (inr (inr (inr (inl (inr is)))))))))) same = other.4 (sym same ∙ is)
 session_other n status own other short (inr (inr (inr (inr (inr (inr (inr (inr (inr cut))))))))) same = cut_other n status short cut same
 
-pub session_no_input : (status : ℕ) → IsSessionStatus status → status ≢ 10
+pub session_no_input : (status : Status) → IsSessionStatus status → status ≢ StdinFailed
 session_no_input status known is =
-    session_other 10 status (λ e. cc, λ e. cc, λ e. cc, λ e. cc, λ e. cc) (λ e. cc, λ e. cc, λ e. cc, λ e. cc, λ e. cc) (λ e. cc, λ e. cc) known is
+    session_other StdinFailed status (λ e. cc, λ e. cc, λ e. cc, λ e. cc, λ e. cc) (λ e. cc, λ e. cc, λ e. cc, λ e. cc, λ e. cc) (λ e. cc, λ e. cc) known is
 
 -- ---- where it is 0, the session was complete
 
-error_not_0 : (e : ConnectError) → IsConnectError e → (status : ℕ) → status ≡ connect_status e → status ≡ 0 → ⊥
+error_not_0 : (e : ConnectError) → IsConnectError e → (status : Status) → status ≡ connect_status e → status ≡ Done → ⊥
 error_not_0 (connect.Failed Wal) kind status is zero = cc
 error_not_0 (connect.Failed Topics) kind status is zero = cc
 error_not_0 (connect.Failed Offsets) kind status is zero = cc
@@ -144,28 +148,28 @@ error_not_0 (connect.NotAStore store at) kind status is zero = cc
 error_not_0 (connect.BadEntry store index) kind status is zero = cc
 error_not_0 connect.AlreadyStarted kind status is zero = cc
 error_not_0 connect.NotStarted kind status is zero = cc
-error_not_0 (connect.Halted h) kind status is zero = halt_other 0 status (λ e. cc, λ e. cc, λ e. cc, λ e. cc, λ e. cc) (own_status h kind status is) zero
+error_not_0 (connect.Halted h) kind status is zero = halt_other Done status (λ e. cc, λ e. cc, λ e. cc, λ e. cc, λ e. cc) (own_status h kind status is) zero
 error_not_0 connect.Memory kind status is zero = cc
 
-ending_0 : (ending : Ending) (status : ℕ) → status ≡ ending_status ending → status ≡ 0 → ending ≡ Complete
+ending_0 : (ending : Ending) (status : Status) → status ≡ ending_status ending → status ≡ Done → ending ≡ Complete
 ending_0 Complete status is zero = refl
 ending_0 Budget status is zero = cc
 
-own_0 : (end : ConnectEnd) → IfErr end IsConnectError → (status : ℕ) → status ≡ session_status end → status ≡ 0 → IsCompleteEnd end
+own_0 : (end : ConnectEnd) → IfErr end IsConnectError → (status : Status) → status ≡ session_status end → status ≡ Done → IsCompleteEnd end
 own_0 (Ok summary) kind status is zero = ending_0 summary.ending status is zero
 own_0 (Err e) kind status is zero = absurd (error_not_0 e kind status is zero)
 
-pub complete_end : (end : ConnectEnd) → IfErr end IsConnectError → (status : ℕ) (before after : Option (List ℕ)) → SaysSession end status before after → status ≡ 0 → IsCompleteEnd end
+pub complete_end : (end : ConnectEnd) → IfErr end IsConnectError → (status : Status) (before after : Option (List ℕ)) → SaysSession end status before after → status ≡ Done → IsCompleteEnd end
 complete_end end kind status before after says zero =
-    elim (says_status end status before after says) [ inl is ↦ own_0 end kind status is zero | inr cut ↦ absurd (cut_other 0 status (λ e. cc, λ e. cc) cut zero) ]
+    elim (says_status end status before after says) [ inl is ↦ own_0 end kind status is zero | inr cut ↦ absurd (cut_other Done status (λ e. cc, λ e. cc) cut zero) ]
 
 -- ---- where it is that of a failed disk, that disk failed
 
-no_ending : (ending : Ending) (n status : ℕ) → (n ≢ 0) × (n ≢ 3) → status ≡ ending_status ending → status ≡ n → ⊥
+no_ending : (ending : Ending) (n status : Status) → (n ≢ Done) × (n ≢ BudgetSpent) → status ≡ ending_status ending → status ≡ n → ⊥
 no_ending Complete n status other is same = other.0 (sym same ∙ is)
 no_ending Budget n status other is same = other.1 (sym same ∙ is)
 
-one_store : (a b : Store) (status : ℕ) → status ≡ store_status a → status ≡ store_status b → a ≡ b
+one_store : (a b : Store) (status : Status) → status ≡ store_status a → status ≡ store_status b → a ≡ b
 one_store Wal Wal status is same = refl
 one_store Wal Topics status is same = cc
 one_store Wal Offsets status is same = cc
@@ -176,20 +180,20 @@ one_store Offsets Wal status is same = cc
 one_store Offsets Topics status is same = cc
 one_store Offsets Offsets status is same = refl
 
-abbrev Others : ℕ → Type 0
-Others n = ((n ≢ 0) × (n ≢ 3)) × (((n ≢ 4) × (n ≢ 14)) × ((n ≢ 5) × (n ≢ 6) × (n ≢ 14) × (n ≢ 15) × (n ≢ 12)))
+abbrev Others : Status → Type 0
+Others n = ((n ≢ Done) × (n ≢ BudgetSpent)) × (((n ≢ StartMismatch) × (n ≢ InvalidStore)) × ((n ≢ MalformedLog) × (n ≢ Unsupported) × (n ≢ InvalidStore) × (n ≢ LogGone) × (n ≢ OutOfMemory)))
 
 store_others : (store : Store) → Others (store_status store)
 store_others Wal = ((λ e. cc, λ e. cc), ((λ e. cc, λ e. cc), (λ e. cc, λ e. cc, λ e. cc, λ e. cc, λ e. cc)))
 store_others Topics = ((λ e. cc, λ e. cc), ((λ e. cc, λ e. cc), (λ e. cc, λ e. cc, λ e. cc, λ e. cc, λ e. cc)))
 store_others Offsets = ((λ e. cc, λ e. cc), ((λ e. cc, λ e. cc), (λ e. cc, λ e. cc, λ e. cc, λ e. cc, λ e. cc)))
 
-store_cut : (store : Store) (status : ℕ) → IsCutShort status → status ≡ store_status store → ⊥
-store_cut Wal status cut same = cut_other 7 status (λ e. cc, λ e. cc) cut same
-store_cut Topics status cut same = cut_other 8 status (λ e. cc, λ e. cc) cut same
-store_cut Offsets status cut same = cut_other 9 status (λ e. cc, λ e. cc) cut same
+store_cut : (store : Store) (status : Status) → IsCutShort status → status ≡ store_status store → ⊥
+store_cut Wal status cut same = cut_other SourceFailed status (λ e. cc, λ e. cc) cut same
+store_cut Topics status cut same = cut_other TopicsFailed status (λ e. cc, λ e. cc) cut same
+store_cut Offsets status cut same = cut_other OffsetsFailed status (λ e. cc, λ e. cc) cut same
 
-failed_error : (e : ConnectError) → IsConnectError e → (store : Store) (status : ℕ) → status ≡ connect_status e → status ≡ store_status store → e ≡ connect.Failed store
+failed_error : (e : ConnectError) → IsConnectError e → (store : Store) (status : Status) → status ≡ connect_status e → status ≡ store_status store → e ≡ connect.Failed store
 failed_error (connect.Failed other) kind store status is same = ap connect.Failed (one_store other store status is same)
 failed_error (connect.NotAStore other at) kind store status is same = absurd ((store_others store).1.0.1 (sym same ∙ is))
 failed_error (connect.BadEntry other index) kind store status is same = absurd ((store_others store).1.0.1 (sym same ∙ is))
@@ -198,13 +202,13 @@ failed_error connect.NotStarted kind store status is same = absurd ((store_other
 failed_error (connect.Halted h) kind store status is same = absurd (halt_other (store_status store) status (store_others store).1.1 (own_status h kind status is) same)
 failed_error connect.Memory kind store status is same = absurd ((store_others store).1.1.4 (sym same ∙ is))
 
-failed_end : (end : ConnectEnd) → IfErr end IsConnectError → (store : Store) (status : ℕ) → status ≡ session_status end → status ≡ store_status store → end ≡ Err (connect.Failed store)
+failed_end : (end : ConnectEnd) → IfErr end IsConnectError → (store : Store) (status : Status) → status ≡ session_status end → status ≡ store_status store → end ≡ Err (connect.Failed store)
 failed_end (Ok summary) kind store status is same = absurd (no_ending summary.ending (store_status store) status (store_others store).0 is same)
 failed_end (Err e) kind store status is same = ap (λ (x : ConnectError). let r : ConnectEnd = Err x in r) (failed_error e kind store status is same)
 
-pub failed_cause : {D : Type 0} (faults : D → ℕ) (store : Store) (end : ConnectEnd) (old new : D) → IfErr end IsConnectError → (status : ℕ) (before after : Option (List ℕ)) → SaysSession end status before after
-    → CountsFaults faults store end old new → status ≡ store_status store → FaultCounted (faults old) (faults new)
-failed_cause faults store end old new kind status before after says counts same =
+pub failed_cause : {D : Type 0} (model : DiskModel D) (store : Store) (end : ConnectEnd) (old new : D) → IfErr end IsConnectError → (status : Status) (before after : Option (List ℕ)) → SaysSession end status before after
+    → CountsFaults model store end old new → status ≡ store_status store → FaultCounted (model.faults old) (model.faults new)
+failed_cause model store end old new kind status before after says counts same =
     elim (says_status end status before after says) [
       | inl is ↦ counts.cause (failed_end end kind store status is same)
       | inr cut ↦ absurd (store_cut store status cut same)
@@ -212,9 +216,9 @@ failed_cause faults store end old new kind status before after says counts same 
 
 -- ---- it is never that of a failed output
 
-halt_no_output : (h : Halt) → halt_status h ≢ output_failed_status
+halt_no_output : (h : Halt) → halt_status h ≢ StdoutFailed
 halt_no_output (halt.Message number error) is = cc
-halt_no_output (halt.Txn number error) is = halt_other 11 (transaction_status error) (λ e. cc, λ e. cc, λ e. cc, λ e. cc, λ e. cc) (txn_status error (transaction_status error) refl) is
+halt_no_output (halt.Txn number error) is = halt_other StdoutFailed (transaction_status error) (λ e. cc, λ e. cc, λ e. cc, λ e. cc, λ e. cc) (txn_status error (transaction_status error) refl) is
 halt_no_output (halt.Chunk table row) is = cc
 halt_no_output (halt.Cell table column error) is = cc
 halt_no_output (halt.Clash table column) is = cc
@@ -230,7 +234,7 @@ halt_no_output halt.Sink is = cc
 halt_no_output halt.Offsets is = cc
 halt_no_output halt.Memory is = cc
 
-pub error_no_output : (e : ConnectError) → connect_status e ≢ output_failed_status
+pub error_no_output : (e : ConnectError) → connect_status e ≢ StdoutFailed
 error_no_output (connect.Failed Wal) is = cc
 error_no_output (connect.Failed Topics) is = cc
 error_no_output (connect.Failed Offsets) is = cc
@@ -241,17 +245,17 @@ error_no_output connect.NotStarted is = cc
 error_no_output (connect.Halted h) is = halt_no_output h is
 error_no_output connect.Memory is = cc
 
-pub ending_no_output : (ending : Ending) → ending_status ending ≢ output_failed_status
+pub ending_no_output : (ending : Ending) → ending_status ending ≢ StdoutFailed
 ending_no_output Complete is = cc
 ending_no_output Budget is = cc
 
 -- ---- what a refused session leaves
 
-pub refused_end : {W T F : Type 0} (seen_wal : W → Option (List ℕ)) (wals : W → List ℕ → Type 0) (seen_topics : T → Option (List ℕ)) (logs : T → List ℕ → Type 0) (seen_offsets : F → Option (List ℕ)) (stores : F → List ℕ → Type 0)
-    (w w1 : W) (t t1 : T) (f f1 : F) (end : ConnectEnd) → IfErr end (λ e. IsConnectRefusal e → OnlyRead seen_wal wals w w1) → IfErr end (λ e. IsConnectRefusal e → OnlyRead seen_topics logs t t1) → IfErr end (λ e. IsConnectRefusal e → OnlyRead seen_offsets stores f f1)
-    → IfErr end (λ e. IsConnectRefusal e → WroteNothing (wals w) (logs t) (stores f) (wals w1) (logs t1) (stores f1))
-refused_end seen_wal wals seen_topics logs seen_offsets stores w w1 t t1 f f1 (Ok summary) wal topics offsets = tt
-refused_end seen_wal wals seen_topics logs seen_offsets stores w w1 t t1 f f1 (Err e) wal topics offsets =
+pub refused_end : {W T F : Type 0} (wal_model : DiskModel W) (topics_model : DiskModel T) (offsets_model : DiskModel F)
+    (old new : Disks W T F) (end : ConnectEnd) → IfErr end (λ e. IsConnectRefusal e → OnlyRead wal_model old.wal new.wal) → IfErr end (λ e. IsConnectRefusal e → OnlyRead topics_model old.topics new.topics) → IfErr end (λ e. IsConnectRefusal e → OnlyRead offsets_model old.offsets new.offsets)
+    → IfErr end (λ e. IsConnectRefusal e → WroteNothing (wal_model.may_leave old.wal) (topics_model.may_leave old.topics) (offsets_model.may_leave old.offsets) (wal_model.may_leave new.wal) (topics_model.may_leave new.topics) (offsets_model.may_leave new.offsets))
+refused_end wal_model topics_model offsets_model old new (Ok summary) wal topics offsets = tt
+refused_end wal_model topics_model offsets_model old new (Err e) wal topics offsets =
     λ refusal. record { wal = (wal refusal).crash; topics = (topics refusal).crash; offsets = (offsets refusal).crash }
 
 -- ---- promises
@@ -261,23 +265,23 @@ pub promised_less : (often seldom : Type 0) (asks other : Contents → Option Co
     → GuaranteesAfterCrash often asks wals logs stores w t f → GuaranteesAfterCrash seldom other wals logs stores w t f
 promised_less often seldom asks other wals logs stores w t f less same is =
     let left = is.left in
-    let came = left.came in
+    let predecessor = left.predecessor in
     record {
       left = record {
         held = left.held;
         read = left.read;
         kept = left.kept;
-        came = record {
-          wal = came.wal;
-          topics = came.topics;
-          offsets = came.offsets;
-          may_wal = came.may_wal;
-          may_topics = came.may_topics;
-          may_offsets = came.may_offsets;
-          old = came.old;
-          read = came.read;
-          goes = subst (λ (o : Option Config). Advances o came.old left.held) (same came.old) came.goes;
+        predecessor = record {
+          wal = predecessor.wal;
+          topics = predecessor.topics;
+          offsets = predecessor.offsets;
+          may_wal = predecessor.may_wal;
+          may_topics = predecessor.may_topics;
+          may_offsets = predecessor.may_offsets;
+          old = predecessor.old;
+          read = predecessor.read;
+          advances = subst (λ (o : Option Config). Advances o predecessor.old left.held) (same predecessor.old) predecessor.advances;
         };
       };
-      promised = record { first_deliveries = is.promised.first_deliveries; snapshots = is.promised.snapshots; appends = is.promised.appends; tables = λ complete. is.promised.tables (less complete) };
+      guarantees = record { first_deliveries = is.guarantees.first_deliveries; snapshots = is.guarantees.snapshots; appends = is.guarantees.appends; tables = λ complete. is.guarantees.tables (less complete) };
     }

@@ -4,7 +4,9 @@ use Rattle.dblog_init.specs.declared.error.InitError.{InitError}
 use Rattle.dblog_init.specs.declared.error.InitError.TheVariants as init
 use Rattle.dblog_init.specs.declared.error.Store.{Store}
 use Rattle.dblog_init.specs.declared.error.Store.TheVariants as store
-use Rattle.dbl_lines.specs.declared.halt.Halt.TheVariants.{Memory}
+use Rattle.dbl_lines.specs.declared.status.Status.{Status}
+use Rattle.dbl_lines.specs.declared.status.Status.TheVariants.{Done, StdinFailed, InvalidInput}
+use Rattle.dbl_lines.specs.declared.run_error.RunError.TheVariants.{Memory}
 use Rattle.dbl_lines.specs.Says.{IsCutShort, Says}
 use Rattle.dbl_lines.proofs.SayLemmas.{cut_other}
 use Rattle.dblog_capture.specs.Ends.{store_status}
@@ -13,10 +15,10 @@ use Rattle.dblog_capture.specs.InitErrors.{SaysInit, init_status}
 use Rattle.dblog_capture.proofs.InitStatuses.{failed_error, no_zero, said_status, store_whole}
 use Rattle.dblog_capture.specs.Generated.{IsGeneratedStatus}
 
-cut_known : (status : ℕ) → IsCutShort status → IsGeneratedStatus status
+cut_known : (status : Status) → IsCutShort status → IsGeneratedStatus status
 cut_known status cut = inr (inr (inr (inr (inr (inr (inr (inr (inr (inr cut)))))))))
 
-own_known : (e : InitError) (status : ℕ) → e ≢ init.InputFailed → status ≡ init_status e → IsGeneratedStatus status
+own_known : (e : InitError) (status : Status) → e ≢ init.InputFailed → status ≡ init_status e → IsGeneratedStatus status
 own_known (init.Failed store.Wal) status other is = inr (inr (inr (inr (inr (inr (inr (inr (inl is))))))))
 own_known (init.Failed store.Topics) status other is = inr (inr (inr (inr (inr (inr (inr (inr (inr (inl (inl is))))))))))
 own_known (init.Failed store.Offsets) status other is = inr (inr (inr (inr (inr (inr (inr (inr (inr (inl (inr is))))))))))
@@ -27,21 +29,21 @@ own_known (init.Script e) status other is = inl is
 own_known (init.Model e) status other is = inr (inr (inr (inr (inr (inl is)))))
 own_known init.Memory status other is = cut_known status (inr is)
 
-pub stopped_known : (e : InitError) (status : ℕ) (before after : Option (List ℕ)) → e ≢ init.InputFailed → SaysInit e status before after → IsGeneratedStatus status
+pub stopped_known : (e : InitError) (status : Status) (before after : Option (List ℕ)) → e ≢ init.InputFailed → SaysInit e status before after → IsGeneratedStatus status
 stopped_known e status before after other says = elim (said_status e status before after says) [ inl is ↦ own_known e status other is | inr cut ↦ cut_known status cut ]
 
 -- a run out of memory before it began says what `init` says of that
-pub starved_known : (status : ℕ) (before after : Option (List ℕ)) → Says Memory status before after → IsGeneratedStatus status
+pub starved_known : (status : Status) (before after : Option (List ℕ)) → Says Memory status before after → IsGeneratedStatus status
 starved_known status before after says = stopped_known init.Memory status before after (λ is. (let t = is in cc)) says
 
-pub no_input : (status : ℕ) → IsGeneratedStatus status → status ≢ 10
-no_input status (inl is) same = let wrong : 13 ≡ 10 = sym is ∙ same in cc
+pub no_input : (status : Status) → IsGeneratedStatus status → status ≢ StdinFailed
+no_input status (inl is) same = let wrong : InvalidInput ≡ StdinFailed = sym is ∙ same in cc
 no_input status (inr known) same = session_no_input status known same
 
-pub stopped_no_zero : (e : InitError) (status : ℕ) (before after : Option (List ℕ)) → SaysInit e status before after → status ≡ 0 → ⊥
+pub stopped_no_zero : (e : InitError) (status : Status) (before after : Option (List ℕ)) → SaysInit e status before after → status ≡ Done → ⊥
 stopped_no_zero e status before after says zero =
-    elim (said_status e status before after says) [ inl is ↦ no_zero e (sym is ∙ zero) | inr cut ↦ cut_other 0 status (λ e. cc, λ e. cc) cut zero ]
+    elim (said_status e status before after says) [ inl is ↦ no_zero e (sym is ∙ zero) | inr cut ↦ cut_other Done status (λ e. cc, λ e. cc) cut zero ]
 
-pub stopped_failed : (made : Store) (e : InitError) (status : ℕ) (before after : Option (List ℕ)) → SaysInit e status before after → status ≡ store_status made → e ≡ init.Failed made
+pub stopped_failed : (made : Store) (e : InitError) (status : Status) (before after : Option (List ℕ)) → SaysInit e status before after → status ≡ store_status made → e ≡ init.Failed made
 stopped_failed made e status before after says same =
     elim (said_status e status before after says) [ inl is ↦ failed_error made e (sym is ∙ same) | inr cut ↦ absurd (store_whole made status same cut) ]

@@ -9,25 +9,28 @@ use Rattle.dblog_connect.specs.declared.error.ConnectError.TheVariants as connec
 use Rattle.dblog_connect.specs.Ends.{ConnectEnd}
 use Rattle.dblog_capture.specs.Halts.{halt_line, halt_status}
 use Rattle.dblog_capture.specs.Reports.{ending_status, report_lines}
-use Rattle.dbl_lines.specs.declared.halt.Halt.TheVariants.{Memory}
-use Rattle.dbl_lines.specs.Faults.{status_of, fault_line}
+use Rattle.dbl_lines.specs.declared.status.Status.{Status}
+use Rattle.dbl_lines.specs.declared.status.Status.TheVariants.{Done, BudgetSpent, StartMismatch, MalformedLog, Unsupported, SourceFailed}
+use Rattle.dbl_lines.specs.declared.status.Status.TheVariants.{TopicsFailed, OffsetsFailed, OutOfMemory, InvalidStore, LogGone}
+use Rattle.dbl_lines.specs.declared.run_error.RunError.TheVariants.{Memory}
+use Rattle.dbl_lines.specs.Faults.{fault_line}
 use Rattle.dbl_lines.specs.Says.{IsCutShort, Writes}
 
 -- The exit status of a failed disk.
-abbrev pub store_status : Store → ℕ
-store_status Wal = 7
-store_status Topics = 8
-store_status Offsets = 9
+abbrev pub store_status : Store → Status
+store_status Wal = SourceFailed
+store_status Topics = TopicsFailed
+store_status Offsets = OffsetsFailed
 
 -- The exit status of an error of the connector.
-abbrev pub connect_status : ConnectError → ℕ
+abbrev pub connect_status : ConnectError → Status
 connect_status (connect.Failed store) = store_status store
-connect_status (connect.NotAStore store at) = 14
-connect_status (connect.BadEntry store index) = 14
-connect_status connect.AlreadyStarted = 4
-connect_status connect.NotStarted = 4
+connect_status (connect.NotAStore store at) = InvalidStore
+connect_status (connect.BadEntry store index) = InvalidStore
+connect_status connect.AlreadyStarted = StartMismatch
+connect_status connect.NotStarted = StartMismatch
 connect_status (connect.Halted halt) = halt_status halt
-connect_status connect.Memory = status_of Memory
+connect_status connect.Memory = OutOfMemory
 
 -- The line of an error of the connector, without its newline.
 abbrev pub connect_line : ConnectError → List ℕ
@@ -41,7 +44,7 @@ connect_line (connect.Halted halt) = halt_line halt
 connect_line connect.Memory = fault_line Memory
 
 -- The exit status of a session.
-abbrev pub session_status : ConnectEnd → ℕ
+abbrev pub session_status : ConnectEnd → Status
 session_status (Ok summary) = ending_status summary.ending
 session_status (Err e) = connect_status e
 
@@ -51,12 +54,13 @@ session_lines (Ok summary) = report_lines summary.ending summary.report
 session_lines (Err e) = connect_line e ∷ []
 
 -- The lines of a session were to be written and its status returned, or those of out of memory.
-abbrev pub SaysSession : ConnectEnd → ℕ → Option (List ℕ) → Option (List ℕ) → Type 0
+abbrev pub SaysSession : ConnectEnd → Status → Option (List ℕ) → Option (List ℕ) → Type 0
 SaysSession end status before after =
     Writes (session_status end) (lines_text (session_lines end)) status before after
-    ⊎ Writes (status_of Memory) (lines_text (fault_line Memory ∷ [])) status before after
+    ⊎ Writes OutOfMemory (lines_text (fault_line Memory ∷ [])) status before after
 
 -- The statuses of a session, for every behaviour of the disks and the output.
-abbrev pub IsSessionStatus : ℕ → Type 0
-IsSessionStatus status = (status ≡ 0) ⊎ ((status ≡ 3) ⊎ ((status ≡ 4) ⊎ ((status ≡ 5) ⊎ ((status ≡ 6) ⊎ ((status ≡ 14) ⊎ ((status ≡ 15)
-    ⊎ ((status ≡ store_status Wal) ⊎ (((status ≡ store_status Topics) ⊎ (status ≡ store_status Offsets)) ⊎ IsCutShort status))))))))
+abbrev pub IsSessionStatus : Status → Type 0
+IsSessionStatus status = (status ≡ Done) ⊎ ((status ≡ BudgetSpent) ⊎ ((status ≡ StartMismatch) ⊎ ((status ≡ MalformedLog)
+    ⊎ ((status ≡ Unsupported) ⊎ ((status ≡ InvalidStore) ⊎ ((status ≡ LogGone)
+    ⊎ ((status ≡ SourceFailed) ⊎ (((status ≡ TopicsFailed) ⊎ (status ≡ OffsetsFailed)) ⊎ IsCutShort status))))))))

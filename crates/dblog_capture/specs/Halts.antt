@@ -1,5 +1,8 @@
 -- The status and the line of each halt of a session.
 use Rattle.std.specs.Prelude.{ℕ, List, ◌++◌, codes, decimal}
+use Rattle.dbl_lines.specs.declared.status.Status.{Status}
+use Rattle.dbl_lines.specs.declared.status.Status.TheVariants.{MalformedLog, Unsupported, SourceFailed, TopicsFailed}
+use Rattle.dbl_lines.specs.declared.status.Status.TheVariants.{OffsetsFailed, OutOfMemory, InvalidStore, LogGone}
 use Rattle.dbl_model_commit.specs.declared.txn_error.TxnError.TheVariants as txn
 use Rattle.dbl_model_table.specs.Tables.{full_name}
 use Rattle.dblog_replay.specs.declared.log_fault.LogFault.TheVariants as log
@@ -8,24 +11,24 @@ use Rattle.dbl_capture_work.specs.declared.halt.Halt.{Halt}
 use Rattle.dbl_capture_work.specs.declared.halt.Halt.TheVariants.{Message, Txn, Chunk, Cell, Clash, RecordTooLong, OffsetTooLong, Model, UnknownTable, Gone, WatermarkMissing, Exhausted, Source, Sink, Offsets, Memory}
 use Rattle.dblog_capture.specs.Reports.{count_line}
 
--- The exit status of a halt: 5 if the log is malformed, 6 if unsupported, 15 if it lacks what the offset needs; 7, 8, 9 if a disk failed.
-abbrev pub halt_status : Halt → ℕ
+-- The exit status of a halt.
+abbrev pub halt_status : Halt → Status
 halt_status (Message number error) = log_status (log.Message number error)
 halt_status (Txn number error) = log_status (log.Transaction number error)
-halt_status (Chunk table row) = 5
-halt_status (Cell table column error) = 6
-halt_status (Clash table column) = 6
-halt_status (RecordTooLong len) = 6
-halt_status (OffsetTooLong len) = 6
-halt_status (Model error) = 6
-halt_status (UnknownTable table) = 6
-halt_status (Gone asked first) = 15
-halt_status (WatermarkMissing value at) = 15
-halt_status (Exhausted incarnation) = 14
-halt_status Source = 7
-halt_status Sink = 8
-halt_status Offsets = 9
-halt_status Memory = 12
+halt_status (Chunk table row) = MalformedLog
+halt_status (Cell table column error) = Unsupported
+halt_status (Clash table column) = Unsupported
+halt_status (RecordTooLong len) = Unsupported
+halt_status (OffsetTooLong len) = Unsupported
+halt_status (Model error) = Unsupported
+halt_status (UnknownTable table) = Unsupported
+halt_status (Gone asked first) = LogGone
+halt_status (WatermarkMissing value at) = LogGone
+halt_status (Exhausted incarnation) = InvalidStore
+halt_status Source = SourceFailed
+halt_status Sink = TopicsFailed
+halt_status Offsets = OffsetsFailed
+halt_status Memory = OutOfMemory
 
 -- The line of a halt, without its newline.
 abbrev pub halt_line : Halt → List ℕ

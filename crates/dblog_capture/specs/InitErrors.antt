@@ -8,36 +8,39 @@ use Rattle.dblog_init.specs.declared.error.InitError.{InitError}
 use Rattle.dblog_init.specs.declared.error.InitError.TheVariants as init
 use Rattle.dblog_init.specs.declared.error.Store.TheVariants as store
 use Rattle.dblog_init.specs.Errors.{store_name}
-use Rattle.dbl_lines.specs.declared.halt.Halt.TheVariants as halt
-use Rattle.dbl_lines.specs.Faults.{fault_line, status_of}
+use Rattle.dbl_lines.specs.declared.status.Status.{Status}
+use Rattle.dbl_lines.specs.declared.status.Status.TheVariants.{Unsupported, StdinFailed, OutOfMemory}
+use Rattle.dbl_lines.specs.declared.status.Status.TheVariants.{InvalidInput, InvalidStore}
+use Rattle.dbl_lines.specs.declared.run_error.RunError.TheVariants as error
+use Rattle.dbl_lines.specs.Faults.{fault_line}
 use Rattle.dbl_lines.specs.Says.{Writes}
 use Rattle.dblog_capture.specs.Ends.{store_status}
 
 -- The exit status of an error of `init`.
-abbrev pub init_status : InitError → ℕ
+abbrev pub init_status : InitError → Status
 init_status (init.Failed failed) = store_status failed
-init_status (init.NotEmpty held) = 14
-init_status init.InputFailed = status_of halt.InputFailed
-init_status init.InputTooLong = status_of halt.InputTooLong
-init_status (init.Script e) = 13
-init_status (init.Model e) = 6
-init_status init.Memory = status_of halt.Memory
+init_status (init.NotEmpty held) = InvalidStore
+init_status init.InputFailed = StdinFailed
+init_status init.InputTooLong = InvalidInput
+init_status (init.Script e) = InvalidInput
+init_status (init.Model e) = Unsupported
+init_status init.Memory = OutOfMemory
 
 -- The line of an error of `init`, without its newline.
 abbrev pub init_line : InitError → List ℕ
 init_line (init.Failed store.Wal) = codes "dblog: source failed"
 init_line (init.Failed failed) = codes "dblog: " ++ store_name failed ++ codes " failed"
 init_line (init.NotEmpty held) = codes "dblog: not empty: " ++ store_name held
-init_line init.InputFailed = fault_line halt.InputFailed
-init_line init.InputTooLong = fault_line halt.InputTooLong
-init_line (init.Script (script.BadLine number)) = fault_line (halt.BadLine number)
+init_line init.InputFailed = fault_line error.InputFailed
+init_line init.InputTooLong = fault_line error.InputTooLong
+init_line (init.Script (script.BadLine number)) = fault_line (error.BadLine number)
 init_line (init.Script script.TooManyLines) = codes "dblog: too many lines"
-init_line (init.Script script.Memory) = fault_line halt.Memory
+init_line (init.Script script.Memory) = fault_line error.Memory
 init_line (init.Model e) = log_line (log.Table e)
-init_line init.Memory = fault_line halt.Memory
+init_line init.Memory = fault_line error.Memory
 
 -- The error's line was to be written and its status returned, or those of out of memory.
-abbrev pub SaysInit : InitError → ℕ → Option (List ℕ) → Option (List ℕ) → Type 0
+abbrev pub SaysInit : InitError → Status → Option (List ℕ) → Option (List ℕ) → Type 0
 SaysInit e status before after =
     Writes (init_status e) (lines_text (init_line e ∷ [])) status before after
-    ⊎ Writes (status_of halt.Memory) (lines_text (fault_line halt.Memory ∷ [])) status before after
+    ⊎ Writes OutOfMemory (lines_text (fault_line error.Memory ∷ [])) status before after

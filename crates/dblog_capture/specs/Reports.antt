@@ -1,13 +1,15 @@
 -- The status of a session that ended normally, and the lines of its report.
 use Rattle.std.specs.Prelude.{ℕ, List, [], ◌∷◌, ◌++◌, codes, decimal}
+use Rattle.dbl_lines.specs.declared.status.Status.{Status}
+use Rattle.dbl_lines.specs.declared.status.Status.TheVariants.{Done, BudgetSpent}
 use Rattle.dbl_capture_work.specs.declared.report.Ending.{Ending}
 use Rattle.dbl_capture_work.specs.declared.report.Ending.TheVariants.{Complete, Budget}
 use Rattle.dbl_capture_work.specs.declared.report.Report.{Report}
 
 -- The exit status of a session that ended normally.
-abbrev pub ending_status : Ending → ℕ
-ending_status Complete = 0
-ending_status Budget = 3
+abbrev pub ending_status : Ending → Status
+ending_status Complete = Done
+ending_status Budget = BudgetSpent
 
 -- The printed word for the ending of a session.
 abbrev pub ending_word : Ending → List ℕ

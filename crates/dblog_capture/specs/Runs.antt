@@ -1,15 +1,19 @@
 -- A run of `capture` or `resume`: how its session ended, what that says of the disks, and its output.
 use Rattle.std.specs.Prelude.{◌≡◌, ℕ, ℤ, IfOk, IfErr, MatchResult, Option, Some, List}
+use Rattle.dbl_lines.specs.declared.status.Status.{Status}
+use Rattle.dbl_lines.specs.declared.status.Status.TheVariants.{Done, SourceFailed, TopicsFailed, OffsetsFailed}
 use Rattle.dbl_base.specs.Streams.{FaultCounted}
+use Rattle.dbl_disk.specs.Model.{DiskModel}
+use Rattle.dblog_init.specs.declared.disks.Disks.{Disks}
 use Rattle.dblog_connect.specs.Promise.Bounds.{IsBounded}
 use Rattle.dblog_connect.specs.Promise.Headline.{GuaranteesAfterCrash}
 use Rattle.dblog_connect.specs.Promise.Kept.{AreKept}
 use Rattle.dblog_connect.specs.declared.asked.Asked.{Asked}
 use Rattle.dblog_connect.specs.Asked.{asks_in, budget_of}
+use Rattle.dblog_connect.specs.Disks.{AreKeptDisks, IsTrueAfterCrash}
 use Rattle.dblog_connect.specs.Ends.{AddsFew, ConnectEnd, EndsBefore, GainsRecords, HasBegun, HasRun, IsKeptError, IsReported, IsSpent, IsWrongSource}
 use Rattle.dblog_connect.specs.Errors.{IsConnectError, IsConnectRefusal}
-use Rattle.dblog_init.specs.declared.error.Store.TheVariants.{Wal, Topics, Offsets}
-use Rattle.dblog_capture.specs.Ends.{SaysSession, store_status}
+use Rattle.dblog_capture.specs.Ends.{SaysSession}
 
 -- The answer for disks with these contents, by what a crash might leave before the run and may leave after it.
 pub record AnswersCapture (asked : Asked) (now : ℤ) (wals logs new_wals new_logs new_stores : List ℕ → Type 0) (w t f : List ℕ) (end : ConnectEnd) : Type 0 where
@@ -32,7 +36,7 @@ pub record WroteNothing (wals logs stores new_wals new_logs new_stores : List �
 
 -- The session had this result, which was written, by the contents of the disks and what a crash may leave before and after.
 pub record RunsSession (asked : Asked) (now : ℤ) (told_wal told_topics told_offsets : Option (List ℕ)) (wals logs stores new_wals new_logs new_stores : List ℕ → Type 0)
-    (status : ℕ) (before after : Option (List ℕ)) : Type 0 where
+    (status : Status) (before after : Option (List ℕ)) : Type 0 where
   pub end : ConnectEnd
   pub says : SaysSession end status before after
   pub answers : (w t f : List ℕ) → told_wal ≡ Some w → told_topics ≡ Some t → told_offsets ≡ Some f → AnswersCapture asked now wals logs new_wals new_logs new_stores w t f end
@@ -45,34 +49,25 @@ pub record RunsSession (asked : Asked) (now : ℤ) (told_wal told_topics told_of
   pub spent : IfOk end (IsSpent (budget_of asked))
   pub kinds : IfErr end IsConnectError
 
--- For private clauses: a run of a session, what it leaves of crash-consistent disks, and their sizes and counts of faults.
-pub record RunsConnected
-    {W T F : Type 0}
-    (seen_wal : W → Option (List ℕ))
-    (wals : W → List ℕ → Type 0)
-    (faults_wal : W → ℕ)
-    (seen_topics : T → Option (List ℕ))
-    (logs : T → List ℕ → Type 0)
-    (faults_topics : T → ℕ)
-    (seen_offsets : F → Option (List ℕ))
-    (stores : F → List ℕ → Type 0)
-    (faults_offsets : F → ℕ)
-    (asked : Asked)
-    (now : ℤ)
-    (wal new_wal : W)
-    (topics new_topics : T)
-    (offsets new_offsets : F)
-    (status : ℕ)
-    (before after : Option (List ℕ)) : Type 0 where
-  pub headline : AreKept (seen_wal wal) (seen_topics topics) (seen_offsets offsets) (wals wal) (logs topics) (stores offsets) → (w t f : List ℕ)
-      → wals new_wal w → logs new_topics t → stores new_offsets f → GuaranteesAfterCrash (status ≡ 0) (asks_in asked) (wals wal) (logs topics) (stores offsets) w t f
-  pub kept : AreKept (seen_wal wal) (seen_topics topics) (seen_offsets offsets) (wals wal) (logs topics) (stores offsets)
-      → AreKept (seen_wal new_wal) (seen_topics new_topics) (seen_offsets new_offsets) (wals new_wal) (logs new_topics) (stores new_offsets)
-  pub runs : RunsSession asked now (seen_wal wal) (seen_topics topics) (seen_offsets offsets) (wals wal) (logs topics) (stores offsets)
-      (wals new_wal) (logs new_topics) (stores new_offsets) status before after
-  pub wal_failed : status ≡ store_status Wal → FaultCounted (faults_wal wal) (faults_wal new_wal)
-  pub topics_failed : status ≡ store_status Topics → FaultCounted (faults_topics topics) (faults_topics new_topics)
-  pub offsets_failed : status ≡ store_status Offsets → FaultCounted (faults_offsets offsets) (faults_offsets new_offsets)
-  pub wal_bounded : IsBounded (seen_wal wal) (seen_wal new_wal)
-  pub topics_bounded : IsBounded (seen_topics topics) (seen_topics new_topics)
-  pub offsets_bounded : IsBounded (seen_offsets offsets) (seen_offsets new_offsets)
+-- The session over these disks had this result, which was written.
+abbrev pub RunsSessionOn : {W T F : Type 0} → DiskModel W → DiskModel T → DiskModel F → Asked → ℤ → Disks W T F → Disks W T F
+    → Status → Option (List ℕ) → Option (List ℕ) → Type 0
+RunsSessionOn wal_model topics_model offsets_model asked now old new status before after =
+    RunsSession asked now (wal_model.seen old.wal) (topics_model.seen old.topics) (offsets_model.seen old.offsets)
+    (wal_model.may_leave old.wal) (topics_model.may_leave old.topics) (offsets_model.may_leave old.offsets)
+    (wal_model.may_leave new.wal) (topics_model.may_leave new.topics) (offsets_model.may_leave new.offsets) status before after
+
+-- A run of a session, what it leaves of crash-consistent disks, and their sizes and counts of faults.
+pub record RunsConnected {W T F : Type 0} (wal_model : DiskModel W) (topics_model : DiskModel T) (offsets_model : DiskModel F)
+    (asked : Asked) (now : ℤ) (old new : Disks W T F) (status : Status) (before after : Option (List ℕ)) : Type 0 where
+  pub headline : AreKeptDisks wal_model topics_model offsets_model old → IsTrueAfterCrash wal_model topics_model offsets_model new
+      (GuaranteesAfterCrash (status ≡ Done) (asks_in asked) (wal_model.may_leave old.wal) (topics_model.may_leave old.topics)
+      (offsets_model.may_leave old.offsets))
+  pub kept : AreKeptDisks wal_model topics_model offsets_model old → AreKeptDisks wal_model topics_model offsets_model new
+  pub runs : RunsSessionOn wal_model topics_model offsets_model asked now old new status before after
+  pub wal_failed : status ≡ SourceFailed → FaultCounted (wal_model.faults old.wal) (wal_model.faults new.wal)
+  pub topics_failed : status ≡ TopicsFailed → FaultCounted (topics_model.faults old.topics) (topics_model.faults new.topics)
+  pub offsets_failed : status ≡ OffsetsFailed → FaultCounted (offsets_model.faults old.offsets) (offsets_model.faults new.offsets)
+  pub wal_bounded : IsBounded (wal_model.seen old.wal) (wal_model.seen new.wal)
+  pub topics_bounded : IsBounded (topics_model.seen old.topics) (topics_model.seen new.topics)
+  pub offsets_bounded : IsBounded (offsets_model.seen old.offsets) (offsets_model.seen new.offsets)

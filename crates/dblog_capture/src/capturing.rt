@@ -1,7 +1,7 @@
 ghost use Rattle.std.specs.Prelude.{◌≡◌, ◌≢◌, ◌≤◌, IfOk};
+ghost use Rattle.dbl_lines.specs.declared.status.Status.TheVariants.{StdinFailed, StdoutFailed};
 ghost use Rattle.dbl_base.specs.Streams.{FaultCounted};
 ghost use Rattle.dbl_gen.specs.Workload.{workload};
-ghost use Rattle.dbl_lines.specs.Faults.{output_failed_status, status_of};
 ghost use Rattle.dblog_capture.specs.Generated.{IsGeneratedStatus, RunsGenerated, plain_capture};
 
 use crate::init_errors::say_init;
@@ -11,9 +11,9 @@ use dbl_base::{Output, Seq, Text};
 use dbl_cli::CaptureOptions;
 use dbl_disk::Disk;
 use dbl_gen::script;
-use dbl_lines::{Finished, Halt, say};
+use dbl_lines::{RunError, Status, say};
 use dblog_connect::Asked;
-use dblog_init::{Begun, init};
+use dblog_init::{Disks, Outcome, init};
 use std::alloc::{AllocError, Global};
 
 /// The workload of which a run makes its stores, and what it captures then.
@@ -32,28 +32,22 @@ pub fn run_generated<O: Output, W: Disk, T: Disk, F: Disk>(
     groups: u32,
     now_ms: &i64,
     output: &mut O,
-    wal: W,
-    topics: T,
-    offsets: F,
-) -> Finished<W, T, F>
+    disks: Disks<W, T, F>,
+) -> Outcome<W, T, F, Status>
     requires rows { rows ≤ 400_000 }
     requires groups { groups ≤ 90_000 }
-    ensures generated { RunsGenerated W.seen W.may_leave W.faults T.seen T.may_leave T.faults
-        F.seen F.may_leave F.faults (workload number rows groups) now_ms.now
-        wal result.wal topics result.topics offsets result.offsets
-        result.status (O.written output.old) (O.written output.new) }
-    ensures known { IsGeneratedStatus result.status }
-    ensures output_failed { result.status ≡ output_failed_status →
+    ensures generated { RunsGenerated W.Disk T.Disk F.Disk (workload number rows groups) now_ms.now
+        disks result.disks result.end (O.written output.old) (O.written output.new) }
+    ensures known { IsGeneratedStatus result.end }
+    ensures output_failed { result.end ≡ StdoutFailed →
         FaultCounted (O.faults output.old) (O.faults output.new) }
-    ensures not_input { result.status ≢ status_of Halt.InputFailed }
+    ensures not_input { result.end ≢ StdinFailed }
 {
     match prepare(alloc, number, rows, groups) {
-        Ok(plan) => make_and_capture(alloc, plan, now_ms, output, wal, topics, offsets),
-        Err(_) => Finished {
-            status: say(alloc, Halt::Memory, output),
-            wal,
-            topics,
-            offsets,
+        Ok(plan) => make_and_capture(alloc, plan, now_ms, output, disks),
+        Err(_) => Outcome {
+            disks,
+            end: say(alloc, RunError::Memory, output),
         },
     }
 }
@@ -90,40 +84,29 @@ fn make_and_capture<O: Output, W: Disk, T: Disk, F: Disk>(
     plan: Plan,
     now_ms: &i64,
     output: &mut O,
-    wal: W,
-    topics: T,
-    offsets: F,
-) -> Finished<W, T, F>
+    disks: Disks<W, T, F>,
+) -> Outcome<W, T, F, Status>
     requires { plan.options ≡ plain_capture }
-    ensures generated { RunsGenerated W.seen W.may_leave W.faults T.seen T.may_leave T.faults
-        F.seen F.may_leave F.faults plan.workload now_ms.now
-        wal result.wal topics result.topics offsets result.offsets
-        result.status (O.written output.old) (O.written output.new) }
-    ensures known { IsGeneratedStatus result.status }
-    ensures output_failed { result.status ≡ output_failed_status →
+    ensures generated { RunsGenerated W.Disk T.Disk F.Disk plan.workload now_ms.now
+        disks result.disks result.end (O.written output.old) (O.written output.new) }
+    ensures known { IsGeneratedStatus result.end }
+    ensures output_failed { result.end ≡ StdoutFailed →
         FaultCounted (O.faults output.old) (O.faults output.new) }
 {
     let Plan {
         mut workload,
         options,
     } = plan;
-    let begun = init(alloc, &mut workload, wal, topics, offsets);
-    let Begun {
-        wal,
-        topics,
-        offsets,
-        end,
-    } = begun;
+    let begun = init(alloc, &mut workload, disks);
+    let Outcome { disks, end } = begun;
     match end {
         Ok(()) => {
             let asked = Asked::First { options };
-            run_session(alloc, asked, now_ms, output, wal, topics, offsets)
+            run_session(alloc, asked, now_ms, output, disks)
         }
-        Err(error) => Finished {
-            status: say_init(alloc, error, output),
-            wal,
-            topics,
-            offsets,
+        Err(error) => Outcome {
+            disks,
+            end: say_init(alloc, error, output),
         },
     }
 }

@@ -6,6 +6,7 @@ ghost use Rattle.dblog_capture.specs.Halts.{halt_line, halt_status};
 
 use dbl_base::Text;
 use dbl_capture_work::Halt;
+use dbl_lines::Status;
 use dbl_model_commit::TxnError;
 use dbl_model_table::TableName;
 use dbl_value::ValueError;
@@ -13,24 +14,24 @@ use dblog_replay::{LogFault, transaction_status};
 use std::alloc::{AllocError, Global};
 
 /// The exit status of a run whose session halted.
-pub fn halt_status(halt: &Halt) -> u8
+pub fn halt_status(halt: &Halt) -> Status
     ensures { result ≡ halt_status halt.now }
 {
     match halt {
-        Halt::Message { .. } | Halt::Chunk { .. } => 5,
+        Halt::Message { .. } | Halt::Chunk { .. } => Status::MalformedLog,
         Halt::Txn { error, .. } => transaction_status(error),
         Halt::Cell { .. }
         | Halt::Clash { .. }
         | Halt::RecordTooLong { .. }
         | Halt::OffsetTooLong { .. }
         | Halt::Model(_)
-        | Halt::UnknownTable { .. } => 6,
-        Halt::Gone { .. } | Halt::WatermarkMissing { .. } => 15,
-        Halt::Exhausted { .. } => 14,
-        Halt::Source => 7,
-        Halt::Sink => 8,
-        Halt::Offsets => 9,
-        Halt::Memory => 12,
+        | Halt::UnknownTable { .. } => Status::Unsupported,
+        Halt::Gone { .. } | Halt::WatermarkMissing { .. } => Status::LogGone,
+        Halt::Exhausted { .. } => Status::InvalidStore,
+        Halt::Source => Status::SourceFailed,
+        Halt::Sink => Status::TopicsFailed,
+        Halt::Offsets => Status::OffsetsFailed,
+        Halt::Memory => Status::OutOfMemory,
     }
 }
 

@@ -1,48 +1,48 @@
 //! The line of an error of `init`, written with its status.
 ghost use Rattle.std.specs.Prelude.{◌≡◌, ◌∷◌, [], IfOk};
+ghost use Rattle.dbl_lines.specs.declared.status.Status.TheVariants.{StdoutFailed};
 ghost use Rattle.std.specs.String.{string_bytes};
 ghost use Rattle.dbl_base.specs.Lines.{lines_text};
 ghost use Rattle.dbl_base.specs.Streams.{FaultCounted};
-ghost use Rattle.dbl_lines.specs.Faults.{output_failed_status};
 ghost use Rattle.dblog_capture.specs.InitErrors.{SaysInit, init_line, init_status};
 
 use dbl_base::Output;
-use dbl_lines::{Halt, OUT_OF_MEMORY, write_text};
+use dbl_lines::{OUT_OF_MEMORY, Status, write_text};
 use dbl_script::ScriptError;
 use dblog_init::{InitError, Store};
 use dblog_replay::LogFault;
 use std::alloc::{AllocError, Global};
 
 /// Writes the error's line, and returns its status.
-pub fn say_init<O: Output>(alloc: Global, error: InitError, output: &mut O) -> u8
+pub fn say_init<O: Output>(alloc: Global, error: InitError, output: &mut O) -> Status
     ensures says { SaysInit error result (O.written output.old) (O.written output.new) }
-    ensures output_failed { result ≡ output_failed_status
+    ensures output_failed { result ≡ StdoutFailed
         → FaultCounted (O.faults output.old) (O.faults output.new) }
 {
     let status = error_status(&error);
     match error_text(alloc, error) {
         Ok(text) => write_text(text.as_str(), status, output),
-        Err(_) => write_text(OUT_OF_MEMORY, Halt::Memory.status(), output),
+        Err(_) => write_text(OUT_OF_MEMORY, Status::OutOfMemory, output),
     }
 }
 
-fn error_status(error: &InitError) -> u8
+fn error_status(error: &InitError) -> Status
     ensures { result ≡ init_status error.now }
 {
     match error {
-        InitError::Failed { store: Store::Wal } => 7,
+        InitError::Failed { store: Store::Wal } => Status::SourceFailed,
         InitError::Failed {
             store: Store::Topics,
-        } => 8,
+        } => Status::TopicsFailed,
         InitError::Failed {
             store: Store::Offsets,
-        } => 9,
-        InitError::NotEmpty { .. } => 14,
-        InitError::InputFailed => 10,
-        InitError::InputTooLong => 13,
-        InitError::Script(_) => 13,
-        InitError::Model(_) => 6,
-        InitError::Memory => 12,
+        } => Status::OffsetsFailed,
+        InitError::NotEmpty { .. } => Status::InvalidStore,
+        InitError::InputFailed => Status::StdinFailed,
+        InitError::InputTooLong => Status::InvalidInput,
+        InitError::Script(_) => Status::InvalidInput,
+        InitError::Model(_) => Status::Unsupported,
+        InitError::Memory => Status::OutOfMemory,
     }
 }
 

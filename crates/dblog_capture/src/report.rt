@@ -4,16 +4,16 @@ ghost use Rattle.dbl_base.specs.Lines.{lines_text};
 ghost use Rattle.dblog_capture.specs.Reports.{ending_status, ending_word, report_lines};
 
 use dbl_capture_work::{Ending, Report};
+use dbl_lines::Status;
 use std::alloc::{AllocError, Global};
 
-/// The exit status of a session that ended normally: 0 if it was complete, 3 if its budget was
-/// read.
-pub fn ending_status(ending: Ending) -> u8
+/// The exit status of a session that ended normally.
+pub fn ending_status(ending: Ending) -> Status
     ensures { result ≡ ending_status ending }
 {
     match ending {
-        Ending::Complete => 0,
-        Ending::Budget => 3,
+        Ending::Complete => Status::Done,
+        Ending::Budget => Status::BudgetSpent,
     }
 }
 

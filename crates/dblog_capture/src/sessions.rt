@@ -1,18 +1,18 @@
 ghost use Rattle.std.specs.Prelude.{◌≡◌, ◌≢◌, ◌∷◌, [], Ok, Err, IfOk};
+ghost use Rattle.dbl_lines.specs.declared.status.Status.TheVariants.{StdinFailed, StdoutFailed};
 ghost use Rattle.std.specs.String.{string_bytes};
 ghost use Rattle.dbl_base.specs.Lines.{lines_text};
 ghost use Rattle.dbl_base.specs.Streams.{FaultCounted};
 ghost use Rattle.dblog_connect.specs.Asked.{IsAskedWithinLimits};
-ghost use Rattle.dbl_lines.specs.Faults.{output_failed_status, status_of};
 ghost use Rattle.dblog_capture.specs.Ends.{IsSessionStatus, SaysSession, connect_line, connect_status};
 ghost use Rattle.dblog_capture.specs.Runs.{RunsConnected};
 
 use crate::{ending_status, halt_line, halt_status, report_text};
 use dbl_base::Output;
 use dbl_disk::Disk;
-use dbl_lines::{Finished, Halt, OUT_OF_MEMORY, write_text};
-use dblog_connect::{Asked, ConnectError, Connected, Summary, connect};
-use dblog_init::Store;
+use dbl_lines::{OUT_OF_MEMORY, Status, write_text};
+use dblog_connect::{Asked, ConnectError, Summary, connect};
+use dblog_init::{Disks, Outcome, Store};
 use std::alloc::{AllocError, Global};
 
 /// Runs a session over the disks, and writes its report, or the line of the error.
@@ -21,31 +21,21 @@ pub fn run_session<O: Output, W: Disk, T: Disk, F: Disk>(
     asked: Asked,
     now_ms: &i64,
     output: &mut O,
-    wal: W,
-    topics: T,
-    offsets: F,
-) -> Finished<W, T, F>
+    disks: Disks<W, T, F>,
+) -> Outcome<W, T, F, Status>
     requires { IsAskedWithinLimits asked }
-    ensures connected { RunsConnected W.seen W.may_leave W.faults T.seen T.may_leave T.faults
-        F.seen F.may_leave F.faults asked now_ms.now wal result.wal topics result.topics
-        offsets result.offsets result.status (O.written output.old) (O.written output.new) }
-    ensures known { IsSessionStatus result.status }
-    ensures output_failed { result.status ≡ output_failed_status →
+    ensures connected { RunsConnected W.Disk T.Disk F.Disk asked now_ms.now
+        disks result.disks result.end (O.written output.old) (O.written output.new) }
+    ensures known { IsSessionStatus result.end }
+    ensures output_failed { result.end ≡ StdoutFailed →
         FaultCounted (O.faults output.old) (O.faults output.new) }
-    ensures not_input { result.status ≢ status_of Halt.InputFailed }
+    ensures not_input { result.end ≢ StdinFailed }
 {
-    let connected = connect(alloc, asked, *now_ms, wal, topics, offsets);
-    let Connected {
-        wal,
-        topics,
-        offsets,
-        end,
-    } = connected;
-    Finished {
-        status: finish_session(alloc, end, output),
-        wal,
-        topics,
-        offsets,
+    let connected = connect(alloc, asked, *now_ms, disks);
+    let Outcome { disks, end } = connected;
+    Outcome {
+        disks,
+        end: finish_session(alloc, end, output),
     }
 }
 
@@ -53,9 +43,9 @@ fn finish_session<O: Output>(
     alloc: Global,
     end: Result<Summary, ConnectError>,
     output: &mut O,
-) -> u8
+) -> Status
     ensures says { SaysSession end result (O.written output.old) (O.written output.new) }
-    ensures output_failed { result ≡ output_failed_status →
+    ensures output_failed { result ≡ StdoutFailed →
         FaultCounted (O.faults output.old) (O.faults output.new) }
 {
     match end {
@@ -64,45 +54,45 @@ fn finish_session<O: Output>(
     }
 }
 
-fn say_report<O: Output>(alloc: Global, summary: Summary, output: &mut O) -> u8
+fn say_report<O: Output>(alloc: Global, summary: Summary, output: &mut O) -> Status
     ensures says { SaysSession (Ok summary) result (O.written output.old) (O.written output.new) }
-    ensures output_failed { result ≡ output_failed_status →
+    ensures output_failed { result ≡ StdoutFailed →
         FaultCounted (O.faults output.old) (O.faults output.new) }
 {
     let Summary { ending, report } = summary;
     match report_text(alloc, ending, report) {
         Ok(text) => write_text(text.as_str(), ending_status(ending), output),
-        Err(_) => write_text(OUT_OF_MEMORY, Halt::Memory.status(), output),
+        Err(_) => write_text(OUT_OF_MEMORY, Status::OutOfMemory, output),
     }
 }
 
-fn say_error<O: Output>(alloc: Global, error: ConnectError, output: &mut O) -> u8
+fn say_error<O: Output>(alloc: Global, error: ConnectError, output: &mut O) -> Status
     ensures says { SaysSession (Err error) result (O.written output.old) (O.written output.new) }
-    ensures output_failed { result ≡ output_failed_status →
+    ensures output_failed { result ≡ StdoutFailed →
         FaultCounted (O.faults output.old) (O.faults output.new) }
 {
     let status = error_status(&error);
     match error_text(alloc, error) {
         Ok(text) => write_text(text.as_str(), status, output),
-        Err(_) => write_text(OUT_OF_MEMORY, Halt::Memory.status(), output),
+        Err(_) => write_text(OUT_OF_MEMORY, Status::OutOfMemory, output),
     }
 }
 
-fn error_status(error: &ConnectError) -> u8
+fn error_status(error: &ConnectError) -> Status
     ensures { result ≡ connect_status error.now }
 {
     match error {
-        ConnectError::Failed { store: Store::Wal } => 7,
+        ConnectError::Failed { store: Store::Wal } => Status::SourceFailed,
         ConnectError::Failed {
             store: Store::Topics,
-        } => 8,
+        } => Status::TopicsFailed,
         ConnectError::Failed {
             store: Store::Offsets,
-        } => 9,
-        ConnectError::NotAStore { .. } | ConnectError::BadEntry { .. } => 14,
-        ConnectError::AlreadyStarted | ConnectError::NotStarted => 4,
+        } => Status::OffsetsFailed,
+        ConnectError::NotAStore { .. } | ConnectError::BadEntry { .. } => Status::InvalidStore,
+        ConnectError::AlreadyStarted | ConnectError::NotStarted => Status::StartMismatch,
         ConnectError::Halted { halt } => halt_status(halt),
-        ConnectError::Memory => 12,
+        ConnectError::Memory => Status::OutOfMemory,
     }
 }
 

@@ -1,17 +1,18 @@
+use dblog_run::Status;
 use std::alloc::Global;
 use std::io::{self, Write};
 
 /// What a run of the program answered.
 #[derive(Drop)]
 pub struct Answer {
-    status: u8,
+    status: Status,
     text: Vec<u8>,
     tail: Option<usize>,
 }
 
 impl Answer {
     /// With a tail, so many last lines of the text are to be told.
-    pub fn make(status: u8, text: Vec<u8>, tail: Option<usize>) -> Answer {
+    pub fn make(status: Status, text: Vec<u8>, tail: Option<usize>) -> Answer {
         Answer { status, text, tail }
     }
 
@@ -19,7 +20,7 @@ impl Answer {
         self.text
     }
 
-    pub fn status(&self) -> u8 {
+    pub fn status(&self) -> Status {
         self.status
     }
 
@@ -36,8 +37,8 @@ impl Answer {
     }
 
     pub fn tell_status<W: Write>(&self, writer: &mut W) -> io::Result<()> {
-        let status = self.status;
-        writeln!(writer, "status {status}")
+        let code = self.status.code();
+        writeln!(writer, "status {code}")
     }
 
     /// Writes the text, or its last lines behind the number of its bytes.

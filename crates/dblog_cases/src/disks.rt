@@ -13,7 +13,7 @@ pub enum Place {
 
 /// The disks that the runs of a case share.
 #[derive(Drop)]
-pub struct Disks {
+pub struct MemDisks {
     pub wal: MemDisk,
     pub topics: MemDisk,
     pub offsets: MemDisk,
@@ -31,10 +31,10 @@ fn holding(alloc: Global, bytes: &[u8]) -> Result<MemDisk, AllocError> {
     }
 }
 
-impl Disks {
+impl MemDisks {
     /// Three empty disks.
-    pub fn empty(alloc: Global) -> Disks {
-        Disks {
+    pub fn empty(alloc: Global) -> MemDisks {
+        MemDisks {
             wal: MemDisk::make(alloc, Vec::new(alloc)),
             topics: MemDisk::make(alloc, Vec::new(alloc)),
             offsets: MemDisk::make(alloc, Vec::new(alloc)),
@@ -51,8 +51,8 @@ impl Disks {
     }
 
     /// The disks as they are found after a crash.
-    pub fn crash(&self, choice: Choice) -> Result<Disks, AllocError> {
-        Ok(Disks {
+    pub fn crash(&self, choice: Choice) -> Result<MemDisks, AllocError> {
+        Ok(MemDisks {
             wal: self.wal.crash(choice)?,
             topics: self.topics.crash(choice)?,
             offsets: self.offsets.crash(choice)?,

@@ -1,10 +1,10 @@
 use crate::answer::Answer;
-use crate::disks::{Disks, Place};
+use crate::disks::{MemDisks, Place};
 use crate::fuses::Fuses;
 use crate::sweep::Sweep;
 use dbl_base::{MemInput, MemOutput, Text};
 use dbl_disk::FuseDisk;
-use dblog_run::Finished;
+use dblog_run::{Disks, Outcome, Status};
 use std::alloc::{AllocError, Global};
 use std::mem;
 
@@ -122,7 +122,7 @@ impl Run {
         &self,
         alloc: Global,
         fuses: Fuses,
-        disks: &mut Disks,
+        disks: &mut MemDisks,
     ) -> Result<Answer, AllocError> {
         let input = self.input.clone()?;
         let mut input = MemInput::make(input, self.failing_reads.clone()?);
@@ -134,7 +134,7 @@ impl Run {
         &self,
         alloc: Global,
         fuses: Fuses,
-        disks: &mut Disks,
+        disks: &mut MemDisks,
         input: &mut MemInput,
         output: &mut MemOutput,
     ) -> Result<Answer, AllocError> {
@@ -148,37 +148,33 @@ impl Run {
         &self,
         alloc: Global,
         fuses: Fuses,
-        disks: &mut Disks,
+        disks: &mut MemDisks,
         input: &mut MemInput,
         output: &mut MemOutput,
-    ) -> u8 {
+    ) -> Status {
+        let MemDisks {
+            wal,
+            topics,
+            offsets,
+        } = mem::replace(disks, MemDisks::empty(alloc));
+        let fused = Disks {
+            wal: FuseDisk::make(wal, fuses.wal),
+            topics: FuseDisk::make(topics, fuses.topics),
+            offsets: FuseDisk::make(offsets, fuses.offsets),
+        };
+        let outcome = dblog_run::run(alloc, &self.words, self.now_ms, input, output, fused);
+        let Outcome { disks: left, end } = outcome;
         let Disks {
             wal,
             topics,
             offsets,
-        } = mem::replace(disks, Disks::empty(alloc));
-        let finished = dblog_run::run(
-            alloc,
-            &self.words,
-            self.now_ms,
-            input,
-            output,
-            FuseDisk::make(wal, fuses.wal),
-            FuseDisk::make(topics, fuses.topics),
-            FuseDisk::make(offsets, fuses.offsets),
-        );
-        let Finished {
-            status,
-            wal,
-            topics,
-            offsets,
-        } = finished;
-        *disks = Disks {
+        } = left;
+        *disks = MemDisks {
             wal: wal.into_inner(),
             topics: topics.into_inner(),
             offsets: offsets.into_inner(),
         };
-        status
+        end
     }
 }
 

@@ -1,10 +1,11 @@
 //! Runs of a session that a failing disk stops, each at another call of the disk, and the runs that end its work.
 
 use crate::answer::Answer;
-use crate::disks::{Disks, Place};
+use crate::disks::{MemDisks, Place};
 use crate::run::Run;
 use crate::statuses;
 use dbl_disk::Choice;
+use dblog_run::Status;
 use std::alloc::{AllocError, Global};
 use std::io::{self, Write};
 
@@ -17,7 +18,7 @@ const RUNS: u64 = 10;
 // What the runs answered: the statuses of those that a fuse stopped or didn't, and what was applied in the end, each once.
 #[derive(Drop)]
 struct Trace {
-    statuses: Vec<u8>,
+    statuses: Vec<Status>,
     rows: Vec<Vec<u8>>,
 }
 
@@ -26,7 +27,7 @@ struct Trace {
 pub fn tell_stops<W: Write>(
     alloc: Global,
     run: &Run,
-    disks: &Disks,
+    disks: &MemDisks,
     place: Place,
     writer: &mut W,
 ) -> io::Result<()> {
@@ -35,7 +36,7 @@ pub fn tell_stops<W: Write>(
         rows: Vec::new(alloc),
     };
     for calls in 0..CALLS {
-        if stop(alloc, run, disks, place, calls, &mut told)? == 0 {
+        if stop(alloc, run, disks, place, calls, &mut told)? == Status::Done {
             break;
         }
     }
@@ -55,11 +56,11 @@ fn tell<W: Write>(told: &Trace, writer: &mut W) -> io::Result<()> {
 fn stop(
     alloc: Global,
     run: &Run,
-    disks: &Disks,
+    disks: &MemDisks,
     place: Place,
     calls: u64,
     told: &mut Trace,
-) -> io::Result<u8> {
+) -> io::Result<Status> {
     let mut left = disks.crash(Choice::New)?;
     let status = stopped(alloc, run, place, calls, &mut left)?;
     statuses::add(&mut told.statuses, status)?;
@@ -73,8 +74,8 @@ fn stopped(
     run: &Run,
     place: Place,
     calls: u64,
-    disks: &mut Disks,
-) -> Result<u8, AllocError> {
+    disks: &mut MemDisks,
+) -> Result<Status, AllocError> {
     let mut fuses = run.fuses();
     fuses.set(place, calls);
     let answer = run.perform(alloc, fuses, disks)?;
@@ -82,7 +83,7 @@ fn stopped(
 }
 
 // Ends the work for each choice of what a crash leaves of the disks.
-fn end_each(alloc: Global, run: &Run, left: &Disks, told: &mut Trace) -> io::Result<()> {
+fn end_each(alloc: Global, run: &Run, left: &MemDisks, told: &mut Trace) -> io::Result<()> {
     for choice in [Choice::Old, Choice::New, Choice::Fill(1)] {
         end_one(alloc, run, &mut left.crash(choice)?, told)?;
     }
@@ -90,7 +91,7 @@ fn end_each(alloc: Global, run: &Run, left: &Disks, told: &mut Trace) -> io::Res
 }
 
 // Ends the work on these disks, and adds what `apply` then answers.
-fn end_one(alloc: Global, run: &Run, disks: &mut Disks, told: &mut Trace) -> io::Result<()> {
+fn end_one(alloc: Global, run: &Run, disks: &mut MemDisks, told: &mut Trace) -> io::Result<()> {
     end_work(alloc, run, disks)?;
     let rows = perform(alloc, "apply", disks)?.told(alloc)?;
     if !told.rows.contains(&rows) {
@@ -100,9 +101,9 @@ fn end_one(alloc: Global, run: &Run, disks: &mut Disks, told: &mut Trace) -> io:
 }
 
 // Resumes until a session was complete; where none has begun yet, the run is made again, or a capture of the stores that it made.
-fn end_work(alloc: Global, run: &Run, disks: &mut Disks) -> Result<(), AllocError> {
+fn end_work(alloc: Global, run: &Run, disks: &mut MemDisks) -> Result<(), AllocError> {
     for _ in 0..RUNS {
-        if go_on(alloc, run, disks)? == 0 {
+        if go_on(alloc, run, disks)? == Status::Done {
             break;
         }
     }
@@ -110,15 +111,15 @@ fn end_work(alloc: Global, run: &Run, disks: &mut Disks) -> Result<(), AllocErro
 }
 
 // The status of one run more.
-fn go_on(alloc: Global, run: &Run, disks: &mut Disks) -> Result<u8, AllocError> {
+fn go_on(alloc: Global, run: &Run, disks: &mut MemDisks) -> Result<Status, AllocError> {
     let status = perform(alloc, "resume --every 1", disks)?.status();
-    if status == 4 {
+    if status == Status::StartMismatch {
         return begin_again(alloc, run, disks);
     }
     Ok(status)
 }
 
-fn begin_again(alloc: Global, run: &Run, disks: &mut Disks) -> Result<u8, AllocError> {
+fn begin_again(alloc: Global, run: &Run, disks: &mut MemDisks) -> Result<Status, AllocError> {
     let answer = if run.makes_stores() {
         perform(alloc, "capture", disks)?
     } else {
@@ -127,7 +128,7 @@ fn begin_again(alloc: Global, run: &Run, disks: &mut Disks) -> Result<u8, AllocE
     Ok(answer.status())
 }
 
-fn perform(alloc: Global, words: &str, disks: &mut Disks) -> Result<Answer, AllocError> {
+fn perform(alloc: Global, words: &str, disks: &mut MemDisks) -> Result<Answer, AllocError> {
     let run = Run::make(alloc, words, Vec::new(alloc))?;
     run.perform(alloc, run.fuses(), disks)
 }

@@ -1,5 +1,5 @@
 use crate::answer::Answer;
-use crate::disks::{Disks, Place};
+use crate::disks::{MemDisks, Place};
 use crate::run::Run;
 use crate::step::{Part, Step, read_step};
 use crate::trials::tell_each;
@@ -12,7 +12,7 @@ use std::io::{self, Write};
 pub struct Transcript {
     alloc: Global,
     run: Option<Run>,
-    disks: Disks,
+    disks: MemDisks,
 }
 
 impl Transcript {
@@ -20,7 +20,7 @@ impl Transcript {
         Transcript {
             alloc,
             run: None,
-            disks: Disks::empty(alloc),
+            disks: MemDisks::empty(alloc),
         }
     }
 
@@ -76,7 +76,7 @@ impl Transcript {
 
     // Puts empty disks in place of the case's.
     fn clear(&mut self) {
-        self.disks = Disks::empty(self.alloc);
+        self.disks = MemDisks::empty(self.alloc);
     }
 
     fn crash(&mut self, choice: Choice) -> Result<(), AllocError> {

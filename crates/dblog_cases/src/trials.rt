@@ -1,12 +1,13 @@
 //! Runs on the disks of a case with one thing changed at a time.
 
-use crate::disks::Disks;
+use crate::disks::MemDisks;
 use crate::fuses::Fuses;
 use crate::run::Run;
 use crate::statuses;
 use crate::stops::tell_stops;
 use crate::sweep::Sweep;
 use dbl_disk::Choice;
+use dblog_run::Status;
 use std::alloc::{AllocError, Global};
 use std::io::{self, Write};
 
@@ -27,7 +28,7 @@ fn turn_bit(bytes: &Vec<u8>, number: u64) -> Result<Vec<u8>, AllocError> {
 }
 
 // How many runs there are.
-fn count(sweep: Sweep, disks: &Disks) -> u64 {
+fn count(sweep: Sweep, disks: &MemDisks) -> u64 {
     match sweep {
         Sweep::Cut { place } | Sweep::Byte { place } | Sweep::Bit { place } => {
             disks.bytes(place).len() as u64
@@ -40,8 +41,8 @@ fn count(sweep: Sweep, disks: &Disks) -> u64 {
 // Changes what the run with this number finds on its disks.
 fn change(
     alloc: Global,
-    found: &mut Disks,
-    disks: &Disks,
+    found: &mut MemDisks,
+    disks: &MemDisks,
     sweep: Sweep,
     number: u64,
 ) -> Result<(), AllocError> {
@@ -59,7 +60,12 @@ fn change(
 }
 
 // The disks that the run with this number finds.
-fn find(alloc: Global, disks: &Disks, sweep: Sweep, number: u64) -> Result<Disks, AllocError> {
+fn find(
+    alloc: Global,
+    disks: &MemDisks,
+    sweep: Sweep,
+    number: u64,
+) -> Result<MemDisks, AllocError> {
     let mut found = disks.crash(Choice::New)?;
     change(alloc, &mut found, disks, sweep, number)?;
     Ok(found)
@@ -77,10 +83,10 @@ fn fuses_of(run: &Run, sweep: Sweep, number: u64) -> Fuses {
 fn status_of(
     alloc: Global,
     run: &Run,
-    disks: &Disks,
+    disks: &MemDisks,
     sweep: Sweep,
     number: u64,
-) -> Result<u8, AllocError> {
+) -> Result<Status, AllocError> {
     let mut found = find(alloc, disks, sweep, number)?;
     let answer = run.perform(alloc, fuses_of(run, sweep, number), &mut found)?;
     Ok(answer.status())
@@ -91,7 +97,7 @@ fn status_of(
 pub fn tell_each<W: Write>(
     alloc: Global,
     run: &Run,
-    disks: &Disks,
+    disks: &MemDisks,
     sweep: Sweep,
     writer: &mut W,
 ) -> io::Result<()> {
@@ -105,7 +111,7 @@ pub fn tell_each<W: Write>(
 fn tell_statuses<W: Write>(
     alloc: Global,
     run: &Run,
-    disks: &Disks,
+    disks: &MemDisks,
     sweep: Sweep,
     writer: &mut W,
 ) -> io::Result<()> {
@@ -120,7 +126,7 @@ fn tell_statuses<W: Write>(
 fn tell_answers<W: Write>(
     alloc: Global,
     run: &Run,
-    disks: &Disks,
+    disks: &MemDisks,
     sweep: Sweep,
     writer: &mut W,
 ) -> io::Result<()> {
@@ -144,7 +150,7 @@ fn tell_other<W: Write>(told: Vec<u8>, last: &mut Vec<u8>, writer: &mut W) -> io
 fn tell_run(
     alloc: Global,
     run: &Run,
-    disks: &Disks,
+    disks: &MemDisks,
     sweep: Sweep,
     number: u64,
 ) -> io::Result<Vec<u8>> {
@@ -157,7 +163,7 @@ fn tell_run(
 fn tell(
     alloc: Global,
     run: &Run,
-    disks: &Disks,
+    disks: &MemDisks,
     sweep: Sweep,
     number: u64,
     told: &mut Vec<u8>,
@@ -170,7 +176,7 @@ fn tell(
 fn tell_on(
     alloc: Global,
     run: &Run,
-    found: &mut Disks,
+    found: &mut MemDisks,
     sweep: Sweep,
     number: u64,
     told: &mut Vec<u8>,
@@ -184,7 +190,7 @@ fn tell_on(
 }
 
 // Writes what the run answers on the disks that a run before it left.
-fn tell_again(alloc: Global, run: &Run, left: &mut Disks, told: &mut Vec<u8>) -> io::Result<()> {
+fn tell_again(alloc: Global, run: &Run, left: &mut MemDisks, told: &mut Vec<u8>) -> io::Result<()> {
     told.write_all(b"again\n")?;
     run.perform(alloc, run.fuses(), left)?.tell(told)
 }

@@ -4,10 +4,11 @@ use Rattle.std.specs.Prelude.{is_some}
 use Rattle.std.specs.List.{AllByRecursion}
 use Rattle.dbl_base.specs.declared.lsn.Lsn.{Lsn}
 use Rattle.dbl_record.specs.declared.record.Record.{Record}
+use Rattle.dbl_disk.specs.Model.{DiskModel}
 use Rattle.dbl_model_table.specs.declared.config.Config.{Config}
 use Rattle.dbl_journal.specs.Stored.{OnDisk}
 use Rattle.dbl_model_history.specs.History.{IsRising}
-use Rattle.dbl_demo.specs.SourceLog.declared.place.Place.{Place}
+use Rattle.dbl_demo.specs.SourceLog.declared.reader_position.ReaderPosition.{ReaderPosition}
 use Rattle.dbl_demo.proofs.SourceLogLogLemmas.{is_rising}
 use Rattle.dbl_model_commit.specs.Past.{last_lsn}
 use Rattle.dbl_demo.specs.SourceModel.Standings.{CrashState, Reading, SourceState}
@@ -139,15 +140,14 @@ few_of config now old left (inr added) = inr (added.infos, added.captured, added
 
 -- ---- the session
 
-module _ {W T F : Type 0} (seen_w : W → Option (List ℕ)) (may_w : W → List ℕ → Type 0) (seen_t : T → Option (List ℕ)) (may_t : T → List ℕ → Type 0)
-    (seen_f : F → Option (List ℕ)) (may_f : F → List ℕ → Type 0)
-    (is_w : (disk : W) (bytes : List ℕ) → seen_w disk ≡ Some bytes → may_w disk bytes)
-    (is_t : (disk : T) (bytes : List ℕ) → seen_t disk ≡ Some bytes → may_t disk bytes)
-    (is_f : (disk : F) (bytes : List ℕ) → seen_f disk ≡ Some bytes → may_f disk bytes)
+module _ {W T F : Type 0} (wal_model : DiskModel W) (topics_model : DiskModel T) (offsets_model : DiskModel F)
+    (is_w : (disk : W) (bytes : List ℕ) → wal_model.seen disk ≡ Some bytes → wal_model.may_leave disk bytes)
+    (is_t : (disk : T) (bytes : List ℕ) → topics_model.seen disk ≡ Some bytes → topics_model.may_leave disk bytes)
+    (is_f : (disk : F) (bytes : List ℕ) → offsets_model.seen disk ≡ Some bytes → offsets_model.may_leave disk bytes)
     (w t f : List ℕ) (so : Demo W) (lo : OnDisk T) (fo : StoreOn F)
-    (src : IsSourceOf seen_w may_w w so) (lg : IsLogOf seen_t may_t t lo) (st : IsStoreOf seen_f may_f f fo)
+    (src : IsSourceOf wal_model w so) (lg : IsLogOf topics_model t lo) (st : IsStoreOf offsets_model f fo)
     (config : Config) (now : ℤ) (sn : Demo W) (ln : OnDisk T) (fn : StoreOn F) (report : Report) (result : Result Ending Halt)
-    (ran : Ran seen_w may_w seen_t may_t seen_f may_f config now so sn lo ln fo fn report result) where
+    (ran : Ran wal_model topics_model offsets_model config now so sn lo ln fo fn report result) where
   abbrev old : Contents
   old = held_by src.wal lg.groups fo.offset
 
@@ -158,24 +158,24 @@ module _ {W T F : Type 0} (seen_w : W → Option (List ℕ)) (may_w : W → List
   first = standing_in src.wal so.place
 
   pub read_here : ReadAs w t f old
-  read_here = read_of seen_w may_w seen_t may_t seen_f may_f w t f so lo fo src lg st
+  read_here = read_of wal_model topics_model offsets_model w t f so lo fo src lg st
 
-  first_stands : HasDemoState seen_w may_w so first
-  first_stands = stood_first seen_w may_w w so src
+  first_stands : HasDemoState wal_model so first
+  first_stands = stood_first wal_model w so src
 
   -- they are kept again
-  pub kept_again : IsKept old → AreKept (seen_w sn.journal.disk) (seen_t ln.disk) (seen_f (disk_of fn)) (may_w sn.journal.disk) (may_t ln.disk) (may_f (disk_of fn))
+  pub kept_again : IsKept old → AreKept (wal_model.seen sn.journal.disk) (topics_model.seen ln.disk) (offsets_model.seen (disk_of fn)) (wal_model.may_leave sn.journal.disk) (topics_model.may_leave ln.disk) (offsets_model.may_leave (disk_of fn))
   kept_again kept = record {
-    wal = ap is_some (source_kept seen_w may_w seen_t may_t seen_f may_f is_w is_t is_f w t f so lo fo src lg st config now sn ln fn report result ran).come.told.1;
-    topics = ap is_some (ran.sink_comes.journal 0 (length t) (log_come seen_t may_t t lo lg)).told.1;
-    offsets = ap is_some (ran.store_comes 0 (length f) (store_come seen_f may_f f fo st)).told.1;
+    wal = ap is_some (source_kept wal_model topics_model offsets_model is_w is_t is_f w t f so lo fo src lg st config now sn ln fn report result ran).come.told.1;
+    topics = ap is_some (ran.sink_comes.journal 0 (length t) (log_come topics_model t lo lg)).told.1;
+    offsets = ap is_some (ran.store_comes 0 (length f) (store_come offsets_model f fo st)).told.1;
     each = λ w1 t1 f1 mw mt mf. (
-        let here = image_of seen_w may_w seen_t may_t seen_f may_f is_w is_t is_f w t f so lo fo src lg st config now sn ln fn report result ran kept w1 t1 f1 mw mt mf in
+        let here = image_of wal_model topics_model offsets_model is_w is_t is_f w t f so lo fo src lg st config now sn ln fn report result ran kept w1 t1 f1 mw mt mf in
         (here.held, here.read, here.kept));
   }
 
   -- what the topic log gains, and how few marks are added
-  pub gains_of : (asked : Asked) → asks_in asked old ≡ Some config → (begun : HasBegun asked w t f) → GainsRecords asked now (may_t lo.disk) (may_t ln.disk) w t f begun
+  pub gains_of : (asked : Asked) → asks_in asked old ≡ Some config → (begun : HasBegun asked w t f) → GainsRecords asked now (topics_model.may_leave lo.disk) (topics_model.may_leave ln.disk) w t f begun
   gains_of asked asks begun = record {
     stored = fn.offset;
     last = at_begun asked w t f (λ h c. IsStoredLast c h.offset fn.offset) begun old config read_here asks ran.stores;
@@ -184,10 +184,10 @@ module _ {W T F : Type 0} (seen_w : W → Option (List ℕ)) (may_w : W → List
         (ran.grouped lg.groups groups lg.holds (bytes, leaves, is)));
   }
 
-  ungained_of : IsUngained (may_t ln.disk) old fn.offset
+  ungained_of : IsUngained (topics_model.may_leave ln.disk) old fn.offset
   ungained_of same bytes groups leaves is = ran.ungained lg.groups groups lg.holds (bytes, leaves, is) same
 
-  pub marks_of : (asked : Asked) → asks_in asked old ≡ Some config → AddsFew asked (may_w so.journal.disk) (may_w sn.journal.disk) w t f
+  pub marks_of : (asked : Asked) → asks_in asked old ≡ Some config → AddsFew asked (wal_model.may_leave so.journal.disk) (wal_model.may_leave sn.journal.disk) w t f
   marks_of asked asks begun own bytes left leaves is =
       let same : begun.held ≡ old = disks_are_read_once w t f begun.held old begun.read read_here in
       let few = ran.marks first first_stands (subst HasOwnTables same own) (left_in left.wal) (record { crashed = bytes; may = leaves; wal = left.wal; is = is; left = refl }) in
@@ -196,51 +196,51 @@ module _ {W T F : Type 0} (seen_w : W → Option (List ℕ)) (may_w : W → List
   -- ---- what it had followed and sent
 
   -- where it can't be used any more, nothing stands
-  one_left : (bytes : List ℕ) (wal : Wal) → may_w sn.journal.disk bytes → IsWal bytes wal → (s : SourceState) → HasDemoState seen_w may_w sn s → s ≡ standing_in wal sn.place
-  one_left bytes wal leaves is s stands = stands.2 ∙ ap (λ (x : Wal). standing_in x sn.place) (sym (left_wal seen_w may_w sn stands.0 wal bytes stands.1 leaves is))
+  one_left : (bytes : List ℕ) (wal : Wal) → wal_model.may_leave sn.journal.disk bytes → IsWal bytes wal → (s : SourceState) → HasDemoState wal_model sn s → s ≡ standing_in wal sn.place
+  one_left bytes wal leaves is s stands = stands.2 ∙ ap (λ (x : Wal). standing_in x sn.place) (sym (left_wal wal_model sn stands.0 wal bytes stands.1 leaves is))
 
-  followed_at : (h : Halt) → result ≡ Err h → (t : SourceState) → HasDemoState seen_w may_w sn t → AreFollowed config now old fn.offset (may_w sn.journal.disk) report h
+  followed_at : (h : Halt) → result ≡ Err h → (t : SourceState) → HasDemoState wal_model sn t → AreFollowed config now old fn.offset (wal_model.may_leave sn.journal.disk) report h
   followed_at h is t stands bytes wal leaves read =
       followed_read config now fo.offset fn.offset report first t wal sn.place (one_left bytes wal leaves read t stands) h (err_is result h _ (ran.stood first t first_stands stands) is)
 
-  tallied_at : (result ≡ Err halt.Sink → ⊥) → (t : SourceState) → HasDemoState seen_w may_w sn t
-      → AreTallied config now old fn.offset (may_w sn.journal.disk) (may_t ln.disk) report result
+  tallied_at : (result ≡ Err halt.Sink → ⊥) → (t : SourceState) → HasDemoState wal_model sn t
+      → AreTallied config now old fn.offset (wal_model.may_leave sn.journal.disk) (topics_model.may_leave ln.disk) report result
   tallied_at other t stands bytes image wal groups leaves read left is =
-      tallied_read config now fo.offset fn.offset report first t wal sn.place (one_left bytes wal leaves read t stands) (HoldsGroups seen_t may_t) lg.groups groups ln result
-      (λ had holds. only_held seen_t may_t ln had groups holds (image, left, is))
+      tallied_read config now fo.offset fn.offset report first t wal sn.place (one_left bytes wal leaves read t stands) (HoldsGroups topics_model) lg.groups groups ln result
+      (λ had holds. only_held topics_model ln had groups holds (image, left, is))
       (ran.tallied lg.groups lg.holds other first t first_stands stands)
 
   -- the same of a result that is known
-  tallied_as : (r : Result Ending Halt) → result ≡ r → (result ≡ Err halt.Sink → ⊥) → (t : SourceState) → HasDemoState seen_w may_w sn t
-      → AreTallied config now old fn.offset (may_w sn.journal.disk) (may_t ln.disk) report r
+  tallied_as : (r : Result Ending Halt) → result ≡ r → (result ≡ Err halt.Sink → ⊥) → (t : SourceState) → HasDemoState wal_model sn t
+      → AreTallied config now old fn.offset (wal_model.may_leave sn.journal.disk) (topics_model.may_leave ln.disk) report r
   tallied_as r is other t stands =
-      subst (λ (x : Result Ending Halt). AreTallied config now old fn.offset (may_w sn.journal.disk) (may_t ln.disk) report x) is (tallied_at other t stands)
+      subst (λ (x : Result Ending Halt). AreTallied config now old fn.offset (wal_model.may_leave sn.journal.disk) (topics_model.may_leave ln.disk) report x) is (tallied_at other t stands)
 
   -- ---- where it ended as it should
 
   abbrev pub begun_of : (asked : Asked) → asks_in asked old ≡ Some config → HasBegun asked w t f
   begun_of asked asks = record { held = old; read = read_here; config = config; asks = asks }
 
-  demo_at : (ending : Ending) → result ≡ Ok ending → (bytes : List ℕ) (wal : Wal) → may_w sn.journal.disk bytes → IsWal bytes wal → IsDemo seen_w may_w wal sn
+  demo_at : (ending : Ending) → result ≡ Ok ending → (bytes : List ℕ) (wal : Wal) → wal_model.may_leave sn.journal.disk bytes → IsWal bytes wal → IsDemo wal_model wal sn
   demo_at ending is bytes wal leaves read =
-      let stands = ended_wal seen_w may_w seen_t may_t seen_f may_f is_w is_t is_f w t f so lo fo src lg st config now sn ln fn report result ran ending is in
-      subst (λ (x : Wal). IsDemo seen_w may_w x sn) (sym (left_wal seen_w may_w sn stands.0 wal bytes stands.1 leaves read)) stands.1
+      let stands = ended_wal wal_model topics_model offsets_model is_w is_t is_f w t f so lo fo src lg st config now sn ln fn report result ran ending is in
+      subst (λ (x : Wal). IsDemo wal_model x sn) (sym (left_wal wal_model sn stands.0 wal bytes stands.1 leaves read)) stands.1
 
-  settled_at : (ending : Ending) → result ≡ Ok ending → (wal : Wal) → IsDemo seen_w may_w wal sn → HasSettled config now fo.offset fn.offset report (standing_in wal sn.place)
-  settled_at ending is wal demo = settled_of seen_w may_w seen_t may_t seen_f may_f is_w is_t is_f w t f so lo fo src lg st config now sn ln fn report result ran ending is wal demo
+  settled_at : (ending : Ending) → result ≡ Ok ending → (wal : Wal) → IsDemo wal_model wal sn → HasSettled config now fo.offset fn.offset report (standing_in wal sn.place)
+  settled_at ending is wal demo = settled_of wal_model topics_model offsets_model is_w is_t is_f w t f so lo fo src lg st config now sn ln fn report result ran ending is wal demo
 
-  counted_ok : (ending : Ending) → result ≡ Ok ending → HasCountedGroups (HoldsGroups seen_t may_t) lg.groups ln report
-  counted_ok ending is = subst (λ (r : Result Ending Halt). IsCounted (HoldsGroups seen_t may_t) (LogLeaves may_t) lg.groups r ln report) is (ran.counted lg.groups lg.holds)
+  counted_ok : (ending : Ending) → result ≡ Ok ending → HasCountedGroups (HoldsGroups topics_model) lg.groups ln report
+  counted_ok ending is = subst (λ (r : Result Ending Halt). IsCounted (HoldsGroups topics_model) (LogLeaves topics_model) lg.groups r ln report) is (ran.counted lg.groups lg.holds)
 
-  gained_by : (counts : HasCountedGroups (HoldsGroups seen_t may_t) lg.groups ln report) → AreGained (may_t ln.disk) old report
+  gained_by : (counts : HasCountedGroups (HoldsGroups topics_model) lg.groups ln report) → AreGained (topics_model.may_leave ln.disk) old report
   gained_by counts bytes groups leaves is = record {
     more = counts.more;
-    is = only_held seen_t may_t ln (lg.groups ++ counts.more) groups counts.held (bytes, leaves, is);
+    is = only_held topics_model ln (lg.groups ++ counts.more) groups counts.held (bytes, leaves, is);
     are = counts.are;
   }
 
   -- nothing but marks stands behind the reader
-  all_read_of : (ending : Ending) (is : result ≡ Ok ending) → ending ≡ Complete → (bytes : List ℕ) (wal : Wal) (leaves : may_w sn.journal.disk bytes) (read : IsWal bytes wal)
+  all_read_of : (ending : Ending) (is : result ≡ Ok ending) → ending ≡ Complete → (bytes : List ℕ) (wal : Wal) (leaves : wal_model.may_leave sn.journal.disk bytes) (read : IsWal bytes wal)
       → AllByRecursion (λ commit. IsWatermark commit.body) (commits_after (last_lsn (settled_at ending is wal (demo_at ending is bytes wal leaves read)).reading.after
       (settled_at ending is wal (demo_at ending is bytes wal leaves read)).reading.messages) (history_in wal).commits)
   all_read_of ending is same bytes wal leaves read =
@@ -251,14 +251,14 @@ module _ {W T F : Type 0} (seen_w : W → Option (List ℕ)) (may_w : W → List
       all_is_read (tables_of wal) (logged_in wal.entries) place.0 (last_lsn settled.reading.after settled.reading.messages) (demo.running.reader.placed place.0 place.1) (has.whole place.0 place.1)
       (sym (ap (λ (r : Reading). last_lsn r.after r.messages) place.2)) (has.read place.0 place.1)
 
-  clean_of : (ending : Ending) → result ≡ Ok ending → (bytes : List ℕ) (wal : Wal) → may_w sn.journal.disk bytes → IsWal bytes wal
+  clean_of : (ending : Ending) → result ≡ Ok ending → (bytes : List ℕ) (wal : Wal) → wal_model.may_leave sn.journal.disk bytes → IsWal bytes wal
       → HasReadClean config now fo.offset fn.offset wal (record { ending = ending; report = report })
   clean_of ending is bytes wal leaves read =
       let settled = settled_at ending is wal (demo_at ending is bytes wal leaves read) in
       let front = sent_front (standing_in wal sn.place) settled.reading wal sn.place refl settled.reading_is in
       record {
         reading = settled.reading;
-        was = record { by = settled.stored; subsequent = settled.subsequent; rest = front.0; front = front.1 };
+        was = record { by = settled.stored; begins_after = settled.begins_after; rest = front.0; front = front.1 };
         many = settled.many;
         accepted = settled.accepted;
         sendable = settled.sent;
@@ -270,17 +270,17 @@ module _ {W T F : Type 0} (seen_w : W → Option (List ℕ)) (may_w : W → List
       }
 
   pub run_of : (asked : Asked) → asks_in asked old ≡ Some config → (ending : Ending) → result ≡ Ok ending
-      → HasRun asked now (may_w sn.journal.disk) (may_t ln.disk) (may_f (disk_of fn)) w t f (record { ending = ending; report = report })
+      → HasRun asked now (wal_model.may_leave sn.journal.disk) (topics_model.may_leave ln.disk) (offsets_model.may_leave (disk_of fn)) w t f (record { ending = ending; report = report })
   run_of asked asks ending is =
-      let stands = ended_wal seen_w may_w seen_t may_t seen_f may_f is_w is_t is_f w t f so lo fo src lg st config now sn ln fn report result ran ending is in
+      let stands = ended_wal wal_model topics_model offsets_model is_w is_t is_f w t f so lo fo src lg st config now sn ln fn report result ran ending is in
       record {
         begun = begun_of asked asks;
-        stays = (source_kept seen_w may_w seen_t may_t seen_f may_f is_w is_t is_f w t f so lo fo src lg st config now sn ln fn report result ran).crash;
+        stays = (source_kept wal_model topics_model offsets_model is_w is_t is_f w t f so lo fo src lg st config now sn ln fn report result ran).crash;
         gained = gained_by (counted_ok ending is);
         raised = λ h exhausted. (let wrong : Ok ending ≡ Err h = sym is ∙ ran.exhausted h exhausted in cc);
         captured = λ none. ran.captures first first_stands none (settled_at ending is stands.0 stands.1).stored;
         stored = fn.offset;
-        store = left_store seen_w may_w seen_t may_t seen_f may_f is_w is_t is_f w t f so lo fo src lg st config now sn ln fn report result ran (λ failed. (let wrong : Ok ending ≡ Err halt.Offsets = sym is ∙ failed in cc));
+        store = left_store wal_model topics_model offsets_model is_w is_t is_f w t f so lo fo src lg st config now sn ln fn report result ran (λ failed. (let wrong : Ok ending ≡ Err halt.Offsets = sym is ∙ failed in cc));
         first = ran.firsts first first_stands;
         ungained = ungained_of;
         done = λ same. ran.done (is ∙ ap (λ (e : Ending). Ok e) same);
@@ -291,38 +291,38 @@ module _ {W T F : Type 0} (seen_w : W → Option (List ℕ)) (may_w : W → List
   -- ---- its report
 
   module _ (ending : Ending) (is : result ≡ Ok ending) (kept : IsKept old) where
-    stands : (wal : Wal) × IsDemo seen_w may_w wal sn × (wal.script ≡ src.wal.script)
-    stands = ended_wal seen_w may_w seen_t may_t seen_f may_f is_w is_t is_f w t f so lo fo src lg st config now sn ln fn report result ran ending is
+    stands : (wal : Wal) × IsDemo wal_model wal sn × (wal.script ≡ src.wal.script)
+    stands = ended_wal wal_model topics_model offsets_model is_w is_t is_f w t f so lo fo src lg st config now sn ln fn report result ran ending is
 
-    counts : HasCountedGroups (HoldsGroups seen_t may_t) lg.groups ln report
+    counts : HasCountedGroups (HoldsGroups topics_model) lg.groups ln report
     counts = counted_ok ending is
 
-    stored : HoldsOffset seen_f may_f fn fn.offset
-    stored = ended_store seen_w may_w seen_t may_t seen_f may_f is_w is_t is_f w t f so lo fo src lg st config now sn ln fn report result ran ending is
+    stored : HoldsOffset offsets_model fn fn.offset
+    stored = ended_store wal_model topics_model offsets_model is_w is_t is_f w t f so lo fo src lg st config now sn ln fn report result ran ending is
 
     abbrev left : Contents
     left = held_by stands.0 (lg.groups ++ counts.more) fn.offset
 
     read_told : ReadAs stands.1.running.lists.bytes counts.held.lists.bytes stored.lists.bytes left
     read_told = record {
-      source = wal_of seen_w may_w sn stands.0 stands.1.running;
-      log = log_of seen_t may_t ln (lg.groups ++ counts.more) counts.held;
+      source = wal_of wal_model sn stands.0 stands.1.running;
+      log = log_of topics_model ln (lg.groups ++ counts.more) counts.held;
       store = record { entries = stored.entries; journal = stored.lists.spelled; each = stored.each; last = stored.last };
     }
 
-    read_each : (w1 t1 f1 : List ℕ) → may_w sn.journal.disk w1 → may_t ln.disk t1 → may_f (disk_of fn) f1 → ReadAs w1 t1 f1 left
+    read_each : (w1 t1 f1 : List ℕ) → wal_model.may_leave sn.journal.disk w1 → topics_model.may_leave ln.disk t1 → offsets_model.may_leave (disk_of fn) f1 → ReadAs w1 t1 f1 left
     read_each w1 t1 f1 mw mt mf = record {
       source = subst (λ (b : List ℕ). IsWal b stands.0) (sym (stands.1.running.lists.only w1 mw)) read_told.source;
       log = subst (λ (b : List ℕ). IsLog b (lg.groups ++ counts.more)) (sym (counts.held.lists.only t1 mt)) read_told.log;
       store = subst (λ (b : List ℕ). IsStore b fn.offset) (sym (stored.lists.only f1 mf)) read_told.store;
     }
 
-    told_w : may_w sn.journal.disk stands.1.running.lists.bytes
+    told_w : wal_model.may_leave sn.journal.disk stands.1.running.lists.bytes
     told_w = is_w sn.journal.disk stands.1.running.lists.bytes stands.1.running.lists.told
 
     left_kept : IsKept left
     left_kept =
-        let here = image_of seen_w may_w seen_t may_t seen_f may_f is_w is_t is_f w t f so lo fo src lg st config now sn ln fn report result ran kept
+        let here = image_of wal_model topics_model offsets_model is_w is_t is_f w t f so lo fo src lg st config now sn ln fn report result ran kept
         stands.1.running.lists.bytes counts.held.lists.bytes stored.lists.bytes
         told_w (is_t ln.disk counts.held.lists.bytes counts.held.lists.told) (is_f (disk_of fn) stored.lists.bytes stored.lists.told) in
         subst IsKept (disks_are_read_once stands.1.running.lists.bytes counts.held.lists.bytes stored.lists.bytes here.held left here.read read_told) here.kept
@@ -334,27 +334,27 @@ module _ {W T F : Type 0} (seen_w : W → Option (List ℕ)) (may_w : W → List
         let here : SourceState = standing_in stands.0 sn.place in
         let front = sent_front here settled.reading stands.0 sn.place refl settled.reading_is in
         let closed = ok_is result ending (λ e. HasClosedRead fn.offset report here)
-        (ran.unclosed entry (record { config_is = refl; now_is = refl }) (found_of seen_w may_w seen_t may_t seen_f may_f w t f so lo fo src lg st config now) kept.faithful here (stands.0, stands.1, refl)) is in
+        (ran.unclosed entry (record { config_is = refl; now_is = refl }) (found_of wal_model topics_model offsets_model w t f so lo fo src lg st config now) kept.faithful here (stands.0, stands.1, refl)) is in
         record {
           reading = settled.reading;
-          was = record { by = settled.stored; subsequent = settled.subsequent; rest = front.0; front = front.1 };
+          was = record { by = settled.stored; begins_after = settled.begins_after; rest = front.0; front = front.1 };
           many = settled.many;
           none = closed settled.stored.offset settled.reading settled.stored.is settled.reading_is;
         }
 
     pub report_of : (asked : Asked) → asks_in asked old ≡ Some config
-        → IsReported asked now (may_w sn.journal.disk) (may_t ln.disk) (may_f (disk_of fn)) w t f (record { ending = ending; report = report })
+        → IsReported asked now (wal_model.may_leave sn.journal.disk) (topics_model.may_leave ln.disk) (offsets_model.may_leave (disk_of fn)) w t f (record { ending = ending; report = report })
     report_of asked asks =
         let settled = settled_at ending is stands.0 stands.1 in
         let place = place_read stands.0 sn.place settled.reading settled.reading_is in
-        let own = own_of seen_w may_w seen_t may_t seen_f may_f is_w is_t is_f w t f so lo fo src lg st config now sn ln fn report result ran kept in
-        let told = settled_reports_are_right seen_w may_w config now old left ending report stands.1.running.lists.bytes sn place.0 counts.more
+        let own = own_of wal_model topics_model offsets_model is_w is_t is_f w t f so lo fo src lg st config now sn ln fn report result ran kept in
+        let told = settled_reports_are_right wal_model config now old left ending report stands.1.running.lists.bytes sn place.0 counts.more
         left_kept read_told.source stands.1 place.1
         (λ (same : ending ≡ Complete). (ran.ended (is ∙ ap (λ (e : Ending). Ok e) same), ran.few (is ∙ ap (λ (e : Ending). Ok e) same)))
         (λ (same : ending ≡ Budget). ran.spent (is ∙ ap (λ (e : Ending). Ok e) same))
-        (subst (λ (p : Option Place). HasSettled config now fo.offset fn.offset report (standing_in stands.0 p)) place.1 settled)
+        (subst (λ (p : Option ReaderPosition). HasSettled config now fo.offset fn.offset report (standing_in stands.0 p)) place.1 settled)
         ran.position refl counts.are in
-        let exactly = ok_is result ending (λ e. (l : CrashState) → SourceLeaves may_w sn l → EndsExactly (found.session_start_at config now first fo.offset) fn.offset report.chunks (marks_more e fn.offset) l.history)
+        let exactly = ok_is result ending (λ e. (l : CrashState) → SourceLeaves wal_model sn l → EndsExactly (found.session_start_at config now first fo.offset) fn.offset report.chunks (marks_more e fn.offset) l.history)
         (ran.exactly first first_stands own) is (left_in stands.0)
         (record { crashed = stands.1.running.lists.bytes; may = told_w; wal = stands.0; is = read_told.source; left = refl }) in
         record {
@@ -369,7 +369,7 @@ module _ {W T F : Type 0} (seen_w : W → Option (List ℕ)) (may_w : W → List
 
   -- ---- where it halted
 
-  halt_over : (h : Halt) → result ≡ Err h → IsHaltOver config now old fn.offset report (HasDemoState seen_w may_w sn) h
+  halt_over : (h : Halt) → result ≡ Err h → IsHaltOver config now old fn.offset report (HasDemoState wal_model sn) h
   halt_over h is = record {
     is = err_is result h _ ran.halt_is is;
     stood = err_is result h _ (ran.halt_stood first first_stands) is;
@@ -381,23 +381,23 @@ module _ {W T F : Type 0} (seen_w : W → Option (List ℕ)) (may_w : W → List
     long = λ none still. err_is result h _ (ran.long first first_stands none still) is;
   }
 
-  counted_at : (h : Halt) → result ≡ Err h → IsOwnHalt h → HasCountedGroups (HoldsGroups seen_t may_t) lg.groups ln report
+  counted_at : (h : Halt) → result ≡ Err h → IsOwnHalt h → HasCountedGroups (HoldsGroups topics_model) lg.groups ln report
   counted_at h is own =
-      counted_own (HoldsGroups seen_t may_t) (LogLeaves may_t) lg.groups ln report h own
-      (subst (λ (r : Result Ending Halt). IsCounted (HoldsGroups seen_t may_t) (LogLeaves may_t) lg.groups r ln report) is (ran.counted lg.groups lg.holds))
+      counted_own (HoldsGroups topics_model) (LogLeaves topics_model) lg.groups ln report h own
+      (subst (λ (r : Result Ending Halt). IsCounted (HoldsGroups topics_model) (LogLeaves topics_model) lg.groups r ln report) is (ran.counted lg.groups lg.holds))
 
-  still_at : (h : Halt) → result ≡ Err h → ComesByReading old h → (t : SourceState) × HasDemoState seen_w may_w sn t
-  still_at h is reading = still_stands config now old fn.offset report (HasDemoState seen_w may_w sn) h reading (halt_over h is)
+  still_at : (h : Halt) → result ≡ Err h → ComesByReading old h → (t : SourceState) × HasDemoState wal_model sn t
+  still_at h is reading = still_stands config now old fn.offset report (HasDemoState wal_model sn) h reading (halt_over h is)
 
   halted_as : (asked : Asked) → asks_in asked old ≡ Some config → (h : Halt) → result ≡ Err h → IsOwnHalt h
-      → EndsWithHalt asked now (may_w sn.journal.disk) (may_t ln.disk) (may_f (disk_of fn)) w t f (Halted h)
+      → EndsWithHalt asked now (wal_model.may_leave sn.journal.disk) (topics_model.may_leave ln.disk) (offsets_model.may_leave (disk_of fn)) w t f (Halted h)
   halted_as asked asks h is own = record {
     begun = begun_of asked asks;
     halt = h;
     is = refl;
     stored = fn.offset;
     last = ran.stores;
-    store = left_store seen_w may_w seen_t may_t seen_f may_f is_w is_t is_f w t f so lo fo src lg st config now sn ln fn report result ran (λ failed. subst IsOwnHalt (err_one result h halt.Offsets is failed) own);
+    store = left_store wal_model topics_model offsets_model is_w is_t is_f w t f so lo fo src lg st config now sn ln fn report result ran (λ failed. subst IsOwnHalt (err_one result h halt.Offsets is failed) own);
     first = ran.firsts first first_stands;
     ungained = ungained_of;
     report = report;
@@ -408,8 +408,8 @@ module _ {W T F : Type 0} (seen_w : W → Option (List ℕ)) (may_w : W → List
         let must = ran.must_absent first first_stands none name among cannot in
         subst (λ (x : Halt). IsTableHalt x × IsAbsentHalt config.tables (history_at old) x) (err_one result must.0 h must.1 is) (must.2, must.3));
     gained = gained_by (counted_at h is own);
-    stays = (source_kept seen_w may_w seen_t may_t seen_f may_f is_w is_t is_f w t f so lo fo src lg st config now sn ln fn report result ran).crash;
-    cause = λ bytes wal leaves read. cause_of config now old fn.offset report (HasDemoState seen_w may_w sn) wal sn.place (one_left bytes wal leaves read) h (halt_over h is);
+    stays = (source_kept wal_model topics_model offsets_model is_w is_t is_f w t f so lo fo src lg st config now sn ln fn report result ran).crash;
+    cause = λ bytes wal leaves read. cause_of config now old fn.offset report (HasDemoState wal_model sn) wal sn.place (one_left bytes wal leaves read) h (halt_over h is);
     unread = unread_by config now fo.offset fn.offset report None h (err_is result h _ ran.followed is);
     followed = λ reading. (let at = still_at h is reading in followed_at h is at.0 at.1);
     tallied = λ reading. (
@@ -418,31 +418,31 @@ module _ {W T F : Type 0} (seen_w : W → Option (List ℕ)) (may_w : W → List
   }
 
   pub ends_before : (asked : Asked) → asks_in asked old ≡ Some config → (h : Halt) → result ≡ Err h
-      → EndsBefore asked now (may_w sn.journal.disk) (may_t ln.disk) (may_f (disk_of fn)) w t f (halt_error h)
+      → EndsBefore asked now (wal_model.may_leave sn.journal.disk) (topics_model.may_leave ln.disk) (offsets_model.may_leave (disk_of fn)) w t f (halt_error h)
   ends_before asked asks h is = by (own_or h)
     where
-      by : IsExternalConnectError (halt_error h) ⊎ ((halt_error h ≡ Halted h) × IsOwnHalt h) → EndsBefore asked now (may_w sn.journal.disk) (may_t ln.disk) (may_f (disk_of fn)) w t f (halt_error h)
+      by : IsExternalConnectError (halt_error h) ⊎ ((halt_error h ≡ Halted h) × IsOwnHalt h) → EndsBefore asked now (wal_model.may_leave sn.journal.disk) (topics_model.may_leave ln.disk) (offsets_model.may_leave (disk_of fn)) w t f (halt_error h)
       by (inl out) = inl out
-      by (inr own) = inr (inr (subst (EndsWithHalt asked now (may_w sn.journal.disk) (may_t ln.disk) (may_f (disk_of fn)) w t f) (sym own.0) (halted_as asked asks h is own.1)))
+      by (inr own) = inr (inr (subst (EndsWithHalt asked now (wal_model.may_leave sn.journal.disk) (topics_model.may_leave ln.disk) (offsets_model.may_leave (disk_of fn)) w t f) (sym own.0) (halted_as asked asks h is own.1)))
 
-  kept_each : (h : Halt) → result ≡ Err h → (kept : IsKept old) → (w1 t1 f1 : List ℕ) (left : Contents) → may_w sn.journal.disk w1 → may_t ln.disk t1 → may_f (disk_of fn) f1
+  kept_each : (h : Halt) → result ≡ Err h → (kept : IsKept old) → (w1 t1 f1 : List ℕ) (left : Contents) → wal_model.may_leave sn.journal.disk w1 → topics_model.may_leave ln.disk t1 → offsets_model.may_leave (disk_of fn) f1
       → ReadAs w1 t1 f1 left → IsKeptHalt config now old fn.offset report left h
   kept_each h is kept w1 t1 f1 left mw mt mf read =
       let known = faithful_entries_are_known entry kept.faithful in
       let rising : IsRising (history_at old) = is_rising (tables_of src.wal) (logged_in src.wal.entries) in
-      kept_halt config now old fn.offset report (HasDemoState seen_w may_w sn) left.wal sn.place (one_left w1 left.wal mw read.source) left (HoldsGroups seen_t may_t ln) h refl
-      (λ groups holds. sym (only_held seen_t may_t ln groups left.groups holds (t1, mt, read.log)))
+      kept_halt config now old fn.offset report (HasDemoState wal_model sn) left.wal sn.place (one_left w1 left.wal mw read.source) left (HoldsGroups topics_model ln) h refl
+      (λ groups holds. sym (only_held topics_model ln groups left.groups holds (t1, mt, read.log)))
       known.0 known.2 (stood_offsets_are_within (history_at old) fo.offset rising known.1)
       (halt_over h is)
-      (err_is result h _ (ran.content entry (record { config_is = refl; now_is = refl }) (found_of seen_w may_w seen_t may_t seen_f may_f w t f so lo fo src lg st config now) kept.faithful) is)
+      (err_is result h _ (ran.content entry (record { config_is = refl; now_is = refl }) (found_of wal_model topics_model offsets_model w t f so lo fo src lg st config now) kept.faithful) is)
 
   -- over kept disks
   pub never_of : (asked : Asked) → asks_in asked old ≡ Some config → (h : Halt) → result ≡ Err h → IsKept old
-      → IsKeptError asked now (may_w sn.journal.disk) (may_t ln.disk) (may_f (disk_of fn)) w t f (halt_error h)
+      → IsKeptError asked now (wal_model.may_leave sn.journal.disk) (topics_model.may_leave ln.disk) (offsets_model.may_leave (disk_of fn)) w t f (halt_error h)
   unfolding halted_as
   never_of asked asks h is kept = by (own_or h)
     where
-      out : (e : ConnectError) → IsExternalConnectError e → IsKeptError asked now (may_w sn.journal.disk) (may_t ln.disk) (may_f (disk_of fn)) w t f e
+      out : (e : ConnectError) → IsExternalConnectError e → IsKeptError asked now (wal_model.may_leave sn.journal.disk) (topics_model.may_leave ln.disk) (offsets_model.may_leave (disk_of fn)) w t f e
       out (error.Failed store) outside = tt
       out (error.NotAStore store at) outside = absurd outside
       out (error.BadEntry store index) outside = absurd outside
@@ -451,9 +451,9 @@ module _ {W T F : Type 0} (seen_w : W → Option (List ℕ)) (may_w : W → List
       out (error.Halted k) outside = absurd outside
       out error.Memory outside = tt
 
-      by : IsExternalConnectError (halt_error h) ⊎ ((halt_error h ≡ Halted h) × IsOwnHalt h) → IsKeptError asked now (may_w sn.journal.disk) (may_t ln.disk) (may_f (disk_of fn)) w t f (halt_error h)
+      by : IsExternalConnectError (halt_error h) ⊎ ((halt_error h ≡ Halted h) × IsOwnHalt h) → IsKeptError asked now (wal_model.may_leave sn.journal.disk) (topics_model.may_leave ln.disk) (offsets_model.may_leave (disk_of fn)) w t f (halt_error h)
       by (inl outside) = out (halt_error h) outside
-      by (inr own) = subst (IsKeptError asked now (may_w sn.journal.disk) (may_t ln.disk) (may_f (disk_of fn)) w t f) (sym own.0) (record {
+      by (inr own) = subst (IsKeptError asked now (wal_model.may_leave sn.journal.disk) (topics_model.may_leave ln.disk) (offsets_model.may_leave (disk_of fn)) w t f) (sym own.0) (record {
         halted = halted_as asked asks h is own.1;
         each = kept_each h is kept;
       })

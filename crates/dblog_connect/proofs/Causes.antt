@@ -9,7 +9,7 @@ use Rattle.dbl_record.specs.Cuts.{joined}
 use Rattle.dbl_model_table.specs.declared.config.Config.{Config}
 use Rattle.dbl_model_commit.specs.declared.txn_error.TxnError.{TxnError}
 use Rattle.dbl_model_history.specs.History.{AreRising, History, IsRising, RawCommit}
-use Rattle.dbl_demo.specs.SourceLog.declared.place.Place.{Place}
+use Rattle.dbl_demo.specs.SourceLog.declared.reader_position.ReaderPosition.{ReaderPosition}
 use Rattle.dbl_demo.proofs.SourceLogLogLemmas.{is_rising}
 use Rattle.dbl_demo.proofs.SourceLogSentLemmas.{reads_what_is_sent}
 use Rattle.dbl_demo.specs.SourceModel.Calls.{head_after, head_of}
@@ -80,19 +80,19 @@ confirmed_beyond confirmed (Some offset) wrong = not_over confirmed.0 offset.lsn
 -- ---- what was read
 
 -- The source stands behind these messages: they are the first ones that its log is sent as.
-pub sent_front : (t : SourceState) (reading : Reading) (wal : Wal) (place : Option Place) → t ≡ standing_in wal place → t.reading ≡ Some reading
+pub sent_front : (t : SourceState) (reading : Reading) (wal : Wal) (place : Option ReaderPosition) → t ≡ standing_in wal place → t.reading ≡ Some reading
     → (rest : List Message) × (messages_sent wal reading.after ≡ reverse reading.messages ++ rest)
 sent_front t reading wal place is reads =
     let at = place_read wal place reading (ap (λ (s : SourceState). s.reading) (sym is) ∙ reads) in
     subst (λ (r : Reading). (rest : List Message) × (messages_sent wal r.after ≡ reverse r.messages ++ rest)) at.2 (reads_what_is_sent (tables_of wal) (logged_in wal.entries) at.0)
 
-has_read : (config : Config) (old new : Option Offset) (report : Report) (t : SourceState) (reading : Reading) (wal : Wal) (place : Option Place)
+has_read : (config : Config) (old new : Option Offset) (report : Report) (t : SourceState) (reading : Reading) (wal : Wal) (place : Option ReaderPosition)
     → t ≡ standing_in wal place → WasStood config old new report t reading → HasRead config old new wal reading
 has_read config old new report t reading wal place is was =
     let front = sent_front t reading wal place is was.is in
-    record { by = was.stored; subsequent = was.subsequent; rest = front.0; front = front.1 }
+    record { by = was.stored; begins_after = was.begins_after; rest = front.0; front = front.1 }
 
-halt_at : (config : Config) (now : ℤ) (old new : Option Offset) (report : Report) (t : SourceState) (wal : Wal) (place : Option Place) (h : Halt)
+halt_at : (config : Config) (now : ℤ) (old new : Option Offset) (report : Report) (t : SourceState) (wal : Wal) (place : Option ReaderPosition) (h : Halt)
     → t ≡ standing_in wal place → IsStoodHalt config now old new report t h → IsHaltByLog config now old new report wal h
 unfolding has_read
 halt_at config now old new report t wal place h is stood = record {
@@ -122,7 +122,7 @@ pub record IsHaltOver (config : Config) (now : ℤ) (old : Contents) (new : Opti
   pub missing : (value : List ℕ) (at : Lsn) → h ≡ halt.WatermarkMissing value at → IsWithinLog (history_at old) old.offset → ⊥
   pub long : old.offset ≡ None → new ≡ None → IsLongBy config (history_at old) h
 
-module _ (config : Config) (now : ℤ) (old : Contents) (new : Option Offset) (report : Report) (stands : SourceState → Type 0) (wal : Wal) (place : Option Place)
+module _ (config : Config) (now : ℤ) (old : Contents) (new : Option Offset) (report : Report) (stands : SourceState → Type 0) (wal : Wal) (place : Option ReaderPosition)
     (one : (t : SourceState) → stands t → t ≡ standing_in wal place) where
   at_halt : (h : Halt) → ((t : SourceState) × stands t × IsStoodHalt config now old.offset new report t h) → IsHaltByLog config now old.offset new report wal h
   at_halt h stood = halt_at config now old.offset new report stood.0 wal place h (one stood.0 stood.1) stood.2

@@ -3,6 +3,7 @@ use Rattle.std.proofs.Common.{◌≡◌, ◌∙◌, ◌⊎◌, inl, inr, ℕ, �
 use Rattle.std.specs.Prelude.{IfErr}
 use Rattle.dbl_base.specs.Streams.{FaultCounted}
 use Rattle.dbl_record.specs.declared.record.Record.{Record}
+use Rattle.dbl_disk.specs.Model.{DiskModel}
 use Rattle.dbl_journal.specs.Form.{IsFaultAt}
 use Rattle.dbl_journal.specs.declared.error.JournalError.TheVariants as journal
 use Rattle.dbl_topic.specs.declared.error.TopicError.{TopicError}
@@ -204,47 +205,47 @@ err_both (Err e) P Q R f p q = f e p q
 
 -- ---- one disk
 
-pub only_on : {D : Type 0} (seen : D → Option (List ℕ)) (may : D → List ℕ → Type 0) (old mid new : D) → seen mid ≡ seen old → ((crashed : List ℕ) → may mid crashed → may old crashed)
-    → OnlyRead seen may mid new → OnlyRead seen may old new
-only_on seen may old mid new same crash read = record { same = read.same ∙ same; crash = λ crashed leaves. crash crashed (read.crash crashed leaves) }
+pub only_on : {D : Type 0} (model : DiskModel D) (old mid new : D) → model.seen mid ≡ model.seen old → ((crashed : List ℕ) → model.may_leave mid crashed → model.may_leave old crashed)
+    → OnlyRead model mid new → OnlyRead model old new
+only_on model old mid new same crash read = record { same = read.same ∙ same; crash = λ crashed leaves. crash crashed (read.crash crashed leaves) }
 
-pub only_same : {D : Type 0} (seen : D → Option (List ℕ)) (may : D → List ℕ → Type 0) (old new : D) → new ≡ old → OnlyRead seen may old new
-only_same seen may old new same = subst (OnlyRead seen may old) (sym same) (record { same = refl; crash = λ crashed leaves. leaves })
+pub only_same : {D : Type 0} (model : DiskModel D) (old new : D) → new ≡ old → OnlyRead model old new
+only_same model old new same = subst (OnlyRead model old) (sym same) (record { same = refl; crash = λ crashed leaves. leaves })
 
-pub counts_on : {D : Type 0} (faults : D → ℕ) (s : Store) (end : ConnectEnd) (old mid new : D) → faults old ≤ faults mid → CountsFaults faults s end mid new → CountsFaults faults s end old new
-counts_on faults s end old mid new later counts = record {
+pub counts_on : {D : Type 0} (model : DiskModel D) (s : Store) (end : ConnectEnd) (old mid new : D) → model.faults old ≤ model.faults mid → CountsFaults model s end mid new → CountsFaults model s end old new
+counts_on model s end old mid new later counts = record {
   later = omega (arith, later, counts.later);
-  cause = λ is. rose_behind (faults old) (faults mid) (faults new) later (counts.cause is);
+  cause = λ is. rose_behind (model.faults old) (model.faults mid) (model.faults new) later (counts.cause is);
 }
 
-pub counts_same : {D : Type 0} (faults : D → ℕ) (s : Store) (end : ConnectEnd) (old new : D) → new ≡ old → (end ≡ Err (error.Failed s) → ⊥) → CountsFaults faults s end old new
-counts_same faults s end old new same none =
-    subst (CountsFaults faults s end old) (sym same) (record { later = own_le (faults old); cause = λ is. absurd (none is) })
+pub counts_same : {D : Type 0} (model : DiskModel D) (s : Store) (end : ConnectEnd) (old new : D) → new ≡ old → (end ≡ Err (error.Failed s) → ⊥) → CountsFaults model s end old new
+counts_same model s end old new same none =
+    subst (CountsFaults model s end old) (sym same) (record { later = own_le (model.faults old); cause = λ is. absurd (none is) })
   where
     own_le : (n : ℕ) → n ≤ n
     own_le n = omega arith
 
-pub counts_by : {D : Type 0} (faults : D → ℕ) (s : Store) (e : ConnectError) (old new : D) → faults old ≤ faults new → (e ≡ error.Failed s → FaultCounted (faults old) (faults new))
-    → CountsFaults faults s (Err e) old new
-counts_by faults s e old new later rose = record { later = later; cause = λ is. rose (let i = is in cc) }
+pub counts_by : {D : Type 0} (model : DiskModel D) (s : Store) (e : ConnectError) (old new : D) → model.faults old ≤ model.faults new → (e ≡ error.Failed s → FaultCounted (model.faults old) (model.faults new))
+    → CountsFaults model s (Err e) old new
+counts_by model s e old new later rose = record { later = later; cause = λ is. rose (let i = is in cc) }
 
 -- what a disk tells and leaves that was taken out of its store
-pub moved_crash : {D : Type 0} (may : D → List ℕ → Type 0) (old new : D) → new ≡ old → (crashed : List ℕ) → may new crashed → may old crashed
-moved_crash may old new same crashed leaves = subst (λ (d : _). may d crashed) same leaves
+pub moved_crash : {D : Type 0} (model : DiskModel D) (old new : D) → new ≡ old → (crashed : List ℕ) → model.may_leave new crashed → model.may_leave old crashed
+moved_crash model old new same crashed leaves = subst (λ (d : _). model.may_leave d crashed) same leaves
 
 pub moved_to : {D : Type 0} (P : D → Type 0) (old new : D) → new ≡ old → P old → P new
 moved_to P old new same p = subst P (sym same) p
 
-pub bounded_on : {D : Type 0} (seen : D → Option (List ℕ)) (old mid new : D) → seen mid ≡ seen old → IsBounded (seen mid) (seen new) → IsBounded (seen old) (seen new)
-bounded_on seen old mid new same bounded = subst (λ (told : Option (List ℕ)). IsBounded told (seen new)) same bounded
+pub bounded_on : {D : Type 0} (model : DiskModel D) (old mid new : D) → model.seen mid ≡ model.seen old → IsBounded (model.seen mid) (model.seen new) → IsBounded (model.seen old) (model.seen new)
+bounded_on model old mid new same bounded = subst (λ (told : Option (List ℕ)). IsBounded told (model.seen new)) same bounded
 
-pub read_on : {D : Type 0} (seen : D → Option (List ℕ)) (may : D → List ℕ → Type 0) (end : ConnectEnd) (old mid new : D) → seen mid ≡ seen old → ((crashed : List ℕ) → may mid crashed → may old crashed)
-    → IfErr end (λ e. IsConnectRefusal e → OnlyRead seen may mid new) → IfErr end (λ e. IsConnectRefusal e → OnlyRead seen may old new)
-read_on seen may end old mid new same crash read =
-    err_as end (λ e. IsConnectRefusal e → OnlyRead seen may mid new) (λ e. IsConnectRefusal e → OnlyRead seen may old new) (λ e by refusal. only_on seen may old mid new same crash (by refusal)) read
+pub read_on : {D : Type 0} (model : DiskModel D) (end : ConnectEnd) (old mid new : D) → model.seen mid ≡ model.seen old → ((crashed : List ℕ) → model.may_leave mid crashed → model.may_leave old crashed)
+    → IfErr end (λ e. IsConnectRefusal e → OnlyRead model mid new) → IfErr end (λ e. IsConnectRefusal e → OnlyRead model old new)
+read_on model end old mid new same crash read =
+    err_as end (λ e. IsConnectRefusal e → OnlyRead model mid new) (λ e. IsConnectRefusal e → OnlyRead model old new) (λ e by refusal. only_on model old mid new same crash (by refusal)) read
 
 -- where the end is a refusal the store is as it was, so that its disk was only read
-pub read_stayed : {D S : Type 0} (seen : D → Option (List ℕ)) (may : D → List ℕ → Type 0) (disk : S → D) (end : ConnectEnd) (old new : S) (out : D) → out ≡ disk new
-    → IfErr end (λ e. IsConnectRefusal e → new ≡ old) → IfErr end (λ e. IsConnectRefusal e → OnlyRead seen may (disk old) out)
-read_stayed seen may disk end old new out is stays =
-    err_as end (λ e. IsConnectRefusal e → new ≡ old) (λ e. IsConnectRefusal e → OnlyRead seen may (disk old) out) (λ e by refusal. only_same seen may (disk old) out (is ∙ ap disk (by refusal))) stays
+pub read_stayed : {D S : Type 0} (model : DiskModel D) (disk : S → D) (end : ConnectEnd) (old new : S) (out : D) → out ≡ disk new
+    → IfErr end (λ e. IsConnectRefusal e → new ≡ old) → IfErr end (λ e. IsConnectRefusal e → OnlyRead model (disk old) out)
+read_stayed model disk end old new out is stays =
+    err_as end (λ e. IsConnectRefusal e → new ≡ old) (λ e. IsConnectRefusal e → OnlyRead model (disk old) out) (λ e by refusal. only_same model (disk old) out (is ∙ ap disk (by refusal))) stays

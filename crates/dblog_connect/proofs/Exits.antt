@@ -1,6 +1,7 @@
 -- Where the session of a command isn't begun, and of which kind its errors are.
 use Rattle.std.proofs.Common.{◌≡◌, ◌∙◌, ◌⊎◌, inl, inr, ℕ, ◌<◌, ◌≤◌, Option, Some, None, List, length, Result, Ok, Err, refl, sym, ap, subst}
 use Rattle.std.specs.Prelude.{IsErrAnd}
+use Rattle.dbl_disk.specs.Model.{DiskModel}
 use Rattle.dbl_model_table.specs.declared.config.Config.{Config}
 use Rattle.dbl_model_table.specs.declared.table.TableName.{TableName}
 use Rattle.dbl_journal.specs.Stored.{OnDisk}
@@ -64,27 +65,26 @@ refused_unhalted = refused_as IsUnhalted tt tt tt
 pub refused_unfailed : (s : Store) (asked : Asked) (stored : Option Offset) (e : ConnectError) → (e ≡ error.Memory) ⊎ Refuses asked stored e → e ≡ error.Failed s → ⊥
 refused_unfailed s = refused_as (λ e. e ≡ error.Failed s → ⊥) (λ is. let i = is in cc) (λ is. let i = is in cc) (λ is. let i = is in cc)
 
-module _ {W T F : Type 0} (seen_w : W → Option (List ℕ)) (may_w : W → List ℕ → Type 0) (seen_t : T → Option (List ℕ)) (may_t : T → List ℕ → Type 0)
-    (seen_f : F → Option (List ℕ)) (may_f : F → List ℕ → Type 0) (so : Demo W) (lo : OnDisk T) (fo : StoreOn F)
-    (opened_w : IsOpenedSource seen_w may_w so) (opened_t : IsOpenedLog seen_t may_t lo) (opened_f : IsOpenedStore seen_f may_f fo) where
+module _ {W T F : Type 0} (wal_model : DiskModel W) (topics_model : DiskModel T) (offsets_model : DiskModel F) (so : Demo W) (lo : OnDisk T) (fo : StoreOn F)
+    (opened_w : IsOpenedSource wal_model so) (opened_t : IsOpenedLog topics_model lo) (opened_f : IsOpenedStore offsets_model fo) where
   pub refused_ends : (asked : Asked) (stored : Option Offset) (e : ConnectError) → stored ≡ fo.offset → (e ≡ error.Memory) ⊎ Refuses asked stored e
-      → (w t f : List ℕ) → seen_w so.journal.disk ≡ Some w → seen_t lo.disk ≡ Some t → seen_f (disk_of fo) ≡ Some f → IsExternalConnectError e ⊎ IsRefused asked w t f e
+      → (w t f : List ℕ) → wal_model.seen so.journal.disk ≡ Some w → topics_model.seen lo.disk ≡ Some t → offsets_model.seen (disk_of fo) ≡ Some f → IsExternalConnectError e ⊎ IsRefused asked w t f e
   refused_ends asked stored e same (inl is) w t f told_w told_t told_f = inl (subst IsExternalConnectError (sym is) tt)
   refused_ends asked stored e same (inr refuses) w t f told_w told_t told_f =
-      inr (not_asked _ (read_of seen_w may_w seen_t may_t seen_f may_f w t f so lo fo (opened_w w told_w) (opened_t t told_t) (opened_f f told_f))
+      inr (not_asked _ (read_of wal_model topics_model offsets_model w t f so lo fo (opened_w w told_w) (opened_t t told_t) (opened_f f told_f))
       (subst (λ (o : Option Offset). Refuses asked o e) same refuses))
 
   -- ---- lengths
 
-  pub source_bounded : (sn : Demo W) → ExtendsDemo seen_w may_w so sn → IsBounded (seen_w so.journal.disk) (seen_w sn.journal.disk)
-  source_bounded sn comes = bounded_by seen_w may_w so.journal.disk sn.journal
-      (λ bytes told. (let src = opened_w bytes told in (comes src.wal.script 0 (length bytes) (kept_source seen_w may_w bytes so src)).come))
+  pub source_bounded : (sn : Demo W) → ExtendsDemo wal_model so sn → IsBounded (wal_model.seen so.journal.disk) (wal_model.seen sn.journal.disk)
+  source_bounded sn comes = bounded_by wal_model so.journal.disk sn.journal
+      (λ bytes told. (let src = opened_w bytes told in (comes src.wal.script 0 (length bytes) (kept_source wal_model bytes so src)).come))
 
-  pub log_bounded : (ln : OnDisk T) → LogComesOf seen_t may_t lo ln → IsBounded (seen_t lo.disk) (seen_t ln.disk)
-  log_bounded ln comes = bounded_by seen_t may_t lo.disk ln (λ bytes told. comes.journal 0 (length bytes) (log_come seen_t may_t bytes lo (opened_t bytes told)))
+  pub log_bounded : (ln : OnDisk T) → LogComesOf topics_model lo ln → IsBounded (topics_model.seen lo.disk) (topics_model.seen ln.disk)
+  log_bounded ln comes = bounded_by topics_model lo.disk ln (λ bytes told. comes.journal 0 (length bytes) (log_come topics_model bytes lo (opened_t bytes told)))
 
-  pub store_bounded : (fn : StoreOn F) → StoreComesOf seen_f may_f fo fn → IsBounded (seen_f (disk_of fo)) (seen_f (disk_of fn))
-  store_bounded fn comes = bounded_by seen_f may_f (disk_of fo) fn.journal (λ bytes told. comes 0 (length bytes) (store_come seen_f may_f bytes fo (opened_f bytes told)))
+  pub store_bounded : (fn : StoreOn F) → StoreComesOf offsets_model fo fn → IsBounded (offsets_model.seen (disk_of fo)) (offsets_model.seen (disk_of fn))
+  store_bounded fn comes = bounded_by offsets_model (disk_of fo) fn.journal (λ bytes told. comes 0 (length bytes) (store_come offsets_model bytes fo (opened_f bytes told)))
 
 -- ---- halts
 

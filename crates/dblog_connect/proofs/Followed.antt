@@ -2,7 +2,7 @@
 use Rattle.std.proofs.Common.{◌≡◌, ◌∙◌, inl, inr, ℤ, ◌+◌, Option, Some, None, List, Result, sym, ap, arith}
 use Rattle.dbl_record.specs.declared.record.Record.{Record}
 use Rattle.dbl_model_table.specs.declared.config.Config.{Config}
-use Rattle.dbl_demo.specs.SourceLog.declared.place.Place.{Place}
+use Rattle.dbl_demo.specs.SourceLog.declared.reader_position.ReaderPosition.{ReaderPosition}
 use Rattle.dbl_demo.specs.SourceModel.Standings.{SourceState}
 use Rattle.dbl_demo.specs.SourceModel.Trace.{Trace}
 use Rattle.dbl_offset.specs.declared.offset.Offset.{Offset}
@@ -55,14 +55,14 @@ unread_by config now old new report told h (inl none) same = (none.0, none.1)
 unread_by config now old new report told h (inr read) same = absurd (not_again config old new same read.0.stored)
 
 -- of what a crash leaves of the source's log
-module _ (config : Config) (now : ℤ) (old new : Option Offset) (report : Report) (s t : SourceState) (wal : Wal) (place : Option Place) (is : t ≡ standing_in wal place) where
+module _ (config : Config) (now : ℤ) (old new : Option Offset) (report : Report) (s t : SourceState) (wal : Wal) (place : Option ReaderPosition) (is : t ≡ standing_in wal place) where
   pub followed_read : (h : Halt) → HasStoodAfter config now old new report s t h → IsFollowedRead config now old new wal report h
   followed_read h (inl none) = inl (none.0, none.1, none.2)
   followed_read h (inr so) =
       let front = sent_front t so.reading wal place is so.reading_is in
       inr (record {
         reading = so.reading;
-        was = record { by = so.stored; subsequent = so.subsequent; rest = front.0; front = front.1 };
+        was = record { by = so.stored; begins_after = so.begins_after; rest = front.0; front = front.1 };
         many = so.many;
         so_far = so.so_far;
       })
@@ -76,7 +76,7 @@ module _ (config : Config) (now : ℤ) (old new : Option Offset) (report : Repor
       let front = sent_front t so.reading wal place is so.reading_is in
       inr (record {
         reading = so.reading;
-        was = record { by = so.stored; subsequent = so.subsequent; rest = front.0; front = front.1 };
+        was = record { by = so.stored; begins_after = so.begins_after; rest = front.0; front = front.1 };
         many = so.many;
         tallies = record {
           newest = so.tallies.newest;

@@ -1,6 +1,7 @@
 -- What opened stores hold, and what a crash leaves of them: while nothing is done, and behind a session.
 use Rattle.std.proofs.Common.{◌≡◌, ◌∙◌, inl, inr, ℕ, ℤ, Option, Some, None, List, length, refl, sym, ap, subst, arith}
 use Rattle.std.specs.Prelude.{IsSome}
+use Rattle.dbl_disk.specs.Model.{DiskModel}
 use Rattle.dbl_journal.specs.Form.{IsJournal}
 use Rattle.dbl_journal.specs.Growth.{HasCome}
 use Rattle.dbl_journal.specs.Stored.{Lists, OnDisk}
@@ -36,19 +37,19 @@ held_by wal groups offset = record { wal = wal; groups = groups; offset = offset
 
 -- ---- one disk
 
-module _ {D : Type 0} (seen : D → Option (List ℕ)) (may : D → List ℕ → Type 0) where
+module _ {D : Type 0} (model : DiskModel D) where
   -- it leaves what it tells
-  pub only_told : (journal : OnDisk D) (entries : List (List ℕ)) (bytes crashed : List ℕ) → Lists seen may journal entries → seen journal.disk ≡ Some bytes → may journal.disk crashed → crashed ≡ bytes
-  only_told journal entries bytes crashed lists told leaves = lists.only crashed leaves ∙ same_some lists.bytes bytes (seen journal.disk) lists.told told
+  pub only_told : (journal : OnDisk D) (entries : List (List ℕ)) (bytes crashed : List ℕ) → Lists model journal entries → model.seen journal.disk ≡ Some bytes → model.may_leave journal.disk crashed → crashed ≡ bytes
+  only_told journal entries bytes crashed lists told leaves = lists.only crashed leaves ∙ same_some lists.bytes bytes (model.seen journal.disk) lists.told told
 
   -- it has come so far
-  pub come_of : (journal : OnDisk D) (entries : List (List ℕ)) (bytes : List ℕ) → Lists seen may journal entries → seen journal.disk ≡ Some bytes → HasCome seen may 0 (length bytes) journal
+  pub come_of : (journal : OnDisk D) (entries : List (List ℕ)) (bytes : List ℕ) → Lists model journal entries → model.seen journal.disk ≡ Some bytes → HasCome model 0 (length bytes) journal
   come_of journal entries bytes lists told = record {
     lists = λ live. (entries, lists);
     told = (bytes, told);
     reaches = λ other is. (
-        let same : other ≡ bytes = same_some other bytes (seen journal.disk) is told in
-        let own : lists.bytes ≡ other = same_some lists.bytes other (seen journal.disk) lists.told is in
+        let same : other ≡ bytes = same_some other bytes (model.seen journal.disk) is told in
+        let own : lists.bytes ≡ other = same_some lists.bytes other (model.seen journal.disk) lists.told is in
         record {
           entries = entries;
           journal = subst (λ (b : List ℕ). IsJournal b entries) own lists.spelled;
@@ -58,7 +59,7 @@ module _ {D : Type 0} (seen : D → Option (List ℕ)) (may : D → List ℕ →
   }
 
   -- so that what comes of it is bounded
-  pub bounded_by : (old : D) (journal : OnDisk D) → ((bytes : List ℕ) → seen old ≡ Some bytes → HasCome seen may 0 (length bytes) journal) → IsBounded (seen old) (seen journal.disk)
+  pub bounded_by : (old : D) (journal : OnDisk D) → ((bytes : List ℕ) → model.seen old ≡ Some bytes → HasCome model 0 (length bytes) journal) → IsBounded (model.seen old) (model.seen journal.disk)
   bounded_by old journal comes = record {
     each = λ before is. (
         let come = comes before is in
@@ -66,66 +67,65 @@ module _ {D : Type 0} (seen : D → Option (List ℕ)) (may : D → List ℕ →
         inr (come.told.0, come.told.1, record { entries = reach.entries; journal = reach.journal; short = reach.short }));
   }
 
-  pub bounded_same : (old new : D) → seen new ≡ seen old → IsBounded (seen old) (seen new)
+  pub bounded_same : (old new : D) → model.seen new ≡ model.seen old → IsBounded (model.seen old) (model.seen new)
   bounded_same old new same = record { each = λ before is. inl (same ∙ is) }
 
 -- ---- the source
 
-module _ {W : Type 0} (seen : W → Option (List ℕ)) (may : W → List ℕ → Type 0) (w : List ℕ) (source : Demo W) (src : IsSourceOf seen may w source) where
-  pub wal_crashed : (crashed : List ℕ) → may source.journal.disk crashed → crashed ≡ w
-  wal_crashed crashed leaves = only_told seen may source.journal _ w crashed src.demo.running.lists src.told leaves
+module _ {W : Type 0} (model : DiskModel W) (w : List ℕ) (source : Demo W) (src : IsSourceOf model w source) where
+  pub wal_crashed : (crashed : List ℕ) → model.may_leave source.journal.disk crashed → crashed ≡ w
+  wal_crashed crashed leaves = only_told model source.journal _ w crashed src.demo.running.lists src.told leaves
 
-  pub stood_first : HasDemoState seen may source (standing_in src.wal source.place)
+  pub stood_first : HasDemoState model source (standing_in src.wal source.place)
   stood_first = (src.wal, src.demo, refl)
 
-  pub kept_source : HasKept seen may src.wal.script 0 (length w) source
+  pub kept_source : HasKept model src.wal.script 0 (length w) source
   kept_source = record {
-    come = come_of seen may source.journal _ w src.demo.running.lists src.told;
+    come = come_of model source.journal _ w src.demo.running.lists src.told;
     stands = λ live. (src.wal, src.demo, refl);
     crash = λ crashed leaves. (src.wal, subst (λ (b : List ℕ). IsWal b src.wal) (sym (wal_crashed crashed leaves)) src.is, refl);
   }
 
 -- what a source that stands leaves
-pub left_wal : {W : Type 0} (seen : W → Option (List ℕ)) (may : W → List ℕ → Type 0) (source : Demo W) (wal left : Wal) (crashed : List ℕ)
-    → IsDemo seen may wal source → may source.journal.disk crashed → IsWal crashed left → left ≡ wal
-left_wal seen may source wal left crashed demo leaves is =
+pub left_wal : {W : Type 0} (model : DiskModel W) (source : Demo W) (wal left : Wal) (crashed : List ℕ)
+    → IsDemo model wal source → model.may_leave source.journal.disk crashed → IsWal crashed left → left ≡ wal
+left_wal model source wal left crashed demo leaves is =
     let same : crashed ≡ demo.running.lists.bytes = demo.running.lists.only crashed leaves in
-    one_wal demo.running.lists.bytes left wal (subst (λ (b : List ℕ). IsWal b left) same is) (wal_of seen may source wal demo.running)
+    one_wal demo.running.lists.bytes left wal (subst (λ (b : List ℕ). IsWal b left) same is) (wal_of model source wal demo.running)
 
 -- ---- the topic log
 
-module _ {T : Type 0} (seen : T → Option (List ℕ)) (may : T → List ℕ → Type 0) (t : List ℕ) (log : OnDisk T) (lg : IsLogOf seen may t log) where
-  pub log_crashed : (crashed : List ℕ) → may log.disk crashed → crashed ≡ t
-  log_crashed crashed leaves = only_told seen may log _ t crashed lg.holds.lists lg.told leaves
+module _ {T : Type 0} (model : DiskModel T) (t : List ℕ) (log : OnDisk T) (lg : IsLogOf model t log) where
+  pub log_crashed : (crashed : List ℕ) → model.may_leave log.disk crashed → crashed ≡ t
+  log_crashed crashed leaves = only_told model log _ t crashed lg.holds.lists lg.told leaves
 
-  pub kept_log : HasGroups seen may log
-  kept_log = record { holds = λ live. (lg.groups, lg.holds); leaves = leaves_held seen may log lg.groups lg.holds }
+  pub kept_log : HasGroups model log
+  kept_log = record { holds = λ live. (lg.groups, lg.holds); leaves = leaves_held model log lg.groups lg.holds }
 
-  pub log_come : HasCome seen may 0 (length t) log
-  log_come = come_of seen may log _ t lg.holds.lists lg.told
+  pub log_come : HasCome model 0 (length t) log
+  log_come = come_of model log _ t lg.holds.lists lg.told
 
 -- ---- the offset store
 
-module _ {F : Type 0} (seen : F → Option (List ℕ)) (may : F → List ℕ → Type 0) (f : List ℕ) (store : StoreOn F) (st : IsStoreOf seen may f store) where
-  pub store_crashed : (crashed : List ℕ) → may (disk_of store) crashed → crashed ≡ f
-  store_crashed crashed leaves = only_told seen may store.journal _ f crashed st.holds.lists st.told leaves
+module _ {F : Type 0} (model : DiskModel F) (f : List ℕ) (store : StoreOn F) (st : IsStoreOf model f store) where
+  pub store_crashed : (crashed : List ℕ) → model.may_leave (disk_of store) crashed → crashed ≡ f
+  store_crashed crashed leaves = only_told model store.journal _ f crashed st.holds.lists st.told leaves
 
-  pub store_come : HasCome seen may 0 (length f) store.journal
-  store_come = come_of seen may store.journal _ f st.holds.lists st.told
+  pub store_come : HasCome model 0 (length f) store.journal
+  store_come = come_of model store.journal _ f st.holds.lists st.told
 
 -- what a store that holds an offset leaves
-pub left_offset : {F : Type 0} (seen : F → Option (List ℕ)) (may : F → List ℕ → Type 0) (store : StoreOn F) (offset left : Option Offset) (crashed : List ℕ)
-    → HoldsOffset seen may store offset → may (disk_of store) crashed → IsStore crashed left → left ≡ offset
-left_offset seen may store offset left crashed holds leaves is =
+pub left_offset : {F : Type 0} (model : DiskModel F) (store : StoreOn F) (offset left : Option Offset) (crashed : List ℕ)
+    → HoldsOffset model store offset → model.may_leave (disk_of store) crashed → IsStore crashed left → left ≡ offset
+left_offset model store offset left crashed holds leaves is =
     let same : crashed ≡ holds.lists.bytes = holds.lists.only crashed leaves in
     one_store holds.lists.bytes left offset (subst (λ (b : List ℕ). IsStore b left) same is)
     (record { entries = holds.entries; journal = holds.lists.spelled; each = holds.each; last = holds.last })
 
 -- ---- the three of them
 
-module _ {W T F : Type 0} (seen_w : W → Option (List ℕ)) (may_w : W → List ℕ → Type 0) (seen_t : T → Option (List ℕ)) (may_t : T → List ℕ → Type 0)
-    (seen_f : F → Option (List ℕ)) (may_f : F → List ℕ → Type 0) (w t f : List ℕ) (source : Demo W) (log : OnDisk T) (store : StoreOn F)
-    (src : IsSourceOf seen_w may_w w source) (lg : IsLogOf seen_t may_t t log) (st : IsStoreOf seen_f may_f f store) where
+module _ {W T F : Type 0} (wal_model : DiskModel W) (topics_model : DiskModel T) (offsets_model : DiskModel F) (w t f : List ℕ) (source : Demo W) (log : OnDisk T) (store : StoreOn F)
+    (src : IsSourceOf wal_model w source) (lg : IsLogOf topics_model t log) (st : IsStoreOf offsets_model f store) where
   abbrev pub held_of : Contents
   held_of = held_by src.wal lg.groups store.offset
 
@@ -133,7 +133,7 @@ module _ {W T F : Type 0} (seen_w : W → Option (List ℕ)) (may_w : W → List
   read_of = record { source = src.is; log = lg.is; store = st.is }
 
   -- a session finds what they hold
-  pub found_of : (config : Config) (now : ℤ) → Found (HasDemoState seen_w may_w) (HoldsGroups seen_t may_t) seen_f may_f (restart_at config now (found_in (held_by src.wal lg.groups store.offset))) source log store
+  pub found_of : (config : Config) (now : ℤ) → Found (HasDemoState wal_model) (HoldsGroups topics_model) offsets_model (restart_at config now (found_in (held_by src.wal lg.groups store.offset))) source log store
   found_of config now = record {
     standing = standing_in src.wal source.place;
     source_is = (src.wal, src.demo, refl);

@@ -3,6 +3,7 @@ use Rattle.std.proofs.Common.{◌≡◌, ◌⊎◌, ℕ, ℤ, ◌<◌, ◌≤◌
 use Rattle.std.specs.Prelude.{IfErr, IfOk, IfSome, IsTrue, OnOk}
 use Rattle.dbl_base.specs.declared.lsn.Lsn.{Lsn}
 use Rattle.dbl_record.specs.declared.record.Record.{Record}
+use Rattle.dbl_disk.specs.Model.{DiskModel}
 use Rattle.dbl_model_table.specs.declared.config.Config.{Config}
 use Rattle.dbl_journal.specs.Stored.{OnDisk}
 use Rattle.dbl_demo.specs.SourceModel.Standings.{CrashState, SourceState, HasState}
@@ -35,77 +36,75 @@ use Rattle.dbl_capture.specs.CaptureLaws.Owned.{IsLongBy}
 use Rattle.dbl_capture.specs.CaptureLaws.HasState.{IsGoneBelow, IsHaltStanding}
 
 -- what a crash may leave of the source, and of the topic log
-abbrev pub SourceLeaves : {W : Type 0} → (W → List ℕ → Type 0) → Demo W → CrashState → Type 0
-SourceLeaves may source l = MayLeaveWal may source.journal.disk l
+abbrev pub SourceLeaves : {W : Type 0} → DiskModel W → Demo W → CrashState → Type 0
+SourceLeaves model source l = MayLeaveWal model source.journal.disk l
 
-abbrev pub LogLeaves : {T : Type 0} → (T → List ℕ → Type 0) → OnDisk T → List (List Record) → Type 0
-LogLeaves may log groups = MayLeaveGroups may log.disk groups
+abbrev pub LogLeaves : {T : Type 0} → DiskModel T → OnDisk T → List (List Record) → Type 0
+LogLeaves model log groups = MayLeaveGroups model log.disk groups
 
-pub record Ran {W T F : Type 0} (seen_w : W → Option (List ℕ)) (may_w : W → List ℕ → Type 0) (seen_t : T → Option (List ℕ)) (may_t : T → List ℕ → Type 0)
-    (seen_f : F → Option (List ℕ)) (may_f : F → List ℕ → Type 0) (config : Config) (now : ℤ) (so sn : Demo W) (lo ln : OnDisk T) (fo fn : StoreOn F)
+pub record Ran {W T F : Type 0} (wal_model : DiskModel W) (topics_model : DiskModel T) (offsets_model : DiskModel F) (config : Config) (now : ℤ) (so sn : Demo W) (lo ln : OnDisk T) (fo fn : StoreOn F)
     (report : Report) (result : Result Ending Halt) : Type 0 where
-  pub faithful : (entry : SessionStart) → IsEntryOf config now entry → Found (HasDemoState seen_w may_w) (HoldsGroups seen_t may_t) seen_f may_f entry so lo fo
-      → HadOwnTables entry → LeavesGoing (SourceLeaves may_w) (LogLeaves may_t) may_f entry sn ln fn
-  pub complete : (entry : SessionStart) → IsEntryOf config now entry → Found (HasDemoState seen_w may_w) (HoldsGroups seen_t may_t) seen_f may_f entry so lo fo
-      → HadOwnTables entry → result ≡ Ok Complete → LeavesComplete (SourceLeaves may_w) (LogLeaves may_t) may_f entry sn ln fn
-  pub held : HoldsOffset seen_f may_f fo fo.offset → (result ≡ Err halt.Offsets → ⊥) → HoldsOffset seen_f may_f fn fn.offset
-  pub marks : (s : SourceState) → HasDemoState seen_w may_w so s → HadOwnTables (session_start_at config now s fo.offset)
-      → (left : CrashState) → SourceLeaves may_w sn left → AddsFewOrNoMarks (session_start_at config now s fo.offset) left
-  pub most : (s : SourceState) → HasDemoState seen_w may_w so s → HadOwnTables (session_start_at config now s fo.offset)
-      → (left : CrashState) → SourceLeaves may_w sn left → AddsAtMost fn.offset report.chunks s.history left.history
-  pub exactly : (s : SourceState) → HasDemoState seen_w may_w so s → HadOwnTables (session_start_at config now s fo.offset)
-      → IfOk result (λ ending. (left : CrashState) → SourceLeaves may_w sn left → EndsExactly (session_start_at config now s fo.offset) fn.offset report.chunks (marks_more ending fn.offset) left.history)
-  pub unclosed : (entry : SessionStart) → IsEntryOf config now entry → Found (HasDemoState seen_w may_w) (HoldsGroups seen_t may_t) seen_f may_f entry so lo fo
-      → WasFaithful entry → (t : SourceState) → HasDemoState seen_w may_w sn t → OnOk result (HasClosedRead fn.offset report t)
+  pub faithful : (entry : SessionStart) → IsEntryOf config now entry → Found (HasDemoState wal_model) (HoldsGroups topics_model) offsets_model entry so lo fo
+      → HadOwnTables entry → LeavesGoing (SourceLeaves wal_model) (LogLeaves topics_model) offsets_model entry sn ln fn
+  pub complete : (entry : SessionStart) → IsEntryOf config now entry → Found (HasDemoState wal_model) (HoldsGroups topics_model) offsets_model entry so lo fo
+      → HadOwnTables entry → result ≡ Ok Complete → LeavesComplete (SourceLeaves wal_model) (LogLeaves topics_model) offsets_model entry sn ln fn
+  pub held : HoldsOffset offsets_model fo fo.offset → (result ≡ Err halt.Offsets → ⊥) → HoldsOffset offsets_model fn fn.offset
+  pub marks : (s : SourceState) → HasDemoState wal_model so s → HadOwnTables (session_start_at config now s fo.offset)
+      → (left : CrashState) → SourceLeaves wal_model sn left → AddsFewOrNoMarks (session_start_at config now s fo.offset) left
+  pub most : (s : SourceState) → HasDemoState wal_model so s → HadOwnTables (session_start_at config now s fo.offset)
+      → (left : CrashState) → SourceLeaves wal_model sn left → AddsAtMost fn.offset report.chunks s.history left.history
+  pub exactly : (s : SourceState) → HasDemoState wal_model so s → HadOwnTables (session_start_at config now s fo.offset)
+      → IfOk result (λ ending. (left : CrashState) → SourceLeaves wal_model sn left → EndsExactly (session_start_at config now s fo.offset) fn.offset report.chunks (marks_more ending fn.offset) left.history)
+  pub unclosed : (entry : SessionStart) → IsEntryOf config now entry → Found (HasDemoState wal_model) (HoldsGroups topics_model) offsets_model entry so lo fo
+      → WasFaithful entry → (t : SourceState) → HasDemoState wal_model sn t → OnOk result (HasClosedRead fn.offset report t)
   pub stores : (fn.offset ≡ fo.offset) ⊎ HasStored config fo.offset fn.offset
-  pub firsts : (s : SourceState) → HasDemoState seen_w may_w so s → IsFirstStored config s.history fo.offset fn.offset
+  pub firsts : (s : SourceState) → HasDemoState wal_model so s → IsFirstStored config s.history fo.offset fn.offset
   pub few : result ≡ Ok Complete → report.messages < config.messages
   pub done : result ≡ Ok Complete → IfSome fn.offset (λ offset. AreAllDone offset.cursors)
   pub bounded : report.messages ≤ config.messages
   pub ended : result ≡ Ok Complete → IsTrue sn.ended
   pub exhausted : MustExhaust fo.offset result
-  pub must_absent : (s : SourceState) → HasDemoState seen_w may_w so s → MustHaltAbsent config s.history fo.offset result
-  pub captures : (s : SourceState) → HasDemoState seen_w may_w so s → CapturesAll config fo.offset fn.offset s.history
+  pub must_absent : (s : SourceState) → HasDemoState wal_model so s → MustHaltAbsent config s.history fo.offset result
+  pub captures : (s : SourceState) → HasDemoState wal_model so s → CapturesAll config fo.offset fn.offset s.history
   pub spent : result ≡ Ok Budget → report.messages ≡ config.messages
-  pub settled : (s : SourceState) → HasDemoState seen_w may_w so s
-      → OnOk result (HasState (HasDemoState seen_w may_w) sn (HasSettled config now fo.offset fn.offset report))
+  pub settled : (s : SourceState) → HasDemoState wal_model so s
+      → OnOk result (HasState (HasDemoState wal_model) sn (HasSettled config now fo.offset fn.offset report))
   pub position : report.position ≡ position_of fo.offset fn.offset
   pub halt_is : IfErr result (IsHalt config now fo.offset fn.offset report None)
-  pub halt_stood : (s : SourceState) → HasDemoState seen_w may_w so s
-      → IfErr result (IsHaltStanding config now fo.offset fn.offset report (HasDemoState seen_w may_w sn))
-  pub absent : (s : SourceState) → HasDemoState seen_w may_w so s → IfErr result (IsAbsentHalt config.tables s.history)
-  pub gone : (s : SourceState) → HasDemoState seen_w may_w so s → IsKeptAfter s.confirmed fo.offset → (asked first : Lsn) → result ≡ Err (halt.Gone asked first) → ⊥
-  pub gone_stood : (s : SourceState) → HasDemoState seen_w may_w so s → IfErr result (IsGoneBelow s.confirmed)
-  pub missing : (s : SourceState) → HasDemoState seen_w may_w so s → IsWithinLog s.history fo.offset
+  pub halt_stood : (s : SourceState) → HasDemoState wal_model so s
+      → IfErr result (IsHaltStanding config now fo.offset fn.offset report (HasDemoState wal_model sn))
+  pub absent : (s : SourceState) → HasDemoState wal_model so s → IfErr result (IsAbsentHalt config.tables s.history)
+  pub gone : (s : SourceState) → HasDemoState wal_model so s → IsKeptAfter s.confirmed fo.offset → (asked first : Lsn) → result ≡ Err (halt.Gone asked first) → ⊥
+  pub gone_stood : (s : SourceState) → HasDemoState wal_model so s → IfErr result (IsGoneBelow s.confirmed)
+  pub missing : (s : SourceState) → HasDemoState wal_model so s → IsWithinLog s.history fo.offset
       → (value : List ℕ) (at : Lsn) → result ≡ Err (halt.WatermarkMissing value at) → ⊥
-  pub own : (s : SourceState) → HasDemoState seen_w may_w so s → HadOwnTables (session_start_at config now s fo.offset)
-      → IfErr result (IsHonestHalt (session_start_at config now s fo.offset) (HasDemoState seen_w may_w sn))
-  pub content : (entry : SessionStart) → IsEntryOf config now entry → Found (HasDemoState seen_w may_w) (HoldsGroups seen_t may_t) seen_f may_f entry so lo fo
-      → WasFaithful entry → IfErr result (IsFaithfulHalt entry fn.offset report (HasDemoState seen_w may_w sn) (HoldsGroups seen_t may_t ln))
-  pub long : (s : SourceState) → HasDemoState seen_w may_w so s → fo.offset ≡ None → fn.offset ≡ None → IfErr result (IsLongBy config s.history)
-  pub grouped : (groups left : List (List Record)) → HoldsGroups seen_t may_t lo groups → LogLeaves may_t ln left
+  pub own : (s : SourceState) → HasDemoState wal_model so s → HadOwnTables (session_start_at config now s fo.offset)
+      → IfErr result (IsHonestHalt (session_start_at config now s fo.offset) (HasDemoState wal_model sn))
+  pub content : (entry : SessionStart) → IsEntryOf config now entry → Found (HasDemoState wal_model) (HoldsGroups topics_model) offsets_model entry so lo fo
+      → WasFaithful entry → IfErr result (IsFaithfulHalt entry fn.offset report (HasDemoState wal_model sn) (HoldsGroups topics_model ln))
+  pub long : (s : SourceState) → HasDemoState wal_model so s → fo.offset ≡ None → fn.offset ≡ None → IfErr result (IsLongBy config s.history)
+  pub grouped : (groups left : List (List Record)) → HoldsGroups topics_model lo groups → LogLeaves topics_model ln left
       → Gains config now fo.offset fn.offset groups left
-  pub ungained : (groups left : List (List Record)) → HoldsGroups seen_t may_t lo groups → LogLeaves may_t ln left → fn.offset ≡ fo.offset → left ≡ groups
-  pub counted : (groups : List (List Record)) → HoldsGroups seen_t may_t lo groups → ReportsGroups (HoldsGroups seen_t may_t) (LogLeaves may_t) groups result ln report
+  pub ungained : (groups left : List (List Record)) → HoldsGroups topics_model lo groups → LogLeaves topics_model ln left → fn.offset ≡ fo.offset → left ≡ groups
+  pub counted : (groups : List (List Record)) → HoldsGroups topics_model lo groups → ReportsGroups (HoldsGroups topics_model) (LogLeaves topics_model) groups result ln report
   pub followed : IfErr result (IsFollowed config now fo.offset fn.offset report None)
-  pub stood : (s t : SourceState) → HasDemoState seen_w may_w so s → HasDemoState seen_w may_w sn t
+  pub stood : (s t : SourceState) → HasDemoState wal_model so s → HasDemoState wal_model sn t
       → IfErr result (HasStoodAfter config now fo.offset fn.offset report s t)
-  pub tallied : (groups : List (List Record)) → HoldsGroups seen_t may_t lo groups → (result ≡ Err halt.Sink → ⊥) → (s t : SourceState)
-      → HasDemoState seen_w may_w so s → HasDemoState seen_w may_w sn t
-      → IsTalliedAfter (HoldsGroups seen_t may_t) groups config now fo.offset fn.offset report t ln result
+  pub tallied : (groups : List (List Record)) → HoldsGroups topics_model lo groups → (result ≡ Err halt.Sink → ⊥) → (s t : SourceState)
+      → HasDemoState wal_model so s → HasDemoState wal_model sn t
+      → IsTalliedAfter (HoldsGroups topics_model) groups config now fo.offset fn.offset report t ln result
   pub source_live : OnOk result (IsTrue sn.live)
-  pub source_comes : ExtendsDemo seen_w may_w so sn
-  pub sink_comes : LogComesOf seen_t may_t lo ln
-  pub store_comes : StoreComesOf seen_f may_f fo fn
+  pub source_comes : ExtendsDemo wal_model so sn
+  pub sink_comes : LogComesOf topics_model lo ln
+  pub store_comes : StoreComesOf offsets_model fo fn
 
 -- where it was complete, each table is done by the offset that it stored
 pub done_by : (stored : Option Offset) (offset : Offset) → stored ≡ Some offset → AreAllDone offset.cursors → IfSome stored (λ o. AreAllDone o.cursors)
 done_by stored offset is done = subst (λ (o : Option Offset). IfSome o (λ x. AreAllDone x.cursors)) (sym is) done
 
 -- at the same moment
-pub renow : {W T F : Type 0} (seen_w : W → Option (List ℕ)) (may_w : W → List ℕ → Type 0) (seen_t : T → Option (List ℕ)) (may_t : T → List ℕ → Type 0)
-    (seen_f : F → Option (List ℕ)) (may_f : F → List ℕ → Type 0) (config : Config) (now later : ℤ) (so sn : Demo W) (lo ln : OnDisk T) (fo fn : StoreOn F)
+pub renow : {W T F : Type 0} (wal_model : DiskModel W) (topics_model : DiskModel T) (offsets_model : DiskModel F) (config : Config) (now later : ℤ) (so sn : Demo W) (lo ln : OnDisk T) (fo fn : StoreOn F)
     (report : Report) (result : Result Ending Halt) → now ≡ later
-    → Ran seen_w may_w seen_t may_t seen_f may_f config now so sn lo ln fo fn report result → Ran seen_w may_w seen_t may_t seen_f may_f config later so sn lo ln fo fn report result
-renow seen_w may_w seen_t may_t seen_f may_f config now later so sn lo ln fo fn report result same ran =
-    subst (λ (n : ℤ). Ran seen_w may_w seen_t may_t seen_f may_f config n so sn lo ln fo fn report result) same ran
+    → Ran wal_model topics_model offsets_model config now so sn lo ln fo fn report result → Ran wal_model topics_model offsets_model config later so sn lo ln fo fn report result
+renow wal_model topics_model offsets_model config now later so sn lo ln fo fn report result same ran =
+    subst (λ (n : ℤ). Ran wal_model topics_model offsets_model config n so sn lo ln fo fn report result) same ran

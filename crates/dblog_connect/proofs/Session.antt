@@ -1,5 +1,6 @@
 -- What the session of a command comes to, by what its contract says of it.
-use Rattle.std.proofs.Common.{◌≡◌, ◌∙◌, ℕ, ℤ, Option, Some, List, Result, Ok, Err, ap, subst}
+use Rattle.std.proofs.Common.{◌≡◌, ◌∙◌, ℕ, ℤ, Some, List, Result, Ok, Err, ap, subst}
+use Rattle.dbl_disk.specs.Model.{DiskModel}
 use Rattle.dbl_model_table.specs.declared.config.Config.{Config}
 use Rattle.dbl_model_table.specs.declared.table.TableName.{TableName}
 use Rattle.dbl_journal.specs.Stored.{OnDisk}
@@ -11,90 +12,89 @@ use Rattle.dbl_capture.specs.CaptureWork.declared.report.Report.{Report}
 use Rattle.dblog_connect.specs.declared.asked.Asked.{Asked}
 use Rattle.dblog_connect.specs.Asked.{asks_in, asks_of}
 use Rattle.dblog_connect.specs.Errors.{halt_error}
-use Rattle.dblog_connect.specs.Steps.{AnswersConnect, IsLogOf, IsOpenedLog, IsOpenedSource, IsOpenedStore, IsSourceOf}
+use Rattle.dblog_connect.specs.Steps.{AnswersConnect, disks_of, IsLogOf, IsOpenedLog, IsOpenedSource, IsOpenedStore, IsSourceOf}
 use Rattle.dblog_connect.proofs.Answered.{ends_before, gains_of, kept_again, marks_of, never_of, report_of, run_of}
 use Rattle.dblog_connect.proofs.CrashState.{kept_of, promised_of}
 use Rattle.dblog_connect.proofs.Opened.{held_by, some_of}
 use Rattle.dblog_connect.proofs.Ran.{Ran}
 
-module _ {W T F : Type 0} (seen_w : W → Option (List ℕ)) (may_w : W → List ℕ → Type 0) (seen_t : T → Option (List ℕ)) (may_t : T → List ℕ → Type 0)
-    (seen_f : F → Option (List ℕ)) (may_f : F → List ℕ → Type 0)
-    (is_w : (disk : W) (bytes : List ℕ) → seen_w disk ≡ Some bytes → may_w disk bytes)
-    (is_t : (disk : T) (bytes : List ℕ) → seen_t disk ≡ Some bytes → may_t disk bytes)
-    (is_f : (disk : F) (bytes : List ℕ) → seen_f disk ≡ Some bytes → may_f disk bytes)
+module _ {W T F : Type 0} (wal_model : DiskModel W) (topics_model : DiskModel T) (offsets_model : DiskModel F)
+    (is_w : (disk : W) (bytes : List ℕ) → wal_model.seen disk ≡ Some bytes → wal_model.may_leave disk bytes)
+    (is_t : (disk : T) (bytes : List ℕ) → topics_model.seen disk ≡ Some bytes → topics_model.may_leave disk bytes)
+    (is_f : (disk : F) (bytes : List ℕ) → offsets_model.seen disk ≡ Some bytes → offsets_model.may_leave disk bytes)
     (so : Demo W) (lo : OnDisk T) (fo : StoreOn F)
-    (opened_w : IsOpenedSource seen_w may_w so) (opened_t : IsOpenedLog seen_t may_t lo) (opened_f : IsOpenedStore seen_f may_f fo)
+    (opened_w : IsOpenedSource wal_model so) (opened_t : IsOpenedLog topics_model lo) (opened_f : IsOpenedStore offsets_model fo)
     (asked : Asked) (config : Config) (now : ℤ) (sn : Demo W) (ln : OnDisk T) (fn : StoreOn F) (report : Report) (result : Result Ending Halt)
-    (ran : Ran seen_w may_w seen_t may_t seen_f may_f config now so sn lo ln fo fn report result)
+    (ran : Ran wal_model topics_model offsets_model config now so sn lo ln fo fn report result)
     (asks : asks_of asked so.names fo.offset ≡ Some config) where
-  asks_here : (w t : List ℕ) (src : IsSourceOf seen_w may_w w so) (lg : IsLogOf seen_t may_t t lo) → asks_in asked (held_by src.wal lg.groups fo.offset) ≡ Some config
+  asks_here : (w t : List ℕ) (src : IsSourceOf wal_model w so) (lg : IsLogOf topics_model t lo) → asks_in asked (held_by src.wal lg.groups fo.offset) ≡ Some config
   asks_here w t src lg = subst (λ (names : List TableName). asks_of asked names fo.offset ≡ Some config) src.demo.running.names asks
 
   pub answers_ok : (ending : Ending) → result ≡ Ok ending
-      → AnswersConnect seen_w may_w seen_t may_t seen_f may_f asked now so.journal.disk sn.journal.disk lo.disk ln.disk (disk_of fo) (disk_of fn) (Ok (record { ending = ending; report = report }))
+      → AnswersConnect wal_model topics_model offsets_model asked now (disks_of so.journal.disk lo.disk (disk_of fo)) (disks_of sn.journal.disk ln.disk (disk_of fn)) (Ok (record { ending = ending; report = report }))
   answers_ok ending is = record {
     headline = λ kept w1 t1 f1 mw mt mf. (
-        let w = some_of (seen_w so.journal.disk) kept.wal in
-        let t = some_of (seen_t lo.disk) kept.topics in
-        let f = some_of (seen_f (disk_of fo)) kept.offsets in
+        let w = some_of (wal_model.seen so.journal.disk) kept.wal in
+        let t = some_of (topics_model.seen lo.disk) kept.topics in
+        let f = some_of (offsets_model.seen (disk_of fo)) kept.offsets in
         let src = opened_w w.0 w.1 in
         let lg = opened_t t.0 t.1 in
         let st = opened_f f.0 f.1 in
-        promised_of seen_w may_w seen_t may_t seen_f may_f is_w is_t is_f w.0 t.0 f.0 so lo fo src lg st config now sn ln fn report result ran
+        promised_of wal_model topics_model offsets_model is_w is_t is_f w.0 t.0 f.0 so lo fo src lg st config now sn ln fn report result ran
         asked (Ok (record { ending = ending; report = report })) (asks_here w.0 t.0 src lg) (λ whole. is ∙ ap (λ (e : Ending). Ok e) whole)
-        (kept_of seen_w may_w seen_t may_t seen_f may_f is_w is_t is_f w.0 t.0 f.0 so lo fo src lg st kept) w1 t1 f1 mw mt mf);
+        (kept_of wal_model topics_model offsets_model is_w is_t is_f w.0 t.0 f.0 so lo fo src lg st kept) w1 t1 f1 mw mt mf);
     kept = λ kept. (
-        let w = some_of (seen_w so.journal.disk) kept.wal in
-        let t = some_of (seen_t lo.disk) kept.topics in
-        let f = some_of (seen_f (disk_of fo)) kept.offsets in
+        let w = some_of (wal_model.seen so.journal.disk) kept.wal in
+        let t = some_of (topics_model.seen lo.disk) kept.topics in
+        let f = some_of (offsets_model.seen (disk_of fo)) kept.offsets in
         let src = opened_w w.0 w.1 in
         let lg = opened_t t.0 t.1 in
         let st = opened_f f.0 f.1 in
-        kept_again seen_w may_w seen_t may_t seen_f may_f is_w is_t is_f w.0 t.0 f.0 so lo fo src lg st config now sn ln fn report result ran
-        (kept_of seen_w may_w seen_t may_t seen_f may_f is_w is_t is_f w.0 t.0 f.0 so lo fo src lg st kept));
-    report = λ kept w t f told_w told_t told_f. report_of seen_w may_w seen_t may_t seen_f may_f is_w is_t is_f w t f so lo fo
+        kept_again wal_model topics_model offsets_model is_w is_t is_f w.0 t.0 f.0 so lo fo src lg st config now sn ln fn report result ran
+        (kept_of wal_model topics_model offsets_model is_w is_t is_f w.0 t.0 f.0 so lo fo src lg st kept));
+    report = λ kept w t f told_w told_t told_f. report_of wal_model topics_model offsets_model is_w is_t is_f w t f so lo fo
         (opened_w w told_w) (opened_t t told_t) (opened_f f told_f) config now sn ln fn report result ran ending is
-        (kept_of seen_w may_w seen_t may_t seen_f may_f is_w is_t is_f w t f so lo fo (opened_w w told_w) (opened_t t told_t) (opened_f f told_f) kept)
+        (kept_of wal_model topics_model offsets_model is_w is_t is_f w t f so lo fo (opened_w w told_w) (opened_t t told_t) (opened_f f told_f) kept)
         asked (asks_here w t (opened_w w told_w) (opened_t t told_t));
     never = λ kept w t f told_w told_t told_f. tt;
-    told = λ w t f told_w told_t told_f. run_of seen_w may_w seen_t may_t seen_f may_f is_w is_t is_f w t f so lo fo
+    told = λ w t f told_w told_t told_f. run_of wal_model topics_model offsets_model is_w is_t is_f w t f so lo fo
         (opened_w w told_w) (opened_t t told_t) (opened_f f told_f) config now sn ln fn report result ran asked (asks_here w t (opened_w w told_w) (opened_t t told_t)) ending is;
-    gains = λ w t f told_w told_t told_f begun. gains_of seen_w may_w seen_t may_t seen_f may_f is_w is_t is_f w t f so lo fo
+    gains = λ w t f told_w told_t told_f begun. gains_of wal_model topics_model offsets_model is_w is_t is_f w t f so lo fo
         (opened_w w told_w) (opened_t t told_t) (opened_f f told_f) config now sn ln fn report result ran asked (asks_here w t (opened_w w told_w) (opened_t t told_t)) begun;
-    marks = λ w t f told_w told_t told_f. marks_of seen_w may_w seen_t may_t seen_f may_f is_w is_t is_f w t f so lo fo
+    marks = λ w t f told_w told_t told_f. marks_of wal_model topics_model offsets_model is_w is_t is_f w t f so lo fo
         (opened_w w told_w) (opened_t t told_t) (opened_f f told_f) config now sn ln fn report result ran asked (asks_here w t (opened_w w told_w) (opened_t t told_t));
   }
 
   pub answers_err : (h : Halt) → result ≡ Err h
-      → AnswersConnect seen_w may_w seen_t may_t seen_f may_f asked now so.journal.disk sn.journal.disk lo.disk ln.disk (disk_of fo) (disk_of fn) (Err (halt_error h))
+      → AnswersConnect wal_model topics_model offsets_model asked now (disks_of so.journal.disk lo.disk (disk_of fo)) (disks_of sn.journal.disk ln.disk (disk_of fn)) (Err (halt_error h))
   answers_err h is = record {
     headline = λ kept w1 t1 f1 mw mt mf. (
-        let w = some_of (seen_w so.journal.disk) kept.wal in
-        let t = some_of (seen_t lo.disk) kept.topics in
-        let f = some_of (seen_f (disk_of fo)) kept.offsets in
+        let w = some_of (wal_model.seen so.journal.disk) kept.wal in
+        let t = some_of (topics_model.seen lo.disk) kept.topics in
+        let f = some_of (offsets_model.seen (disk_of fo)) kept.offsets in
         let src = opened_w w.0 w.1 in
         let lg = opened_t t.0 t.1 in
         let st = opened_f f.0 f.1 in
-        promised_of seen_w may_w seen_t may_t seen_f may_f is_w is_t is_f w.0 t.0 f.0 so lo fo src lg st config now sn ln fn report result ran
+        promised_of wal_model topics_model offsets_model is_w is_t is_f w.0 t.0 f.0 so lo fo src lg st config now sn ln fn report result ran
         asked (Err (halt_error h)) (asks_here w.0 t.0 src lg) (λ none. absurd none)
-        (kept_of seen_w may_w seen_t may_t seen_f may_f is_w is_t is_f w.0 t.0 f.0 so lo fo src lg st kept) w1 t1 f1 mw mt mf);
+        (kept_of wal_model topics_model offsets_model is_w is_t is_f w.0 t.0 f.0 so lo fo src lg st kept) w1 t1 f1 mw mt mf);
     kept = λ kept. (
-        let w = some_of (seen_w so.journal.disk) kept.wal in
-        let t = some_of (seen_t lo.disk) kept.topics in
-        let f = some_of (seen_f (disk_of fo)) kept.offsets in
+        let w = some_of (wal_model.seen so.journal.disk) kept.wal in
+        let t = some_of (topics_model.seen lo.disk) kept.topics in
+        let f = some_of (offsets_model.seen (disk_of fo)) kept.offsets in
         let src = opened_w w.0 w.1 in
         let lg = opened_t t.0 t.1 in
         let st = opened_f f.0 f.1 in
-        kept_again seen_w may_w seen_t may_t seen_f may_f is_w is_t is_f w.0 t.0 f.0 so lo fo src lg st config now sn ln fn report result ran
-        (kept_of seen_w may_w seen_t may_t seen_f may_f is_w is_t is_f w.0 t.0 f.0 so lo fo src lg st kept));
+        kept_again wal_model topics_model offsets_model is_w is_t is_f w.0 t.0 f.0 so lo fo src lg st config now sn ln fn report result ran
+        (kept_of wal_model topics_model offsets_model is_w is_t is_f w.0 t.0 f.0 so lo fo src lg st kept));
     report = λ kept w t f told_w told_t told_f. tt;
-    never = λ kept w t f told_w told_t told_f. never_of seen_w may_w seen_t may_t seen_f may_f is_w is_t is_f w t f so lo fo
+    never = λ kept w t f told_w told_t told_f. never_of wal_model topics_model offsets_model is_w is_t is_f w t f so lo fo
         (opened_w w told_w) (opened_t t told_t) (opened_f f told_f) config now sn ln fn report result ran asked (asks_here w t (opened_w w told_w) (opened_t t told_t)) h is
-        (kept_of seen_w may_w seen_t may_t seen_f may_f is_w is_t is_f w t f so lo fo (opened_w w told_w) (opened_t t told_t) (opened_f f told_f) kept);
-    told = λ w t f told_w told_t told_f. ends_before seen_w may_w seen_t may_t seen_f may_f is_w is_t is_f w t f so lo fo
+        (kept_of wal_model topics_model offsets_model is_w is_t is_f w t f so lo fo (opened_w w told_w) (opened_t t told_t) (opened_f f told_f) kept);
+    told = λ w t f told_w told_t told_f. ends_before wal_model topics_model offsets_model is_w is_t is_f w t f so lo fo
         (opened_w w told_w) (opened_t t told_t) (opened_f f told_f) config now sn ln fn report result ran asked (asks_here w t (opened_w w told_w) (opened_t t told_t)) h is;
-    gains = λ w t f told_w told_t told_f begun. gains_of seen_w may_w seen_t may_t seen_f may_f is_w is_t is_f w t f so lo fo
+    gains = λ w t f told_w told_t told_f begun. gains_of wal_model topics_model offsets_model is_w is_t is_f w t f so lo fo
         (opened_w w told_w) (opened_t t told_t) (opened_f f told_f) config now sn ln fn report result ran asked (asks_here w t (opened_w w told_w) (opened_t t told_t)) begun;
-    marks = λ w t f told_w told_t told_f. marks_of seen_w may_w seen_t may_t seen_f may_f is_w is_t is_f w t f so lo fo
+    marks = λ w t f told_w told_t told_f. marks_of wal_model topics_model offsets_model is_w is_t is_f w t f so lo fo
         (opened_w w told_w) (opened_t t told_t) (opened_f f told_f) config now sn ln fn report result ran asked (asks_here w t (opened_w w told_w) (opened_t t told_t));
   }

@@ -1,6 +1,7 @@
 -- What a command comes to that began no session: each disk tells what it told, and a crash leaves nothing of it that it couldn't leave before.
 use Rattle.std.proofs.Common.{◌≡◌, ◌∙◌, ◌⊎◌, inl, inr, ℕ, ℤ, Option, Some, None, List, [], Err, refl, sym, subst}
 use Rattle.std.specs.Prelude.{IsSome}
+use Rattle.dbl_disk.specs.Model.{DiskModel}
 use Rattle.dbl_model_table.specs.declared.config.Config.{Config}
 use Rattle.dbl_offset.specs.declared.offset.Offset.{Offset}
 use Rattle.dbl_offset.proofs.StoreLaws as store_laws
@@ -9,18 +10,20 @@ use Rattle.dbl_topic.proofs.LogLaws as log_laws
 use Rattle.dblog_promise.specs.Contents.{Contents, ReadAs}
 use Rattle.dblog_promise.specs.Goes.{Advances}
 use Rattle.dblog_promise.specs.Headline.{Guarantees}
-use Rattle.dblog_promise.specs.Kept.{AreKept, IsKept}
+use Rattle.dblog_promise.specs.Kept.{IsKept}
 use Rattle.dblog_promise.proofs.KeptLaws.{kept_runs_are_promised, what_stays_goes_on}
+use Rattle.dblog_init.specs.declared.disks.Disks.{Disks}
 use Rattle.dblog_init.specs.declared.error.Store.{Store}
 use Rattle.dblog_connect.specs.declared.asked.Asked.{Asked}
 use Rattle.dblog_connect.specs.declared.asked.Asked.TheVariants.{First, Again}
 use Rattle.dblog_connect.specs.declared.error.ConnectError.{ConnectError}
 use Rattle.dblog_connect.specs.declared.error.ConnectError.TheVariants.{AlreadyStarted, BadEntry, Failed, Halted, Memory, NotAStore, NotStarted}
 use Rattle.dblog_connect.specs.Asked.{Refuses, asks_in}
+use Rattle.dblog_connect.specs.Disks.{AreKeptDisks}
 use Rattle.dblog_connect.specs.Ends.{ConnectEnd, EndsBefore, IsKeptError, IsRefused}
 use Rattle.dblog_connect.specs.Ends.IsRefused.{no_source, no_log, no_offset, not_asked}
 use Rattle.dblog_connect.specs.Errors.{IsExternalConnectError}
-use Rattle.dblog_connect.specs.Steps.{AnswersConnect}
+use Rattle.dblog_connect.specs.Steps.{AnswersConnect, disks_of}
 
 -- it isn't a session's halt
 abbrev pub IsUnhalted : ConnectError → Type 0
@@ -74,19 +77,18 @@ told_so : (asked : Asked) (now : ℤ) (wals logs stores : List ℕ → Type 0) (
 told_so asked now wals logs stores w t f e (inl outside) = inl outside
 told_so asked now wals logs stores w t f e (inr refused) = inr (inl refused)
 
-module _ {W T F : Type 0} (seen_w : W → Option (List ℕ)) (may_w : W → List ℕ → Type 0) (seen_t : T → Option (List ℕ)) (may_t : T → List ℕ → Type 0)
-    (seen_f : F → Option (List ℕ)) (may_f : F → List ℕ → Type 0)
-    (is_w : (disk : W) (bytes : List ℕ) → seen_w disk ≡ Some bytes → may_w disk bytes)
-    (is_t : (disk : T) (bytes : List ℕ) → seen_t disk ≡ Some bytes → may_t disk bytes)
-    (is_f : (disk : F) (bytes : List ℕ) → seen_f disk ≡ Some bytes → may_f disk bytes)
-    (wal0 wal1 : W) (topics0 topics1 : T) (offsets0 offsets1 : F)
-    (same_w : seen_w wal1 ≡ seen_w wal0) (same_t : seen_t topics1 ≡ seen_t topics0) (same_f : seen_f offsets1 ≡ seen_f offsets0)
-    (crash_w : (crashed : List ℕ) → may_w wal1 crashed → may_w wal0 crashed)
-    (crash_t : (crashed : List ℕ) → may_t topics1 crashed → may_t topics0 crashed)
-    (crash_f : (crashed : List ℕ) → may_f offsets1 crashed → may_f offsets0 crashed) where
+module _ {W T F : Type 0} (wal_model : DiskModel W) (topics_model : DiskModel T) (offsets_model : DiskModel F)
+    (is_w : (disk : W) (bytes : List ℕ) → wal_model.seen disk ≡ Some bytes → wal_model.may_leave disk bytes)
+    (is_t : (disk : T) (bytes : List ℕ) → topics_model.seen disk ≡ Some bytes → topics_model.may_leave disk bytes)
+    (is_f : (disk : F) (bytes : List ℕ) → offsets_model.seen disk ≡ Some bytes → offsets_model.may_leave disk bytes)
+    (disks0 disks1 : Disks W T F)
+    (same_w : wal_model.seen disks1.wal ≡ wal_model.seen disks0.wal) (same_t : topics_model.seen disks1.topics ≡ topics_model.seen disks0.topics) (same_f : offsets_model.seen disks1.offsets ≡ offsets_model.seen disks0.offsets)
+    (crash_w : (crashed : List ℕ) → wal_model.may_leave disks1.wal crashed → wal_model.may_leave disks0.wal crashed)
+    (crash_t : (crashed : List ℕ) → topics_model.may_leave disks1.topics crashed → topics_model.may_leave disks0.topics crashed)
+    (crash_f : (crashed : List ℕ) → offsets_model.may_leave disks1.offsets crashed → offsets_model.may_leave disks0.offsets crashed) where
   pub answers_stay : (asked : Asked) (now : ℤ) (e : ConnectError) → IsUnhalted e
-      → ((w t f : List ℕ) → seen_w wal0 ≡ Some w → seen_t topics0 ≡ Some t → seen_f offsets0 ≡ Some f → IsExternalConnectError e ⊎ IsRefused asked w t f e)
-      → AnswersConnect seen_w may_w seen_t may_t seen_f may_f asked now wal0 wal1 topics0 topics1 offsets0 offsets1 (Err e)
+      → ((w t f : List ℕ) → wal_model.seen disks0.wal ≡ Some w → topics_model.seen disks0.topics ≡ Some t → offsets_model.seen disks0.offsets ≡ Some f → IsExternalConnectError e ⊎ IsRefused asked w t f e)
+      → AnswersConnect wal_model topics_model offsets_model asked now disks0 disks1 (Err e)
   answers_stay asked now e own ends = record {
     headline = λ kept w t f mw mt mf. (
         let here = kept.each w t f (crash_w w mw) (crash_t t mt) (crash_f f mf) in
@@ -96,7 +98,7 @@ module _ {W T F : Type 0} (seen_w : W → Option (List ℕ)) (may_w : W → List
             held = here.0;
             read = here.1;
             kept = here.2;
-            came = record {
+            predecessor = record {
               wal = w;
               topics = t;
               offsets = f;
@@ -105,10 +107,10 @@ module _ {W T F : Type 0} (seen_w : W → Option (List ℕ)) (may_w : W → List
               may_offsets = crash_f f mf;
               old = here.0;
               read = here.1;
-              goes = stays_so (asks_in asked here.0) here.0;
+              advances = stays_so (asks_in asked here.0) here.0;
             };
           };
-          promised = all;
+          guarantees = all;
         });
     kept = λ kept. record {
       wal = subst IsSome (sym same_w) kept.wal;
@@ -118,9 +120,9 @@ module _ {W T F : Type 0} (seen_w : W → Option (List ℕ)) (may_w : W → List
     };
     report = λ kept w t f told_w told_t told_f. tt;
     never = λ kept w t f told_w told_t told_f. (
-        let here = kept.each w t f (is_w wal0 w told_w) (is_t topics0 t told_t) (is_f offsets0 f told_f) in
-        never_so asked now (may_w wal1) (may_t topics1) (may_f offsets1) w t f here.0 here.1 e own (ends w t f told_w told_t told_f));
-    told = λ w t f told_w told_t told_f. told_so asked now (may_w wal1) (may_t topics1) (may_f offsets1) w t f e (ends w t f told_w told_t told_f);
+        let here = kept.each w t f (is_w disks0.wal w told_w) (is_t disks0.topics t told_t) (is_f disks0.offsets f told_f) in
+        never_so asked now (wal_model.may_leave disks1.wal) (topics_model.may_leave disks1.topics) (offsets_model.may_leave disks1.offsets) w t f here.0 here.1 e own (ends w t f told_w told_t told_f));
+    told = λ w t f told_w told_t told_f. told_so asked now (wal_model.may_leave disks1.wal) (topics_model.may_leave disks1.topics) (offsets_model.may_leave disks1.offsets) w t f e (ends w t f told_w told_t told_f);
     gains = λ w t f told_w told_t told_f begun. record {
       stored = begun.held.offset;
       last = inl refl;
@@ -130,8 +132,8 @@ module _ {W T F : Type 0} (seen_w : W → Option (List ℕ)) (may_w : W → List
   }
 
   -- so it is behind an opening: what is said of what it left is said of what was there before
-  before_kept : AreKept (seen_w wal0) (seen_t topics0) (seen_f offsets0) (may_w wal0) (may_t topics0) (may_f offsets0)
-      → AreKept (seen_w wal1) (seen_t topics1) (seen_f offsets1) (may_w wal1) (may_t topics1) (may_f offsets1)
+  before_kept : AreKeptDisks wal_model topics_model offsets_model disks0
+      → AreKeptDisks wal_model topics_model offsets_model disks1
   before_kept kept = record {
     wal = subst IsSome (sym same_w) kept.wal;
     topics = subst IsSome (sym same_t) kept.topics;
@@ -139,10 +141,10 @@ module _ {W T F : Type 0} (seen_w : W → Option (List ℕ)) (may_w : W → List
     each = λ w t f mw mt mf. kept.each w t f (crash_w w mw) (crash_t t mt) (crash_f f mf);
   }
 
-  pub answers_before : (asked : Asked) (now : ℤ) (wal2 : W) (topics2 : T) (offsets2 : F) (end : ConnectEnd)
-      → AnswersConnect seen_w may_w seen_t may_t seen_f may_f asked now wal1 wal2 topics1 topics2 offsets1 offsets2 end
-      → AnswersConnect seen_w may_w seen_t may_t seen_f may_f asked now wal0 wal2 topics0 topics2 offsets0 offsets2 end
-  answers_before asked now wal2 topics2 offsets2 end by = record {
+  pub answers_before : (asked : Asked) (now : ℤ) (disks2 : Disks W T F) (end : ConnectEnd)
+      → AnswersConnect wal_model topics_model offsets_model asked now disks1 disks2 end
+      → AnswersConnect wal_model topics_model offsets_model asked now disks0 disks2 end
+  answers_before asked now disks2 end by = record {
     headline = λ kept w t f mw mt mf. (
         let here = by.headline (before_kept kept) w t f mw mt mf in
         record {
@@ -150,19 +152,19 @@ module _ {W T F : Type 0} (seen_w : W → Option (List ℕ)) (may_w : W → List
             held = here.left.held;
             read = here.left.read;
             kept = here.left.kept;
-            came = record {
-              wal = here.left.came.wal;
-              topics = here.left.came.topics;
-              offsets = here.left.came.offsets;
-              may_wal = crash_w here.left.came.wal here.left.came.may_wal;
-              may_topics = crash_t here.left.came.topics here.left.came.may_topics;
-              may_offsets = crash_f here.left.came.offsets here.left.came.may_offsets;
-              old = here.left.came.old;
-              read = here.left.came.read;
-              goes = here.left.came.goes;
+            predecessor = record {
+              wal = here.left.predecessor.wal;
+              topics = here.left.predecessor.topics;
+              offsets = here.left.predecessor.offsets;
+              may_wal = crash_w here.left.predecessor.wal here.left.predecessor.may_wal;
+              may_topics = crash_t here.left.predecessor.topics here.left.predecessor.may_topics;
+              may_offsets = crash_f here.left.predecessor.offsets here.left.predecessor.may_offsets;
+              old = here.left.predecessor.old;
+              read = here.left.predecessor.read;
+              advances = here.left.predecessor.advances;
             };
           };
-          promised = here.promised;
+          guarantees = here.guarantees;
         });
     kept = λ kept. by.kept (before_kept kept);
     report = λ kept w t f told_w told_t told_f. by.report (before_kept kept) w t f (same_w ∙ told_w) (same_t ∙ told_t) (same_f ∙ told_f);
@@ -184,12 +186,11 @@ module _ {W T F : Type 0} (seen_w : W → Option (List ℕ)) (may_w : W → List
       either f (inr c) = inr c
 
 -- of the disks as they are taken out of their stores
-pub answers_moved : {W T F : Type 0} (seen_w : W → Option (List ℕ)) (may_w : W → List ℕ → Type 0) (seen_t : T → Option (List ℕ)) (may_t : T → List ℕ → Type 0)
-    (seen_f : F → Option (List ℕ)) (may_f : F → List ℕ → Type 0) (asked : Asked) (now : ℤ) (wal0 wal1 wal2 : W) (topics0 topics1 topics2 : T) (offsets0 offsets1 offsets2 : F) (end : ConnectEnd)
-    → wal2 ≡ wal1 → topics2 ≡ topics1 → offsets2 ≡ offsets1
-    → AnswersConnect seen_w may_w seen_t may_t seen_f may_f asked now wal0 wal1 topics0 topics1 offsets0 offsets1 end
-    → AnswersConnect seen_w may_w seen_t may_t seen_f may_f asked now wal0 wal2 topics0 topics2 offsets0 offsets2 end
-answers_moved {W} {T} {F} seen_w may_w seen_t may_t seen_f may_f asked now wal0 wal1 wal2 topics0 topics1 topics2 offsets0 offsets1 offsets2 end w t f by =
-    subst (λ (x : W). AnswersConnect seen_w may_w seen_t may_t seen_f may_f asked now wal0 x topics0 topics2 offsets0 offsets2 end) (sym w)
-    (subst (λ (x : T). AnswersConnect seen_w may_w seen_t may_t seen_f may_f asked now wal0 wal1 topics0 x offsets0 offsets2 end) (sym t)
-    (subst (λ (x : F). AnswersConnect seen_w may_w seen_t may_t seen_f may_f asked now wal0 wal1 topics0 topics1 offsets0 x end) (sym f) by))
+pub answers_moved : {W T F : Type 0} (wal_model : DiskModel W) (topics_model : DiskModel T) (offsets_model : DiskModel F) (asked : Asked) (now : ℤ) (old : Disks W T F)
+    (wal1 wal2 : W) (topics1 topics2 : T) (offsets1 offsets2 : F) (end : ConnectEnd) → wal2 ≡ wal1 → topics2 ≡ topics1 → offsets2 ≡ offsets1
+    → AnswersConnect wal_model topics_model offsets_model asked now old (disks_of wal1 topics1 offsets1) end
+    → AnswersConnect wal_model topics_model offsets_model asked now old (disks_of wal2 topics2 offsets2) end
+answers_moved {W} {T} {F} wal_model topics_model offsets_model asked now old wal1 wal2 topics1 topics2 offsets1 offsets2 end w t f by =
+    subst (λ (x : W). AnswersConnect wal_model topics_model offsets_model asked now old (disks_of x topics2 offsets2) end) (sym w)
+    (subst (λ (x : T). AnswersConnect wal_model topics_model offsets_model asked now old (disks_of wal1 x offsets2) end) (sym t)
+    (subst (λ (x : F). AnswersConnect wal_model topics_model offsets_model asked now old (disks_of wal1 topics1 x) end) (sym f) by))

@@ -3,6 +3,7 @@ use Rattle.std.specs.Prelude.{Contains, IfSome, ◌≡◌, ◌⊎◌, ℕ, ℤ, 
 use Rattle.std.specs.List.{AllByRecursion}
 use Rattle.dbl_base.specs.Streams.{FailsOnlyIfCounted}
 use Rattle.dbl_record.specs.declared.record.Record.{Record}
+use Rattle.dbl_disk.specs.Model.{DiskModel}
 use Rattle.dbl_journal.specs.Form.{IsFaultAt}
 use Rattle.dbl_model_table.specs.declared.config.Config.{Config}
 use Rattle.dbl_model_table.specs.declared.table.TableName.{TableName}
@@ -37,7 +38,7 @@ use Rattle.dblog_promise.specs.Contents.{Contents, HasOwnTables, ReadAs, history
 use Rattle.dblog_promise.specs.PromiseLaws.{AreCountedWhole}
 use Rattle.dblog_promise.specs.Reports.{IsReportOf, IsWatermark}
 use Rattle.dblog_connect.specs.declared.asked.Asked.{Asked}
-use Rattle.dblog_connect.specs.declared.connected.Summary.{Summary}
+use Rattle.dblog_connect.specs.declared.summary.Summary.{Summary}
 use Rattle.dblog_connect.specs.declared.error.ConnectError.{ConnectError}
 use Rattle.dblog_connect.specs.declared.error.ConnectError.TheVariants.{BadEntry, Failed, Halted, NotAStore}
 use Rattle.dblog_connect.specs.Asked.{Refuses, asks_in, budget_of}
@@ -230,13 +231,13 @@ IsKeptError asked now wals logs stores w t f e = Unit {0}
 -- ---- every disk
 
 -- The count of faults of a disk never falls, and its failure is reported only if the count rose.
-abbrev pub CountsFaults : {D : Type 0} → (D → ℕ) → Store → ConnectEnd → D → D → Type 0
-CountsFaults faults store end old new = FailsOnlyIfCounted (end ≡ Err (Failed store)) (faults old) (faults new)
+abbrev pub CountsFaults : {D : Type 0} → DiskModel D → Store → ConnectEnd → D → D → Type 0
+CountsFaults model store end old new = FailsOnlyIfCounted (end ≡ Err (Failed store)) (model.faults old) (model.faults new)
 
--- A refused command has only read the disk: its contents are the same, and so is what a crash leaves.
-pub record OnlyRead {D : Type 0} (seen : D → Option (List ℕ)) (may_leave : D → List ℕ → Type 0) (old new : D) : Type 0 where
-  pub same : seen new ≡ seen old
-  pub crash : (crashed : List ℕ) → may_leave new crashed → may_leave old crashed
+-- A refused command has only read the disk: its contents are the same, and a crash leaves nothing that it couldn't leave before.
+pub record OnlyRead {D : Type 0} (model : DiskModel D) (old new : D) : Type 0 where
+  pub same : model.seen new ≡ model.seen old
+  pub crash : (crashed : List ℕ) → model.may_leave new crashed → model.may_leave old crashed
 
 -- A session with ending Budget has read exactly its budget of messages, with Complete fewer; and no more commits than messages.
 pub record IsSpent (budget : ℕ) (summary : Summary) : Type 0 where

@@ -6,5 +6,6 @@ pub use Rattle.dbl_capture.specs.Window
 pub mod Errors
 pub mod Followed
 pub mod Asked
+pub mod Disks
 pub mod Ends
 pub mod Steps

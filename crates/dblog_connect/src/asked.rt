@@ -8,7 +8,7 @@ ghost use Rattle.dbl_demo.specs.DemoWorkload.Ready.{AreTableNames};
 ghost use Rattle.dblog_connect.specs.Asked.{IsAskedWithinLimits, Refuses, asks_of, config_again, config_of, names_of, tables_or};
 
 use crate::ConnectError;
-use dbl_base::Seq;
+use dbl_base::{Seq, copy_items};
 use dbl_cli::CaptureOptions;
 use dbl_model_table::{Config, Identity, TableInfo, TableName};
 use dbl_offset::Offset;
@@ -29,16 +29,6 @@ pub enum Asked {
     },
 }
 
-fn copy_names(alloc: Global, names: &Vec<TableName>) -> Result<Vec<TableName>, AllocError>
-    ensures { IfOk result (λ copies. copies.items ≡ names.now.items) }
-{
-    let mut copies = Vec::with_capacity(alloc, names.len())?;
-    for name in names {
-        copies.push(name.copy(alloc)?)?;
-    }
-    Ok(copies)
-}
-
 fn names_of(alloc: Global, infos: &Vec<TableInfo>) -> Result<Vec<TableName>, AllocError>
     ensures { IfOk result (λ names. names.items ≡ names_of infos.now.items) }
 {
@@ -57,7 +47,7 @@ fn named_or(
     ensures { IfOk result (λ names. names ≡ tables_or named all.now.items) }
 {
     if named.items().is_empty() {
-        Ok(Seq::make(copy_names(alloc, all)?))
+        Ok(Seq::make(copy_items(alloc, all.as_slice())?))
     } else {
         Ok(named)
     }

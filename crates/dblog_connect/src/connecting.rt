@@ -3,23 +3,23 @@
 ghost use Rattle.std.specs.Prelude.{◌≡◌, ℕ, List, Some, IfOk, IfErr, MatchResult, IsTrue};
 ghost use Rattle.dblog_promise.specs.Bounds.{IsBounded};
 ghost use Rattle.dblog_promise.specs.Headline.{GuaranteesAfterCrash};
-ghost use Rattle.dblog_promise.specs.Kept.{AreKept};
 ghost use Rattle.dbl_offset.specs.Stores.{IsLive, disk_of};
 ghost use Rattle.dbl_demo.specs.DemoWorkload.Ready.{AreTableNames};
 ghost use Rattle.dblog_connect.specs.Asked.{IsAskedWithinLimits, asks_in, budget_of};
+ghost use Rattle.dblog_connect.specs.Disks.{AreKeptDisks, IsTrueAfterCrash, IsTrueOfContents};
 ghost use Rattle.dblog_connect.specs.Ends.{AddsFew, CountsFaults, EndsBefore, GainsRecords, HasBegun, HasRun, IsCompleteEnd};
 ghost use Rattle.dblog_connect.specs.Ends.{IsKeptError, IsReported, IsSpent, IsWrongSource, OnlyRead};
 ghost use Rattle.dblog_connect.specs.Errors.{IsBeforeStore, IsAfterOpening, IsConnectError, IsConnectRefusal};
-ghost use Rattle.dblog_connect.specs.Steps.{AnswersConnect, IsOpenedLog, IsOpenedSource, IsOpenedStore};
+ghost use Rattle.dblog_connect.specs.Steps.{AnswersConnect, disks_of, IsOpenedLog, IsOpenedSource, IsOpenedStore};
 
 use crate::asked::{Asked, config_for};
-use crate::{ConnectError, Connected, Summary};
+use crate::{ConnectError, Summary};
 use dbl_capture::{Report, session};
 use dbl_demo::DemoSource;
 use dbl_disk::{Disk, Refused};
 use dbl_offset::OffsetStore;
 use dbl_topic::TopicLog;
-use dblog_init::Store;
+use dblog_init::{Disks, Outcome, Store};
 use std::alloc::Global;
 
 /// The commands `capture` and `resume`: a session of the connector, over the source, the topic log
@@ -31,83 +31,84 @@ pub fn connect<W: Disk, T: Disk, F: Disk>(
     alloc: Global,
     asked: Asked,
     now_ms: i64,
-    wal: W,
-    topics: T,
-    offsets: F,
-) -> Connected<W, T, F>
+    disks: Disks<W, T, F>,
+) -> Outcome<W, T, F, Result<Summary, ConnectError>>
     requires { IsAskedWithinLimits asked }
 
     // For crash-consistent (kept) disks: everything that a crash may leave satisfies the
     // connector's promise, and extends what was stored before. The disks stay crash-consistent.
-    ensures headline { AreKept (W.seen wal) (T.seen topics) (F.seen offsets)
-        (W.may_leave wal) (T.may_leave topics) (F.may_leave offsets) → (w t f : List ℕ) →
-        W.may_leave result.wal w → T.may_leave result.topics t → F.may_leave result.offsets f →
-        GuaranteesAfterCrash (IsCompleteEnd result.end) (asks_in asked)
-        (W.may_leave wal) (T.may_leave topics) (F.may_leave offsets) w t f }
-    ensures kept { AreKept (W.seen wal) (T.seen topics) (F.seen offsets)
-        (W.may_leave wal) (T.may_leave topics) (F.may_leave offsets) →
-        AreKept (W.seen result.wal) (T.seen result.topics) (F.seen result.offsets)
-        (W.may_leave result.wal) (T.may_leave result.topics) (F.may_leave result.offsets) }
+    ensures headline { AreKeptDisks W.Disk T.Disk F.Disk disks →
+        IsTrueAfterCrash W.Disk T.Disk F.Disk result.disks
+        (GuaranteesAfterCrash (IsCompleteEnd result.end) (asks_in asked)
+        (W.may_leave disks.wal) (T.may_leave disks.topics) (F.may_leave disks.offsets)) }
+    ensures kept { AreKeptDisks W.Disk T.Disk F.Disk disks →
+        AreKeptDisks W.Disk T.Disk F.Disk result.disks }
 
     // For crash-consistent disks: what its report says, and the errors that never come.
-    ensures report { AreKept (W.seen wal) (T.seen topics) (F.seen offsets)
-        (W.may_leave wal) (T.may_leave topics) (F.may_leave offsets) → (w t f : List ℕ) →
-        W.seen wal ≡ Some w → T.seen topics ≡ Some t → F.seen offsets ≡ Some f →
-        IfOk result.end (IsReported asked now_ms
-        (W.may_leave result.wal) (T.may_leave result.topics) (F.may_leave result.offsets) w t f) }
-    ensures never { AreKept (W.seen wal) (T.seen topics) (F.seen offsets)
-        (W.may_leave wal) (T.may_leave topics) (F.may_leave offsets) → (w t f : List ℕ) →
-        W.seen wal ≡ Some w → T.seen topics ≡ Some t → F.seen offsets ≡ Some f →
-        IfErr result.end (IsKeptError asked now_ms
-        (W.may_leave result.wal) (T.may_leave result.topics) (F.may_leave result.offsets) w t f) }
+    ensures report { AreKeptDisks W.Disk T.Disk F.Disk disks →
+        IsTrueOfContents W.Disk T.Disk F.Disk disks (λ w t f. IfOk result.end
+        (IsReported asked now_ms (W.may_leave result.disks.wal) (T.may_leave result.disks.topics)
+        (F.may_leave result.disks.offsets) w t f)) }
+    ensures never { AreKeptDisks W.Disk T.Disk F.Disk disks →
+        IsTrueOfContents W.Disk T.Disk F.Disk disks (λ w t f. IfErr result.end
+        (IsKeptError asked now_ms (W.may_leave result.disks.wal) (T.may_leave result.disks.topics)
+        (F.may_leave result.disks.offsets) w t f)) }
 
     // For disks with known contents: the answer, and what the topic log and the source's log gain.
-    ensures told { (w t f : List ℕ) → W.seen wal ≡ Some w → T.seen topics ≡ Some t →
-        F.seen offsets ≡ Some f → MatchResult result.end
-        (HasRun asked now_ms (W.may_leave result.wal) (T.may_leave result.topics)
-        (F.may_leave result.offsets) w t f)
-        (EndsBefore asked now_ms (W.may_leave result.wal) (T.may_leave result.topics)
-        (F.may_leave result.offsets) w t f) }
-    ensures gains { (w t f : List ℕ) → W.seen wal ≡ Some w → T.seen topics ≡ Some t →
-        F.seen offsets ≡ Some f → (begun : HasBegun asked w t f) → GainsRecords asked now_ms
-        (T.may_leave topics) (T.may_leave result.topics) w t f begun }
-    ensures marks { (w t f : List ℕ) → W.seen wal ≡ Some w → T.seen topics ≡ Some t →
-        F.seen offsets ≡ Some f →
-        AddsFew asked (W.may_leave wal) (W.may_leave result.wal) w t f }
+    ensures told { IsTrueOfContents W.Disk T.Disk F.Disk disks (λ w t f. MatchResult result.end
+        (HasRun asked now_ms (W.may_leave result.disks.wal) (T.may_leave result.disks.topics)
+        (F.may_leave result.disks.offsets) w t f)
+        (EndsBefore asked now_ms (W.may_leave result.disks.wal) (T.may_leave result.disks.topics)
+        (F.may_leave result.disks.offsets) w t f)) }
+    ensures gains { IsTrueOfContents W.Disk T.Disk F.Disk disks (λ w t f.
+        (begun : HasBegun asked w t f) → GainsRecords asked now_ms
+        (T.may_leave disks.topics) (T.may_leave result.disks.topics) w t f begun) }
+    ensures marks { IsTrueOfContents W.Disk T.Disk F.Disk disks (λ w t f.
+        AddsFew asked (W.may_leave disks.wal) (W.may_leave result.disks.wal) w t f) }
 
     // For a source's disk with known contents: why it has no valid log.
-    ensures wal_wrong { (w : List ℕ) → W.seen wal ≡ Some w →
+    ensures wal_wrong { (w : List ℕ) → W.seen disks.wal ≡ Some w →
         IfErr result.end (IsWrongSource w) }
 
-    // For every disk: how much is read, which errors there are, and which disks are called.
+    // For every disk: how much is read until a normal end, which errors there are, and that a
+    // refused command only reads the disks, up to the one that is refused.
     ensures spent { IfOk result.end (IsSpent (budget_of asked)) }
     ensures kinds { IfErr result.end IsConnectError }
     ensures topics_stay { IfErr result.end (λ e. IsBeforeStore Store.Topics e →
-        result.topics ≡ topics) }
+        result.disks.topics ≡ disks.topics) }
     ensures offsets_stay { IfErr result.end (λ e. IsBeforeStore Store.Offsets e →
-        result.offsets ≡ offsets) }
+        result.disks.offsets ≡ disks.offsets) }
     ensures wal_read { IfErr result.end (λ e. IsConnectRefusal e →
-        OnlyRead W.seen W.may_leave wal result.wal) }
+        OnlyRead W.Disk disks.wal result.disks.wal) }
     ensures topics_read { IfErr result.end (λ e. IsConnectRefusal e →
-        OnlyRead T.seen T.may_leave topics result.topics) }
+        OnlyRead T.Disk disks.topics result.disks.topics) }
     ensures offsets_read { IfErr result.end (λ e. IsConnectRefusal e →
-        OnlyRead F.seen F.may_leave offsets result.offsets) }
+        OnlyRead F.Disk disks.offsets result.disks.offsets) }
 
     // A failure is reported only if the disk's count of faults rose; the disks' contents stay
     // bounded.
-    ensures wal_counts { CountsFaults W.faults Store.Wal result.end wal result.wal }
-    ensures topics_count { CountsFaults T.faults Store.Topics result.end topics result.topics }
-    ensures offsets_count { CountsFaults F.faults Store.Offsets result.end offsets result.offsets }
-    ensures wal_bounded { IsBounded (W.seen wal) (W.seen result.wal) }
-    ensures topics_bounded { IsBounded (T.seen topics) (T.seen result.topics) }
-    ensures offsets_bounded { IsBounded (F.seen offsets) (F.seen result.offsets) }
+    ensures wal_counts { CountsFaults W.Disk Store.Wal result.end disks.wal result.disks.wal }
+    ensures topics_count { CountsFaults T.Disk Store.Topics result.end
+        disks.topics result.disks.topics }
+    ensures offsets_count { CountsFaults F.Disk Store.Offsets result.end
+        disks.offsets result.disks.offsets }
+    ensures wal_bounded { IsBounded (W.seen disks.wal) (W.seen result.disks.wal) }
+    ensures topics_bounded { IsBounded (T.seen disks.topics) (T.seen result.disks.topics) }
+    ensures offsets_bounded { IsBounded (F.seen disks.offsets) (F.seen result.disks.offsets) }
 {
+    let Disks {
+        wal,
+        topics,
+        offsets,
+    } = disks;
     match DemoSource::open(alloc, wal) {
         Ok(source) => connect_source(alloc, asked, now_ms, source, topics, offsets),
-        Err(Refused { disk, error }) => Connected {
-            wal: disk,
-            topics,
-            offsets,
+        Err(Refused { disk, error }) => Outcome {
+            disks: Disks {
+                wal: disk,
+                topics,
+                offsets,
+            },
             end: Err(ConnectError::from(error)),
         },
     }
@@ -120,38 +121,41 @@ fn connect_source<W: Disk, T: Disk, F: Disk>(
     source: DemoSource<W>,
     topics: T,
     offsets: F,
-) -> Connected<W, T, F>
+) -> Outcome<W, T, F, Result<Summary, ConnectError>>
     requires within { IsAskedWithinLimits asked }
     requires live { IsTrue source.live }
     requires tables { AreTableNames source.names }
-    requires opened { IsOpenedSource W.seen W.may_leave source }
-    ensures answers { AnswersConnect W.seen W.may_leave T.seen T.may_leave F.seen F.may_leave
-        asked now_ms source.journal.disk result.wal topics result.topics offsets result.offsets
-        result.end }
+    requires opened { IsOpenedSource W.Disk source }
+    ensures answers { AnswersConnect W.Disk T.Disk F.Disk asked now_ms
+        (disks_of source.journal.disk topics offsets) result.disks result.end }
     ensures spent { IfOk result.end (IsSpent (budget_of asked)) }
     ensures kinds { IfErr result.end IsConnectError }
-    ensures subsequent { IfErr result.end (IsAfterOpening Store.Wal) }
+    ensures after_opening { IfErr result.end (IsAfterOpening Store.Wal) }
     ensures offsets_stay { IfErr result.end (λ e. IsBeforeStore Store.Offsets e →
-        result.offsets ≡ offsets) }
+        result.disks.offsets ≡ offsets) }
     ensures wal_read { IfErr result.end (λ e. IsConnectRefusal e →
-        OnlyRead W.seen W.may_leave source.journal.disk result.wal) }
+        OnlyRead W.Disk source.journal.disk result.disks.wal) }
     ensures topics_read { IfErr result.end (λ e. IsConnectRefusal e →
-        OnlyRead T.seen T.may_leave topics result.topics) }
+        OnlyRead T.Disk topics result.disks.topics) }
     ensures offsets_read { IfErr result.end (λ e. IsConnectRefusal e →
-        OnlyRead F.seen F.may_leave offsets result.offsets) }
-    ensures wal_counts { CountsFaults W.faults Store.Wal result.end source.journal.disk result.wal }
-    ensures topics_count { CountsFaults T.faults Store.Topics result.end topics result.topics }
-    ensures offsets_count { CountsFaults F.faults Store.Offsets result.end offsets result.offsets }
-    ensures wal_bounded { IsBounded (W.seen source.journal.disk) (W.seen result.wal) }
-    ensures topics_bounded { IsBounded (T.seen topics) (T.seen result.topics) }
-    ensures offsets_bounded { IsBounded (F.seen offsets) (F.seen result.offsets) }
+        OnlyRead F.Disk offsets result.disks.offsets) }
+    ensures wal_counts { CountsFaults W.Disk Store.Wal result.end
+        source.journal.disk result.disks.wal }
+    ensures topics_count { CountsFaults T.Disk Store.Topics result.end topics result.disks.topics }
+    ensures offsets_count { CountsFaults F.Disk Store.Offsets result.end
+        offsets result.disks.offsets }
+    ensures wal_bounded { IsBounded (W.seen source.journal.disk) (W.seen result.disks.wal) }
+    ensures topics_bounded { IsBounded (T.seen topics) (T.seen result.disks.topics) }
+    ensures offsets_bounded { IsBounded (F.seen offsets) (F.seen result.disks.offsets) }
 {
     match TopicLog::open(alloc, topics) {
         Ok(log) => connect_log(alloc, asked, now_ms, source, log, offsets),
-        Err(Refused { disk, error }) => Connected {
-            wal: source.into_disk(),
-            topics: disk,
-            offsets,
+        Err(Refused { disk, error }) => Outcome {
+            disks: Disks {
+                wal: source.into_disk(),
+                topics: disk,
+                offsets,
+            },
             end: Err(ConnectError::from(error)),
         },
     }
@@ -164,46 +168,52 @@ fn connect_log<W: Disk, T: Disk, F: Disk>(
     mut source: DemoSource<W>,
     mut log: TopicLog<T>,
     offsets: F,
-) -> Connected<W, T, F>
+) -> Outcome<W, T, F, Result<Summary, ConnectError>>
     requires within { IsAskedWithinLimits asked }
     requires source_live { IsTrue source.live }
     requires log_live { IsTrue log.live }
     requires tables { AreTableNames source.names }
-    requires source_opened { IsOpenedSource W.seen W.may_leave source }
-    requires log_opened { IsOpenedLog T.seen T.may_leave log }
-    ensures answers { AnswersConnect W.seen W.may_leave T.seen T.may_leave F.seen F.may_leave
-        asked now_ms source.journal.disk result.wal log.disk result.topics offsets result.offsets
-        result.end }
+    requires source_opened { IsOpenedSource W.Disk source }
+    requires log_opened { IsOpenedLog T.Disk log }
+    ensures answers { AnswersConnect W.Disk T.Disk F.Disk asked now_ms
+        (disks_of source.journal.disk log.disk offsets) result.disks result.end }
     ensures spent { IfOk result.end (IsSpent (budget_of asked)) }
     ensures kinds { IfErr result.end IsConnectError }
-    ensures subsequent { IfErr result.end (IsAfterOpening Store.Topics) }
+    ensures after_opening { IfErr result.end (IsAfterOpening Store.Topics) }
     ensures wal_read { IfErr result.end (λ e. IsConnectRefusal e →
-        OnlyRead W.seen W.may_leave source.journal.disk result.wal) }
+        OnlyRead W.Disk source.journal.disk result.disks.wal) }
     ensures topics_read { IfErr result.end (λ e. IsConnectRefusal e →
-        OnlyRead T.seen T.may_leave log.disk result.topics) }
+        OnlyRead T.Disk log.disk result.disks.topics) }
     ensures offsets_read { IfErr result.end (λ e. IsConnectRefusal e →
-        OnlyRead F.seen F.may_leave offsets result.offsets) }
-    ensures wal_counts { CountsFaults W.faults Store.Wal result.end source.journal.disk result.wal }
-    ensures topics_count { CountsFaults T.faults Store.Topics result.end log.disk result.topics }
-    ensures offsets_count { CountsFaults F.faults Store.Offsets result.end offsets result.offsets }
-    ensures wal_bounded { IsBounded (W.seen source.journal.disk) (W.seen result.wal) }
-    ensures topics_bounded { IsBounded (T.seen log.disk) (T.seen result.topics) }
-    ensures offsets_bounded { IsBounded (F.seen offsets) (F.seen result.offsets) }
+        OnlyRead F.Disk offsets result.disks.offsets) }
+    ensures wal_counts { CountsFaults W.Disk Store.Wal result.end
+        source.journal.disk result.disks.wal }
+    ensures topics_count { CountsFaults T.Disk Store.Topics result.end
+        log.disk result.disks.topics }
+    ensures offsets_count { CountsFaults F.Disk Store.Offsets result.end
+        offsets result.disks.offsets }
+    ensures wal_bounded { IsBounded (W.seen source.journal.disk) (W.seen result.disks.wal) }
+    ensures topics_bounded { IsBounded (T.seen log.disk) (T.seen result.disks.topics) }
+    ensures offsets_bounded { IsBounded (F.seen offsets) (F.seen result.disks.offsets) }
 {
     match OffsetStore::open(alloc, offsets) {
         Ok(mut store) => {
             let end = run_session(alloc, asked, now_ms, &mut source, &mut log, &mut store);
-            Connected {
-                wal: source.into_disk(),
-                topics: log.into_disk(),
-                offsets: store.into_disk(),
+            Outcome {
+                disks: Disks {
+                    wal: source.into_disk(),
+                    topics: log.into_disk(),
+                    offsets: store.into_disk(),
+                },
                 end,
             }
         }
-        Err(Refused { disk, error }) => Connected {
-            wal: source.into_disk(),
-            topics: log.into_disk(),
-            offsets: disk,
+        Err(Refused { disk, error }) => Outcome {
+            disks: Disks {
+                wal: source.into_disk(),
+                topics: log.into_disk(),
+                offsets: disk,
+            },
             end: Err(ConnectError::from(error)),
         },
     }
@@ -222,22 +232,22 @@ fn run_session<W: Disk, T: Disk, F: Disk>(
     requires log_live { IsTrue log.old.live }
     requires store_live { IsLive store.old }
     requires tables { AreTableNames source.old.names }
-    requires source_opened { IsOpenedSource W.seen W.may_leave source.old }
-    requires log_opened { IsOpenedLog T.seen T.may_leave log.old }
-    requires store_opened { IsOpenedStore F.seen F.may_leave store.old }
-    ensures answers { AnswersConnect W.seen W.may_leave T.seen T.may_leave F.seen F.may_leave
-        asked now_ms source.old.journal.disk source.new.journal.disk log.old.disk log.new.disk
-        (disk_of store.old) (disk_of store.new) result }
+    requires source_opened { IsOpenedSource W.Disk source.old }
+    requires log_opened { IsOpenedLog T.Disk log.old }
+    requires store_opened { IsOpenedStore F.Disk store.old }
+    ensures answers { AnswersConnect W.Disk T.Disk F.Disk asked now_ms
+        (disks_of source.old.journal.disk log.old.disk (disk_of store.old))
+        (disks_of source.new.journal.disk log.new.disk (disk_of store.new)) result }
     ensures spent { IfOk result (IsSpent (budget_of asked)) }
     ensures kinds { IfErr result IsConnectError }
-    ensures subsequent { IfErr result (IsAfterOpening Store.Offsets) }
+    ensures after_opening { IfErr result (IsAfterOpening Store.Offsets) }
     ensures source_stays { IfErr result (λ e. IsConnectRefusal e → source.new ≡ source.old) }
     ensures log_stays { IfErr result (λ e. IsConnectRefusal e → log.new ≡ log.old) }
     ensures store_stays { IfErr result (λ e. IsConnectRefusal e → store.new ≡ store.old) }
-    ensures source_counts { CountsFaults W.faults Store.Wal result
+    ensures source_counts { CountsFaults W.Disk Store.Wal result
         source.old.journal.disk source.new.journal.disk }
-    ensures log_counts { CountsFaults T.faults Store.Topics result log.old.disk log.new.disk }
-    ensures store_counts { CountsFaults F.faults Store.Offsets result
+    ensures log_counts { CountsFaults T.Disk Store.Topics result log.old.disk log.new.disk }
+    ensures store_counts { CountsFaults F.Disk Store.Offsets result
         (disk_of store.old) (disk_of store.new) }
     ensures source_bounded { IsBounded
         (W.seen source.old.journal.disk) (W.seen source.new.journal.disk) }

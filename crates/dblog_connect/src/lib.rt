@@ -3,11 +3,11 @@
 #![tactic(auto)]
 
 mod asked;
-mod connected;
 mod connecting;
 mod error;
+mod summary;
 
 pub use asked::Asked;
-pub use connected::{Connected, Summary};
 pub use connecting::connect;
 pub use error::ConnectError;
+pub use summary::Summary;

@@ -1,17 +1,18 @@
 -- Disks that were asked for their lengths, and what is left of them behind that.
-use Rattle.std.proofs.Common.{◌≡◌, ◌∙◌, ℕ, ◌≤◌, ◌^◌, Option, Some, Err, List, length, refl, sym, subst, arith}
+use Rattle.std.proofs.Common.{◌≡◌, ◌∙◌, ℕ, ◌≤◌, ◌^◌, Some, Err, List, length, refl, sym, subst, arith}
 use Rattle.std.specs.Prelude.{max}
 use Rattle.dblog_init.specs.declared.error.InitError.TheVariants.{Failed}
 use Rattle.dblog_init.specs.declared.error.Store.{Store}
 use Rattle.dblog_init.specs.Answers.{InitEnd}
 use Rattle.dblog_init.specs.Disks.{IsAtMostMeasured, LeavesDisk}
+use Rattle.dbl_disk.specs.Model.{DiskModel}
 
 abbrev fails : Store → InitEnd → Type 0
 fails store end = end ≡ Err (Failed store)
 
-module _ {D : Type 0} (seen : D → Option (List ℕ)) (may_leave : D → List ℕ → Type 0) (faults : D → ℕ) (store : Store) where
+module _ {D : Type 0} (model : DiskModel D) (store : Store) where
   -- a disk that wasn't touched
-  pub asked_same : (end : InitEnd) (disk : D) → (fails store end → ⊥) → IsAtMostMeasured seen may_leave faults store end disk disk
+  pub asked_same : (end : InitEnd) (disk : D) → (fails store end → ⊥) → IsAtMostMeasured model store end disk disk
   asked_same end disk other = record {
     same = refl;
     crash = λ crashed may. may;
@@ -21,7 +22,7 @@ module _ {D : Type 0} (seen : D → Option (List ℕ)) (may_leave : D → List �
   }
 
   -- whatever else is told than that it failed
-  pub asked_as : (first end : InitEnd) (old new : D) → (fails store first → ⊥) → (fails store end → ⊥) → IsAtMostMeasured seen may_leave faults store first old new → IsAtMostMeasured seen may_leave faults store end old new
+  pub asked_as : (first end : InitEnd) (old new : D) → (fails store first → ⊥) → (fails store end → ⊥) → IsAtMostMeasured model store first old new → IsAtMostMeasured model store end old new
   asked_as first end old new before other asked = record {
     same = asked.same;
     crash = asked.crash;
@@ -31,7 +32,7 @@ module _ {D : Type 0} (seen : D → Option (List ℕ)) (may_leave : D → List �
   }
 
   -- it is no longer than it was
-  pub asked_leaves : (end : InitEnd) (old new : D) → IsAtMostMeasured seen may_leave faults store end old new → LeavesDisk seen faults store end old new
+  pub asked_leaves : (end : InitEnd) (old new : D) → IsAtMostMeasured model store end old new → LeavesDisk model store end old new
   asked_leaves end old new asked = record {
     later = asked.later;
     cause = asked.cause;
@@ -43,7 +44,7 @@ module _ {D : Type 0} (seen : D → Option (List ℕ)) (may_leave : D → List �
   }
 
   -- what was left of it behind the asking
-  pub leaves_behind : (first end : InitEnd) (old mid new : D) → (fails store first → ⊥) → IsAtMostMeasured seen may_leave faults store first old mid → LeavesDisk seen faults store end mid new → LeavesDisk seen faults store end old new
+  pub leaves_behind : (first end : InitEnd) (old mid new : D) → (fails store first → ⊥) → IsAtMostMeasured model store first old mid → LeavesDisk model store end mid new → LeavesDisk model store end old new
   leaves_behind first end old mid new before asked left = record {
     later = omega (arith, asked.later, left.later);
     cause = λ is. omega (arith, asked.later, left.cause is);

@@ -1,5 +1,5 @@
 -- How `init` ends: before the input, at the input, or behind it.
-use Rattle.std.proofs.Common.{◌≡◌, ◌∙◌, ◌⊎◌, ℕ, ◌≤◌, ◌<◌, Option, Some, Ok, Err, List, [], length, refl, sym, ap, subst, arith, inl, inr}
+use Rattle.std.proofs.Common.{◌≡◌, ◌∙◌, ◌⊎◌, ℕ, ◌≤◌, ◌<◌, Some, Ok, Err, List, [], length, refl, sym, ap, subst, arith, inl, inr}
 use Rattle.std.specs.Prelude.{IfErr, OnOk}
 use Rattle.dbl_base.specs.Streams.{input_limit}
 use Rattle.dbl_base.specs.declared.input.InputError.{InputError}
@@ -23,6 +23,7 @@ use Rattle.dblog_init.specs.Errors.{demo_error, input_error}
 use Rattle.dblog_init.specs.Turns.{AsksOne, IsTurnOf, MakesOne}
 use Rattle.dblog_init.proofs.DiskLemmas.{asked_as, asked_leaves, leaves_behind}
 use Rattle.dblog_init.proofs.KindLemmas.{refused_kind}
+use Rattle.dbl_disk.specs.Model.{DiskModel}
 
 -- ---- a disk failed, or isn't empty
 
@@ -162,36 +163,36 @@ told_of bytes end (inr outside) = inr (inr outside)
 
 -- ---- the disks
 
-module _ {D : Type 0} (seen : D → Option (List ℕ)) (may_leave : D → List ℕ → Type 0) (faults : D → ℕ) (store : Store) (old mid : D) where
+module _ {D : Type 0} (model : DiskModel D) (store : Store) (old mid : D) where
   -- no disk holds a byte behind the asking
-  pub none_held : AsksOne seen may_leave faults store (Ok tt) old mid → HoldsBytes seen old → ⊥
+  pub none_held : AsksOne model store (Ok tt) old mid → HoldsBytes model old → ⊥
   none_held asks holds = holds.2 (asks.empty holds.0 holds.1)
 
-  pub empty_behind : AsksOne seen may_leave faults store (Ok tt) old mid → (bytes : List ℕ) → seen mid ≡ Some bytes → bytes ≡ []
+  pub empty_behind : AsksOne model store (Ok tt) old mid → (bytes : List ℕ) → model.seen mid ≡ Some bytes → bytes ≡ []
   empty_behind asks bytes told = asks.empty bytes (sym asks.asked.same ∙ told)
 
   -- it ended at the input
-  pub asked_at : (f : InitError) → (f ≡ Failed store → ⊥) → AsksOne seen may_leave faults store (Ok tt) old mid → IsAtMostMeasured seen may_leave faults store (Err f) old mid
-  asked_at f spared asks = asked_as seen may_leave faults store (Ok tt) (Err f) old mid (λ is. (let t = is in cc)) (λ is. spared (let t = is in cc)) asks.asked
+  pub asked_at : (f : InitError) → (f ≡ Failed store → ⊥) → AsksOne model store (Ok tt) old mid → IsAtMostMeasured model store (Err f) old mid
+  asked_at f spared asks = asked_as model store (Ok tt) (Err f) old mid (λ is. (let t = is in cc)) (λ is. spared (let t = is in cc)) asks.asked
 
-  pub leaves_at : (f : InitError) → (f ≡ Failed store → ⊥) → AsksOne seen may_leave faults store (Ok tt) old mid → LeavesDisk seen faults store (Err f) old mid
-  leaves_at f spared asks = asked_leaves seen may_leave faults store (Err f) old mid (asked_at f spared asks)
+  pub leaves_at : (f : InitError) → (f ≡ Failed store → ⊥) → AsksOne model store (Ok tt) old mid → LeavesDisk model store (Err f) old mid
+  leaves_at f spared asks = asked_leaves model store (Err f) old mid (asked_at f spared asks)
 
   -- and behind it
-  module _ (Is : List ℕ → Type 0) (end : InitEnd) (new : D) (asks : AsksOne seen may_leave faults store (Ok tt) old mid) (makes : MakesOne seen may_leave faults store Is end mid new) where
-    pub empty_end : (bytes : List ℕ) → seen old ≡ Some bytes → OnOk end (bytes ≡ [])
+  module _ (Is : List ℕ → Type 0) (end : InitEnd) (new : D) (asks : AsksOne model store (Ok tt) old mid) (makes : MakesOne model store Is end mid new) where
+    pub empty_end : (bytes : List ℕ) → model.seen old ≡ Some bytes → OnOk end (bytes ≡ [])
     empty_end bytes told = by end
       where
         by : (x : InitEnd) → OnOk x (bytes ≡ [])
         by (Ok done) = asks.empty bytes told
         by (Err e) = tt
 
-    pub made_end : (before : List ℕ) → seen old ≡ Some before → OnOk end (HasStoredBytes seen may_leave Is new)
+    pub made_end : (before : List ℕ) → model.seen old ≡ Some before → OnOk end (HasStoredBytes model Is new)
     made_end before told = makes.made (asks.asked.same ∙ told ∙ ap Some (asks.empty before told))
 
-    pub asked_end : (EndsBeforeWriting store end → end ≡ Err (Failed store) → ⊥) → EndsBeforeWriting store end → IsAtMostMeasured seen may_leave faults store end old new
+    pub asked_end : (EndsBeforeWriting store end → end ≡ Err (Failed store) → ⊥) → EndsBeforeWriting store end → IsAtMostMeasured model store end old new
     asked_end spared unwritten =
-        subst (λ (d : D). IsAtMostMeasured seen may_leave faults store end old d) (sym (makes.untouched unwritten)) (asked_as seen may_leave faults store (Ok tt) end old mid (λ is. (let t = is in cc)) (spared unwritten) asks.asked)
+        subst (λ (d : D). IsAtMostMeasured model store end old d) (sym (makes.untouched unwritten)) (asked_as model store (Ok tt) end old mid (λ is. (let t = is in cc)) (spared unwritten) asks.asked)
 
-    pub leaves_end : LeavesDisk seen faults store end old new
-    leaves_end = leaves_behind seen may_leave faults store (Ok tt) end old mid new (λ is. (let t = is in cc)) asks.asked makes.leaves
+    pub leaves_end : LeavesDisk model store end old new
+    leaves_end = leaves_behind model store (Ok tt) end old mid new (λ is. (let t = is in cc)) asks.asked makes.leaves

@@ -1,6 +1,7 @@
 -- The stores that are made: what is on their disks, and what is left of these.
-use Rattle.std.proofs.Common.{◌≡◌, ◌≢◌, ◌∙◌, ◌⊎◌, ℕ, ◌≤◌, ◌^◌, Option, None, Some, Err, List, [], ◌∷◌, length, refl, sym, ap, subst, arith, inl, inr}
+use Rattle.std.proofs.Common.{◌≡◌, ◌≢◌, ◌∙◌, ◌⊎◌, ℕ, ◌≤◌, ◌^◌, None, Some, Err, List, [], ◌∷◌, length, refl, sym, ap, subst, arith, inl, inr}
 use Rattle.dbl_base.specs.Streams.{FaultCounted}
+use Rattle.dbl_disk.specs.Model.{DiskModel}
 use Rattle.dbl_disk.specs.Disks.{IsOnly}
 use Rattle.dbl_journal.specs.Stored.{IsSteady, Lists, OnDisk, size}
 use Rattle.dbl_journal.specs.declared.error.JournalError.TheVariants as journal
@@ -25,35 +26,35 @@ use Rattle.dblog_init.specs.Fresh.{IsEmptyLog, IsEmptyStore}
 
 -- ---- what is on them
 
-module _ {D : Type 0} (seen : D → Option (List ℕ)) (may_leave : D → List ℕ → Type 0) (disk : D) where
-  stored : (Is : List ℕ → Type 0) (on : OnDisk D) (entries : List (List ℕ)) (lists : Lists seen may_leave on entries) → disk ≡ on.disk → Is lists.bytes → HasStoredBytes seen may_leave Is disk
+module _ {D : Type 0} (model : DiskModel D) (disk : D) where
+  stored : (Is : List ℕ → Type 0) (on : OnDisk D) (entries : List (List ℕ)) (lists : Lists model on entries) → disk ≡ on.disk → Is lists.bytes → HasStoredBytes model Is disk
   stored Is on entries lists same is = record {
     bytes = lists.bytes;
-    told = ap seen same ∙ lists.told;
-    only = subst (λ (d : D). IsOnly lists.bytes (may_leave d)) (sym same) lists.only;
+    told = ap model.seen same ∙ lists.told;
+    only = subst (λ (d : D). IsOnly lists.bytes (model.may_leave d)) (sym same) lists.only;
     is = is;
   }
 
-  pub stored_wal : (script : List ℕ) (source : Demo D) (wal : WalOf) → IsDemo seen may_leave wal source → IsFirstWal script wal → disk ≡ source.journal.disk → HasStoredBytes seen may_leave (IsFreshWal script) disk
+  pub stored_wal : (script : List ℕ) (source : Demo D) (wal : WalOf) → IsDemo model wal source → IsFirstWal script wal → disk ≡ source.journal.disk → HasStoredBytes model (IsFreshWal script) disk
   stored_wal script source wal is first same =
       let lists = is.running.lists in
       stored (IsFreshWal script) source.journal (forms_of wal) lists same
       (wal, record { forms = forms_of wal; journal = lists.spelled; are = is.running.is; few = is.running.few }, first)
 
-  pub stored_log : (log : OnDisk D) → HoldsGroups seen may_leave log [] → disk ≡ log.disk → HasStoredBytes seen may_leave IsEmptyLog disk
+  pub stored_log : (log : OnDisk D) → HoldsGroups model log [] → disk ≡ log.disk → HasStoredBytes model IsEmptyLog disk
   stored_log log holds same =
       stored IsEmptyLog log holds.entries holds.lists same (record { entries = holds.entries; journal = holds.lists.spelled; are = holds.are })
 
-  pub stored_offset : (store : StoreOn D) → HoldsOffset seen may_leave store None → disk ≡ disk_of store → HasStoredBytes seen may_leave IsEmptyStore disk
+  pub stored_offset : (store : StoreOn D) → HoldsOffset model store None → disk ≡ disk_of store → HasStoredBytes model IsEmptyStore disk
   stored_offset store holds same =
       stored IsEmptyStore store.journal holds.entries holds.lists same (record { entries = holds.entries; journal = holds.lists.spelled; each = holds.each; last = holds.last })
 
 -- ---- what is left of them
 
-module _ {D : Type 0} (seen : D → Option (List ℕ)) (faults : D → ℕ) (store : Store) (end : InitEnd) (old new : D) (empty : (bytes : List ℕ) → seen old ≡ Some bytes → bytes ≡ []) (later : faults old ≤ faults new)
-    (cause : end ≡ Err (Failed store) → FaultCounted (faults old) (faults new)) (steady : end ≢ Err (Failed store) → IsSteady seen faults old new) where
+module _ {D : Type 0} (model : DiskModel D) (store : Store) (end : InitEnd) (old new : D) (empty : (bytes : List ℕ) → model.seen old ≡ Some bytes → bytes ≡ []) (later : model.faults old ≤ model.faults new)
+    (cause : end ≡ Err (Failed store) → FaultCounted (model.faults old) (model.faults new)) (steady : end ≢ Err (Failed store) → IsSteady model old new) where
   -- at most 2^30 bytes
-  pub leaves_short : ((bytes : List ℕ) → seen old ≡ Some [] → seen new ≡ Some bytes → length bytes ≤ 2 ^ 30) → LeavesDisk seen faults store end old new
+  pub leaves_short : ((bytes : List ℕ) → model.seen old ≡ Some [] → model.seen new ≡ Some bytes → length bytes ≤ 2 ^ 30) → LeavesDisk model store end old new
   leaves_short small = record {
     later = later;
     cause = cause;
@@ -64,7 +65,7 @@ module _ {D : Type 0} (seen : D → Option (List ℕ)) (faults : D → ℕ) (sto
   }
 
   -- at most those of an empty journal
-  pub leaves_none : ((bytes : List ℕ) → seen old ≡ Some [] → seen new ≡ Some bytes → length bytes ≤ size []) → LeavesDisk seen faults store end old new
+  pub leaves_none : ((bytes : List ℕ) → model.seen old ≡ Some [] → model.seen new ≡ Some bytes → length bytes ≤ size []) → LeavesDisk model store end old new
   leaves_none small = leaves_short (λ bytes was is. (let few = small bytes was is in omega (arith, none_small, few)))
 
 -- ---- why the source couldn't be made

@@ -1,9 +1,10 @@
 -- Disks that are asked in turn, and stores that are made in turn: what each of them is when it ends.
-use Rattle.std.proofs.Common.{◌≡◌, ◌≢◌, ◌∙◌, ◌⊎◌, ℕ, ◌≤◌, ◌^◌, Option, Some, Ok, Err, List, length, refl, sym, ap, subst, arith, inl, inr, true, false}
+use Rattle.std.proofs.Common.{◌≡◌, ◌≢◌, ◌∙◌, ◌⊎◌, ℕ, ◌≤◌, ◌^◌, Some, Ok, Err, List, length, refl, sym, ap, subst, arith, inl, inr, true, false}
 use Rattle.std.specs.Prelude.{IfErr, OnOk, is_err, max}
 use Rattle.dbl_demo.specs.DemoWorkload.declared.error.DemoError.{DemoError}
 use Rattle.dbl_demo.specs.DemoWorkload.Refusals.{IsRefused}
 use Rattle.dbl_demo.specs.DemoWorkload.Refusals.IsRefused.{lines, table, row}
+use Rattle.dblog_init.specs.declared.disks.Disks.{Disks}
 use Rattle.dblog_init.specs.declared.error.InitError.{InitError}
 use Rattle.dblog_init.specs.declared.error.InitError.TheVariants.{Failed, Memory, Model, NotEmpty, Script}
 use Rattle.dblog_init.specs.declared.error.Store.{Store}
@@ -15,6 +16,7 @@ use Rattle.dblog_init.specs.Turns.{AsksOne, IsTurnFault, IsTurnOf, MakesOne, Tel
 use Rattle.dblog_init.specs.Errors.{demo_error}
 use Rattle.dblog_init.proofs.DiskLemmas.{asked_as, asked_same}
 use Rattle.dblog_init.proofs.EndLemmas.{IsMakeEnd}
+use Rattle.dbl_disk.specs.Model.{DiskModel}
 
 -- ---- asking
 
@@ -33,36 +35,35 @@ module _ (store other : Store) (apart : store ≢ other) (e : InitError) (turn :
       by (inl there) = let t = sym is ∙ there in cc
       by (inr there) = apart (let t = sym is ∙ there in cc)
 
-  module _ {D : Type 0} (seen : D → Option (List ℕ)) (may_leave : D → List ℕ → Type 0) (faults : D → ℕ) where
+  module _ {D : Type 0} (model : DiskModel D) where
     -- a disk behind it
-    pub asks_none : (disk : D) → AsksOne seen may_leave faults store (Err e) disk disk
+    pub asks_none : (disk : D) → AsksOne model store (Err e) disk disk
     asks_none disk = record {
       empty = λ bytes told. tt;
       holds = λ bytes told is. absurd (not_holding (let t = is in cc));
-      asked = asked_same seen may_leave faults store (Err e) disk (λ is. not_failed (let t = is in cc));
+      asked = asked_same model store (Err e) disk (λ is. not_failed (let t = is in cc));
     }
 
     -- a disk before it, which was empty
-    pub asks_before : (old new : D) → AsksOne seen may_leave faults store (Ok tt) old new → AsksOne seen may_leave faults store (Err e) old new
+    pub asks_before : (old new : D) → AsksOne model store (Ok tt) old new → AsksOne model store (Err e) old new
     asks_before old new asks = record {
       empty = λ bytes told. tt;
       holds = λ bytes told is. absurd (not_holding (let t = is in cc));
-      asked = asked_as seen may_leave faults store (Ok tt) (Err e) old new (λ is. (let t = is in cc)) (λ is. not_failed (let t = is in cc)) asks.asked;
+      asked = asked_as model store (Ok tt) (Err e) old new (λ is. (let t = is in cc)) (λ is. not_failed (let t = is in cc)) asks.asked;
     }
 
--- what is told of the first disk that isn't empty
-module _ {W T F : Type 0} (w : W → Option (List ℕ)) (w_leaves : W → List ℕ → Type 0) (w_faults : W → ℕ) (t : T → Option (List ℕ)) (t_leaves : T → List ℕ → Type 0) (t_faults : T → ℕ)
-    (f : F → Option (List ℕ)) (f_leaves : F → List ℕ → Type 0) (f_faults : F → ℕ) (wal wal' : W) (topics topics' : T) (offsets offsets' : F) (e : InitError) where
-  pub first_wal : AsksOne w w_leaves w_faults Wal (Err e) wal wal' → IsTurnOf Wal e → TellsFirst (w wal) (t topics) (f offsets) (Err e)
+-- what is told of the first disk that isn't empty, where each was left like this
+module _ {W T F : Type 0} (wal_model : DiskModel W) (topics_model : DiskModel T) (offsets_model : DiskModel F) (disks : Disks W T F) (wal : W) (topics : T) (offsets : F) (e : InitError) where
+  pub first_wal : AsksOne wal_model Wal (Err e) disks.wal wal → IsTurnOf Wal e → TellsFirst wal_model topics_model offsets_model disks (Err e)
   first_wal asks (inl is) given a b c = inr (subst (λ (x : InitError). IsExternalInitEnd (Err x)) (sym is) tt)
   first_wal asks (inr is) given a b c = inl (wal_holds (asks.holds given.wal a (ap (λ (x : InitError). Err x) is)) (ap (λ (x : InitError). Err x) is))
 
-  pub first_topics : AsksOne w w_leaves w_faults Wal (Ok tt) wal wal' → AsksOne t t_leaves t_faults Topics (Err e) topics topics' → IsTurnOf Topics e → TellsFirst (w wal) (t topics) (f offsets) (Err e)
+  pub first_topics : AsksOne wal_model Wal (Ok tt) disks.wal wal → AsksOne topics_model Topics (Err e) disks.topics topics → IsTurnOf Topics e → TellsFirst wal_model topics_model offsets_model disks (Err e)
   first_topics before asks (inl is) given a b c = inr (subst (λ (x : InitError). IsExternalInitEnd (Err x)) (sym is) tt)
   first_topics before asks (inr is) given a b c = inl (topics_hold (before.empty given.wal a) (asks.holds given.topics b (ap (λ (x : InitError). Err x) is)) (ap (λ (x : InitError). Err x) is))
 
-  pub first_offsets : AsksOne w w_leaves w_faults Wal (Ok tt) wal wal' → AsksOne t t_leaves t_faults Topics (Ok tt) topics topics' → AsksOne f f_leaves f_faults Offsets (Err e) offsets offsets' → IsTurnOf Offsets e
-      → TellsFirst (w wal) (t topics) (f offsets) (Err e)
+  pub first_offsets : AsksOne wal_model Wal (Ok tt) disks.wal wal → AsksOne topics_model Topics (Ok tt) disks.topics topics → AsksOne offsets_model Offsets (Err e) disks.offsets offsets → IsTurnOf Offsets e
+      → TellsFirst wal_model topics_model offsets_model disks (Err e)
   first_offsets one two asks (inl is) given a b c = inr (subst (λ (x : InitError). IsExternalInitEnd (Err x)) (sym is) tt)
   first_offsets one two asks (inr is) given a b c =
       inl (offsets_hold (one.empty given.wal a) (two.empty given.topics b) (asks.holds given.offsets c (ap (λ (x : InitError). Err x) is)) (ap (λ (x : InitError). Err x) is))
@@ -81,23 +82,23 @@ pub none_held : (end : InitEnd) → IfErr end (IsTurnOf Offsets) → (end ≡ Er
 none_held end turn (inl is) = not_held Wal Offsets (λ is. cc) end turn is
 none_held end turn (inr is) = not_held Topics Offsets (λ is. cc) end turn is
 
-pub asks_through : {D : Type 0} (seen : D → Option (List ℕ)) (may_leave : D → List ℕ → Type 0) (faults : D → ℕ) (store other : Store) → store ≢ other → (end : InitEnd) → IfErr end (IsTurnOf other) → (old new : D) → AsksOne seen may_leave faults store (Ok tt) old new
-    → AsksOne seen may_leave faults store end old new
-asks_through seen may_leave faults store other apart (Ok done) turn old new asks = asks
-asks_through seen may_leave faults store other apart (Err e) turn old new asks = asks_before store other apart e turn seen may_leave faults old new asks
+pub asks_through : {D : Type 0} (model : DiskModel D) (store other : Store) → store ≢ other → (end : InitEnd) → IfErr end (IsTurnOf other) → (old new : D) → AsksOne model store (Ok tt) old new
+    → AsksOne model store end old new
+asks_through model store other apart (Ok done) turn old new asks = asks
+asks_through model store other apart (Err e) turn old new asks = asks_before store other apart e turn model old new asks
 
-pub first_through : {W T F : Type 0} (w : W → Option (List ℕ)) (w_leaves : W → List ℕ → Type 0) (w_faults : W → ℕ) (t : T → Option (List ℕ)) (t_leaves : T → List ℕ → Type 0) (t_faults : T → ℕ) (f : F → Option (List ℕ)) (f_leaves : F → List ℕ → Type 0) (f_faults : F → ℕ)
-    (wal wal' : W) (topics topics' : T) (offsets offsets' : F) (end : InitEnd) → AsksOne w w_leaves w_faults Wal (Ok tt) wal wal' → AsksOne t t_leaves t_faults Topics (Ok tt) topics topics' → AsksOne f f_leaves f_faults Offsets end offsets offsets' → IfErr end (IsTurnOf Offsets)
-    → TellsFirst (w wal) (t topics) (f offsets) end
-first_through w w_leaves w_faults t t_leaves t_faults f f_leaves f_faults wal wal' topics topics' offsets offsets' (Ok done) one two asks turn given a b c = tt
-first_through w w_leaves w_faults t t_leaves t_faults f f_leaves f_faults wal wal' topics topics' offsets offsets' (Err e) one two asks turn given a b c =
-    first_offsets w w_leaves w_faults t t_leaves t_faults f f_leaves f_faults wal wal' topics topics' offsets offsets' e one two asks turn given a b c
+pub first_through : {W T F : Type 0} (wal_model : DiskModel W) (topics_model : DiskModel T) (offsets_model : DiskModel F) (disks : Disks W T F) (wal : W) (topics : T) (offsets : F) (end : InitEnd)
+    → AsksOne wal_model Wal (Ok tt) disks.wal wal → AsksOne topics_model Topics (Ok tt) disks.topics topics → AsksOne offsets_model Offsets end disks.offsets offsets → IfErr end (IsTurnOf Offsets)
+    → TellsFirst wal_model topics_model offsets_model disks end
+first_through wal_model topics_model offsets_model disks wal topics offsets (Ok done) one two asks turn given a b c = tt
+first_through wal_model topics_model offsets_model disks wal topics offsets (Err e) one two asks turn given a b c =
+    first_offsets wal_model topics_model offsets_model disks wal topics offsets e one two asks turn given a b c
 
 -- ---- making
 
-module _ {D : Type 0} (seen : D → Option (List ℕ)) (may_leave : D → List ℕ → Type 0) (faults : D → ℕ) (store : Store) (Is : List ℕ → Type 0) (e : InitError) (other : e ≢ Failed store) where
+module _ {D : Type 0} (model : DiskModel D) (store : Store) (Is : List ℕ → Type 0) (e : InitError) (other : e ≢ Failed store) where
   -- a store whose turn didn't come
-  pub makes_none : (disk : D) → MakesOne seen may_leave faults store Is (Err e) disk disk
+  pub makes_none : (disk : D) → MakesOne model store Is (Err e) disk disk
   makes_none disk = record {
     made = λ told. tt;
     untouched = λ unwritten. refl;
@@ -113,7 +114,7 @@ module _ {D : Type 0} (seen : D → Option (List ℕ)) (may_leave : D → List �
   }
 
   -- a store that was made before another couldn't be
-  pub makes_before : (old new : D) → (EndsBeforeWriting store (Err e) → ⊥) → MakesOne seen may_leave faults store Is (Ok tt) old new → MakesOne seen may_leave faults store Is (Err e) old new
+  pub makes_before : (old new : D) → (EndsBeforeWriting store (Err e) → ⊥) → MakesOne model store Is (Ok tt) old new → MakesOne model store Is (Err e) old new
   makes_before old new written makes = record {
     made = λ told. tt;
     untouched = λ unwritten. absurd (written unwritten);
@@ -126,18 +127,18 @@ module _ {D : Type 0} (seen : D → Option (List ℕ)) (may_leave : D → List �
   }
 
 -- whatever the one behind it ended with
-pub makes_through : {D : Type 0} (seen : D → Option (List ℕ)) (may_leave : D → List ℕ → Type 0) (faults : D → ℕ) (store : Store) (Is : List ℕ → Type 0) (other : Store) → other ≢ store → (EndsBeforeWriting store (Err (Failed other)) → ⊥) → (first end : InitEnd) → is_err first ≡ false
-    → IfErr end (λ e. e ≡ Failed other) → (old new : D) → MakesOne seen may_leave faults store Is first old new → MakesOne seen may_leave faults store Is end old new
-makes_through seen may_leave faults store Is other apart written (Err e) end well kind old new makes = absurd (let t = well in cc)
-makes_through seen may_leave faults store Is other apart written (Ok done) (Ok last) well kind old new makes = makes
-makes_through seen may_leave faults store Is other apart written (Ok done) (Err e) well kind old new makes =
-    makes_before seen may_leave faults store Is e (λ is. apart (let t = sym kind ∙ is in cc)) old new (λ unwritten. written (subst (λ (x : InitError). EndsBeforeWriting store (Err x)) kind unwritten)) makes
+pub makes_through : {D : Type 0} (model : DiskModel D) (store : Store) (Is : List ℕ → Type 0) (other : Store) → other ≢ store → (EndsBeforeWriting store (Err (Failed other)) → ⊥) → (first end : InitEnd) → is_err first ≡ false
+    → IfErr end (λ e. e ≡ Failed other) → (old new : D) → MakesOne model store Is first old new → MakesOne model store Is end old new
+makes_through model store Is other apart written (Err e) end well kind old new makes = absurd (let t = well in cc)
+makes_through model store Is other apart written (Ok done) (Ok last) well kind old new makes = makes
+makes_through model store Is other apart written (Ok done) (Err e) well kind old new makes =
+    makes_before model store Is e (λ is. apart (let t = sym kind ∙ is in cc)) old new (λ unwritten. written (subst (λ (x : InitError). EndsBeforeWriting store (Err x)) kind unwritten)) makes
 
 -- a store behind one that couldn't be made
-pub makes_skipped : {D : Type 0} (seen : D → Option (List ℕ)) (may_leave : D → List ℕ → Type 0) (faults : D → ℕ) (store : Store) (Is : List ℕ → Type 0) (end : InitEnd) → is_err end ≡ true → IfErr end (λ e. e ≢ Failed store) → (disk : D)
-    → MakesOne seen may_leave faults store Is end disk disk
-makes_skipped seen may_leave faults store Is (Ok done) failed other disk = absurd (let t = failed in cc)
-makes_skipped seen may_leave faults store Is (Err e) failed other disk = makes_none seen may_leave faults store Is e other disk
+pub makes_skipped : {D : Type 0} (model : DiskModel D) (store : Store) (Is : List ℕ → Type 0) (end : InitEnd) → is_err end ≡ true → IfErr end (λ e. e ≢ Failed store) → (disk : D)
+    → MakesOne model store Is end disk disk
+makes_skipped model store Is (Ok done) failed other disk = absurd (let t = failed in cc)
+makes_skipped model store Is (Err e) failed other disk = makes_none model store Is e other disk
 
 -- ---- why
 

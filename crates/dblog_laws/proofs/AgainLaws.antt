@@ -1,5 +1,6 @@
 -- A resume reads no more messages than were to be sent when it began, and the workload gives behind them.
 use Rattle.std.proofs.Common.{◌≡◌, ◌∙◌, ◌⊎◌, inl, inr, ℕ, ℤ, ◌+◌, ◌*◌, ◌/◌, ◌≤◌, Option, Some, None, Ok, Err, List, ◌++◌, length, drop, sym, ap, subst, arith}
+use Rattle.dbl_lines.specs.declared.status.Status.{Status}
 use Rattle.std.specs.Prelude.{IfOk, IfSome}
 use Rattle.std.proofs.lemmas.List.{length-append, length-map}
 use Rattle.dbl_base.specs.declared.lsn.Lsn.{Lsn}
@@ -39,7 +40,7 @@ use Rattle.dblog_run.specs.Connect.declared.asked.Asked.TheVariants.{Again}
 use Rattle.dbl_cli.specs.declared.commands.Command.TheVariants.{Resume}
 use Rattle.dblog_run.specs.Connect.Asked.{asks_of, config_again, workload_tables}
 use Rattle.dblog_run.specs.Sessions.{IsCompleteRun, asks_by}
-use Rattle.dblog_run.specs.Connect.declared.connected.Summary.{Summary}
+use Rattle.dblog_run.specs.Connect.declared.summary.Summary.{Summary}
 use Rattle.dblog_run.specs.Connect.Ends.{AddsFew, ConnectEnd, HasBegun, HasRun, IsReported}
 use Rattle.dblog_run.specs.Capture.Runs.{AnswersCapture, AnswersKept}
 use Rattle.dblog_laws.specs.Budgets.{AreAtRest, GenerousBudgetsSufficeAgain, commit_sizes, most_messages}
@@ -55,7 +56,7 @@ use Rattle.dblog_laws.proofs.WholeRows.{whole_covers}
 
 own_so : (history : History) (confirmed : Lsn) (records : List Record) (offset : Option Offset) → IsFaithful history confirmed records offset → IfSome offset (λ o. AreInfosOf history o.infos)
 own_so history confirmed records None faithful = tt
-own_so history confirmed records (Some offset) faithful = faithful.subsequent.offset_is.infos
+own_so history confirmed records (Some offset) faithful = faithful.lags.offset_is.infos
 
 -- ---- what is sent of a wal that grew
 
@@ -98,7 +99,7 @@ grown_size old_bytes new_bytes old new after windows more old_is new_is same ext
 goes_again : (chunk every budget : ℕ) (all : List TableName) (offset : Offset) (old new : Contents) → old.offset ≡ Some offset → Advances (asks_of (Again chunk every budget) all old.offset) old new → AdvancesFrom (config_again offset chunk every budget) old new
 goes_again chunk every budget all offset old new stored goes = subst (λ (o : Option Offset). Advances (asks_of (Again chunk every budget) all o) old new) stored goes
 
-module _ (chunk every budget : ℕ) (now : ℤ) (told_wal told_topics told_offsets : Option (List ℕ)) (wals logs stores new_wals new_logs new_stores : List ℕ → Type 0) (status : ℕ)
+module _ (chunk every budget : ℕ) (now : ℤ) (told_wal told_topics told_offsets : Option (List ℕ)) (wals logs stores new_wals new_logs new_stores : List ℕ → Type 0) (status : Status)
     (kept : AreKept told_wal told_topics told_offsets wals logs stores)
     (headline : (w t f : List ℕ) → new_wals w → new_logs t → new_stores f → GuaranteesAfterCrash (IsCompleteRun (Resume chunk every budget) status) (asks_by (Resume chunk every budget)) wals logs stores w t f)
     (w t f : List ℕ) (held : Contents) (read : ReadAs w t f held) (rest : AreAtRest wals logs stores held w t f)
@@ -118,12 +119,12 @@ module _ (chunk every budget : ℕ) (now : ℤ) (told_wal told_topics told_offse
   extends : ExtendsList (history_at held).commits (history_at left).commits
   extends =
       let promised = headline may.w may.t may.f may.wal may.topics may.offsets in
-      let came = promised.left.came in
+      let predecessor = promised.left.predecessor in
       let there : promised.left.held ≡ left = disks_are_read_once may.w may.t may.f promised.left.held left promised.left.read may.read in
-      let wal : came.old.wal ≡ held.wal = one_wal came.wal came.old.wal held.wal came.read.source (rest.wal_only came.wal came.may_wal) in
-      let at : came.old.offset ≡ held.offset = one_store came.offsets came.old.offset held.offset came.read.store (rest.offsets_only came.offsets came.may_offsets) in
-      let goes = goes_again chunk every budget (workload_tables came.old.wal) offset came.old promised.left.held (at ∙ stored) came.goes in
-      let to_left : AdvancesFrom (config_again offset chunk every budget) came.old left = subst (AdvancesFrom (config_again offset chunk every budget) came.old) there goes in
+      let wal : predecessor.old.wal ≡ held.wal = one_wal predecessor.wal predecessor.old.wal held.wal predecessor.read.source (rest.wal_only predecessor.wal predecessor.may_wal) in
+      let at : predecessor.old.offset ≡ held.offset = one_store predecessor.offsets predecessor.old.offset held.offset predecessor.read.store (rest.offsets_only predecessor.offsets predecessor.may_offsets) in
+      let goes = goes_again chunk every budget (workload_tables predecessor.old.wal) offset predecessor.old promised.left.held (at ∙ stored) predecessor.advances in
+      let to_left : AdvancesFrom (config_again offset chunk every budget) predecessor.old left = subst (AdvancesFrom (config_again offset chunk every budget) predecessor.old) there goes in
       subst (λ (x : Wal). ExtendsList (history_in x).commits (history_at left).commits) wal to_left.onward.commits
 
   begun : HasBegun (Again chunk every budget) w t f
@@ -164,12 +165,12 @@ module _ (chunk every budget : ℕ) (now : ℤ) (told_wal told_topics told_offse
       let is_left : ended.left ≡ left = disks_are_read_once may.w may.t may.f ended.left left (ended.each may.w may.t may.f may.wal may.topics may.offsets) may.read in
       let after = read_after ended.begun.held.offset report.offset in
       let start : after ≡ offset.lsn = ap (λ (o : Option Offset). read_after o report.offset) (ap (λ (c : Contents). c.offset) began ∙ stored) in
-      let counted : summary.report.messages ≡ length report.sent_ms = counted_all summary.ending ended.begun.config.messages report.sent_ms summary.report.messages report.messages in
+      let counted : summary.report.messages ≡ length report.sent_messages = counted_all summary.ending ended.begun.config.messages report.sent_messages summary.report.messages report.messages in
       let front = ap length report.are_sent.front in
       let moved : length (messages_sent ended.left.wal after) ≡ length (messages_sent left.wal offset.lsn) =
       ap (λ (c : Contents). length (messages_sent c.wal after)) is_left ∙ ap (λ (l : Lsn). length (messages_sent left.wal l)) start in
       let few = grown_size w may.w held.wal left.wal offset.lsn windows extends.more read.source may.read.source same extends.is (few_marks same adds) in
-      omega (arith, counted, front, length-append report.sent_ms report.are_sent.rest, moved, few)
+      omega (arith, counted, front, length-append report.sent_messages report.are_sent.rest, moved, few)
 
   reads_few : (end : ConnectEnd) → AnswersCapture (Again chunk every budget) now wals logs new_wals new_logs new_stores w t f end → AnswersKept (Again chunk every budget) now new_wals new_logs new_stores w t f end
       → IfOk end (λ summary. summary.report.messages ≤ length (messages_sent held.wal offset.lsn) + most_messages 1 held.wal.workload windows)

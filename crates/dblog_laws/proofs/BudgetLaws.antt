@@ -48,7 +48,7 @@ use Rattle.dblog_run.specs.Connect.declared.asked.Asked.TheVariants.{First}
 use Rattle.dbl_cli.specs.declared.commands.Command.TheVariants.{Capture}
 use Rattle.dblog_run.specs.Connect.Asked.{asks_in, asks_of, config_of, workload_tables}
 use Rattle.dblog_run.specs.Sessions.{IsCompleteRun}
-use Rattle.dblog_run.specs.Connect.declared.connected.Summary.{Summary}
+use Rattle.dblog_run.specs.Connect.declared.summary.Summary.{Summary}
 use Rattle.dblog_run.specs.Connect.Ends.{AddsFew, ConnectEnd, HasBegun, HasRun, IsReported}
 use Rattle.dblog_run.specs.Capture.Runs.{AnswersCapture, AnswersKept}
 use Rattle.dblog_laws.specs.Budgets.{AreUnstarted, CoverWhole, GenerousBudgetsSuffice, most_messages, most_windows}
@@ -169,14 +169,14 @@ module _ (options : CaptureOptions) (now : ℤ) (told_wal told_topics told_offse
   rows_behind : (offset : Offset) → left.offset ≡ Some offset → length (log_at left.wal.workload 0) ≤ commits_upto offset.start
   rows_behind offset stored =
       let promised = headline may.w may.t may.f may.wal may.topics may.offsets in
-      let came = promised.left.came in
-      let config = config_of options (workload_tables came.old.wal) in
+      let predecessor = promised.left.predecessor in
+      let config = config_of options (workload_tables predecessor.old.wal) in
       let there : promised.left.held ≡ left = disks_are_read_once may.w may.t may.f promised.left.held left promised.left.read may.read in
-      let empty : came.old.offset ≡ None = unstored wals logs stores w t f first came.wal came.topics came.offsets came.old came.may_offsets came.read in
-      let goes : AdvancesFrom config came.old left = subst (AdvancesFrom config came.old) there (goes_first options (workload_tables came.old.wal) came.old promised.left.held empty came.goes) in
+      let empty : predecessor.old.offset ≡ None = unstored wals logs stores w t f first predecessor.wal predecessor.topics predecessor.offsets predecessor.old predecessor.may_offsets predecessor.read in
+      let goes : AdvancesFrom config predecessor.old left = subst (AdvancesFrom config predecessor.old) there (goes_first options (workload_tables predecessor.old.wal) predecessor.old promised.left.held empty predecessor.advances) in
       let script = subst (λ (s : List ℕ). IsWorkload s left.wal.workload) goes.script may.read.source.are.workload in
-      let one : came.old.wal.workload ≡ left.wal.workload = one_workload came.old.wal.script came.old.wal.workload left.wal.workload came.read.source.are.workload script in
-      subst (λ (x : Workload). length (log_at x 0) ≤ commits_upto offset.start) one (behind_rows came.wal config came.old left offset came.read.source empty stored goes)
+      let one : predecessor.old.wal.workload ≡ left.wal.workload = one_workload predecessor.old.wal.script predecessor.old.wal.workload left.wal.workload predecessor.read.source.are.workload script in
+      subst (λ (x : Workload). length (log_at x 0) ≤ commits_upto offset.start) one (behind_rows predecessor.wal config predecessor.old left offset predecessor.read.source empty stored goes)
 
   pub few_read : (summary : Summary) → HasRun (First options) now new_wals new_logs new_stores w t f summary → IsReported (First options) now new_wals new_logs new_stores w t f summary
       → AddsFew (First options) wals new_wals w t f → summary.report.messages ≤ most_messages 1 held.wal.workload (most_windows options held (length pairs))
@@ -190,13 +190,13 @@ module _ (options : CaptureOptions) (now : ℤ) (told_wal told_topics told_offse
       let stored : left.offset ≡ Some offset = sym (ap (λ (c : Contents). c.offset) is_left) ∙ report.stored in
       let after = read_after ended.begun.held.offset offset in
       let start : after ≡ offset.start = ap (λ (o : Option Offset). read_after o offset) (ap (λ (c : Contents). c.offset) began ∙ none) in
-      let counted : summary.report.messages ≡ length report.sent_ms = counted_all summary.ending ended.begun.config.messages report.sent_ms summary.report.messages report.messages in
+      let counted : summary.report.messages ≡ length report.sent_messages = counted_all summary.ending ended.begun.config.messages report.sent_messages summary.report.messages report.messages in
       let front = ap length report.are_sent.front in
       let moved : length (messages_sent ended.left.wal after) ≡ length (messages_sent left.wal offset.start) =
       ap (λ (c : Contents). length (messages_sent c.wal after)) is_left ∙ ap (λ (l : Lsn). length (messages_sent left.wal l)) start in
       let few = few_messages_are_sent may.w left.wal offset.start (most_windows options held (length pairs)) may.read.source (rows_behind offset stored) (few_marks same adds) in
       let bound = ap (λ (x : Workload). most_messages 1 x (most_windows options held (length pairs))) same in
-      omega (arith, counted, front, length-append report.sent_ms report.are_sent.rest, moved, few, bound)
+      omega (arith, counted, front, length-append report.sent_messages report.are_sent.rest, moved, few, bound)
 
   reads_few : (end : ConnectEnd) → AnswersCapture (First options) now wals logs new_wals new_logs new_stores w t f end → AnswersKept (First options) now new_wals new_logs new_stores w t f end
       → IfOk end (λ summary. summary.report.messages ≤ most_messages 1 held.wal.workload (most_windows options held (length pairs)))

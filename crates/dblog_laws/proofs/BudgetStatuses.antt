@@ -15,7 +15,7 @@ use Rattle.dbl_demo_wal.proofs.WalLaws.{one_wal, one_workload}
 use Rattle.dblog_run.specs.Promise.Contents.{Contents, ReadAs}
 use Rattle.dblog_run.proofs.PromiseKeptLaws.{disks_are_read_once}
 use Rattle.dblog_run.specs.Connect.declared.asked.Asked.{Asked}
-use Rattle.dblog_run.specs.Connect.declared.connected.Summary.{Summary}
+use Rattle.dblog_run.specs.Connect.declared.summary.Summary.{Summary}
 use Rattle.dblog_run.specs.Connect.declared.error.ConnectError.{ConnectError}
 use Rattle.dblog_run.specs.Connect.declared.error.ConnectError.TheVariants as connect
 use Rattle.dblog_run.specs.Connect.Asked.{budget_of}
@@ -24,13 +24,15 @@ use Rattle.dblog_run.specs.Capture.Halts.{halt_status}
 use Rattle.dblog_run.specs.Capture.Reports.{ending_status}
 use Rattle.dblog_run.specs.Capture.Ends.{SaysSession, connect_status, session_status}
 use Rattle.dblog_run.proofs.CaptureSessionLemmas.{complete_end, says_status}
+use Rattle.dbl_lines.specs.declared.status.Status.{Status}
+use Rattle.dbl_lines.specs.declared.status.Status.TheVariants.{BudgetSpent}
 use Rattle.dbl_lines.proofs.SayLemmas.{cut_other}
 use Rattle.dblog_laws.specs.RunLaws.{StatusesTellBudgets}
 use Rattle.dblog_laws.specs.Sessions.{MayLeaveContents}
 
 -- ---- no error has the status 3
 
-txn_not_3 : (e : TxnError) (status : ℕ) → status ≡ transaction_status e → status ≡ 3 → ⊥
+txn_not_3 : (e : TxnError) (status : Status) → status ≡ transaction_status e → status ≡ BudgetSpent → ⊥
 txn_not_3 txn.OutsideTransaction status is three = cc
 txn_not_3 txn.NestedBegin status is three = cc
 txn_not_3 (txn.CommitMismatch begin commit) status is three = cc
@@ -47,7 +49,7 @@ txn_not_3 (txn.Value table column error) status is three = cc
 txn_not_3 txn.BadMark status is three = cc
 txn_not_3 txn.Memory status is three = cc
 
-halt_not_3 : (h : Halt) (status : ℕ) → status ≡ halt_status h → status ≡ 3 → ⊥
+halt_not_3 : (h : Halt) (status : Status) → status ≡ halt_status h → status ≡ BudgetSpent → ⊥
 halt_not_3 (halt.Message number error) status is three = cc
 halt_not_3 (halt.Txn number error) status is three = txn_not_3 error status is three
 halt_not_3 (halt.Chunk table row) status is three = cc
@@ -65,7 +67,7 @@ halt_not_3 halt.Sink status is three = cc
 halt_not_3 halt.Offsets status is three = cc
 halt_not_3 halt.Memory status is three = cc
 
-error_not_3 : (e : ConnectError) (status : ℕ) → status ≡ connect_status e → status ≡ 3 → ⊥
+error_not_3 : (e : ConnectError) (status : Status) → status ≡ connect_status e → status ≡ BudgetSpent → ⊥
 error_not_3 (connect.Failed WalStore) status is three = cc
 error_not_3 (connect.Failed Topics) status is three = cc
 error_not_3 (connect.Failed Offsets) status is three = cc
@@ -82,17 +84,17 @@ abbrev pub HasSpent : ConnectEnd → Type 0
 HasSpent (Ok summary) = summary.ending ≡ Budget
 HasSpent (Err e) = ⊥
 
-ending_3 : (ending : Ending) (status : ℕ) → status ≡ ending_status ending → status ≡ 3 → ending ≡ Budget
+ending_3 : (ending : Ending) (status : Status) → status ≡ ending_status ending → status ≡ BudgetSpent → ending ≡ Budget
 ending_3 Complete status is three = cc
 ending_3 Budget status is three = refl
 
-own_3 : (end : ConnectEnd) (status : ℕ) → status ≡ session_status end → status ≡ 3 → HasSpent end
+own_3 : (end : ConnectEnd) (status : Status) → status ≡ session_status end → status ≡ BudgetSpent → HasSpent end
 own_3 (Ok summary) status is three = ending_3 summary.ending status is three
 own_3 (Err e) status is three = absurd (error_not_3 e status is three)
 
-pub spent_end : (end : ConnectEnd) (status : ℕ) (before after : Option (List ℕ)) → SaysSession end status before after → status ≡ 3 → HasSpent end
+pub spent_end : (end : ConnectEnd) (status : Status) (before after : Option (List ℕ)) → SaysSession end status before after → status ≡ BudgetSpent → HasSpent end
 spent_end end status before after says three =
-    elim (says_status end status before after says) [ inl is ↦ own_3 end status is three | inr cut ↦ absurd (cut_other 3 status (λ e. cc, λ e. cc) cut three) ]
+    elim (says_status end status before after says) [ inl is ↦ own_3 end status is three | inr cut ↦ absurd (cut_other BudgetSpent status (λ e. cc, λ e. cc) cut three) ]
 
 -- ---- what that tells of the budget
 

@@ -9,10 +9,12 @@ use Rattle.dbl_cli.specs.declared.commands.Command.TheVariants as command
 use Rattle.dblog_run.specs.Replay.Apply.{readings_of_lines}
 use Rattle.dblog_stores.specs.Answers.{offset_lines, topic_lines}
 use Rattle.dblog_stores.specs.Errors.{error_status}
-use Rattle.dblog_stores.specs.declared.error.RunError.TheVariants as run_error
+use Rattle.dblog_stores.specs.declared.error.CommandError.TheVariants as command_error
 use Rattle.dblog_stores.specs.declared.error.Store.{Store}
 use Rattle.dblog_stores.specs.declared.error.Store.TheVariants as stores
-use Rattle.dbl_lines.specs.declared.halt.Halt.TheVariants.{InputFailed}
+use Rattle.dbl_lines.specs.declared.status.Status.{Status}
+use Rattle.dbl_lines.specs.declared.status.Status.TheVariants.{Done}
+use Rattle.dbl_lines.specs.declared.run_error.RunError.TheVariants.{InputFailed}
 use Rattle.dbl_lines.specs.Says.{IsCutShort, Says, Writes}
 use Rattle.dblog_run.specs.Init.declared.error.InitError.TheVariants as init
 use Rattle.dblog_run.specs.Init.declared.error.Store.TheVariants.{Wal}
@@ -31,7 +33,7 @@ use Rattle.dblog_laws.specs.Sessions.{IsDoneStatus, NoneFailed}
 -- ---- what it answers
 
 abbrev HasWay : Command → ℤ → RunInput → Type 0
-HasWay c now given = (answer : RunAnswer) × Answers c now given answer × (answer.status ≡ 0)
+HasWay c now given = (answer : RunAnswer) × Answers c now given answer × (answer.status ≡ Done)
 
 has_way : (c : Command) (now : ℤ) (given : RunInput) → CanRun c now given → HasWay c now given
 has_way command.Init now given can = (init_answer (Ok tt), (Ok tt, all_empty can.empty (made_stores can.short can.workload can.is refl), refl), refl)
@@ -52,34 +54,34 @@ has_way (command.Resume chunk every messages) now given can = absurd can
 
 -- ---- so it ended
 
-cut_short : (status : ℕ) → IsCutShort status → NoneFailed status → IsDoneStatus status
+cut_short : (status : Status) → IsCutShort status → NoneFailed status → IsDoneStatus status
 cut_short status (inl output) none = absurd (none.output output)
 cut_short status (inr memory) none = inr memory
 
-written : (answer : RunAnswer) (wanted status : ℕ) (text : List ℕ) (before after : Option (List ℕ)) → answer.status ≡ 0 → MayEnd answer wanted text → Writes wanted text status before after → NoneFailed status → IsDoneStatus status
+written : (answer : RunAnswer) (wanted status : Status) (text : List ℕ) (before after : Option (List ℕ)) → answer.status ≡ Done → MayEnd answer wanted text → Writes wanted text status before after → NoneFailed status → IsDoneStatus status
 written answer wanted status text before after zero may (inr cut) none = absurd (none.output cut.0)
 written answer wanted status text before after zero (whole is same) (inl wrote) none = inl (wrote.0 ∙ is ∙ zero)
 written answer wanted status text before after zero (out_of_memory n is same) (inl wrote) none = inr (wrote.0 ∙ is)
 
-store_failed : (store : Store) (status : ℕ) → status ≡ error_status (run_error.Failed store) → NoneFailed status → ⊥
+store_failed : (store : Store) (status : Status) → status ≡ error_status (command_error.Failed store) → NoneFailed status → ⊥
 store_failed stores.Topics status is none = none.topics is
 store_failed stores.Offsets status is none = none.offsets is
 
-ended_or_failed : (failed : Store → Type 0) (answer : RunAnswer) (status : ℕ) (before after : Option (List ℕ)) → answer.status ≡ 0 → EndsOrFails failed answer status before after → NoneFailed status → IsDoneStatus status
+ended_or_failed : (failed : Store → Type 0) (answer : RunAnswer) (status : Status) (before after : Option (List ℕ)) → answer.status ≡ Done → EndsOrFails failed answer status before after → NoneFailed status → IsDoneStatus status
 ended_or_failed failed answer status before after zero (inl ends) none = written answer ends.wanted status ends.text before after zero ends.may ends.writes none
 ended_or_failed failed answer status before after zero (inr fails) none = by fails.writes
   where
-    by : {text : List ℕ} → Writes (error_status (run_error.Failed fails.store)) text status before after → IsDoneStatus status
+    by : {text : List ℕ} → Writes (error_status (command_error.Failed fails.store)) text status before after → IsDoneStatus status
     by (inl wrote) = absurd (store_failed fails.store status wrote.0 none)
     by (inr cut) = absurd (none.output cut.0)
 
-input_failed : (status : ℕ) (before after : Option (List ℕ)) → Says InputFailed status before after → NoneFailed status → IsDoneStatus status
+input_failed : (status : Status) (before after : Option (List ℕ)) → Says InputFailed status before after → NoneFailed status → IsDoneStatus status
 input_failed status before after (inl (inl said)) none = absurd (none.input said.0)
 input_failed status before after (inl (inr cut)) none = absurd (none.output cut.0)
 input_failed status before after (inr (inl said)) none = inr said.0
 input_failed status before after (inr (inr cut)) none = absurd (none.output cut.0)
 
-source_failed : (status : ℕ) (before after : Option (List ℕ)) → SaysInit (init.Failed Wal) status before after → NoneFailed status → IsDoneStatus status
+source_failed : (status : Status) (before after : Option (List ℕ)) → SaysInit (init.Failed Wal) status before after → NoneFailed status → IsDoneStatus status
 source_failed status before after says none =
     elim (said_status (init.Failed Wal) status before after says) [ inl is ↦ absurd (none.wal is) | inr cut ↦ cut_short status cut none ]
 
@@ -94,7 +96,7 @@ other_runs_succeed words c now given input_was input_is wal_was wal_is topics_wa
     by (inr (inl fails)) = input_failed status before after fails.fails.says none
     by (inr (inr fails)) = source_failed status before after fails.fails.says none
 
-alone_done : (c : Command) (answer : RunAnswer) → StandsAlone c answer → answer.status ≡ 0
+alone_done : (c : Command) (answer : RunAnswer) → StandsAlone c answer → answer.status ≡ Done
 alone_done (command.Gen number rows groups false) answer is = ap (λ (a : RunAnswer). a.status) is
 alone_done (command.Gen number rows groups true) answer is = absurd is
 alone_done command.Init answer is = absurd is

@@ -34,6 +34,7 @@ use Rattle.dblog_run.proofs.CaptureLawsAwaited.{stood_offsets_are_within}
 use Rattle.dblog_laws.specs.SessionLaws.{FaithfulSessionsEnd, SaysWhy, TellsHalts}
 use Rattle.dblog_laws.specs.Supported.{CanBegin, HasMetSupported, IsOffsetOfThese, MayStillHalt}
 use Rattle.dblog_laws.proofs.Ending.{outside}
+use Rattle.dbl_disk.specs.Model.{DiskModel}
 
 -- an entry says of these halts what another one says that captures the same
 honest_as : (first second : SessionStart) (stands : SourceState → Type 0) (h : Halt) → ((infos : List TableInfo) → IsCapturing first infos → IsCapturing second infos) → IsHonestHalt first stands h → IsHonestHalt second stands h
@@ -58,11 +59,11 @@ honest_as first second stands (halt.Exhausted incarnation) same own = tt
 
 kept_so : (history : History) (confirmed : Lsn) (records : List Record) (offset : Option Offset) → IsFaithful history confirmed records offset → IsKeptAfter confirmed offset
 kept_so history confirmed records None faithful = faithful.unconfirmed
-kept_so history confirmed records (Some offset) faithful = faithful.subsequent.offset_is.confirmed_to
+kept_so history confirmed records (Some offset) faithful = faithful.lags.offset_is.confirmed_to
 
 own_so : (history : History) (confirmed : Lsn) (records : List Record) (offset : Option Offset) → IsFaithful history confirmed records offset → IfSome offset (λ o. AreInfosOf history o.infos)
 own_so history confirmed records None faithful = tt
-own_so history confirmed records (Some offset) faithful = faithful.subsequent.offset_is.infos
+own_so history confirmed records (Some offset) faithful = faithful.lags.offset_is.infos
 
 module _ (entry : SessionStart) (config : Config) (now : ℤ) (s : SourceState) (old : Option Offset) (config_is : entry.config ≡ config) (now_is : entry.now ≡ now)
     (history : s.history ≡ entry.history) (confirmed : s.confirmed ≡ entry.confirmed) (offset_is : entry.offset ≡ old) where
@@ -134,37 +135,37 @@ not_offsets : (h : Halt) → (MayStillHalt h → ⊥) → (r : Result Ending Hal
 not_offsets h none r is failed = none (subst (λ (x : Result Ending Halt). IfErr x MayStillHalt) is (subst (λ (x : Result Ending Halt). IfErr x MayStillHalt) (sym failed) tt))
 
 module _ {S K D : Type 0} (stands : S → SourceState → Type 0) (honest : S → Type 0) (may_source : S → CrashState → Type 0) (told : S → Option Trace)
-    (holds may_sink : K → List (List Record) → Type 0) (seen : D → Option (List ℕ)) (may_leave : D → List ℕ → Type 0)
+    (holds may_sink : K → List (List Record) → Type 0) (model : DiskModel D)
     (rising : (source : S) (s : SourceState) → stands source s → IsRising s.history) (may : (source : S) (s : SourceState) → stands source s → may_source source (left_of s))
     (may_groups : (sink : K) (groups : List (List Record)) → holds sink groups → may_sink sink groups)
-    (seen_may : (disk : D) (bytes : List ℕ) → seen disk ≡ Some bytes → may_leave disk bytes) where
+    (seen_may : (disk : D) (bytes : List ℕ) → model.seen disk ≡ Some bytes → model.may_leave disk bytes) where
   -- what is left follows from what was found, by the offset that the store answers
-  stored_is : (entry : SessionStart) (new_src : S) (new_sink : K) (new_store : StoreOn D) → LeavesGoing may_source may_sink may_leave entry new_src new_sink new_store → WasFaithful entry
-      → HoldsOffset seen may_leave new_store new_store.offset → (groups : List (List Record)) → holds new_sink groups → (offset : Offset) (t : SourceState) → new_store.offset ≡ Some offset → stands new_src t
+  stored_is : (entry : SessionStart) (new_src : S) (new_sink : K) (new_store : StoreOn D) → LeavesGoing may_source may_sink model entry new_src new_sink new_store → WasFaithful entry
+      → HoldsOffset model new_store new_store.offset → (groups : List (List Record)) → holds new_sink groups → (offset : Offset) (t : SourceState) → new_store.offset ≡ Some offset → stands new_src t
       → IsOffsetOf t.history t.confirmed (joined groups) offset
   stored_is entry new_src new_sink new_store leaves faithful held groups has offset t stored there =
       let image = held.lists.bytes in
       let may_image = seen_may (disk_of new_store) image held.lists.told in
       let left = leaves.follows faithful image may_image in
-      let own = held_left seen may_leave new_store new_store.offset held image may_image in
+      let own = held_left model new_store new_store.offset held image may_image in
       let same : left.0 ≡ Some offset = one_store image left.0 own.0 left.1 own.1 ∙ own.2 ∙ stored in
       let follows = left.2 (left_of t) groups (may new_src t there) (may_groups new_sink groups has) in
       let faithful_is : IsFaithful t.history t.confirmed (joined groups) (Some offset) = subst (IsFaithful t.history t.confirmed (joined groups)) same follows.faithful in
-      faithful_is.subsequent.offset_is
+      faithful_is.lags.offset_is
 
   module _ (config : Config) (now : ℤ) (src new_src : S) (sink new_sink : K) (store new_store : StoreOn D) (report : Report)
-      (entry : SessionStart) (asked : IsEntryOf config now entry) (found : Found stands holds seen may_leave entry src sink store) (kept_honest : honest new_src) (faithful : WasFaithful entry) where
-    offset_told : (result : Result Ending Halt) → TellsHalts stands honest may_source told holds may_sink seen may_leave config now src new_src sink new_sink store new_store report result
+      (entry : SessionStart) (asked : IsEntryOf config now entry) (found : Found stands holds model entry src sink store) (kept_honest : honest new_src) (faithful : WasFaithful entry) where
+    offset_told : (result : Result Ending Halt) → TellsHalts stands honest may_source told holds may_sink model config now src new_src sink new_sink store new_store report result
         → IfErr result (λ h. (MayStillHalt h → ⊥) → IsOffsetOfThese new_store.offset (stands new_src) (holds new_sink))
     offset_told (Ok ending) tells = tt
     offset_told (Err h) tells = λ none offset t stored there.
         let counted = counted_of holds may_sink entry.groups new_sink report h none (tells.counted entry.groups found.sink_is) in
-        let before : HoldsOffset seen may_leave store store.offset = subst (HoldsOffset seen may_leave store) (sym found.store_is.offset_is) found.store_is in
+        let before : HoldsOffset model store store.offset = subst (HoldsOffset model store) (sym found.store_is.offset_is) found.store_is in
         let held = tells.held before (not_offsets h none (Err h) refl) in
         let leaves = tells.faithful entry asked found kept_honest (own_so entry.history entry.confirmed (joined entry.groups) entry.offset faithful) in
         (entry.groups ++ counted.more, counted.held, stored_is entry new_src new_sink new_store leaves faithful held (entry.groups ++ counted.more) counted.held offset t stored there)
 
-  pub faithful_sessions_end : FaithfulSessionsEnd stands honest may_source told holds may_sink seen may_leave
+  pub faithful_sessions_end : FaithfulSessionsEnd stands honest may_source told holds may_sink model
   faithful_sessions_end config now src new_src sink new_sink store new_store report result tells entry asked found kept_honest faithful =
       let s = found.standing in
       let offset_is : entry.offset ≡ store.offset = sym found.store_is.offset_is in

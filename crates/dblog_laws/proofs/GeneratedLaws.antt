@@ -2,6 +2,8 @@
 use Rattle.std.proofs.Common.{◌⊎◌, ◌≡◌, ◌≢◌, inl, inr, ◌∙◌, ℕ, ◌≤◌, Option, Some, Ok, Err, List, [], length, refl}
 use Rattle.dbl_base.specs.Streams.{input_limit}
 use Rattle.dbl_demo_wal.specs.Workloads.{IsWorkload, Workload}
+use Rattle.dbl_disk.specs.Model.{DiskModel}
+use Rattle.dblog_run.specs.Init.declared.disks.Disks.{Disks}
 use Rattle.dblog_run.specs.Init.declared.error.InitError.{InitError}
 use Rattle.dblog_run.specs.Init.declared.error.InitError.TheVariants as init
 use Rattle.dblog_run.specs.Init.declared.error.Store.TheVariants.{Wal, Topics, Offsets}
@@ -11,7 +13,9 @@ use Rattle.dblog_run.proofs.InitAnswerLaws.{one_answer}
 use Rattle.dblog_run.specs.Capture.InitErrors.{SaysInit, init_status}
 use Rattle.dblog_run.proofs.CaptureInitStatuses.{said_status}
 use Rattle.dblog_run.proofs.CaptureFresh.{made_kept}
-use Rattle.dbl_lines.specs.declared.halt.Halt.TheVariants.{Memory as NoMemory}
+use Rattle.dbl_lines.specs.declared.status.Status.{Status}
+use Rattle.dbl_lines.specs.declared.status.Status.TheVariants.{Done, BudgetSpent}
+use Rattle.dbl_lines.specs.declared.run_error.RunError.TheVariants.{Memory as NoMemory}
 use Rattle.dbl_lines.specs.Faults.{status_of}
 use Rattle.dbl_lines.specs.Says.{IsCutShort}
 use Rattle.dbl_lines.proofs.SayLemmas.{cut_other}
@@ -23,7 +27,7 @@ use Rattle.dblog_laws.proofs.SessionLaws.{supported_runs_succeed}
 
 -- ---- the `init` part
 
-outside_memory : (e : InitError) (status : ℕ) → e ≢ init.InputFailed → inits.IsExternalInitEnd (Err e) → status ≡ init_status e → NoneFailed status → status ≡ status_of NoMemory
+outside_memory : (e : InitError) (status : Status) → e ≢ init.InputFailed → inits.IsExternalInitEnd (Err e) → status ≡ init_status e → NoneFailed status → status ≡ status_of NoMemory
 outside_memory (init.Failed Wal) status read out is none = absurd (none.wal is)
 outside_memory (init.Failed Topics) status read out is none = absurd (none.topics is)
 outside_memory (init.Failed Offsets) status read out is none = absurd (none.offsets is)
@@ -34,7 +38,7 @@ outside_memory (init.Script e) status read out is none = absurd out
 outside_memory (init.Model e) status read out is none = absurd out
 outside_memory init.Memory status read out is none = is
 
-cut_memory : (status : ℕ) → IsCutShort status → NoneFailed status → status ≡ status_of NoMemory
+cut_memory : (status : Status) → IsCutShort status → NoneFailed status → status ≡ status_of NoMemory
 cut_memory status (inl output) none = absurd (none.output output)
 cut_memory status (inr memory) none = memory
 
@@ -56,7 +60,7 @@ answered text told_wal told_topics told_offsets e wal topics offsets answers giv
     answers given input_is (wal ∙ wal_is) (topics ∙ topics_is) (offsets ∙ offsets_is)
 
 -- the status of an error of `init` is neither of a session that had its way
-init_other : (e : InitError) (status : ℕ) → status ≡ init_status e → (status ≡ 0) ⊎ (status ≡ 3) → ⊥
+init_other : (e : InitError) (status : Status) → status ≡ init_status e → (status ≡ Done) ⊎ (status ≡ BudgetSpent) → ⊥
 init_other (init.Failed Wal) status is (inl zero) = cc
 init_other (init.Failed Wal) status is (inr three) = cc
 init_other (init.Failed Topics) status is (inl zero) = cc
@@ -76,48 +80,48 @@ init_other (init.Model e) status is (inr three) = cc
 init_other init.Memory status is (inl zero) = cc
 init_other init.Memory status is (inr three) = cc
 
-cut_apart : (status : ℕ) → IsCutShort status → (status ≡ 0) ⊎ (status ≡ 3) → ⊥
-cut_apart status cut (inl zero) = cut_other 0 status (λ e. cc, λ e. cc) cut zero
-cut_apart status cut (inr three) = cut_other 3 status (λ e. cc, λ e. cc) cut three
+cut_apart : (status : Status) → IsCutShort status → (status ≡ Done) ⊎ (status ≡ BudgetSpent) → ⊥
+cut_apart status cut (inl zero) = cut_other Done status (λ e. cc, λ e. cc) cut zero
+cut_apart status cut (inr three) = cut_other BudgetSpent status (λ e. cc, λ e. cc) cut three
 
-not_captured : (e : InitError) (status : ℕ) (before after : Option (List ℕ)) → SaysInit e status before after → (status ≡ 0) ⊎ (status ≡ 3) → ⊥
+not_captured : (e : InitError) (status : Status) (before after : Option (List ℕ)) → SaysInit e status before after → (status ≡ Done) ⊎ (status ≡ BudgetSpent) → ⊥
 not_captured e status before after says told = elim (said_status e status before after says) [ inl is ↦ init_other e status is told | inr cut ↦ cut_apart status cut told ]
 
 -- ---- and the capture
 
-module _ {W T F : Type 0} (seen_wal : W → Option (List ℕ)) (wals : W → List ℕ → Type 0) (seen_topics : T → Option (List ℕ)) (logs : T → List ℕ → Type 0) (seen_offsets : F → Option (List ℕ)) (stores : F → List ℕ → Type 0) where
-  refused_memory : (text : List ℕ) (workload : Workload) (wal new_wal : W) (topics new_topics : T) (offsets new_offsets : F) (status : ℕ) (before after : Option (List ℕ))
-      → WasRefused seen_wal wals seen_topics logs seen_offsets stores text wal new_wal topics new_topics offsets new_offsets status before after
-      → seen_wal wal ≡ Some [] → seen_topics topics ≡ Some [] → seen_offsets offsets ≡ Some [] → length text ≤ input_limit → IsWorkload text workload → NoneFailed status → status ≡ status_of NoMemory
-  refused_memory text workload wal new_wal topics new_topics offsets new_offsets status before after refused wal_is topics_is offsets_is short is none =
+module _ {W T F : Type 0} (wal_model : DiskModel W) (topics_model : DiskModel T) (offsets_model : DiskModel F) where
+  refused_memory : (text : List ℕ) (workload : Workload) (old new : Disks W T F) (status : Status) (before after : Option (List ℕ))
+      → WasRefused wal_model topics_model offsets_model text old new status before after
+      → wal_model.seen old.wal ≡ Some [] → topics_model.seen old.topics ≡ Some [] → offsets_model.seen old.offsets ≡ Some [] → length text ≤ input_limit → IsWorkload text workload → NoneFailed status → status ≡ status_of NoMemory
+  refused_memory text workload old new status before after refused wal_is topics_is offsets_is short is none =
       let e = refused.error in
-      let outside = not_refused text workload e short is (answered text (seen_wal wal) (seen_topics topics) (seen_offsets offsets) e wal_is topics_is offsets_is refused.answers) in
+      let outside = not_refused text workload e short is (answered text (wal_model.seen old.wal) (topics_model.seen old.topics) (offsets_model.seen old.offsets) e wal_is topics_is offsets_is refused.answers) in
       elim (said_status e status before after refused.says) [
         | inl said ↦ outside_memory e status refused.not_input outside said none
         | inr cut ↦ cut_memory status cut none
       ]
 
-  pub generated_inits_succeed : GeneratedInitsSucceed seen_wal wals seen_topics logs seen_offsets stores
-  generated_inits_succeed text workload now wal new_wal topics new_topics offsets new_offsets status before after (inl refused) wal_is topics_is offsets_is short is none =
-      inl (refused_memory text workload wal new_wal topics new_topics offsets new_offsets status before after refused wal_is topics_is offsets_is short is none)
-  generated_inits_succeed text workload now wal new_wal topics new_topics offsets new_offsets status before after (inr captured) wal_is topics_is offsets_is short is none = inr captured
+  pub generated_inits_succeed : GeneratedInitsSucceed wal_model topics_model offsets_model
+  generated_inits_succeed text workload now old new status before after (inl refused) wal_is topics_is offsets_is short is none =
+      inl (refused_memory text workload old new status before after refused wal_is topics_is offsets_is short is none)
+  generated_inits_succeed text workload now old new status before after (inr captured) wal_is topics_is offsets_is short is none = inr captured
 
-  pub generated_statuses_tell_budgets : GeneratedStatusesTellBudgets seen_wal wals seen_topics logs seen_offsets stores
-  generated_statuses_tell_budgets text now wal new_wal topics new_topics offsets new_offsets status before after (inl refused) told = absurd (not_captured refused.error status before after refused.says told)
-  generated_statuses_tell_budgets text now wal new_wal topics new_topics offsets new_offsets status before after (inr captured) told = (
+  pub generated_statuses_tell_budgets : GeneratedStatusesTellBudgets wal_model topics_model offsets_model
+  generated_statuses_tell_budgets text now old new status before after (inl refused) told = absurd (not_captured refused.error status before after refused.says told)
+  generated_statuses_tell_budgets text now old new status before after (inr captured) told = (
     captured,
-    statuses_tell_budgets (wals captured.made_wal) (logs captured.made_topics) (stores captured.made_offsets) (wals new_wal) (logs new_topics) (stores new_offsets) plainly now
-        (seen_wal captured.made_wal) (seen_topics captured.made_topics) (seen_offsets captured.made_offsets) status before after captured.runs,
+    statuses_tell_budgets (wal_model.may_leave captured.made.wal) (topics_model.may_leave captured.made.topics) (offsets_model.may_leave captured.made.offsets) (wal_model.may_leave new.wal) (topics_model.may_leave new.topics) (offsets_model.may_leave new.offsets) plainly now
+        (wal_model.seen captured.made.wal) (topics_model.seen captured.made.topics) (offsets_model.seen captured.made.offsets) status before after captured.runs,
   )
 
-  pub supported_generated_runs_succeed : SupportedGeneratedRunsSucceed seen_wal wals seen_topics logs seen_offsets stores
-  supported_generated_runs_succeed text workload now wal new_wal topics new_topics offsets new_offsets status before after (inl refused) wal_is topics_is offsets_is short is supported none =
-      inr (inr (refused_memory text workload wal new_wal topics new_topics offsets new_offsets status before after refused wal_is topics_is offsets_is short is none))
-  supported_generated_runs_succeed text workload now wal new_wal topics new_topics offsets new_offsets status before after (inr captured) wal_is topics_is offsets_is short is supported none =
+  pub supported_generated_runs_succeed : SupportedGeneratedRunsSucceed wal_model topics_model offsets_model
+  supported_generated_runs_succeed text workload now old new status before after (inl refused) wal_is topics_is offsets_is short is supported none =
+      inr (inr (refused_memory text workload old new status before after refused wal_is topics_is offsets_is short is none))
+  supported_generated_runs_succeed text workload now old new status before after (inr captured) wal_is topics_is offsets_is short is supported none =
       let w = captured.wal_made.stored wal_is in
       let t = captured.topics_made.stored topics_is in
       let f = captured.offsets_made.stored offsets_is in
-      let kept = made_kept seen_wal wals seen_topics logs seen_offsets stores text captured.made_wal captured.made_topics captured.made_offsets w t f in
+      let kept = made_kept wal_model topics_model offsets_model text captured.made w t f in
       let run = supported w.bytes t.bytes f.bytes w.is t.is f.is in
-      supported_runs_succeed (wals captured.made_wal) (logs captured.made_topics) (stores captured.made_offsets) (wals new_wal) (logs new_topics) (stores new_offsets) plainly now
-      (seen_wal captured.made_wal) (seen_topics captured.made_topics) (seen_offsets captured.made_offsets) status before after captured.runs kept w.bytes t.bytes f.bytes w.told t.told f.told run none
+      supported_runs_succeed (wal_model.may_leave captured.made.wal) (topics_model.may_leave captured.made.topics) (offsets_model.may_leave captured.made.offsets) (wal_model.may_leave new.wal) (topics_model.may_leave new.topics) (offsets_model.may_leave new.offsets) plainly now
+      (wal_model.seen captured.made.wal) (topics_model.seen captured.made.topics) (offsets_model.seen captured.made.offsets) status before after captured.runs kept w.bytes t.bytes f.bytes w.told t.told f.told run none

@@ -44,6 +44,7 @@ use Rattle.dblog_run.specs.Connect.Asked.{Refuses, asks_in, asks_of, workload_ta
 use Rattle.dblog_run.specs.Connect.Ends.{ConnectEnd, EndsBefore, EndsWithHalt, IsKeptError, IsRefused, no_source, no_log, no_offset, not_asked}
 use Rattle.dblog_run.specs.Connect.Errors.{IsConnectError, IsExternalConnectError, IsOwnHalt}
 use Rattle.dblog_run.specs.Capture.Reports.{ending_status}
+use Rattle.dbl_lines.specs.declared.status.Status.{Status}
 use Rattle.dbl_lines.specs.Says.{Writes}
 use Rattle.dblog_run.specs.Capture.Ends.{SaysSession, connect_line, connect_status}
 use Rattle.dblog_laws.specs.RunLaws.{SupportedRunsSucceed, SupportedSessionsSucceed}
@@ -60,14 +61,14 @@ not_faulty infos reading number error clean fault =
 -- where a session reads, by what it found and what it stored
 reads_from : (config : Config) (history : History) (found stored : Option Offset) (infos : List TableInfo) (after : Lsn) → IsFirstStored config history found stored → BeginsAfter found stored infos after
     → Captures config history found infos × ReadsFromOffset history found after
-reads_from config history (Some offset) stored infos after first subsequent = subsequent
-reads_from config history None None infos after first subsequent = absurd subsequent
-reads_from config history None (Some begun) infos after first subsequent = (
+reads_from config history (Some offset) stored infos after first begins = begins
+reads_from config history None None infos after first begins = absurd begins
+reads_from config history None (Some begun) infos after first begins = (
   (
-    ap (map (λ (info : TableInfo). info.name)) subsequent.0 ∙ first.is.tables,
-    captured_stays first.later history infos (sym first.grown.tables) (subst (AreInfosOf first.later) (sym subsequent.0) first.infos),
+    ap (map (λ (info : TableInfo). info.name)) begins.0 ∙ first.is.tables,
+    captured_stays first.later history infos (sym first.grown.tables) (subst (AreInfosOf first.later) (sym begins.0) first.infos),
   ),
-  subst (λ (l : Lsn). AllByRecursion (λ (commit : RawCommit). commit.lsn.0 ≤ l.0) history.commits) (sym subsequent.1) first.is.not_before,
+  subst (λ (l : Lsn). AllByRecursion (λ (commit : RawCommit). commit.lsn.0 ≤ l.0) history.commits) (sym begins.1) first.is.not_before,
 )
 
 module _ (config : Config) (now : ℤ) (old left : Contents) (begins : CanBegin config (history_at old) old.offset) (supported : IsSupportedOver config now old left)
@@ -77,11 +78,11 @@ module _ (config : Config) (now : ℤ) (old left : Contents) (begins : CanBegin 
   of_left : (offset : Offset) → stored ≡ Some offset → IsOffsetOf (history_at left) (confirmed_at left) (records_of_contents left) offset
   of_left offset is =
       let faithful : IsFaithfulTo (history_at left) (confirmed_at left) (records_of_contents left) offset = subst (IsFaithful (history_at left) (confirmed_at left) (records_of_contents left)) (left_is ∙ is) kept.faithful in
-      faithful.subsequent.offset_is
+      faithful.lags.offset_is
 
   may_have : (reading : Reading) → HasRead config old.offset stored left.wal reading → MayHaveRead old left.wal reading
   may_have reading was = record {
-    from = (reads_from config (history_at old) old.offset stored was.by.offset.infos reading.after first was.subsequent).1;
+    from = (reads_from config (history_at old) old.offset stored was.by.offset.infos reading.after first was.begins_after).1;
     rest = was.rest;
     front = was.front;
   }
@@ -89,7 +90,7 @@ module _ (config : Config) (now : ℤ) (old left : Contents) (begins : CanBegin 
   not_txn : (number : ℕ) (error : TxnError) → IsHaltByLog config now old.offset stored report left.wal (halt.Txn number error) → ⊥
   not_txn number error halted =
       let infos = halted.was.by.offset.infos in
-      let captures = (reads_from config (history_at old) old.offset stored infos halted.reading.after first halted.was.subsequent).0 in
+      let captures = (reads_from config (history_at old) old.offset stored infos halted.reading.after first halted.was.begins_after).0 in
       not_faulty infos halted.reading number error (supported.messages infos halted.reading captures (may_have halted.reading halted.was)) halted.is
 
   never : (h : Halt) → IsOwnHalt h → IsKeptHalt config now old stored report left h → IsCauseOf config now old stored report left.wal h → ⊥
@@ -175,11 +176,11 @@ supported_sessions_succeed wals logs new_wals new_logs new_stores asked now w t 
 
 -- ---- its status
 
-by_ending : (ending : Ending) (status : ℕ) → status ≡ ending_status ending → IsSessionDone status
+by_ending : (ending : Ending) (status : Status) → status ≡ ending_status ending → IsSessionDone status
 by_ending Complete status is = inl is
 by_ending Budget status is = inr (inl is)
 
-module _ (status : ℕ) (before after : Option (List ℕ)) (none : NoneFailed status) where
+module _ (status : Status) (before after : Option (List ℕ)) (none : NoneFailed status) where
   by_error : (e : ConnectError) → IsExternalConnectError e → Writes (connect_status e) (lines_text (connect_line e ∷ [])) status before after → IsSessionDone status
   by_error e may (inr cut) = absurd (none.output cut.0)
   by_error (connect.Failed Wal) may (inl said) = absurd (none.wal said.0)

@@ -1,5 +1,7 @@
 -- How many messages a session reads at most, by its workload: a budget above that isn't used up.
 use Rattle.std.specs.Prelude.{IfOk, ◌≡◌, ◌≢◌, ℕ, ℤ, ◌+◌, ◌*◌, ◌/◌, ◌<◌, ◌≤◌, Option, Some, None, List, [], ◌∷◌, length, drop}
+use Rattle.dbl_lines.specs.declared.status.Status.{Status}
+use Rattle.dbl_lines.specs.declared.status.Status.TheVariants.{BudgetSpent}
 use Rattle.dbl_base.specs.declared.lsn.Lsn.{Lsn}
 use Rattle.dbl_pgmsg.specs.declared.messages.Message.{Message}
 use Rattle.dbl_model_table.specs.declared.row.Key.{Key}
@@ -12,7 +14,9 @@ use Rattle.dbl_source_log.specs.Sent.{messages_in, sent_after}
 use Rattle.dbl_source_model.specs.Growth.{marks_in}
 use Rattle.dbl_offset.specs.declared.offset.Offset.{Offset}
 use Rattle.dbl_offset.specs.Stores.{IsStore}
+use Rattle.dblog_run.specs.Init.declared.disks.Disks.{Disks}
 use Rattle.dblog_run.specs.CaptureModel.Outcomes.{CoverRows}
+use Rattle.dbl_disk.specs.Model.{DiskModel}
 use Rattle.dbl_demo_wal.specs.Standings.{history_in, messages_sent}
 use Rattle.dbl_demo_wal.specs.Wals.{IsWal, Wal}
 use Rattle.dbl_demo_wal.specs.Workloads.{Workload, log_at, steps_of}
@@ -68,9 +72,9 @@ FewMessagesAreSent more = (bytes : List ℕ) (wal : Wal) (after : Lsn) (windows 
 -- ---- budgets
 
 -- A session that ended normally has read at most `most` messages, and doesn't exit with 3 if its budget is larger.
-pub record ReadsFew (most budget : ℕ) (status : ℕ) (end : ConnectEnd) : Type 0 where
+pub record ReadsFew (most budget : ℕ) (status : Status) (end : ConnectEnd) : Type 0 where
   pub few : IfOk end (λ summary. summary.report.messages ≤ most)
-  pub unspent : most < budget → status ≢ 3
+  pub unspent : most < budget → status ≢ BudgetSpent
 
 -- The disks contain these bytes, and no offset is stored in anything that a crash may leave of the offset store.
 pub record AreUnstarted (wals logs stores : List ℕ → Type 0) (w t f : List ℕ) : Type 0 where
@@ -92,7 +96,7 @@ most_windows options held pairs = length (tables_or options.tables (workload_tab
 -- clauses `session` and `headline` of `run`.
 abbrev pub GenerousBudgetsSuffice : ℕ → (wals logs stores new_wals new_logs new_stores : List ℕ → Type 0) → Type 0
 GenerousBudgetsSuffice more wals logs stores new_wals new_logs new_stores = (options : CaptureOptions) (now : ℤ) (told_wal told_topics told_offsets : Option (List ℕ))
-    (status : ℕ) (before after : Option (List ℕ))
+    (status : Status) (before after : Option (List ℕ))
     → (runs : RunsSession (First options) now told_wal told_topics told_offsets wals logs stores new_wals new_logs new_stores status before after)
     → AreKept told_wal told_topics told_offsets wals logs stores
     → ((w t f : List ℕ) → new_wals w → new_logs t → new_stores f → GuaranteesAfterCrash (IsCompleteRun (Capture options) status) (asks_by (Capture options)) wals logs stores w t f)
@@ -112,7 +116,7 @@ pub record AreAtRest (wals logs stores : List ℕ → Type 0) (held : Contents) 
 -- A `resume` over such disks doesn't use up a message budget above the workload's bound and the messages that were unsent when it began.
 abbrev pub GenerousBudgetsSufficeAgain : ℕ → (wals logs stores new_wals new_logs new_stores : List ℕ → Type 0) → Type 0
 GenerousBudgetsSufficeAgain more wals logs stores new_wals new_logs new_stores = (chunk every budget : ℕ) (now : ℤ) (told_wal told_topics told_offsets : Option (List ℕ))
-    (status : ℕ) (before after : Option (List ℕ))
+    (status : Status) (before after : Option (List ℕ))
     → (runs : RunsSession (Again chunk every budget) now told_wal told_topics told_offsets wals logs stores new_wals new_logs new_stores status before after)
     → AreKept told_wal told_topics told_offsets wals logs stores
     → ((w t f : List ℕ) → new_wals w → new_logs t → new_stores f
@@ -127,13 +131,14 @@ GenerousBudgetsSufficeAgain more wals logs stores new_wals new_logs new_stores =
 
 -- The capture of `gen --run` on three empty disks doesn't use up a message budget above the workload's bound: by the clause `generating` of
 -- `run`.
-abbrev pub GeneratedBudgetsSuffice : ℕ → {W T F : Type 0} → (W → Option (List ℕ)) → (W → List ℕ → Type 0) → (T → Option (List ℕ)) → (T → List ℕ → Type 0)
-    → (F → Option (List ℕ)) → (F → List ℕ → Type 0) → Type 0
-GeneratedBudgetsSuffice more {W} {T} {F} seen_wal wals seen_topics logs seen_offsets stores =
-    (text : List ℕ) (now : ℤ) (wal new_wal : W) (topics new_topics : T) (offsets new_offsets : F) (status : ℕ) (before after : Option (List ℕ))
-    → (captured : WasCaptured seen_wal wals seen_topics logs seen_offsets stores text now wal new_wal topics new_topics offsets new_offsets status before after)
-    → seen_wal wal ≡ Some [] → seen_topics topics ≡ Some [] → seen_offsets offsets ≡ Some []
-    → (left : Contents) → MayLeaveContents (wals new_wal) (logs new_topics) (stores new_offsets) left
-    → (w t f : List ℕ) → seen_wal captured.made_wal ≡ Some w → seen_topics captured.made_topics ≡ Some t → seen_offsets captured.made_offsets ≡ Some f
+abbrev pub GeneratedBudgetsSuffice : ℕ → {W T F : Type 0} → DiskModel W → DiskModel T → DiskModel F → Type 0
+GeneratedBudgetsSuffice more {W} {T} {F} wal_model topics_model offsets_model =
+    (text : List ℕ) (now : ℤ) (old new : Disks W T F) (status : Status) (before after : Option (List ℕ))
+    → (captured : WasCaptured wal_model topics_model offsets_model text now old new status before after)
+    → wal_model.seen old.wal ≡ Some [] → topics_model.seen old.topics ≡ Some [] → offsets_model.seen old.offsets ≡ Some []
+    → (left : Contents)
+    → MayLeaveContents (wal_model.may_leave new.wal) (topics_model.may_leave new.topics) (offsets_model.may_leave new.offsets) left
+    → (w t f : List ℕ) → wal_model.seen captured.made.wal ≡ Some w → topics_model.seen captured.made.topics ≡ Some t
+    → offsets_model.seen captured.made.offsets ≡ Some f
     → (held : Contents) → ReadAs w t f held → (pairs : List (ℕ × Key)) → CoverWhole plain_capture held pairs
     → ReadsFew (most_messages more held.wal.workload (most_windows plain_capture held (length pairs))) plain_capture.messages status captured.runs.end

@@ -1,17 +1,19 @@
 -- When a run must succeed. The premises are the clauses of the program's `run`.
 use Rattle.std.specs.Prelude.{◌≡◌, ◌⊎◌, ℕ, ℤ, ◌<◌, ◌≤◌, IfErr, Option, Some, Ok, List, [], length}
+use Rattle.dbl_lines.specs.declared.status.Status.{Status}
+use Rattle.dbl_lines.specs.declared.status.Status.TheVariants.{Done, BudgetSpent, OutOfMemory}
 use Rattle.dbl_base.specs.Streams.{FaultCounted, input_limit}
+use Rattle.dbl_disk.specs.Model.{DiskModel}
 use Rattle.dbl_demo_wal.specs.Workloads.{IsWorkload, Workload}
 use Rattle.dblog_run.specs.DemoLaws.Made.{IsFreshWal}
 use Rattle.dbl_cli.specs.declared.commands.Command.{Command}
 use Rattle.dbl_cli.specs.Commands.{Spells}
+use Rattle.dblog_run.specs.Init.declared.disks.Disks.{Disks}
 use Rattle.dblog_run.specs.Init.Fresh.{IsEmptyLog, IsEmptyStore}
 use Rattle.dblog_run.specs.CaptureWork.declared.report.Ending.TheVariants.{Budget, Complete}
-use Rattle.dbl_lines.specs.declared.halt.Halt.TheVariants.{Memory}
-use Rattle.dbl_lines.specs.Faults.{status_of}
 use Rattle.dblog_run.specs.Promise.Kept.{AreKept}
 use Rattle.dblog_run.specs.Connect.declared.asked.Asked.{Asked}
-use Rattle.dblog_run.specs.Connect.declared.connected.Summary.{Summary}
+use Rattle.dblog_run.specs.Connect.declared.summary.Summary.{Summary}
 use Rattle.dblog_run.specs.Connect.Asked.{budget_of}
 use Rattle.dblog_run.specs.Connect.Ends.{ConnectEnd}
 use Rattle.dblog_run.specs.Connect.Errors.{IsConnectError, IsExternalConnectError}
@@ -35,7 +37,7 @@ SupportedSessionsSucceed wals logs new_wals new_logs new_stores = (asked : Asked
 -- A supported `capture` or `resume` exits with 0, 3 or 12, if no device failed: by the clause `session` of `run`.
 abbrev pub SupportedRunsSucceed : (wals logs stores new_wals new_logs new_stores : List ℕ → Type 0) → Type 0
 SupportedRunsSucceed wals logs stores new_wals new_logs new_stores = (asked : Asked) (now : ℤ) (told_wal told_topics told_offsets : Option (List ℕ))
-    (status : ℕ) (before after : Option (List ℕ))
+    (status : Status) (before after : Option (List ℕ))
     → RunsSession asked now told_wal told_topics told_offsets wals logs stores new_wals new_logs new_stores status before after
     → AreKept told_wal told_topics told_offsets wals logs stores
     → (w t f : List ℕ) → told_wal ≡ Some w → told_topics ≡ Some t → told_offsets ≡ Some f
@@ -43,14 +45,15 @@ SupportedRunsSucceed wals logs stores new_wals new_logs new_stores = (asked : As
     → IsSessionDone status
 
 -- A session that exits with 3 has read exactly as many messages as its budget allows, and one that exits with 0 fewer.
-pub record EndsBy (budget : ℕ) (status : ℕ) (end : ConnectEnd) : Type 0 where
-  pub spent : status ≡ 3 → (summary : Summary) × (end ≡ Ok summary) × (summary.ending ≡ Budget) × (summary.report.messages ≡ budget)
-  pub complete : status ≡ 0 → (summary : Summary) × (end ≡ Ok summary) × (summary.ending ≡ Complete) × (summary.report.messages < budget)
+pub record EndsBy (budget : ℕ) (status : Status) (end : ConnectEnd) : Type 0 where
+  pub spent : status ≡ BudgetSpent
+      → (summary : Summary) × (end ≡ Ok summary) × (summary.ending ≡ Budget) × (summary.report.messages ≡ budget)
+  pub complete : status ≡ Done → (summary : Summary) × (end ≡ Ok summary) × (summary.ending ≡ Complete) × (summary.report.messages < budget)
 
 -- The exit status of `capture` and `resume` says whether the message budget was used up.
 abbrev pub StatusesTellBudgets : (wals logs stores new_wals new_logs new_stores : List ℕ → Type 0) → Type 0
 StatusesTellBudgets wals logs stores new_wals new_logs new_stores = (asked : Asked) (now : ℤ) (told_wal told_topics told_offsets : Option (List ℕ))
-    (status : ℕ) (before after : Option (List ℕ))
+    (status : Status) (before after : Option (List ℕ))
     → (runs : RunsSession asked now told_wal told_topics told_offsets wals logs stores new_wals new_logs new_stores status before after)
     → EndsBy (budget_of asked) status runs.end
 
@@ -58,36 +61,35 @@ StatusesTellBudgets wals logs stores new_wals new_logs new_stores = (asked : Ask
 
 -- `gen --run` on three empty disks exits with 0, 3 or 12, if the workload can be run, the capture of its stores is supported, and no device
 -- failed: by the clause `generating` of `run`.
-abbrev pub SupportedGeneratedRunsSucceed : {W T F : Type 0} → (W → Option (List ℕ)) → (W → List ℕ → Type 0) → (T → Option (List ℕ)) → (T → List ℕ → Type 0)
-    → (F → Option (List ℕ)) → (F → List ℕ → Type 0) → Type 0
-SupportedGeneratedRunsSucceed {W} {T} {F} seen_wal wals seen_topics logs seen_offsets stores =
-    (text : List ℕ) (workload : Workload) (now : ℤ) (wal new_wal : W) (topics new_topics : T) (offsets new_offsets : F) (status : ℕ) (before after : Option (List ℕ))
-    → EndsGenerated seen_wal wals seen_topics logs seen_offsets stores text now wal new_wal topics new_topics offsets new_offsets status before after
-    → seen_wal wal ≡ Some [] → seen_topics topics ≡ Some [] → seen_offsets offsets ≡ Some []
+abbrev pub SupportedGeneratedRunsSucceed : {W T F : Type 0} → DiskModel W → DiskModel T → DiskModel F → Type 0
+SupportedGeneratedRunsSucceed {W} {T} {F} wal_model topics_model offsets_model =
+    (text : List ℕ) (workload : Workload) (now : ℤ) (old new : Disks W T F) (status : Status) (before after : Option (List ℕ))
+    → EndsGenerated wal_model topics_model offsets_model text now old new status before after
+    → wal_model.seen old.wal ≡ Some [] → topics_model.seen old.topics ≡ Some [] → offsets_model.seen old.offsets ≡ Some []
     → length text ≤ input_limit → IsWorkload text workload
-    → ((w t f : List ℕ) → IsFreshWal text w → IsEmptyLog t → IsEmptyStore f → IsSupportedRun plainly now (wals new_wal) (logs new_topics) (stores new_offsets) w t f)
+    → ((w t f : List ℕ) → IsFreshWal text w → IsEmptyLog t → IsEmptyStore f
+    → IsSupportedRun plainly now (wal_model.may_leave new.wal) (topics_model.may_leave new.topics)
+    (offsets_model.may_leave new.offsets) w t f)
     → NoneFailed status → IsSessionDone status
 
 -- The `init` part of `gen --run` succeeds for a text that can be run, or memory ran out. A generated text is proved to have such lines and
 -- tables (`workloads_are_read`), not to have such rows and such a length.
-abbrev pub GeneratedInitsSucceed : {W T F : Type 0} → (W → Option (List ℕ)) → (W → List ℕ → Type 0) → (T → Option (List ℕ)) → (T → List ℕ → Type 0)
-    → (F → Option (List ℕ)) → (F → List ℕ → Type 0) → Type 0
-GeneratedInitsSucceed {W} {T} {F} seen_wal wals seen_topics logs seen_offsets stores =
-    (text : List ℕ) (workload : Workload) (now : ℤ) (wal new_wal : W) (topics new_topics : T) (offsets new_offsets : F) (status : ℕ) (before after : Option (List ℕ))
-    → EndsGenerated seen_wal wals seen_topics logs seen_offsets stores text now wal new_wal topics new_topics offsets new_offsets status before after
-    → seen_wal wal ≡ Some [] → seen_topics topics ≡ Some [] → seen_offsets offsets ≡ Some []
+abbrev pub GeneratedInitsSucceed : {W T F : Type 0} → DiskModel W → DiskModel T → DiskModel F → Type 0
+GeneratedInitsSucceed {W} {T} {F} wal_model topics_model offsets_model =
+    (text : List ℕ) (workload : Workload) (now : ℤ) (old new : Disks W T F) (status : Status) (before after : Option (List ℕ))
+    → EndsGenerated wal_model topics_model offsets_model text now old new status before after
+    → wal_model.seen old.wal ≡ Some [] → topics_model.seen old.topics ≡ Some [] → offsets_model.seen old.offsets ≡ Some []
     → length text ≤ input_limit → IsWorkload text workload → NoneFailed status
-    → (status ≡ status_of Memory)
-    ⊎ WasCaptured seen_wal wals seen_topics logs seen_offsets stores text now wal new_wal topics new_topics offsets new_offsets status before after
+    → (status ≡ OutOfMemory)
+    ⊎ WasCaptured wal_model topics_model offsets_model text now old new status before after
 
 -- The exit status of `gen --run` says whether its capture used up its message budget.
-abbrev pub GeneratedStatusesTellBudgets : {W T F : Type 0} → (W → Option (List ℕ)) → (W → List ℕ → Type 0) → (T → Option (List ℕ)) → (T → List ℕ → Type 0)
-    → (F → Option (List ℕ)) → (F → List ℕ → Type 0) → Type 0
-GeneratedStatusesTellBudgets {W} {T} {F} seen_wal wals seen_topics logs seen_offsets stores =
-    (text : List ℕ) (now : ℤ) (wal new_wal : W) (topics new_topics : T) (offsets new_offsets : F) (status : ℕ) (before after : Option (List ℕ))
-    → EndsGenerated seen_wal wals seen_topics logs seen_offsets stores text now wal new_wal topics new_topics offsets new_offsets status before after
-    → (status ≡ 0) ⊎ (status ≡ 3)
-    → (captured : WasCaptured seen_wal wals seen_topics logs seen_offsets stores text now wal new_wal topics new_topics offsets new_offsets status before after)
+abbrev pub GeneratedStatusesTellBudgets : {W T F : Type 0} → DiskModel W → DiskModel T → DiskModel F → Type 0
+GeneratedStatusesTellBudgets {W} {T} {F} wal_model topics_model offsets_model =
+    (text : List ℕ) (now : ℤ) (old new : Disks W T F) (status : Status) (before after : Option (List ℕ))
+    → EndsGenerated wal_model topics_model offsets_model text now old new status before after
+    → (status ≡ Done) ⊎ (status ≡ BudgetSpent)
+    → (captured : WasCaptured wal_model topics_model offsets_model text now old new status before after)
     × EndsBy (budget_of plainly) status captured.runs.end
 
 -- ---- the other commands
@@ -95,7 +97,7 @@ GeneratedStatusesTellBudgets {W} {T} {F} seen_wal wals seen_topics logs seen_off
 -- A command without a session exits with 0 or 12, if its input is what it requires and no device failed: by the clause `told` of `run`.
 abbrev pub OtherRunsSucceed : Type 0
 OtherRunsSucceed = (words : List (List ℕ)) (command : Command) (now : ℤ) (given : RunInput)
-    (input_was input_is wal_was wal_is topics_was topics_is offsets_was offsets_is status : ℕ) (before after : Option (List ℕ))
+    (input_was input_is wal_was wal_is topics_was topics_is offsets_was offsets_is : ℕ) (status : Status) (before after : Option (List ℕ))
     → Spells words command → CanRun command now given
     → Runs words now given (OfDisk (SpellSome words uses_topics × FaultCounted topics_was topics_is) (SpellSome words uses_offsets × FaultCounted offsets_was offsets_is)) status before after
     ⊎ (InputFails words input_was input_is status before after ⊎ WalFails words wal_was wal_is status before after)
@@ -103,5 +105,5 @@ OtherRunsSucceed = (words : List (List ℕ)) (command : Command) (now : ℤ) (gi
 
 -- `gen` exits with 0 or 12, if no device failed, for any streams and disks: by the clause `alone` of `run`.
 abbrev pub PrintedWorkloadsSucceed : Type 0
-PrintedWorkloadsSucceed = (command : Command) (answer : RunAnswer) (status : ℕ) (before after : Option (List ℕ))
+PrintedWorkloadsSucceed = (command : Command) (answer : RunAnswer) (status : Status) (before after : Option (List ℕ))
     → StandsAlone command answer → EndsAs answer status before after → NoneFailed status → IsDoneStatus status

@@ -1,5 +1,8 @@
 -- When a session over crash-consistent disks must succeed: what it was asked for, what it may meet, and that no device failed.
 use Rattle.std.specs.Prelude.{◌≡◌, ◌≢◌, ◌⊎◌, ◌≤◌, ℕ, ℤ, ◌++◌, Option, Some, None, List, reverse}
+use Rattle.dbl_lines.specs.declared.status.Status.{Status}
+use Rattle.dbl_lines.specs.declared.status.Status.TheVariants.{Done, BudgetSpent, SourceFailed, TopicsFailed}
+use Rattle.dbl_lines.specs.declared.status.Status.TheVariants.{OffsetsFailed, StdinFailed, StdoutFailed, OutOfMemory}
 use Rattle.std.specs.List.{AllByRecursion}
 use Rattle.dbl_base.specs.declared.lsn.Lsn.{Lsn}
 use Rattle.dbl_pgmsg.specs.declared.messages.Message.{Message}
@@ -8,21 +11,17 @@ use Rattle.dbl_model_table.specs.declared.table.TableInfo.{TableInfo}
 use Rattle.dbl_model_commit.specs.Blocks.{AreWithoutFault}
 use Rattle.dbl_demo_wal.specs.Standings.{messages_sent}
 use Rattle.dbl_demo_wal.specs.Wals.{Wal}
-use Rattle.dbl_lines.specs.declared.halt.Halt.TheVariants.{InputFailed, Memory as NoMemory}
-use Rattle.dbl_lines.specs.Faults.{output_failed_status, status_of}
 use Rattle.dbl_source_model.specs.Standings.{Reading}
 use Rattle.dblog_laws.specs.Supported.{CanBegin, CanSend, OffsetsAreShort, RowsAreReadable, WindowsAreSupported}
 use Rattle.dbl_model_history.specs.History.{History}
 use Rattle.dbl_offset.specs.declared.offset.Offset.{Offset}
 use Rattle.dblog_run.specs.CaptureLaws.Sessions.{Captures}
 use Rattle.dblog_run.specs.Promise.Restarts.{restart_at}
-use Rattle.dblog_run.specs.Init.declared.error.Store.TheVariants.{Wal as WalStore, Topics, Offsets}
 use Rattle.dblog_run.specs.Promise.Causes.{standing_left}
 use Rattle.dblog_run.specs.Promise.Contents.{Contents, ReadAs, found_in, history_at, records_of_contents}
 use Rattle.dblog_run.specs.Promise.Kept.{IsKept}
 use Rattle.dblog_run.specs.Connect.declared.asked.Asked.{Asked}
 use Rattle.dblog_run.specs.Connect.Ends.{HasBegun}
-use Rattle.dblog_run.specs.Capture.Ends.{store_status}
 
 -- ---- what a session may meet
 
@@ -73,19 +72,19 @@ pub record IsSupportedRun (asked : Asked) (now : ℤ) (wals logs stores : List �
 
 -- The exit status reports no failed device, as it does if no fault count rose, by the clauses `wal_failed`, `topics_failed`,
 -- `offsets_failed`, `output_failed` and `input_failed` of `run`.
-pub record NoneFailed (status : ℕ) : Type 0 where
-  pub wal : status ≢ store_status WalStore
-  pub topics : status ≢ store_status Topics
-  pub offsets : status ≢ store_status Offsets
-  pub output : status ≢ output_failed_status
-  pub input : status ≢ status_of InputFailed
+pub record NoneFailed (status : Status) : Type 0 where
+  pub wal : status ≢ SourceFailed
+  pub topics : status ≢ TopicsFailed
+  pub offsets : status ≢ OffsetsFailed
+  pub output : status ≢ StdoutFailed
+  pub input : status ≢ StdinFailed
 
 -- ---- the exit status
 
 -- The status of a command that succeeded, or ran out of memory.
-abbrev pub IsDoneStatus : ℕ → Type 0
-IsDoneStatus status = (status ≡ 0) ⊎ (status ≡ status_of NoMemory)
+abbrev pub IsDoneStatus : Status → Type 0
+IsDoneStatus status = (status ≡ Done) ⊎ (status ≡ OutOfMemory)
 
 -- The status of a session that succeeded, used up its message budget, or ran out of memory.
-abbrev pub IsSessionDone : ℕ → Type 0
-IsSessionDone status = (status ≡ 0) ⊎ ((status ≡ 3) ⊎ (status ≡ status_of NoMemory))
+abbrev pub IsSessionDone : Status → Type 0
+IsSessionDone status = (status ≡ Done) ⊎ ((status ≡ BudgetSpent) ⊎ (status ≡ OutOfMemory))

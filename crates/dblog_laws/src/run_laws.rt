@@ -1,5 +1,6 @@
 //! When a run must succeed: theorems, as contracts of empty functions.
 
+ghost use Rattle.dblog_run.specs.Init.declared.disks.Disks.{Disks};
 ghost use Rattle.dblog_laws.specs.Budgets.{FewMessagesAreSent, GeneratedBudgetsSuffice, GenerousBudgetsSuffice};
 ghost use Rattle.dblog_laws.specs.Budgets.{GenerousBudgetsSufficeAgain, SentMessagesAreFew};
 ghost use Rattle.dblog_laws.specs.RunLaws.{GeneratedInitsSucceed, GeneratedStatusesTellBudgets, OtherRunsSucceed};
@@ -12,44 +13,42 @@ use dbl_disk::Disk;
 /// A supported session over crash-consistent disks ends normally, unless a disk fails or memory
 /// runs out.
 pub fn supported_sessions_succeed<W: Disk, T: Disk, F: Disk>()
-    ensures { (wal new_wal : W) (topics new_topics : T) (new_offsets : F) →
-        SupportedSessionsSucceed (W.may_leave wal) (T.may_leave topics)
-        (W.may_leave new_wal) (T.may_leave new_topics) (F.may_leave new_offsets) }
+    ensures { (old new : Disks W T F) →
+        SupportedSessionsSucceed (W.may_leave old.wal) (T.may_leave old.topics)
+        (W.may_leave new.wal) (T.may_leave new.topics) (F.may_leave new.offsets) }
 {}
 
 /// A supported `capture` or `resume` exits with 0, 3 or 12, if no device failed.
 pub fn supported_runs_succeed<W: Disk, T: Disk, F: Disk>()
-    ensures { (wal new_wal : W) (topics new_topics : T) (offsets new_offsets : F) →
-        SupportedRunsSucceed (W.may_leave wal) (T.may_leave topics) (F.may_leave offsets)
-        (W.may_leave new_wal) (T.may_leave new_topics) (F.may_leave new_offsets) }
+    ensures { (old new : Disks W T F) →
+        SupportedRunsSucceed
+        (W.may_leave old.wal) (T.may_leave old.topics) (F.may_leave old.offsets)
+        (W.may_leave new.wal) (T.may_leave new.topics) (F.may_leave new.offsets) }
 {}
 
 /// A session that exits with 3 has used up its message budget exactly, and one that exits with 0
 /// hasn't.
 pub fn statuses_tell_budgets<W: Disk, T: Disk, F: Disk>()
-    ensures { (wal new_wal : W) (topics new_topics : T) (offsets new_offsets : F) →
-        StatusesTellBudgets (W.may_leave wal) (T.may_leave topics) (F.may_leave offsets)
-        (W.may_leave new_wal) (T.may_leave new_topics) (F.may_leave new_offsets) }
+    ensures { (old new : Disks W T F) →
+        StatusesTellBudgets (W.may_leave old.wal) (T.may_leave old.topics) (F.may_leave old.offsets)
+        (W.may_leave new.wal) (T.may_leave new.topics) (F.may_leave new.offsets) }
 {}
 
 /// A supported `gen --run` on empty disks, of a workload that can be run, exits with 0, 3 or 12, if
 /// no device failed.
 pub fn supported_generated_runs_succeed<W: Disk, T: Disk, F: Disk>()
-    ensures { SupportedGeneratedRunsSucceed
-        W.seen W.may_leave T.seen T.may_leave F.seen F.may_leave }
+    ensures { SupportedGeneratedRunsSucceed W.Disk T.Disk F.Disk }
 {}
 
 /// The `init` part of `gen --run` succeeds, or memory ran out.
 pub fn generated_inits_succeed<W: Disk, T: Disk, F: Disk>()
-    ensures { GeneratedInitsSucceed
-        W.seen W.may_leave T.seen T.may_leave F.seen F.may_leave }
+    ensures { GeneratedInitsSucceed W.Disk T.Disk F.Disk }
 {}
 
 /// A `gen --run` that exits with 3 has used up its capture's message budget exactly, and one that
 /// exits with 0 hasn't.
 pub fn generated_statuses_tell_budgets<W: Disk, T: Disk, F: Disk>()
-    ensures { GeneratedStatusesTellBudgets
-        W.seen W.may_leave T.seen T.may_leave F.seen F.may_leave }
+    ensures { GeneratedStatusesTellBudgets W.Disk T.Disk F.Disk }
 {}
 
 /// Each other command exits with 0 or 12, if its input is what it requires and no device failed.
@@ -76,21 +75,22 @@ pub fn few_messages_are_sent()
 
 /// A first session doesn't use up a message budget above the workload's bound.
 pub fn generous_budgets_suffice<W: Disk, T: Disk, F: Disk>()
-    ensures { (wal new_wal : W) (topics new_topics : T) (offsets new_offsets : F) →
-        GenerousBudgetsSuffice 1 (W.may_leave wal) (T.may_leave topics) (F.may_leave offsets)
-        (W.may_leave new_wal) (T.may_leave new_topics) (F.may_leave new_offsets) }
+    ensures { (old new : Disks W T F) →
+        GenerousBudgetsSuffice 1
+        (W.may_leave old.wal) (T.may_leave old.topics) (F.may_leave old.offsets)
+        (W.may_leave new.wal) (T.may_leave new.topics) (F.may_leave new.offsets) }
 {}
 
 /// A `resume` doesn't use up a message budget above the workload's bound and the messages that were
 /// unsent when it began.
 pub fn generous_budgets_suffice_again<W: Disk, T: Disk, F: Disk>()
-    ensures { (wal new_wal : W) (topics new_topics : T) (offsets new_offsets : F) →
-        GenerousBudgetsSufficeAgain 1 (W.may_leave wal) (T.may_leave topics) (F.may_leave offsets)
-        (W.may_leave new_wal) (T.may_leave new_topics) (F.may_leave new_offsets) }
+    ensures { (old new : Disks W T F) →
+        GenerousBudgetsSufficeAgain 1
+        (W.may_leave old.wal) (T.may_leave old.topics) (F.may_leave old.offsets)
+        (W.may_leave new.wal) (T.may_leave new.topics) (F.may_leave new.offsets) }
 {}
 
 /// The capture of `gen --run` doesn't use up a message budget above the workload's bound.
 pub fn generated_budgets_suffice<W: Disk, T: Disk, F: Disk>()
-    ensures { GeneratedBudgetsSuffice 1
-        W.seen W.may_leave T.seen T.may_leave F.seen F.may_leave }
+    ensures { GeneratedBudgetsSuffice 1 W.Disk T.Disk F.Disk }
 {}

@@ -16,5 +16,5 @@ pub fn supported_sessions_end<S: Source, K: Sink>()
 /// normally, unless a device failed or memory ran out.
 pub fn faithful_sessions_end<S: Source, K: Sink, D: Disk>()
     ensures { FaithfulSessionsEnd S.stands S.honest S.may_leave S.told
-        K.holds K.may_leave D.seen D.may_leave }
+        K.holds K.may_leave D.Disk }
 {}

@@ -27,9 +27,9 @@ complete_runs_are_applied old new w t f lines read equal prints =
       printed = prints.rows;
       ordered = prints.are.ordered;
       each = λ topic text. record {
-        image = (equal.whole topic text).image;
-        is = (equal.whole topic text).is;
-        prints = subst (λ (row : Option HeldCells). HoldsJsonTexts row (equal.whole topic text).image) (sym (prints.are.exact topic text ∙ same topic text)) (equal.whole topic text).holds;
+        image = (equal.holds_final_rows topic text).image;
+        is = (equal.holds_final_rows topic text).is;
+        prints = subst (λ (row : Option HeldCells). HoldsJsonTexts row (equal.holds_final_rows topic text).image) (sym (prints.are.exact topic text ∙ same topic text)) (equal.holds_final_rows topic text).holds;
       };
       are = prints.lines_are;
     }

@@ -123,5 +123,5 @@ first_sessions_are_faithful first last sessions is after = stays_right first (un
 pub completed_restarts_are_images : CompletedRestartsAreImages
 completed_restarts_are_images first last sessions config now stage left right after asked done =
     let before : IsRight last = stays_right first right sessions last after in
-    read_sessions_are_complete (restart_at config now last) stage left done.more before.faithful done.read done.done done.may done.confirmed
+    read_sessions_are_complete (restart_at config now last) stage left done.more before.faithful done.read done.done done.may_be_left done.confirmed
     (runs_keep_going (restart_at config now last) stage asked before.fit before.faithful done.run)

@@ -160,7 +160,7 @@ appends_next sessions config first last history confirmed None (Some b) None old
 appends_next sessions config first last history confirmed None (Some b) (Some c) old middle new faithful went goes one two =
     let start : c.start.0 ≤ b.start.0 = same_le c.start.0 b.start.0 (ap (λ (l : Lsn). l.0) goes.start) in
     both_append c.start.0 old middle new one.more two.more one.is two.is (above_less c.start.0 b.start.0 one.more start one.above)
-    (above_less c.start.0 b.lsn.0 two.more (le_on c.start.0 b.start.0 b.lsn.0 start faithful.subsequent.offset_is.order) two.above)
+    (above_less c.start.0 b.lsn.0 two.more (le_on c.start.0 b.start.0 b.lsn.0 start faithful.lags.offset_is.order) two.above)
 appends_next sessions config first last history confirmed (Some a) None c old middle new faithful went goes one two = absurd went
 appends_next sessions config first last history confirmed (Some a) (Some b) c old middle new faithful went goes one two =
     both_append a.lsn.0 old middle new one.more two.more one.is two.is one.above (above_less a.lsn.0 b.lsn.0 two.more went.lsn two.above)

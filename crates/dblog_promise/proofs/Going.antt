@@ -36,27 +36,27 @@ pub described_so : (entry : SessionStart) (history : History) (first : Offset) (
     → IsFaithful entry.history entry.confirmed (joined entry.groups) old → AreInfosOf history first.infos
 described_so entry history first None grows began described is = described
 described_so entry history first (Some old) grows began described is =
-    subst (AreInfosOf history) (sym began.0.infos) (captured_stays entry.history history old.infos grows.tables is.subsequent.offset_is.infos)
+    subst (AreInfosOf history) (sym began.0.infos) (captured_stays entry.history history old.infos grows.tables is.lags.offset_is.infos)
 
 unread_so : (info : TableInfo) (cursor : Cursor) → IsUnread cursor → IsCursorOf info cursor
 unread_so info cursor is = subst (λ (last : Option Key). IfSome last (IsKeyOf info)) (sym is.0) tt
 
 right_so : (identity : Identity) (records : List Record) (lsn : ℕ) (info : TableInfo) (cursor : Cursor) → IsRightCursor identity records lsn info cursor → IsCursorOf info cursor
 right_so identity records lsn info cursor (inl none) = unread_so info cursor none
-right_so identity records lsn info cursor (inr told) = told.tells.is_key
+right_so identity records lsn info cursor (inr told) = told.reports.is_key
 
 -- its cursors stand at keys of these tables
 cursors_so : (entry : SessionStart) (history : History) (first : Offset) (old : Option Offset) → IsFirstOf entry history first old → IsFaithful entry.history entry.confirmed (joined entry.groups) old → AreCursorsOf first.infos first.cursors
 cursors_so entry history first None began is = zip_weaker (λ (info : TableInfo) (cursor : Cursor). IsUnread cursor) IsCursorOf first.infos first.cursors unread_so began.2
 cursors_so entry history first (Some old) began is =
     let were : AreCursorsOf old.infos old.cursors =
-    zip_weaker (IsRightCursor old.identity (joined entry.groups) old.lsn.0) IsCursorOf old.infos old.cursors (right_so old.identity (joined entry.groups) old.lsn.0) is.subsequent.offset_is.cursors in
+    zip_weaker (IsRightCursor old.identity (joined entry.groups) old.lsn.0) IsCursorOf old.infos old.cursors (right_so old.identity (joined entry.groups) old.lsn.0) is.lags.offset_is.cursors in
     subst (λ (infos : List TableInfo). AreCursorsOf infos first.cursors) (sym began.0.infos)
     (subst (λ (cursors : List Cursor). AreCursorsOf old.infos cursors) (sym began.0.cursors) were)
 
 known_so : (history : History) (confirmed : Lsn) (records : List Record) (offset : Option Offset) → IsFaithful history confirmed records offset → IfSome offset (λ o. AreInfosOf history o.infos) × IsKeptAfter confirmed offset
 known_so history confirmed records None is = (tt, is.unconfirmed)
-known_so history confirmed records (Some offset) is = (is.subsequent.offset_is.infos, is.subsequent.offset_is.confirmed_to)
+known_so history confirmed records (Some offset) is = (is.lags.offset_is.infos, is.lags.offset_is.confirmed_to)
 
 pub faithful_entries_are_known : FaithfulEntriesAreKnown
 faithful_entries_are_known entry faithful =
@@ -73,7 +73,7 @@ stored_offsets_begin_again entry history old grows fit was small = record {
   began = subst (λ (o : Option Offset). IsFirstOf entry history (raised old) o) (sym was)
       (record { identity = refl; infos = refl; start = refl; lsn = refl; cursors = refl; incarnation = one_more old.incarnation }, refl);
   described = subst (λ (o : Option Offset). WasDescribed history (raised old) o) (sym was) tt;
-  small = small;
+  incarnation_fits = small;
 }
 
 -- ---- its steps
@@ -81,7 +81,7 @@ stored_offsets_begin_again entry history old grows fit was small = record {
 module _ (entry : SessionStart) (asked : IsAsked entry.config entry.now) (fit : IsFitHistory entry.history) (faithful : WasFaithful entry) where
   begun_goes : (history : History) (first : Offset) → BeginsSession entry history first → IsGoing entry (begun_at entry history first (following_of first))
   begun_goes history first is =
-      sessions_begin entry history first asked.every is.small is.grows fit is.fit
+      sessions_begin entry history first asked.every is.incarnation_fits is.grows fit is.fit
       (described_so entry history first entry.offset is.grows is.began is.described faithful)
       (cursors_so entry history first entry.offset is.began faithful) is.began
 

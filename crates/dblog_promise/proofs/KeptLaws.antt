@@ -68,7 +68,7 @@ snapshots held None kept is faithful = faithful.empty
 snapshots held (Some offset) kept is faithful =
     λ number item at row.
     let right = (tells (found_in held) offset kept is).rows number item at row in
-    record { fresh = right.fresh; right = right.right; subsequent = right.subsequent }
+    record { fresh = right.fresh; right = right.right; put_ahead = right.put_ahead }
 
 pub kept_runs_are_promised : KeptRunsArePromised
 kept_runs_are_promised config old new kept goes = record {

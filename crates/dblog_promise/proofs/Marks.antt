@@ -17,7 +17,7 @@ use Rattle.dblog_promise.specs.RestartLaws.{OldMarksAreOthers, OldMarksDoNothing
 
 pub old_marks_are_others : OldMarksAreOthers
 old_marks_are_others entry history first place number side commit faithful is less at =
-    earlier_marks entry history first entry.offset is.grows is.small is.began faithful place number side commit less at
+    earlier_marks entry history first entry.offset is.grows is.incarnation_fits is.began faithful place number side commit less at
 
 same_text : (a b n m : ℕ) (side : Side) (value : List ℕ) → a ≡ b → n ≡ m → Some (mark_text a n side) ≡ Some value → Mark value ≡ Mark (mark_text b m side)
 same_text a b n m side value one two is = cc

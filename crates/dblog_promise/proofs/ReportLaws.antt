@@ -3,6 +3,7 @@ use Rattle.std.proofs.Common.{◌≡◌, ◌∙◌, ℕ, ◌+◌, ◌==◌, ◌<
 use Rattle.std.specs.Prelude.{slice_get}
 use Rattle.std.proofs.lemmas.List.{length-reverse, reverse-reverse}
 use Rattle.dbl_base.specs.declared.lsn.Lsn.{Lsn}
+use Rattle.dbl_disk.specs.Model.{DiskModel}
 use Rattle.dbl_pgmsg.specs.declared.messages.Message.{Message}
 use Rattle.dbl_model_table.specs.declared.config.Config.{Config}
 use Rattle.dbl_model_table.specs.declared.table.TableInfo.{TableInfo}
@@ -14,7 +15,7 @@ use Rattle.dbl_source.specs.SourceModel.Standings.{Reading}
 use Rattle.dbl_source.specs.SourceModel.Stated.{ReadsRight, to_state}
 use Rattle.dbl_source.specs.SourceLog.declared.logged.LogTable.{LogTable}
 use Rattle.dbl_source.specs.SourceLog.declared.logged.Logged.{Logged}
-use Rattle.dbl_source.specs.SourceLog.declared.place.Place.{Place}
+use Rattle.dbl_source.specs.SourceLog.declared.reader_position.ReaderPosition.{ReaderPosition}
 use Rattle.dbl_source.specs.SourceLog.Numbers.{commits_upto}
 use Rattle.dbl_source.specs.SourceLog.Sent.{index_of, told_at, told_commit, told_from, told_open, told_part, told_whole}
 use Rattle.dbl_source.proofs.SourceLogReaderLemmas.{read_right}
@@ -38,9 +39,9 @@ use Rattle.dblog_promise.proofs.WholeLaws.{all_is_read}
 -- ---- the stored offset
 
 behind_is : (old new : Option Offset) (offset : Offset) (infos : List TableInfo) (after : Lsn) → new ≡ Some offset → BeginsAfter old new infos after → after ≡ read_after old offset
-behind_is (Some old) new offset infos after is subsequent = subsequent.1
-behind_is None None offset infos after is subsequent = absurd subsequent
-behind_is None (Some first) offset infos after is subsequent = subsequent.1 ∙ ap (λ (o : Offset). o.start) (let e : first ≡ offset = cc in e)
+behind_is (Some old) new offset infos after is begins = begins.1
+behind_is None None offset infos after is begins = absurd begins
+behind_is None (Some first) offset infos after is begins = begins.1 ∙ ap (λ (o : Offset). o.start) (let e : first ≡ offset = cc in e)
 
 raised : (a b : ℕ) → b ≡ a + 1 → (a == b) ≡ false
 raised a b is = grind (arith, is)
@@ -53,7 +54,7 @@ position_is config (Some old) new offset is by =
 infos_of : (held : Contents) (offset : Option Offset) (stored : Offset) → IsFaithful (history_at held) (confirmed_at held) (records_of_contents held) offset → offset ≡ Some stored → AreInfosOf (history_at held) stored.infos
 infos_of held None stored faithful is = absurd (let e : None ≡ Some stored = is in cc)
 infos_of held (Some offset) stored faithful is =
-    subst (λ (o : Offset). AreInfosOf (history_at held) o.infos) (let e : offset ≡ stored = cc in e) faithful.subsequent.offset_is.infos
+    subst (λ (o : Offset). AreInfosOf (history_at held) o.infos) (let e : offset ≡ stored = cc in e) faithful.lags.offset_is.infos
 
 -- ---- whole commits
 
@@ -61,11 +62,11 @@ whole_from : (tables : List LogTable) (n : ℕ) (log : List Logged) (past : List
 whole_from tables n [] past whole = whole
 whole_from tables n (entry ∷ log) past whole = whole_from tables (n + 1) log (told_commit tables n entry past) tt
 
-closed : (tables : List LogTable) (place : Place) (entry : Option Logged) (past : List Message) → place.begun ≡ false → HasNoOpenTransaction past → HasNoOpenTransaction (told_open tables place entry past)
+closed : (tables : List LogTable) (place : ReaderPosition) (entry : Option Logged) (past : List Message) → place.begun ≡ false → HasNoOpenTransaction past → HasNoOpenTransaction (told_open tables place entry past)
 closed tables place None past shut whole = whole
 closed tables place (Some entry) past shut whole = subst (λ (b : Bool). HasNoOpenTransaction (if b then told_part tables place entry past else past)) (sym shut) whole
 
-whole_at : (tables : List LogTable) (log : List Logged) (place : Place) → place.begun ≡ false → HasNoOpenTransaction (told_at tables log place)
+whole_at : (tables : List LogTable) (log : List Logged) (place : ReaderPosition) → place.begun ≡ false → HasNoOpenTransaction (told_at tables log place)
 whole_at tables log place shut =
     closed tables place (slice_get log (index_of place)) (told_whole tables place.after place.commits log) shut
     (whole_from tables (commits_upto place.after + 1) (take place.commits (drop (commits_upto place.after) log)) [] tt)
@@ -79,7 +80,7 @@ messages_counted Complete budget count ms many complete spent =
     (sym many ∙ sym (length-reverse ms), both.0, subst HasNoOpenTransaction (sym (reverse-reverse ms)) both.1)
 messages_counted Budget budget count ms many complete spent = (sym many ∙ sym (length-reverse ms), spent refl)
 
-sent_upto : (wal : Wal) (place : Place) (after upto : Lsn) (ms : List Message) → place.after ≡ after → told_at (tables_of wal) (logged_in wal.entries) place ≡ ms → upto ≡ last_lsn after ms
+sent_upto : (wal : Wal) (place : ReaderPosition) (after upto : Lsn) (ms : List Message) → place.after ≡ after → told_at (tables_of wal) (logged_in wal.entries) place ≡ ms → upto ≡ last_lsn after ms
     → IsSentUpto wal after upto (reverse ms)
 sent_upto wal place after upto ms from are last =
     let prefix = reads_what_is_sent (tables_of wal) (logged_in wal.entries) place in
@@ -89,8 +90,8 @@ sent_upto wal place after upto ms from are last =
       last = last ∙ ap (last_lsn after) (sym (reverse-reverse ms));
     }
 
-pub settled_reports_are_right : {D : Type 0} (seen : D → Option (List ℕ)) (may_leave : D → List ℕ → Type 0) → SettledReportsAreRight seen may_leave
-settled_reports_are_right seen may_leave config now old new ending report bytes demo place more kept wal_is is at complete spent settled position gained are =
+pub settled_reports_are_right : {D : Type 0} (model : DiskModel D) → SettledReportsAreRight model
+settled_reports_are_right model config now old new ending report bytes demo place more kept wal_is is at complete spent settled position gained are =
     let wal = new.wal in
     let tables = tables_of wal in
     let log = logged_in wal.entries in
@@ -98,7 +99,7 @@ settled_reports_are_right seen may_leave config now old new ending report bytes 
     let ms = settled.reading.messages in
     let after = read_after old.offset offset in
     let reading : wal_reading wal place ≡ settled.reading = (let e : Some (wal_reading wal place) ≡ Some settled.reading = settled.reading_is in cc) in
-    let after_is : settled.reading.after ≡ after = behind_is old.offset new.offset offset offset.infos settled.reading.after settled.stored.is settled.subsequent in
+    let after_is : settled.reading.after ≡ after = behind_is old.offset new.offset offset offset.infos settled.reading.after settled.stored.is settled.begins_after in
     let from : place.after ≡ after = ap (λ (r : Reading). r.after) reading ∙ after_is in
     let told : told_at tables log place ≡ ms = ap (λ (r : Reading). r.messages) reading in
     let accepted : AreWithoutFault offset.infos after ms = subst (λ (l : Lsn). AreWithoutFault offset.infos l ms) after_is settled.accepted in
@@ -115,7 +116,7 @@ settled_reports_are_right seen may_leave config now old new ending report bytes 
       by = settled.stored.by;
       position = position ∙ position_is config old.offset new.offset offset settled.stored.is settled.stored.by;
       confirmed = settled.upto;
-      sent_ms = reverse ms;
+      sent_messages = reverse ms;
       are_sent = sent_upto wal place after offset.lsn ms from told last;
       faultless = subst (AreWithoutFault offset.infos after) (sym (reverse-reverse ms)) accepted;
       sendable = subst (λ (l : List Message). AllCouldBeSent (course offset now after) (commits_of offset.infos l)) (sym (reverse-reverse ms))

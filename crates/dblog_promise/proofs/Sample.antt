@@ -71,7 +71,7 @@ begun = record {
     tt,
   );
   described = record { distinct = refl; each = tt };
-  small = omega arith;
+  incarnation_fits = omega arith;
 }
 
 abbrev left_unread : CrashState
@@ -107,7 +107,7 @@ begun_again = record {
   fit = fit_two;
   began = (record { identity = refl; infos = refl; start = refl; lsn = refl; cursors = refl; incarnation = omega arith }, refl);
   described = tt;
-  small = omega arith;
+  incarnation_fits = omega arith;
 }
 
 abbrev at_begin : Stage
@@ -192,7 +192,7 @@ begun_third = record {
   fit = fit_marked;
   began = (record { identity = refl; infos = refl; start = refl; lsn = refl; cursors = refl; incarnation = omega arith }, refl);
   described = tt;
-  small = omega arith;
+  incarnation_fits = omega arith;
 }
 
 three_sessions : After ByRules example_first (example_config ∷ (example_config ∷ (example_config ∷ []))) example_last

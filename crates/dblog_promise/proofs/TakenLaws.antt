@@ -130,7 +130,7 @@ all_taken : (held : Contents) (stored : Option Offset) (offset : Offset) → IsK
 all_taken held None offset kept faithful is = absurd (let e : None ≡ Some offset = is in cc)
 all_taken held (Some found) offset kept faithful is =
     let same : found ≡ offset = (let e : Some found ≡ Some offset = is in cc) in
-    let all = (fit_commits (history_at held) found.infos kept.fit faithful.subsequent.offset_is.infos).in_range in
+    let all = (fit_commits (history_at held) found.infos kept.fit faithful.lags.offset_is.infos).in_range in
     subst (λ (o : Offset). AllByRecursion (IsTaken o.identity) (records_of_contents held)) same
     (all_by_place (IsTaken found.identity) (records_of_contents held) (λ place item at. record_taken held found all faithful place item at))
 

@@ -19,12 +19,12 @@ module _ (last : FoundStores) (offset : Offset) (right : IsRight last) (is : las
   faithful = subst (λ (o : Option Offset). IsFaithful last.history last.confirmed (joined last.groups) o) is right.faithful
 
   fit : AreFitCommits offset.infos (captured_commits last.history offset)
-  fit = fit_commits last.history offset.infos right.fit faithful.subsequent.offset_is.infos
+  fit = fit_commits last.history offset.infos right.fit faithful.lags.offset_is.infos
 
   row : (place : ℕ) (item : Record) → slice_get (joined last.groups) place ≡ Some item → is_row item ≡ true → OverwritesNoLaterChange last.history (joined last.groups) offset place item
   row place item at is_one =
       let told = snapshot_rows_overwrite_nothing offset.identity offset.infos (captured_commits last.history offset) offset.start.0 (joined last.groups) place item fit faithful.exact faithful.snapshots at is_one in
-      record { fresh = told.0; right = told.1; subsequent = told.2 }
+      record { fresh = told.0; right = told.1; put_ahead = told.2 }
 
   pub tells : TellsTheSource last.history (joined last.groups) offset
   tells = record {

@@ -4,6 +4,7 @@ use Rattle.std.specs.Prelude.{nat_lt, slice_get}
 use Rattle.std.specs.List.{AllByRecursion}
 use Rattle.std.proofs.lemmas.List.{length-append, map-append, take_all, take-append-drop, length-take, length-take-le, length-drop}
 use Rattle.dbl_base.specs.declared.lsn.Lsn.{Lsn}
+use Rattle.dbl_disk.specs.Model.{DiskModel}
 use Rattle.dbl_pgmsg.specs.declared.messages.Message.{Message}
 use Rattle.dbl_model_table.specs.declared.change.Change.{Change}
 use Rattle.dbl_model_table.specs.declared.change.Commit.{Commit}
@@ -16,7 +17,7 @@ use Rattle.dbl_model_commit.specs.Past.{last_lsn}
 use Rattle.dbl_source.specs.SourceLog.declared.logged.LogTable.{LogTable}
 use Rattle.dbl_source.specs.SourceLog.declared.logged.Logged.{Logged}
 use Rattle.dbl_source.specs.SourceLog.declared.logged.Logged.TheVariants.{Changes, Mark}
-use Rattle.dbl_source.specs.SourceLog.declared.place.Place.{Place}
+use Rattle.dbl_source.specs.SourceLog.declared.reader_position.ReaderPosition.{ReaderPosition}
 use Rattle.dbl_source.specs.SourceLog.Histories.{raw_commit_at, commits_from, history_of, text_rows_at, text_rows_through}
 use Rattle.dbl_source.specs.SourceLog.Numbers.{commits_upto}
 use Rattle.dbl_source.specs.SourceLog.Sent.{IsPlaceIn, index_of, told_at, told_commit, told_from, told_open, told_part, told_whole}
@@ -43,14 +44,14 @@ upto_from tables after n (entry ∷ log) past base =
     let next = upto_from tables after (n + 1) log (told_commit tables (n + 1) entry past) (omega arith) in
     omega (arith, next)
 
-closed : (tables : List LogTable) (place : Place) (entry : Option Logged) (past : List Message) → place.begun ≡ false → told_open tables place entry past ≡ past
+closed : (tables : List LogTable) (place : ReaderPosition) (entry : Option Logged) (past : List Message) → place.begun ≡ false → told_open tables place entry past ≡ past
 closed tables place None past shut = refl
 closed tables place (Some entry) past shut = ap (λ (b : Bool). if b then told_part tables place entry past else past) shut
 
-length_taken : (place : Place) (log : List Logged) → IsPlaceIn log place → length (take place.commits (drop (commits_upto place.after) log)) ≡ place.commits
+length_taken : (place : ReaderPosition) (log : List Logged) → IsPlaceIn log place → length (take place.commits (drop (commits_upto place.after) log)) ≡ place.commits
 length_taken place log inside = length-take-le place.commits (drop (commits_upto place.after) log) (omega (arith, inside.few, length-drop (commits_upto place.after) log))
 
-upto_place : (tables : List LogTable) (log : List Logged) (place : Place) → IsPlaceIn log place → place.begun ≡ false → 256 * index_of place ≤ (last_lsn place.after (told_at tables log place)).0
+upto_place : (tables : List LogTable) (log : List Logged) (place : ReaderPosition) → IsPlaceIn log place → place.begun ≡ false → 256 * index_of place ≤ (last_lsn place.after (told_at tables log place)).0
 upto_place tables log place inside shut =
     let here = upto_from tables place.after (commits_upto place.after) (take place.commits (drop (commits_upto place.after) log)) [] (omega arith) in
     let many = length_taken place log inside in
@@ -86,7 +87,7 @@ module _ (tables : List LogTable) (upto : Lsn) where
       let later : List RawCommit = commits_after upto (commits_from tables next (n + 1) log) in
       subst (λ (b : Bool). AreWatermarks (cond b (raw_commit_at tables rows n entry ∷ later) later)) (sym (not_above upto.0 (256 * n) (omega (arith, low)))) (read_upto k next (n + 1) log (omega (arith, low)) marks)
 
-pub all_is_read : (tables : List LogTable) (log : List Logged) (place : Place) (upto : Lsn) → IsPlaceIn log place → place.begun ≡ false
+pub all_is_read : (tables : List LogTable) (log : List Logged) (place : ReaderPosition) (upto : Lsn) → IsPlaceIn log place → place.begun ≡ false
     → upto ≡ last_lsn place.after (told_at tables log place) → AllByRecursion IsMark (drop (index_of place) log) → AreWatermarks (commits_after upto (history_of tables log).commits)
 all_is_read tables log place upto inside shut last marks =
     let low : 256 * index_of place ≤ upto.0 = subst (λ (l : Lsn). 256 * index_of place ≤ l.0) (sym last) (upto_place tables log place inside shut) in
@@ -161,8 +162,8 @@ moment_is infos tables log k p low marks =
     let counted = all_counted front more p (under infos tables no_text_rows 1 (take k log) p (omega (arith, low, few))) (none_in infos tables (text_rows_through tables no_text_rows (take k log)) (1 + length (take k log)) (drop k log) marks) in
     subst (λ (cs : List Commit). moment_at cs p ≡ length (all_changes cs)) (sym whole) counted
 
-pub complete_runs_leave_tables_equal : {D : Type 0} (seen : D → Option (List ℕ)) (may_leave : D → List ℕ → Type 0) → CompleteRunsLeaveTablesEqual seen may_leave
-complete_runs_leave_tables_equal seen may_leave config now old new offset demo place kept_old kept goes is ended at stored last complete =
+pub complete_runs_leave_tables_equal : {D : Type 0} (model : DiskModel D) → CompleteRunsLeaveTablesEqual model
+complete_runs_leave_tables_equal model config now old new offset demo place kept_old kept goes is ended at stored last complete =
     let wal = new.wal in
     let infos = offset.infos in
     let tables = tables_of wal in
@@ -178,8 +179,8 @@ complete_runs_leave_tables_equal seen may_leave config now old new offset demo p
       offset = offset;
       stored = stored;
       done = complete.done;
-      subsequent = complete.not_before;
-      equal = complete.images;
-      run = sym committed;
-      whole = λ topic text. subst (λ (r : Rows). HoldsImage offset.identity infos r (records_of_contents new) topic text) same (complete.images topic text);
+      not_before = complete.not_before;
+      holds_source_rows = complete.images;
+      ran_whole = sym committed;
+      holds_final_rows = λ topic text. subst (λ (r : Rows). HoldsImage offset.identity infos r (records_of_contents new) topic text) same (complete.images topic text);
     }

@@ -27,7 +27,7 @@ AddsReportedMarks ending chunks old new = AddsExactly chunks (marks_more ending 
 
 -- ---- lengths
 
--- The disk of a store is no longer than before, or than 2^30 bytes past the end of the last committed entry of its journal.
+-- The disk of a store now has a journal, and is no longer than before, or than 2^30 bytes past the journal's unset commit byte.
 pub record StaysShort (before now : List ℕ) : Type 0 where
   pub entries : List (List ℕ)
   pub journal : IsJournal now entries

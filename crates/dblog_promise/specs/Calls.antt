@@ -1,5 +1,6 @@
 -- Calls of a session over sources, sinks and stores of any kind, in terms of what these represent.
 use Rattle.std.specs.Prelude.{ℕ, ℤ, List}
+use Rattle.dbl_disk.specs.Model.{DiskModel}
 use Rattle.dbl_record.specs.declared.record.Record.{Record}
 use Rattle.dbl_model_table.specs.declared.config.Config.{Config}
 use Rattle.dbl_source.specs.SourceModel.Standings.{CrashState}
@@ -12,7 +13,7 @@ use Rattle.dblog_promise.specs.Restarts.{After, ByPromise, FoundStores, restart_
 -- session's clause, if the session found the stored offset's tables; `new` is one choice of it, with bytes that a crash may leave of the
 -- store's disk.
 pub record ByCall {S K D : Type 0} (honest : S → Type 0) (may_source : S → CrashState → Type 0) (may_sink : K → List (List Record) → Type 0)
-    (may_leave : D → List ℕ → Type 0) (config : Config) (old new : FoundStores) : Type 0 where
+    (model : DiskModel D) (config : Config) (old new : FoundStores) : Type 0 where
   pub now : ℤ
   pub src : S
   pub sink : K
@@ -20,14 +21,14 @@ pub record ByCall {S K D : Type 0} (honest : S → Type 0) (may_source : S → C
   pub crashed : List ℕ
   pub was_honest : honest src
   pub leaves : HadOwnTables (restart_at config now old)
-      → LeavesGoing may_source may_sink may_leave (restart_at config now old) src sink store
+      → LeavesGoing may_source may_sink model (restart_at config now old) src sink store
   pub may_source_leave : may_source src (source_of new)
   pub may_sink_leave : may_sink sink new.groups
-  pub may_disk_leave : may_leave (disk_of store) crashed
+  pub may_disk_leave : model.may_leave (disk_of store) crashed
   pub is_store : IsStore crashed new.offset
 
 -- Any number of such calls keep the session's guarantees.
 abbrev pub CallsKeepPromises : {S K D : Type 0} → (S → Type 0) → (S → CrashState → Type 0) → (K → List (List Record) → Type 0)
-    → (D → List ℕ → Type 0) → Type 0
-CallsKeepPromises honest may_source may_sink may_leave = (first last : FoundStores) (sessions : List Config)
-    → After (ByCall honest may_source may_sink may_leave) first sessions last → After ByPromise first sessions last
+    → DiskModel D → Type 0
+CallsKeepPromises honest may_source may_sink model = (first last : FoundStores) (sessions : List Config)
+    → After (ByCall honest may_source may_sink model) first sessions last → After ByPromise first sessions last

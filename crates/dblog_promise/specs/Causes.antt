@@ -39,7 +39,7 @@ pub record HasGained (old new : List (List Record)) (report : Report) : Type 0 w
 -- is stored by then.
 pub record HasRead (config : Config) (found stored : Option Offset) (wal : Wal) (reading : Reading) : Type 0 where
   pub by : HasStored config found stored
-  pub subsequent : BeginsAfter found stored by.offset.infos reading.after
+  pub begins_after : BeginsAfter found stored by.offset.infos reading.after
   pub rest : List Message
   pub front : messages_sent wal reading.after ≡ reverse reading.messages ++ rest
 

@@ -1,4 +1,4 @@
--- How a run of the connector changes the contents of the disks: it only extends them.
+-- How a run of the connector changes the contents of the disks: they only advance.
 use Rattle.std.specs.Prelude.{◌≡◌, ℕ, ◌++◌, ◌≤◌, max, Option, Some, None, List}
 use Rattle.dbl_record.specs.Cuts.{cut}
 use Rattle.dbl_model_table.specs.declared.config.Config.{Config}
@@ -21,7 +21,7 @@ pub record AdvancesFrom (config : Config) (old new : Contents) : Type 0 where
   pub no_fall : (confirmed_at old).0 ≤ (confirmed_at new).0
   -- The appended records have positions above the LSN that was stored, or above the start of a first offset; and their places rise.
   pub adds : Adds (appends_after old.offset new.offset) (records_of_contents old) (records_of_contents new)
-  -- The appended records are in batches of at most 1,000 records and 16,777,216 bytes, each of one position.
+  -- The appended records are in batches, each of one position, and of at most 1,000 records and 16,777,216 bytes or of one longer record.
   pub grouped : new.groups ≡ old.groups ++ cut adds.more
   -- A restart redelivers no more commits than before the run, or than `every`, the configured number of commits between two stores.
   pub lag_is : lag (history_at new) (records_of_contents new) new.offset ≤ max config.every (lag (history_at old) (records_of_contents old) old.offset)
@@ -43,11 +43,11 @@ pub record HasPredecessor (asks : Contents → Option Config) (wals logs stores 
   pub may_offsets : stores offsets
   pub old : Contents
   pub read : ReadAs wal topics offsets old
-  pub goes : Advances (asks old) old new
+  pub advances : Advances (asks old) old new
 
 -- The bytes of the three disks are read as crash-consistent contents, which a run made of contents that were possible before it.
 pub record IsLeft (asks : Contents → Option Config) (wals logs stores : List ℕ → Type 0) (w t f : List ℕ) : Type 0 where
   pub held : Contents
   pub read : ReadAs w t f held
   pub kept : IsKept held
-  pub came : HasPredecessor asks wals logs stores held
+  pub predecessor : HasPredecessor asks wals logs stores held

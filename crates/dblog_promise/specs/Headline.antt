@@ -58,12 +58,12 @@ HoldsSourceRows held offset = (number : ℕ) (item : Record) → IsFirstDelivery
 
 -- ---- no snapshot record overwrites a later change
 
--- This snapshot record is delivered for the first time, is the source's row at its position, and comes after the record of each change with
--- a lower position.
+-- This snapshot record is delivered for the first time, is the source's row at its position, and comes after a record of each change of the
+-- captured tables above the offset's start and below that position.
 pub record OverwritesNothing (held : Contents) (offset : Offset) (number : ℕ) (item : Record) : Type 0 where
   pub fresh : IsFresh (records_of_contents held) number
   pub right : IsSourceRow offset.identity offset.infos (captured_commits_at held offset) item
-  pub subsequent : (place : ℕ) (event : ToldEvent) → slice_get (events_since offset.infos offset.start.0 (captured_commits_at held offset)) place ≡ Some event
+  pub put_ahead : (place : ℕ) (event : ToldEvent) → slice_get (events_since offset.infos offset.start.0 (captured_commits_at held offset)) place ≡ Some event
       → event.event.position < item.position → IsPutAhead offset.identity (records_of_contents held) number event
 
 -- No snapshot record of the topic log overwrites a later change.
@@ -90,10 +90,10 @@ pub record LeavesTablesEqual (old new : Contents) : Type 0 where
   pub offset : Offset
   pub stored : new.offset ≡ Some offset
   pub done : AllByRecursion (λ cursor. cursor.done ≡ true) offset.cursors
-  pub subsequent : AllByRecursion (λ commit. commit.lsn.0 ≤ offset.lsn.0) (history_at old).commits
-  pub equal : HoldsRows new offset (source_rows_at new offset offset.lsn.0)
-  pub run : session_commits new.wal.entries ≡ log_at new.wal.workload (length (steps_of new.wal.workload))
-  pub whole : HoldsRows new offset (whole_rows new.wal offset.infos)
+  pub not_before : AllByRecursion (λ commit. commit.lsn.0 ≤ offset.lsn.0) (history_at old).commits
+  pub holds_source_rows : HoldsRows new offset (source_rows_at new offset offset.lsn.0)
+  pub ran_whole : session_commits new.wal.entries ≡ log_at new.wal.workload (length (steps_of new.wal.workload))
+  pub holds_final_rows : HoldsRows new offset (whole_rows new.wal offset.infos)
 
 -- ---- the guarantees
 
@@ -108,4 +108,4 @@ pub record Guarantees (complete : Type 0) (old new : Contents) : Type 0 where
 -- The guarantees apply to these bytes of the three disks, which a crash may leave, relative to contents that were possible before the run.
 pub record GuaranteesAfterCrash (complete : Type 0) (asks : Contents → Option Config) (wals logs stores : List ℕ → Type 0) (w t f : List ℕ) : Type 0 where
   pub left : IsLeft asks wals logs stores w t f
-  pub promised : Guarantees complete left.came.old left.held
+  pub guarantees : Guarantees complete left.predecessor.old left.held

@@ -8,7 +8,8 @@ abbrev pub IsKept : Contents → Type 0
 IsKept held = IsRight (found_in held)
 
 -- Each disk has known contents; and everything that a crash may leave of the three disks, in any combination, is read as a source's log, a
--- topic log and an offset store that are crash-consistent. The known contents are among those that a crash may leave.
+-- topic log and an offset store that are crash-consistent. The known contents of a disk are among those that a crash may leave by
+-- `seen_may_be_left` of the trait `Disk`, which isn't repeated here.
 pub record AreKept (told_wal told_topics told_offsets : Option (List ℕ)) (wals logs stores : List ℕ → Type 0) : Type 0 where
   pub wal : IsSome told_wal
   pub topics : IsSome told_topics

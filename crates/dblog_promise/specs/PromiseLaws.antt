@@ -1,5 +1,6 @@
 -- What the bytes of the disks determine, and what runs make of their contents.
-use Rattle.std.specs.Prelude.{◌≡◌, ℕ, ℤ, ◌<◌, ◌≤◌, None, Some, Option, IsTrue, List, [], ◌++◌, length, map}
+use Rattle.std.specs.Prelude.{◌≡◌, ℕ, ℤ, ◌<◌, ◌≤◌, None, Some, IsTrue, List, [], ◌++◌, length, map}
+use Rattle.dbl_disk.specs.Model.{DiskModel}
 use Rattle.dbl_record.specs.declared.record.Record.{Record}
 use Rattle.dbl_record.specs.Cuts.{joined}
 use Rattle.dbl_model_table.specs.declared.config.Config.{Config}
@@ -9,7 +10,7 @@ use Rattle.dbl_model_commit.specs.Past.{last_lsn}
 use Rattle.dbl_topic.specs.Logs.{IsLog}
 use Rattle.dbl_capture_laws.specs.Offset.declared.offset.Offset.{Offset}
 use Rattle.dbl_capture_laws.specs.Offset.Stores.{IsStore}
-use Rattle.dbl_source.specs.SourceLog.declared.place.Place.{Place}
+use Rattle.dbl_source.specs.SourceLog.declared.reader_position.ReaderPosition.{ReaderPosition}
 use Rattle.dbl_demo_laws.specs.DemoWal.Standings.{left_in, wal_reading, standing_in}
 use Rattle.dbl_demo_laws.specs.DemoWal.Wals.{IsWal}
 use Rattle.dbl_demo_laws.specs.DemoWal.Workloads.{IsWorkload, Workload}
@@ -72,11 +73,11 @@ abbrev pub KeptRunsArePromised : Type 0
 KeptRunsArePromised = (config : Config) (old new : Contents) → IsKept new → AdvancesFrom config old new → Guarantees ⊥ old new
 
 -- A complete session, over a source whose last read returned that nothing is left, leaves the tables equal.
-abbrev pub CompleteRunsLeaveTablesEqual : {D : Type 0} → (D → Option (List ℕ)) → (D → List ℕ → Type 0) → Type 0
-CompleteRunsLeaveTablesEqual {D} seen may_leave =
-    (config : Config) (now : ℤ) (old new : Contents) (offset : Offset) (demo : Demo D) (place : Place)
+abbrev pub CompleteRunsLeaveTablesEqual : {D : Type 0} → DiskModel D → Type 0
+CompleteRunsLeaveTablesEqual {D} model =
+    (config : Config) (now : ℤ) (old new : Contents) (offset : Offset) (demo : Demo D) (place : ReaderPosition)
     → IsKept old → IsKept new → AdvancesFrom config old new
-    → IsDemo seen may_leave new.wal demo → IsTrue demo.ended → demo.place ≡ Some place
+    → IsDemo model new.wal demo → IsTrue demo.ended → demo.place ≡ Some place
     → new.offset ≡ Some offset → offset.lsn ≡ last_lsn place.after (wal_reading new.wal place).messages
     → IsComplete (restart_at config now (found_in old)) (left_in new.wal) new.groups offset
     → LeavesTablesEqual old new
@@ -84,11 +85,11 @@ CompleteRunsLeaveTablesEqual {D} seen may_leave =
 -- ---- reports
 
 -- The report of a session that ended over a source that runs the workload, and left crash-consistent contents, agrees with the disks.
-abbrev pub SettledReportsAreRight : {D : Type 0} → (D → Option (List ℕ)) → (D → List ℕ → Type 0) → Type 0
-SettledReportsAreRight {D} seen may_leave =
-    (config : Config) (now : ℤ) (old new : Contents) (ending : Ending) (report : Report) (bytes : List ℕ) (demo : Demo D) (place : Place)
+abbrev pub SettledReportsAreRight : {D : Type 0} → DiskModel D → Type 0
+SettledReportsAreRight {D} model =
+    (config : Config) (now : ℤ) (old new : Contents) (ending : Ending) (report : Report) (bytes : List ℕ) (demo : Demo D) (place : ReaderPosition)
     (more : List (List Record))
-    → IsKept new → IsWal bytes new.wal → IsDemo seen may_leave new.wal demo → demo.place ≡ Some place
+    → IsKept new → IsWal bytes new.wal → IsDemo model new.wal demo → demo.place ≡ Some place
     → (ending ≡ Complete → IsTrue demo.ended × (report.messages < config.messages)) → (ending ≡ Budget → report.messages ≡ config.messages)
     → HasSettled config now old.offset new.offset report (standing_in new.wal (Some place))
     → report.position ≡ position_of old.offset new.offset

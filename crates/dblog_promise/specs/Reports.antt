@@ -66,15 +66,15 @@ pub record IsReportOf (config : Config) (now : ℤ) (old new : Contents) (ending
   pub by : IsStoredBy config old.offset offset
   pub position : report.position ≡ offset.lsn.0
   pub confirmed : offset.lsn.0 ≤ (confirmed_at new).0
-  pub sent_ms : List Message
-  pub are_sent : IsSentUpto new.wal (read_after old.offset offset) offset.lsn sent_ms
+  pub sent_messages : List Message
+  pub are_sent : IsSentUpto new.wal (read_after old.offset offset) offset.lsn sent_messages
   -- No message is invalid, and the records of each commit that the messages state could be sent.
-  pub faultless : AreWithoutFault offset.infos (read_after old.offset offset) (reverse sent_ms)
-  pub sendable : AllCouldBeSent (course offset now (read_after old.offset offset)) (commits_of offset.infos (reverse sent_ms))
-  pub messages : CountsMessages ending config.messages sent_ms report.messages
+  pub faultless : AreWithoutFault offset.infos (read_after old.offset offset) (reverse sent_messages)
+  pub sendable : AllCouldBeSent (course offset now (read_after old.offset offset)) (commits_of offset.infos (reverse sent_messages))
+  pub messages : CountsMessages ending config.messages sent_messages report.messages
   pub commits : report.commits ≡ length (commits_between (read_after old.offset offset).0 offset.lsn.0 (history_at new))
   -- The offset's end in the log is that of the last commit that the messages state, or where reading began if they state none.
-  pub end_lsn : offset.end_lsn ≡ end_after (began_after old.offset offset) (commits_of offset.infos (reverse sent_ms))
+  pub end_lsn : offset.end_lsn ≡ end_after (began_after old.offset offset) (commits_of offset.infos (reverse sent_messages))
   -- For `Complete` everything was read: the source's commits above the position are all watermarks.
   pub all_read : ending ≡ Complete → AllByRecursion (λ commit. IsWatermark commit.body) (commits_after offset.lsn (history_at new).commits)
   pub more : List (List Record)

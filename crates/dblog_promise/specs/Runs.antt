@@ -40,7 +40,7 @@ pub record BeginsSession (entry : SessionStart) (history : History) (first : Off
   pub fit : IsFitHistory history
   pub began : BeganWith entry history first
   pub described : WasDescribed history first entry.offset
-  pub small : first.incarnation < 2 ^ 64
+  pub incarnation_fits : first.incarnation < 2 ^ 64
 
 -- The offset with which the next session begins, if this one is stored.
 abbrev pub raised : Offset → Offset

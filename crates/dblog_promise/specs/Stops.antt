@@ -53,5 +53,5 @@ pub record Completes (entry : SessionStart) (stage : Stage) (left : CrashState) 
   pub more : List Commit
   pub read : read_at stage ≡ to_state stage.first.infos stage.first.lsn entry.history ++ more
   pub done : AllByRecursion (λ cursor. cursor.done ≡ true) stage.following.cursors
-  pub may : MayBeLeft stage left
+  pub may_be_left : MayBeLeft stage left
   pub confirmed : stage.lsn.0 ≤ left.confirmed.0

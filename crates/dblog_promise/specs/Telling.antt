@@ -22,7 +22,7 @@ pub record OverwritesNoLaterChange (history : History) (records : List Record) (
     : Type 0 where
   pub fresh : IsFresh records place
   pub right : IsSourceRow offset.identity offset.infos (captured_commits history offset) item
-  pub subsequent : (number : ℕ) (event : ToldEvent)
+  pub put_ahead : (number : ℕ) (event : ToldEvent)
       → slice_get (events_since offset.infos offset.start.0 (captured_commits history offset)) number ≡ Some event
       → event.event.position < item.position → IsPutAhead offset.identity records place event
 

@@ -39,7 +39,7 @@ pub fn kept_runs_are_promised()
 
 /// A complete session leaves the tables equal to those of the whole workload.
 pub fn complete_runs_leave_tables_equal<D: Disk>()
-    ensures { CompleteRunsLeaveTablesEqual D.seen D.may_leave }
+    ensures { CompleteRunsLeaveTablesEqual D.Disk }
 {}
 
 /// After a complete run `apply` prints the source's tables.
@@ -54,7 +54,7 @@ pub fn kept_logs_are_printed()
 
 /// A session's report agrees with the disks before and after it.
 pub fn settled_reports_are_right<D: Disk>()
-    ensures { SettledReportsAreRight D.seen D.may_leave }
+    ensures { SettledReportsAreRight D.Disk }
 {}
 
 /// The counts of a report are exact.

@@ -52,7 +52,7 @@ entry_is keys s n ns nm columns entry schema name is = is ∙ ap (λ (t : TableN
 -- the entry by the keys that are given
 pub given_entry : (options : ReplayOptions) (ms : List Message) (r : Replayer) → FollowsMessages options ms r → (keys : List TableKey) (table : TableName) (columns : List RelationColumn) (entry : RawTable) → keys ≡ r.keys
     → entry ≡ entry_of keys table columns → entry ≡ entry_of options.keys table columns
-given_entry options ms r follows keys table columns entry same is = is ∙ ap (λ (k : List TableKey). entry_of k table columns) (same ∙ follows.subsequent.keys)
+given_entry options ms r follows keys table columns entry same is = is ∙ ap (λ (k : List TableKey). entry_of k table columns) (same ∙ follows.replayed.keys)
 
 module _ (options : ReplayOptions) (ms : List Message) (r : Replayer) (oid identity : ℕ) (ns nm s n : List ℕ) (columns : List RelationColumn) (items : List TableInfo) (test : Bool) (follows : FollowsMessages options ms r)
     (schema : s ≡ schema_of ns) (name : n ≡ nm) (same : items ≡ follows.infos)
@@ -63,7 +63,7 @@ module _ (options : ReplayOptions) (ms : List Message) (r : Replayer) (oid ident
       let none = is_known options.keys ms follows.infos (table_named ns nm) columns test follows.captured (test_is s n ns nm items follows.infos test schema name same is) known in
       record {
         infos = follows.infos;
-        subsequent = follows.subsequent;
+        replayed = follows.replayed;
         capturable = ap (option_and_then (capture_fault (length (tables_in options.keys ms)))) none;
         captured = captured_still options.keys (says.Relation oid ns nm identity columns) ms follows.infos follows.captured none;
       }
@@ -86,13 +86,13 @@ module _ (options : ReplayOptions) (ms : List Message) (r : Replayer) (oid ident
   -- and it is captured now
   pub learn_more : (entry : RawTable) (count : ℕ) (info : TableInfo) (t : Replayer) → test ≡ true → entry ≡ entry_of options.keys (record { schema = s; name = n }) columns → count ≡ length items → IsInfoOf entry info
       → capture_fault count entry ≡ None → HasReplayed options (follows.infos ++ info ∷ []) ms t → IsReplayerReady options ms (says.Relation oid ns nm identity columns) t
-  learn_more entry count info t new entry_told counted info_told clean subsequent =
+  learn_more entry count info t new entry_told counted info_told clean replayed =
       let told = is_new options.keys ms follows.infos (table_named ns nm) columns test follows.captured (test_is s n ns nm items follows.infos test schema name same is) new in
       let entry_same = entry_is options.keys s n ns nm columns entry schema name entry_told in
       let count_told : count ≡ length (tables_in options.keys ms) = counted ∙ ap length same ∙ count_is options.keys ms follows.infos follows.captured in
       record {
         infos = follows.infos ++ info ∷ [];
-        subsequent = subsequent;
+        replayed = replayed;
         capturable = ap (option_and_then (capture_fault (length (tables_in options.keys ms)))) told ∙ ap₂ capture_fault (sym count_told) (sym entry_same) ∙ clean;
         captured = captured_more options.keys (says.Relation oid ns nm identity columns) ms follows.infos info (entry_of options.keys (table_named ns nm) columns) follows.captured told (info_told ∙ entry_same);
       }
@@ -130,7 +130,7 @@ taken_next options ms bytes m r s o ready spells put fields = record {
   read = is_read options ms bytes m r ready spells;
   clean = put.clean;
   commit = put.commit;
-  subsequent = put.subsequent;
+  replayed = put.replayed;
   fields = (spells.fits.fields, fields);
 }
 
@@ -150,17 +150,17 @@ WriterFault r o = option_and_then (commit_fault r.writer.identity r.writer.infos
 
 writer_lines : (options : ReplayOptions) (ms : List Message) (b : List ℕ) (r : Replayer) (o : Option Commit) (now : ℤ) (is : IsNextMessage options ms b r o) → WriterLines r o now ≡ lines_in options.identity is.infos (list_of (ended_commit is.infos is.m ms)) now
 writer_lines options ms b r o now is =
-    ap₂ (λ (i : Identity) (infos : List TableInfo). lines_in i infos (list_of o) now) is.subsequent.identity is.subsequent.writes ∙ ap (λ (c : Option Commit). lines_in options.identity is.infos (list_of c) now) is.commit
+    ap₂ (λ (i : Identity) (infos : List TableInfo). lines_in i infos (list_of o) now) is.replayed.identity is.replayed.writes ∙ ap (λ (c : Option Commit). lines_in options.identity is.infos (list_of c) now) is.commit
 
 writer_fault : (options : ReplayOptions) (ms : List Message) (b : List ℕ) (r : Replayer) (o : Option Commit) (is : IsNextMessage options ms b r o) → WriterFault r o ≡ read_fault options.identity is.infos is.m ms
 writer_fault options ms b r o is =
-    ap₂ (λ (i : Identity) (infos : List TableInfo). option_and_then (commit_fault i infos) o) is.subsequent.identity is.subsequent.writes ∙ sym (ended_fault options ms is.m is.infos o is.clean is.commit)
+    ap₂ (λ (i : Identity) (infos : List TableInfo). option_and_then (commit_fault i infos) o) is.replayed.identity is.replayed.writes ∙ sym (ended_fault options ms is.m is.infos o is.clean is.commit)
 
 next_taken : (options : ReplayOptions) (ms : List Message) (b : List ℕ) (r : Replayer) (o : Option Commit) (is : IsNextMessage options ms b r o) → WriterFault r o ≡ None → IsTaken options ms b is.m is.infos
 next_taken options ms b r o is none = record { read = is.read; clean = sym (writer_fault options ms b r o is) ∙ none }
 
 next_follows : (options : ReplayOptions) (ms : List Message) (b : List ℕ) (r : Replayer) (o : Option Commit) (is : IsNextMessage options ms b r o) → FollowsMessages options (is.m ∷ ms) r
-next_follows options ms b r o is = record { infos = is.infos; subsequent = is.subsequent; captured = is.read.captured; fields = is.fields }
+next_follows options ms b r o is = record { infos = is.infos; replayed = is.replayed; captured = is.read.captured; fields = is.fields }
 
 -- what became of the commit is what became of the message
 pub steps : (options : ReplayOptions) (now : ℤ) (ms : List Message) (b gathered later : List ℕ) (r : Replayer) (o : Option Commit) (result : Result (Option LogFault) PrintError) (before after : Option (List ℕ)) → IsNextMessage options ms b r o

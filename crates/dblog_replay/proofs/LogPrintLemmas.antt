@@ -2,6 +2,7 @@
 use Rattle.std.proofs.Common.{◌≡◌, ℕ, ℤ, Option, List, [], ◌++◌, Result, Ok, Err, refl, sym, ap₂, subst, append-nil}
 use Rattle.dbl_base.specs.Lines.{lines_text}
 use Rattle.dbl_base.proofs.LineLemmas.{lines_text-append}
+use Rattle.dbl_lines.specs.declared.status.Status.{Status}
 use Rattle.dbl_lines.specs.declared.error.PrintError.{PrintError}
 use Rattle.dbl_lines.specs.declared.error.PrintError.TheVariants as print_error
 use Rattle.dbl_lines.specs.Writing.{WrotePrefix, PrintFails}
@@ -44,7 +45,7 @@ starves_log options now bs gathered later fault before after none is lines end w
     subst (λ (l : List (List ℕ)). LogFails l end print_error.Memory before after) same.lines (put_fails_prints is.lines gathered print_error.Memory before after none part)
 
 -- all lines were put, and the line of the fault, and then written
-pub prints_log : (options : ReplayOptions) (now : ℤ) (bs : List (List ℕ)) (gathered later : List ℕ) (fault : Option LogFault) (status : ℕ) (before between after : Option (List ℕ)) → gathered ≡ [] → IsLogPut options now bs gathered later fault before between
+pub prints_log : (options : ReplayOptions) (now : ℤ) (bs : List (List ℕ)) (gathered later : List ℕ) (fault : Option LogFault) (status : Status) (before between after : Option (List ℕ)) → gathered ≡ [] → IsLogPut options now bs gathered later fault before between
     → FinishesLog fault later (Ok status) between after → IsLogPrinted options now bs status before after
 prints_log options now bs gathered later fault status before between after none is ends = record {
   lines = is.lines;
@@ -62,7 +63,7 @@ cuts_log options now bs gathered later fault before between after none is fails 
     let cut : WrotePrefix before after (lines_text (is.lines ++ end_lines fault)) = fails before is.lines (is.puts before [] (none_put before gathered none)) in
     subst (WrotePrefix before after) (ap₂ (λ (l : List (List ℕ)) (e : Option LogFault). lines_text (l ++ end_lines e)) same.lines same.end) cut
 
-pub ended_log : (options : ReplayOptions) (now : ℤ) (bs : List (List ℕ)) (gathered later : List ℕ) (fault : Option LogFault) (result : Result ℕ PrintError) (before between after : Option (List ℕ)) → gathered ≡ [] → IsLogPut options now bs gathered later fault before between
+pub ended_log : (options : ReplayOptions) (now : ℤ) (bs : List (List ℕ)) (gathered later : List ℕ) (fault : Option LogFault) (result : Result Status PrintError) (before between after : Option (List ℕ)) → gathered ≡ [] → IsLogPut options now bs gathered later fault before between
     → FinishesLog fault later result between after → PrintsLog options now bs result before after
 ended_log options now bs gathered later fault (Ok status) before between after none is ends = prints_log options now bs gathered later fault status before between after none is ends
 ended_log options now bs gathered later fault (Err print_error.OutputFailed) before between after none is ends = cuts_log options now bs gathered later fault before between after none is ends

@@ -35,4 +35,4 @@ ended_suits infos m ms (Some commit) fields is =
 
 pub next_suits : (options : ReplayOptions) (ms : List Message) (bytes : List ℕ) (r : Replayer) (o : Option Commit) → IsNextMessage options ms bytes r o → IfSome o (λ commit. All (Suits r.writer.infos) (changes_of commit))
 next_suits options ms bytes r o is =
-    subst (λ (infos : List TableInfo). IfSome o (λ commit. All (Suits infos) (changes_of commit))) (sym is.subsequent.writes) (ended_suits is.infos is.m ms o is.fields is.commit)
+    subst (λ (infos : List TableInfo). IfSome o (λ commit. All (Suits infos) (changes_of commit))) (sym is.replayed.writes) (ended_suits is.infos is.m ms o is.fields is.commit)

@@ -26,7 +26,7 @@ pub record HasReplayed (options : ReplayOptions) (infos : List TableInfo) (ms : 
 -- The state after these messages, with the tables captured that they describe.
 pub record FollowsMessages (options : ReplayOptions) (ms : List Message) (r : Replayer) : Type 0 where
   pub infos : List TableInfo
-  pub subsequent : HasReplayed options infos ms r
+  pub replayed : HasReplayed options infos ms r
   pub captured : AreCaptured options.keys ms infos
   pub fields : AllByRecursion FitsFields ms
 
@@ -44,7 +44,7 @@ ReadFails number bytes fault = (fault ≡ log.Memory) ⊎ ((error : MsgError) ×
 -- The table of the next message is captured, if the message is the first to describe it.
 pub record IsReplayerReady (options : ReplayOptions) (ms : List Message) (m : Message) (r : Replayer) : Type 0 where
   pub infos : List TableInfo
-  pub subsequent : HasReplayed options infos ms r
+  pub replayed : HasReplayed options infos ms r
   pub capturable : told_fault options.keys (tables_in options.keys ms) m ≡ None
   pub captured : AreCaptured options.keys (m ∷ ms) infos
 
@@ -57,7 +57,7 @@ Prepares options ms m r (Err e) = (e ≡ log.Memory) ⊎ (told_fault options.key
 pub record IsAppended (options : ReplayOptions) (infos : List TableInfo) (ms : List Message) (m : Message) (r : Replayer) (o : Option Commit) : Type 0 where
   pub clean : transaction_fault infos log_start m ms ≡ None
   pub commit : o ≡ ended_commit infos m ms
-  pub subsequent : HasReplayed options infos (m ∷ ms) r
+  pub replayed : HasReplayed options infos (m ∷ ms) r
 
 -- The result of processing the next message, after its table was captured.
 abbrev pub AppendsMessage : ReplayOptions → List TableInfo → List Message → Message → Replayer → Result (Option Commit) LogFault → Type 0
@@ -71,7 +71,7 @@ pub record IsNextMessage (options : ReplayOptions) (ms : List Message) (bytes : 
   pub read : IsRead options ms bytes m infos
   pub clean : transaction_fault infos log_start m ms ≡ None
   pub commit : o ≡ ended_commit infos m ms
-  pub subsequent : HasReplayed options infos (m ∷ ms) r
+  pub replayed : HasReplayed options infos (m ∷ ms) r
   pub fields : AllByRecursion FitsFields (m ∷ ms)
 
 -- The result of processing the bytes of the next message.

@@ -1,5 +1,7 @@
 -- What `replay` makes of the messages of a log: the lines of their commits, up to the first error. Lists of messages have the newest first.
 use Rattle.std.specs.Prelude.{◌≡◌, ◌⊎◌, ℕ, ◌+◌, ℤ, Bool, true, false, Option, Some, None, is_some, option_map, option_and_then, List, [], ◌∷◌, ◌++◌, length, map, flat_map}
+use Rattle.dbl_lines.specs.declared.status.Status.{Status}
+use Rattle.dbl_lines.specs.declared.status.Status.TheVariants.{Done}
 use Rattle.std.specs.Option.{option_or}
 use Rattle.dbl_base.specs.declared.lsn.Lsn.{Lsn}
 use Rattle.dbl_pgmsg.specs.declared.error.MsgError.{MsgError}
@@ -79,8 +81,8 @@ LogWrites options now ms (b ∷ bs) lines end =
     × (lines ≡ lines_in options.identity infos (list_of (ended_commit infos m ms)) now ++ more) × LogWrites options now (m ∷ ms) bs more end)
 
 -- The status of a log's end.
-abbrev pub end_status : Option LogFault → ℕ
-end_status None = 0
+abbrev pub end_status : Option LogFault → Status
+end_status None = Done
 end_status (Some fault) = log_status fault
 
 -- The line of a log's error, if there is one.

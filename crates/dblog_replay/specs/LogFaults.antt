@@ -1,5 +1,7 @@
 -- The status and the line of each error of a log.
-use Rattle.std.specs.Prelude.{ℕ, ◌==◌, if◌then◌else◌, List, ◌++◌, codes, decimal}
+use Rattle.std.specs.Prelude.{ℕ, Bool, true, false, if◌then◌else◌, List, ◌++◌, codes, decimal}
+use Rattle.dbl_lines.specs.declared.status.Status.{Status}
+use Rattle.dbl_lines.specs.declared.status.Status.TheVariants.{MalformedLog, Unsupported, OutOfMemory}
 use Rattle.dbl_pgmsg.specs.declared.error.MsgError.{MsgError}
 use Rattle.dbl_pgmsg.specs.declared.error.MsgError.TheVariants as bytes
 use Rattle.dbl_value.specs.declared.error.ValueError.{ValueError}
@@ -66,38 +68,43 @@ table_text (table.NoKey name) = codes "no key " ++ full_name name
 table_text (table.KeyType name column) = codes "key type " ++ column_text name column
 table_text table.Memory = codes "out of memory"
 
--- The status of a message that can't follow: 5 if the log is malformed, 6 if unsupported.
-abbrev pub transaction_status : TxnError → ℕ
-transaction_status (txn.SchemaChanged name) = 6
-transaction_status (txn.MovedUnchanged name column) = 6
-transaction_status (txn.Value name column error) = 6
-transaction_status txn.Memory = 12
-transaction_status txn.OutsideTransaction = 5
-transaction_status txn.NestedBegin = 5
-transaction_status (txn.CommitMismatch begin commit) = 5
-transaction_status (txn.LsnOrder last got) = 5
-transaction_status (txn.UnknownRelation oid) = 5
-transaction_status (txn.ColumnCount want got) = 5
-transaction_status (txn.KeyNotInIdentity name) = 5
-transaction_status (txn.MissingOld name) = 5
-transaction_status (txn.UnchangedCell name column) = 5
-transaction_status (txn.NullKey name) = 5
-transaction_status txn.BadMark = 5
+-- The status of a message that can't follow.
+abbrev pub transaction_status : TxnError → Status
+transaction_status (txn.SchemaChanged name) = Unsupported
+transaction_status (txn.MovedUnchanged name column) = Unsupported
+transaction_status (txn.Value name column error) = Unsupported
+transaction_status txn.Memory = OutOfMemory
+transaction_status txn.OutsideTransaction = MalformedLog
+transaction_status txn.NestedBegin = MalformedLog
+transaction_status (txn.CommitMismatch begin commit) = MalformedLog
+transaction_status (txn.LsnOrder last got) = MalformedLog
+transaction_status (txn.UnknownRelation oid) = MalformedLog
+transaction_status (txn.ColumnCount want got) = MalformedLog
+transaction_status (txn.KeyNotInIdentity name) = MalformedLog
+transaction_status (txn.MissingOld name) = MalformedLog
+transaction_status (txn.UnchangedCell name column) = MalformedLog
+transaction_status (txn.NullKey name) = MalformedLog
+transaction_status txn.BadMark = MalformedLog
 
 -- The status of an error of a log.
-abbrev pub log_status : LogFault → ℕ
-log_status (Message number error) = 5
+abbrev pub log_status : LogFault → Status
+log_status (Message number error) = MalformedLog
 log_status (Transaction number error) = transaction_status error
-log_status (Table error) = 6
-log_status TooManyTables = 6
-log_status (Placeholder name column) = 6
-log_status Unfinished = 5
-log_status Memory = 12
+log_status (Table error) = Unsupported
+log_status TooManyTables = Unsupported
+log_status (Placeholder name column) = Unsupported
+log_status Unfinished = MalformedLog
+log_status Memory = OutOfMemory
+
+-- Whether the status is that of a malformed log.
+abbrev pub is_malformed : Status → Bool
+is_malformed MalformedLog = true
+is_malformed status = false
 
 -- The line of a message that can't follow; only that of a malformed log has the message's number.
 abbrev pub transaction_line : ℕ → TxnError → List ℕ
 transaction_line number error =
-    if transaction_status error == 5 then codes "dblog: message " ++ (decimal number ++ (codes ": " ++ transaction_text error))
+    if is_malformed (transaction_status error) then codes "dblog: message " ++ (decimal number ++ (codes ": " ++ transaction_text error))
     else codes "dblog: " ++ transaction_text error
 
 -- The line of an error, without its newline.

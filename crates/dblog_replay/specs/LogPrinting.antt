@@ -1,6 +1,7 @@
--- For private clauses: lines of a log that are gathered and written.
+-- The lines of a log, gathered and written; clauses of public functions cite only `PrintsLog`.
 use Rattle.std.specs.Prelude.{◌≡◌, ℕ, ℤ, List, [], ◌∷◌, ◌++◌, take, Option, None, Some, Result, Ok, Err}
 use Rattle.dbl_base.specs.Lines.{lines_text}
+use Rattle.dbl_lines.specs.declared.status.Status.{Status}
 use Rattle.dbl_lines.specs.declared.error.PrintError.{PrintError}
 use Rattle.dbl_lines.specs.declared.error.PrintError.TheVariants.{OutputFailed, Memory}
 use Rattle.dbl_lines.specs.Writing.{Wrote, WrotePrefix}
@@ -62,7 +63,8 @@ PutsLog options now bs gathered later (Ok fault) before after = IsLogPut options
 PutsLog options now bs gathered later (Err error) before after = (lines : List (List ℕ)) (end : Option LogFault) → LogWrites options now [] bs lines end → PutFails lines gathered error before after
 
 -- All lines of a log were written, with that of its error.
-pub record IsLogPrinted (options : ReplayOptions) (now : ℤ) (bs : List (List ℕ)) (status : ℕ) (before after : Option (List ℕ)) : Type 0 where
+pub record IsLogPrinted (options : ReplayOptions) (now : ℤ) (bs : List (List ℕ)) (status : Status)
+    (before after : Option (List ℕ)) : Type 0 where
   pub lines : List (List ℕ)
   pub end : Option LogFault
   pub writes : LogWrites options now [] bs lines end
@@ -75,7 +77,7 @@ LogFails lines end OutputFailed before after = WrotePrefix before after (lines_t
 LogFails lines end Memory before after = (n : ℕ) × Wrote before after (lines_text (take n lines))
 
 -- The result of printing a log: all of its lines, or a part.
-abbrev pub PrintsLog : ReplayOptions → ℤ → List (List ℕ) → Result ℕ PrintError → Option (List ℕ) → Option (List ℕ) → Type 0
+abbrev pub PrintsLog : ReplayOptions → ℤ → List (List ℕ) → Result Status PrintError → Option (List ℕ) → Option (List ℕ) → Type 0
 PrintsLog options now bs (Ok status) before after = IsLogPrinted options now bs status before after
 PrintsLog options now bs (Err error) before after = (lines : List (List ℕ)) (end : Option LogFault) → LogWrites options now [] bs lines end → LogFails lines end error before after
 
@@ -85,7 +87,7 @@ EndFails fault gathered OutputFailed before after = (start : Option (List ℕ)) 
 EndFails fault gathered Memory before after = after ≡ before
 
 -- The result of writing the rest of a log's lines.
-abbrev pub FinishesLog : Option LogFault → List ℕ → Result ℕ PrintError → Option (List ℕ) → Option (List ℕ) → Type 0
+abbrev pub FinishesLog : Option LogFault → List ℕ → Result Status PrintError → Option (List ℕ) → Option (List ℕ) → Type 0
 FinishesLog fault gathered (Ok status) before after =
     (status ≡ end_status fault) × ((start : Option (List ℕ)) (lines : List (List ℕ)) → IsPut start before gathered lines → Wrote start after (lines_text (lines ++ end_lines fault)))
 FinishesLog fault gathered (Err error) before after = EndFails fault gathered error before after

@@ -11,7 +11,7 @@ ghost use Rattle.dblog_replay.specs.Captures.{flagged_names, key_names_of, entry
 ghost use Rattle.dblog_replay.specs.Judged.{JudgesLog};
 
 use crate::log_fault::LogFault;
-use dbl_base::{Seq, Text};
+use dbl_base::{Seq, Text, copy_items};
 use dbl_model_table::{ModelError, RawColumn, RawTable, TableInfo, TableKey, TableName};
 use dbl_pgmsg::RelationColumn;
 use std::alloc::{AllocError, Global};
@@ -71,16 +71,6 @@ fn flagged_names(alloc: Global, columns: &Vec<RelationColumn>) -> Result<Vec<Tex
     Ok(names)
 }
 
-fn copy_texts(alloc: Global, names: &Vec<Text>) -> Result<Vec<Text>, AllocError>
-    ensures { IfOk result (λ copies. copies.items ≡ names.now.items) }
-{
-    let mut copies = Vec::with_capacity(alloc, names.len())?;
-    for name in names {
-        copies.push(name.copy(alloc)?)?;
-    }
-    Ok(copies)
-}
-
 fn key_names_of(
     alloc: Global,
     keys: &Vec<TableKey>,
@@ -93,7 +83,7 @@ fn key_names_of(
 {
     for key in keys {
         if is_named(&key.table, schema, name) {
-            return copy_texts(alloc, key.columns.items());
+            return copy_items(alloc, key.columns.items().as_slice());
         }
     }
     flagged_names(alloc, columns)

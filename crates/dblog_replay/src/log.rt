@@ -24,7 +24,7 @@ use crate::printing::put_left;
 use crate::replay::Replayer;
 use dbl_base::{Bytes, Output, Text};
 use dbl_envelope::{EnvelopeError, EventWriter, RecordsLeft};
-use dbl_lines::{LineWriter, PrintError};
+use dbl_lines::{LineWriter, PrintError, Status};
 use dbl_model_table::Commit;
 use std::alloc::{AllocError, Global};
 
@@ -217,7 +217,7 @@ fn put_fault<O: Output>(
     fault: &LogFault,
     output: &mut O,
     lines: &mut LineWriter,
-) -> Result<u8, PrintError>
+) -> Result<Status, PrintError>
     ensures status { IfOk result (λ status. status ≡ log_status fault.now) }
     ensures puts { PutsLines (log_line fault.now ∷ []) result lines.old lines.new
         (O.written output.old) (O.written output.new) }
@@ -241,7 +241,7 @@ fn put_end<O: Output>(
     fault: &Option<LogFault>,
     output: &mut O,
     lines: &mut LineWriter,
-) -> Result<u8, PrintError>
+) -> Result<Status, PrintError>
     ensures status { IfOk result (λ status. status ≡ end_status fault.now) }
     ensures puts { PutsLines (end_lines fault.now) result lines.old lines.new
         (O.written output.old) (O.written output.new) }
@@ -251,7 +251,7 @@ fn put_end<O: Output>(
         (O.faults output.old) (O.faults output.new) }
 {
     match fault {
-        None => Ok(0),
+        None => Ok(Status::Done),
         Some(fault) => put_fault(alloc, fault, output, lines),
     }
 }
@@ -262,7 +262,7 @@ fn finish_log<O: Output>(
     fault: &Option<LogFault>,
     output: &mut O,
     mut lines: LineWriter,
-) -> Result<u8, PrintError>
+) -> Result<Status, PrintError>
     ensures ends { FinishesLog fault.now lines result
         (O.written output.old) (O.written output.new) }
     ensures cause { FailsOnlyIfCounted (result ≡ Err PrintError.OutputFailed)
@@ -286,7 +286,7 @@ pub fn print_log<O: Output>(
     messages: Vec<Bytes>,
     now_ms: &i64,
     output: &mut O,
-) -> Result<u8, PrintError>
+) -> Result<Status, PrintError>
     ensures prints { PrintsLog options now_ms.now messages.items result
         (O.written output.old) (O.written output.new) }
     ensures cause { FailsOnlyIfCounted (result ≡ Err PrintError.OutputFailed)

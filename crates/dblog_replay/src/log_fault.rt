@@ -3,9 +3,10 @@
 ghost use Rattle.std.specs.Prelude.{◌≡◌, IfOk};
 ghost use Rattle.std.specs.String.{string_bytes};
 ghost use Rattle.dblog_replay.specs.LogFaults.{message_text, value_words, transaction_text, table_text, log_line};
-ghost use Rattle.dblog_replay.specs.LogFaults.{log_status, transaction_status, transaction_line};
+ghost use Rattle.dblog_replay.specs.LogFaults.{is_malformed, log_status, transaction_status, transaction_line};
 
 use dbl_base::Text;
+use dbl_lines::Status;
 use dbl_model_commit::TxnError;
 use dbl_model_table::{ModelError, TableName};
 use dbl_pgmsg::MsgError;
@@ -119,17 +120,25 @@ fn table_text(alloc: Global, error: &ModelError) -> Result<String, AllocError>
     }
 }
 
-/// The status of a message that can't follow those before it: 5 if the log is malformed, 6 if its
-/// content isn't supported.
-pub fn transaction_status(error: &TxnError) -> u8
+/// The status of a run that ends at a message that can't follow those before it.
+pub fn transaction_status(error: &TxnError) -> Status
     ensures { result ≡ transaction_status error.now }
 {
     match error {
-        TxnError::SchemaChanged { .. } => 6,
-        TxnError::MovedUnchanged { .. } => 6,
-        TxnError::Value { .. } => 6,
-        TxnError::Memory => 12,
-        _ => 5,
+        TxnError::SchemaChanged { .. } => Status::Unsupported,
+        TxnError::MovedUnchanged { .. } => Status::Unsupported,
+        TxnError::Value { .. } => Status::Unsupported,
+        TxnError::Memory => Status::OutOfMemory,
+        _ => Status::MalformedLog,
+    }
+}
+
+fn is_malformed(status: Status) -> bool
+    ensures { result ≡ is_malformed status }
+{
+    match status {
+        Status::MalformedLog => true,
+        _ => false,
     }
 }
 
@@ -138,7 +147,7 @@ fn transaction_line(alloc: Global, number: u64, error: &TxnError) -> Result<Stri
     ensures { IfOk result (λ text. string_bytes text ≡ transaction_line number error.now) }
 {
     let text = transaction_text(alloc, error)?;
-    if transaction_status(error) == 5 {
+    if is_malformed(transaction_status(error)) {
         format!(in alloc; "dblog: message {number}: {text}")
     } else {
         format!(in alloc; "dblog: {text}")
@@ -146,18 +155,18 @@ fn transaction_line(alloc: Global, number: u64, error: &TxnError) -> Result<Stri
 }
 
 impl LogFault {
-    /// The program's exit status.
-    pub fn status(&self) -> u8
+    /// The status of a run that ends with this error.
+    pub fn status(&self) -> Status
         ensures { result ≡ log_status self.now }
     {
         match self {
-            LogFault::Message { .. } => 5,
+            LogFault::Message { .. } => Status::MalformedLog,
             LogFault::Transaction { number: _, error } => transaction_status(error),
-            LogFault::Table { .. } => 6,
-            LogFault::TooManyTables => 6,
-            LogFault::Placeholder { .. } => 6,
-            LogFault::Unfinished => 5,
-            LogFault::Memory => 12,
+            LogFault::Table { .. } => Status::Unsupported,
+            LogFault::TooManyTables => Status::Unsupported,
+            LogFault::Placeholder { .. } => Status::Unsupported,
+            LogFault::Unfinished => Status::MalformedLog,
+            LogFault::Memory => Status::OutOfMemory,
         }
     }
 

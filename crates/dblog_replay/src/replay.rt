@@ -67,7 +67,7 @@ impl Replayer {
         })
     }
 
-    /// Whether a transaction is open. TakesMessage no memory.
+    /// Whether a transaction is open. Takes no memory.
     pub fn inside(&self) -> bool
         ensures { (options : ReplayOptions) (ms : List Message) → FollowsMessages options ms self.now →
             result ≡ is_some (begin_of ms) }
@@ -131,7 +131,7 @@ impl Replayer {
         }
     }
 
-    // AppendsMessage a message after its table was captured, and returns the commit that it ends.
+    // Appends a message after its table was captured, and returns the commit that it ends.
     fn append(
         &mut self,
         alloc: Global,

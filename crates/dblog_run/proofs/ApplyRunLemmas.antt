@@ -6,6 +6,8 @@ use Rattle.dbl_record.specs.declared.acts.ConsumeError.{ConsumeError}
 use Rattle.dbl_record.specs.Acts.{Reading}
 use Rattle.dbl_record.specs.Consumers.{HeldCells, consumer_of}
 use Rattle.dbl_consume.specs.declared.consumer.Consumer.{Consumer}
+use Rattle.dbl_lines.specs.declared.status.Status.{Status}
+use Rattle.dbl_lines.specs.declared.status.Status.TheVariants.{Done, StdoutFailed, InvalidInput}
 use Rattle.dbl_lines.specs.declared.error.PrintError.TheVariants as print_error
 use Rattle.dbl_lines.specs.Writing.{Wrote, WrotePrefix}
 use Rattle.dbl_consume.specs.Holdings.{Took, placeholder_of}
@@ -13,9 +15,9 @@ use Rattle.dbl_consume.specs.Printing.{row_line, PrintsRows}
 use Rattle.dblog_replay.specs.declared.apply.FaultAt.{FaultAt}
 use Rattle.dblog_replay.specs.declared.apply.LineFault.{LineFault}
 use Rattle.dblog_replay.specs.declared.apply.LineFault.TheVariants as line
-use Rattle.dbl_lines.specs.declared.halt.Halt.{Halt}
-use Rattle.dbl_lines.specs.declared.halt.Halt.TheVariants.{Usage, BadLine, InputTooLong, InputFailed, Memory}
-use Rattle.dbl_lines.specs.Faults.{status_of, fault_line, output_failed_status}
+use Rattle.dbl_lines.specs.declared.run_error.RunError.{RunError}
+use Rattle.dbl_lines.specs.declared.run_error.RunError.TheVariants.{Usage, BadLine, InputTooLong, InputFailed, Memory}
+use Rattle.dbl_lines.specs.Faults.{status_of, fault_line}
 use Rattle.dblog_replay.specs.Apply.{first_line_fault, fault_text, readings_of_lines}
 use Rattle.dblog_run.specs.Run.{RunAnswer, fault, done, line_fault, Applies, refused, applied, whole, out_of_memory, Ends, IsExternalStatus, IsApplyStatus, HaltsApplying, RunsApplying, FailsReading, EndsAs, PrintedAs}
 use Rattle.dblog_run.proofs.ApplyLaws.{applies_one}
@@ -23,36 +25,36 @@ use Rattle.dblog_run.proofs.RunLemmas.{says_ends, memory_ends, written_or_outsid
 use Rattle.dbl_lines.specs.Says.{Says, Writes}
 
 -- a run with the answer of its bytes
-pub answered : (placeholder : List ℕ) (bytes : List ℕ) (answer : RunAnswer) (status : ℕ) (before after : Option (List ℕ)) → Applies placeholder bytes answer → EndsAs answer status before after → RunsApplying placeholder bytes status before after
+pub answered : (placeholder : List ℕ) (bytes : List ℕ) (answer : RunAnswer) (status : Status) (before after : Option (List ℕ)) → Applies placeholder bytes answer → EndsAs answer status before after → RunsApplying placeholder bytes status before after
 answered placeholder bytes answer status before after applies ends = record {
   ended = λ other meant. subst (λ a. Ends a status before after) (applies_one placeholder bytes answer other applies meant) ends.ended;
   meant = elim ends.told [ inl outside ↦ inl outside | inr is ↦ inr (answer, applies, is) ];
 }
 
-pub memory_outside : (status : ℕ) (before after : Option (List ℕ)) → Says Memory status before after → IsExternalStatus status
+pub memory_outside : (status : Status) (before after : Option (List ℕ)) → Says Memory status before after → IsExternalStatus status
 memory_outside status before after (inl writes) = memory_is_outside status (written_or_outside _ _ status before after writes)
 memory_outside status before after (inr writes) = memory_is_outside status (written_or_outside _ _ status before after writes)
 
-pub memory_written : (status : ℕ) (before after : Option (List ℕ)) → Says Memory status before after → Writes (status_of Memory) (lines_text (fault_line Memory ∷ [])) status before after
+pub memory_written : (status : Status) (before after : Option (List ℕ)) → Says Memory status before after → Writes (status_of Memory) (lines_text (fault_line Memory ∷ [])) status before after
 memory_written status before after (inl writes) = writes
 memory_written status before after (inr writes) = writes
 
 -- memory ran out, before anything was written
-pub starved : (answer : RunAnswer) (status : ℕ) (before after : Option (List ℕ)) → Says Memory status before after → EndsAs answer status before after
+pub starved : (answer : RunAnswer) (status : Status) (before after : Option (List ℕ)) → Says Memory status before after → EndsAs answer status before after
 starved answer status before after says = record { ended = memory_ends answer status before after (memory_written status before after says); told = inl (memory_outside status before after says) }
 
-pub memory_applies : (placeholder : List ℕ) (bytes : List ℕ) (status : ℕ) (before after : Option (List ℕ)) → Says Memory status before after → RunsApplying placeholder bytes status before after
+pub memory_applies : (placeholder : List ℕ) (bytes : List ℕ) (status : Status) (before after : Option (List ℕ)) → Says Memory status before after → RunsApplying placeholder bytes status before after
 memory_applies placeholder bytes status before after says = record {
   ended = λ answer meant. (starved answer status before after says).ended;
   meant = inl (memory_outside status before after says);
 }
 
-too_long_ends : (status : ℕ) (before after : Option (List ℕ)) → Says InputTooLong status before after → EndsAs (fault InputTooLong) status before after
+too_long_ends : (status : Status) (before after : Option (List ℕ)) → Says InputTooLong status before after → EndsAs (fault InputTooLong) status before after
 too_long_ends status before after (inl writes) = record { ended = says_ends InputTooLong status before after (inl writes); told = elim (written_or_outside _ _ status before after writes) [ inl is ↦ inr (sym is) | inr outside ↦ inl outside ] }
 too_long_ends status before after (inr writes) = record { ended = says_ends InputTooLong status before after (inr writes); told = inl (memory_is_outside status (written_or_outside _ _ status before after writes)) }
 
 -- a fault of reading the lines was said
-pub halt_applies : (placeholder : List ℕ) (bytes : List ℕ) (halt : Halt) (was later : ℕ) (status : ℕ) (before after : Option (List ℕ)) → HaltsApplying placeholder bytes halt → (halt ≡ InputFailed → FaultCounted was later)
+pub halt_applies : (placeholder : List ℕ) (bytes : List ℕ) (halt : RunError) (was later : ℕ) (status : Status) (before after : Option (List ℕ)) → HaltsApplying placeholder bytes halt → (halt ≡ InputFailed → FaultCounted was later)
     → Says halt status before after → RunsApplying placeholder bytes status before after ⊎ FailsReading was later status before after
 halt_applies placeholder bytes Usage was later status before after halts failed says = absurd halts
 halt_applies placeholder bytes InputFailed was later status before after halts failed says = inr (record { rose = failed refl; says = says })
@@ -61,14 +63,14 @@ halt_applies placeholder bytes (BadLine number) was later status before after ha
 halt_applies placeholder bytes InputTooLong was later status before after halts failed says = inl (answered placeholder bytes (fault InputTooLong) status before after halts (too_long_ends status before after says))
 
 -- the line of a line that isn't applied was to be written
-pub line_ends : (at : FaultAt) (status : ℕ) (before after : Option (List ℕ)) → Writes 13 (lines_text (fault_text at ∷ [])) status before after → EndsAs (line_fault at) status before after
+pub line_ends : (at : FaultAt) (status : Status) (before after : Option (List ℕ)) → Writes InvalidInput (lines_text (fault_text at ∷ [])) status before after → EndsAs (line_fault at) status before after
 line_ends at status before after writes = record {
-  ended = record { wanted = 13; text = lines_text (fault_text at ∷ []); may = whole refl refl; writes = writes };
+  ended = record { wanted = InvalidInput; text = lines_text (fault_text at ∷ []); may = whole refl refl; writes = writes };
   told = elim (written_or_outside _ _ status before after writes) [ inl is ↦ inr (sym is) | inr outside ↦ inl outside ];
 }
 
 -- a run whose first line that isn't applied was found, unless memory ran out there
-pub fault_applies : (placeholder : List ℕ) (bytes : List ℕ) (at : FaultAt) (status : ℕ) (before after : Option (List ℕ)) → length bytes ≤ input_limit
+pub fault_applies : (placeholder : List ℕ) (bytes : List ℕ) (at : FaultAt) (status : Status) (before after : Option (List ℕ)) → length bytes ≤ input_limit
     → (at.fault ≢ line.Memory → first_line_fault placeholder (lines_of bytes) ≡ Some at) → (at.fault ≢ line.Memory → EndsAs (line_fault at) status before after)
     → (at.fault ≡ line.Memory → Says Memory status before after) → RunsApplying placeholder bytes status before after
 fault_applies placeholder bytes at status before after within found ends says = go at.fault refl
@@ -88,19 +90,19 @@ fault_applies placeholder bytes at status before after within found ends says = 
     go line.Memory is = memory_applies placeholder bytes status before after (says is)
 
 -- a run whose rows were to be printed
-pub rows_apply : (placeholder : List ℕ) (bytes : List ℕ) (status : ℕ) (before after : Option (List ℕ)) → length bytes ≤ input_limit → first_line_fault placeholder (lines_of bytes) ≡ None
+pub rows_apply : (placeholder : List ℕ) (bytes : List ℕ) (status : Status) (before after : Option (List ℕ)) → length bytes ≤ input_limit → first_line_fault placeholder (lines_of bytes) ≡ None
     → PrintedAs (consumer_of placeholder (readings_of_lines (lines_of bytes))) status before after → RunsApplying placeholder bytes status before after
 rows_apply placeholder bytes status before after within none printed = answered placeholder bytes (done (map row_line printed.rows)) status before after (applied printed.rows within (none, printed.are) refl) printed.ends
 
 -- ---- the lines of the rows
 
-pub lines_printed : (lines : List (List ℕ)) (before after : Option (List ℕ)) → Wrote before after (lines_text lines) → EndsAs (done lines) 0 before after
-lines_printed lines before after wrote = record { ended = record { wanted = 0; text = lines_text lines; may = whole refl refl; writes = inl (refl, wrote) }; told = inr refl }
+pub lines_printed : (lines : List (List ℕ)) (before after : Option (List ℕ)) → Wrote before after (lines_text lines) → EndsAs (done lines) Done before after
+lines_printed lines before after wrote = record { ended = record { wanted = Done; text = lines_text lines; may = whole refl refl; writes = inl (refl, wrote) }; told = inr refl }
 
-pub lines_cut : (lines : List (List ℕ)) (status : ℕ) (before after : Option (List ℕ)) → status ≡ output_failed_status → WrotePrefix before after (lines_text lines) → EndsAs (done lines) status before after
-lines_cut lines status before after is front = record { ended = record { wanted = 0; text = lines_text lines; may = whole refl refl; writes = inr (is, front) }; told = inl (inr (inl is)) }
+pub lines_cut : (lines : List (List ℕ)) (status : Status) (before after : Option (List ℕ)) → status ≡ StdoutFailed → WrotePrefix before after (lines_text lines) → EndsAs (done lines) status before after
+lines_cut lines status before after is front = record { ended = record { wanted = Done; text = lines_text lines; may = whole refl refl; writes = inr (is, front) }; told = inl (inr (inl is)) }
 
-pub lines_starved : (lines : List (List ℕ)) (n : ℕ) (status : ℕ) (before middle after : Option (List ℕ)) → Wrote before middle (lines_text (take n lines)) → Says Memory status middle after → EndsAs (done lines) status before after
+pub lines_starved : (lines : List (List ℕ)) (n : ℕ) (status : Status) (before middle after : Option (List ℕ)) → Wrote before middle (lines_text (take n lines)) → Says Memory status middle after → EndsAs (done lines) status before after
 lines_starved lines n status before middle after wrote says =
     let all : Writes (status_of Memory) (lines_text (take n lines) ++ lines_text (fault_line Memory ∷ [])) status before after = writes_then (status_of Memory) status before middle after _ _ wrote (memory_written status middle after says) in
     record {
@@ -109,21 +111,21 @@ lines_starved lines n status before middle after wrote says =
     }
 
 -- what the consumer's printing answers
-pub rows_printed : (held : List ℕ → List ℕ → Option HeldCells) (before after : Option (List ℕ)) → PrintsRows {A = Unit {0}} held (Ok tt) before after → PrintedAs held 0 before after
+pub rows_printed : (held : List ℕ → List ℕ → Option HeldCells) (before after : Option (List ℕ)) → PrintsRows {A = Unit {0}} held (Ok tt) before after → PrintedAs held Done before after
 rows_printed held before after prints = record {
   rows = prints.0;
   are = prints.1;
   ends = lines_printed (map row_line prints.0) before after prints.2;
 }
 
-pub rows_cut : (held : List ℕ → List ℕ → Option HeldCells) (status : ℕ) (before after : Option (List ℕ)) → status ≡ output_failed_status → PrintsRows {A = Unit {0}} held (Err print_error.OutputFailed) before after → PrintedAs held status before after
+pub rows_cut : (held : List ℕ → List ℕ → Option HeldCells) (status : Status) (before after : Option (List ℕ)) → status ≡ StdoutFailed → PrintsRows {A = Unit {0}} held (Err print_error.OutputFailed) before after → PrintedAs held status before after
 rows_cut held status before after is prints = record {
   rows = prints.0;
   are = prints.1;
   ends = lines_cut (map row_line prints.0) status before after is prints.2;
 }
 
-pub rows_starved : (held : List ℕ → List ℕ → Option HeldCells) (status : ℕ) (before middle after : Option (List ℕ)) → PrintsRows {A = Unit {0}} held (Err print_error.Memory) before middle → Says Memory status middle after → PrintedAs held status before after
+pub rows_starved : (held : List ℕ → List ℕ → Option HeldCells) (status : Status) (before middle after : Option (List ℕ)) → PrintsRows {A = Unit {0}} held (Err print_error.Memory) before middle → Says Memory status middle after → PrintedAs held status before after
 rows_starved held status before middle after prints says =
     let lines = map row_line prints.0 in
     record {
@@ -132,14 +134,14 @@ rows_starved held status before middle after prints says =
       ends = lines_starved lines prints.2.0 status before middle after prints.2.1 says;
     }
 
-pub says_memory : (status : ℕ) (before after : Option (List ℕ)) → Says Memory status before after → (status ≡ 13) ⊎ ((status ≡ output_failed_status) ⊎ (status ≡ status_of Memory))
+pub says_memory : (status : Status) (before after : Option (List ℕ)) → Says Memory status before after → (status ≡ InvalidInput) ⊎ ((status ≡ StdoutFailed) ⊎ (status ≡ status_of Memory))
 says_memory status before after (inl (inl said)) = inr (inr said.0)
 says_memory status before after (inl (inr cut)) = inr (inl cut.0)
 says_memory status before after (inr (inl said)) = inr (inr said.0)
 says_memory status before after (inr (inr cut)) = inr (inl cut.0)
 
 -- the same of the consumer that was made
-pub rows_apply_at : (placeholder bytes : List ℕ) (held : Consumer) (status : ℕ) (before after : Option (List ℕ)) → placeholder_of held ≡ placeholder → length bytes ≤ input_limit
+pub rows_apply_at : (placeholder bytes : List ℕ) (held : Consumer) (status : Status) (before after : Option (List ℕ)) → placeholder_of held ≡ placeholder → length bytes ≤ input_limit
     → first_line_fault placeholder (lines_of bytes) ≡ None → Took (readings_of_lines (lines_of bytes)) held
     → ((taken : List Reading) → Took taken held → PrintedAs (consumer_of (placeholder_of held) taken) status before after) → RunsApplying placeholder bytes status before after
 rows_apply_at placeholder bytes held status before after held_is within none took prints =
@@ -148,29 +150,29 @@ rows_apply_at placeholder bytes held status before after held_is within none too
 
 -- ---- statuses
 
-pub says_is : (halt : Halt) (status : ℕ) (before after : Option (List ℕ)) → Says halt status before after → (status ≡ status_of halt) ⊎ ((status ≡ output_failed_status) ⊎ (status ≡ status_of Memory))
+pub says_is : (halt : RunError) (status : Status) (before after : Option (List ℕ)) → Says halt status before after → (status ≡ status_of halt) ⊎ ((status ≡ StdoutFailed) ⊎ (status ≡ status_of Memory))
 says_is halt status before after (inl (inl said)) = inl said.0
 says_is halt status before after (inl (inr cut)) = inr (inl cut.0)
 says_is halt status before after (inr (inl said)) = inr (inr said.0)
 says_is halt status before after (inr (inr cut)) = inr (inl cut.0)
 
-pub outside_of : (status : ℕ) → (status ≡ output_failed_status) ⊎ (status ≡ status_of Memory) → IsExternalStatus status
+pub outside_of : (status : Status) → (status ≡ StdoutFailed) ⊎ (status ≡ status_of Memory) → IsExternalStatus status
 outside_of status (inl is) = inr (inl is)
 outside_of status (inr is) = inr (inr is)
 
-pub memory_said : (status : ℕ) (before after : Option (List ℕ)) → Says Memory status before after → IsApplyStatus status
+pub memory_said : (status : Status) (before after : Option (List ℕ)) → Says Memory status before after → IsApplyStatus status
 memory_said status before after says = elim (says_is Memory status before after says) [ inl is ↦ inr (inr (inr (inr is))) | inr outside ↦ inr (inr (outside_of status outside)) ]
 
 -- a fault of reading the lines was said
-pub apply_said : (halt : Halt) (status : ℕ) (before after : Option (List ℕ)) → (halt ≡ InputFailed) ⊎ ((halt ≡ InputTooLong) ⊎ (halt ≡ Memory)) → Says halt status before after → IsApplyStatus status
+pub apply_said : (halt : RunError) (status : Status) (before after : Option (List ℕ)) → (halt ≡ InputFailed) ⊎ ((halt ≡ InputTooLong) ⊎ (halt ≡ Memory)) → Says halt status before after → IsApplyStatus status
 apply_said halt status before after (inl is) says = elim (says_is halt status before after says) [ inl said ↦ inr (inr (inl (said ∙ ap status_of is))) | inr outside ↦ inr (inr (outside_of status outside)) ]
 apply_said halt status before after (inr (inl is)) says = elim (says_is halt status before after says) [ inl said ↦ inr (inl (said ∙ ap status_of is)) | inr outside ↦ inr (inr (outside_of status outside)) ]
 apply_said halt status before after (inr (inr is)) says = elim (says_is halt status before after says) [ inl said ↦ inr (inr (inr (inr (said ∙ ap status_of is)))) | inr outside ↦ inr (inr (outside_of status outside)) ]
 
-pub rows_known : (status : ℕ) → (status ≡ 0) ⊎ ((status ≡ output_failed_status) ⊎ (status ≡ status_of Memory)) → IsApplyStatus status
+pub rows_known : (status : Status) → (status ≡ Done) ⊎ ((status ≡ StdoutFailed) ⊎ (status ≡ status_of Memory)) → IsApplyStatus status
 rows_known status (inl is) = inl is
 rows_known status (inr outside) = inr (inr (outside_of status outside))
 
-pub fault_known : (status : ℕ) → (status ≡ 13) ⊎ ((status ≡ output_failed_status) ⊎ (status ≡ status_of Memory)) → IsApplyStatus status
+pub fault_known : (status : Status) → (status ≡ InvalidInput) ⊎ ((status ≡ StdoutFailed) ⊎ (status ≡ status_of Memory)) → IsApplyStatus status
 fault_known status (inl is) = inr (inl is)
 fault_known status (inr outside) = inr (inr (outside_of status outside))

@@ -9,8 +9,10 @@ use Rattle.dbl_cli.specs.declared.commands.Command.{Command}
 use Rattle.dbl_cli.specs.declared.commands.Command.TheVariants as command
 use Rattle.dbl_cli.specs.Commands.{Spells}
 use Rattle.dbl_cli.proofs.SayLemmas.{one_command}
-use Rattle.dbl_lines.specs.declared.halt.Halt.TheVariants.{Usage, Memory}
-use Rattle.dbl_lines.specs.Faults.{status_of, output_failed_status}
+use Rattle.dbl_lines.specs.declared.status.Status.{Status}
+use Rattle.dbl_lines.specs.declared.status.Status.TheVariants.{Done, Unsupported, StdoutFailed, InvalidInput}
+use Rattle.dbl_lines.specs.declared.run_error.RunError.TheVariants.{Usage, Memory}
+use Rattle.dbl_lines.specs.Faults.{status_of}
 use Rattle.dblog_run.specs.Run.{RunAnswer, fault, whole, Ends, EndsAs, RunsReplaying, RunsApplying, FailsReading}
 use Rattle.dblog_stores.specs.Answers.{LinesAnswer as StoreAnswer, AnswersTopics, AnswersOffsets, AnswersApply}
 use Rattle.dblog_stores.proofs.OnceLaws.{topics_once, offsets_once, apply_once}
@@ -32,8 +34,8 @@ use Rattle.dbl_lines.specs.Says.{IsCutShort, Says, Writes}
 -- ---- one answer
 
 -- a command over the stores has one answer
-stores_one : (Trace : StoreAnswer → Type 0) → ((x y : StoreAnswer) → Trace x → Trace y → x ≡ y) → (a b : RunAnswer) → IsAnswerOf Trace a → IsAnswerOf Trace b → a ≡ b
-stores_one Trace one a b is is' = is.2 ∙ ap (λ (s : StoreAnswer). store_answer s) (one is.0 is'.0 is.1 is'.1) ∙ sym is'.2
+stores_one : (Allows : StoreAnswer → Type 0) → ((x y : StoreAnswer) → Allows x → Allows y → x ≡ y) → (a b : RunAnswer) → IsAnswerOf Allows a → IsAnswerOf Allows b → a ≡ b
+stores_one Allows one a b is is' = is.2 ∙ ap (λ (s : StoreAnswer). store_answer s) (one is.0 is'.0 is.1 is'.1) ∙ sym is'.2
 
 -- a command has one answer
 pub answers_one : (c : Command) (now : ℤ) (given : RunInput) (a b : RunAnswer) → Answers c now given a → Answers c now given b → a ≡ b
@@ -60,7 +62,7 @@ means_one words now given a b (spelled c spells answers) (spelled d spells' answ
 -- ---- a run over words
 
 -- as its command runs
-pub spelled_runs : (words : List (List ℕ)) (now : ℤ) (given : RunInput) (failed : Store → Type 0) (status : ℕ) (before after : Option (List ℕ)) (c : Command) → Spells words c → RunsCommand c now given failed status before after
+pub spelled_runs : (words : List (List ℕ)) (now : ℤ) (given : RunInput) (failed : Store → Type 0) (status : Status) (before after : Option (List ℕ)) (c : Command) → Spells words c → RunsCommand c now given failed status before after
     → Runs words now given failed status before after
 spelled_runs words now given failed status before after c spells runs = record {
   ended = ends;
@@ -75,7 +77,7 @@ spelled_runs words now given failed status before after c spells runs = record {
     ends answer (usage none is) = absurd (none c spells)
     ends answer (spelled d spells' answers) = runs.ended answer (subst (λ (k : Command). Answers k now given answer) (one_command words d c spells' spells) answers)
 
-pub usage_runs : (words : List (List ℕ)) (now : ℤ) (given : RunInput) (failed : Store → Type 0) (status : ℕ) (before after : Option (List ℕ)) → ((c : Command) → Spells words c → ⊥) → Says Usage status before after
+pub usage_runs : (words : List (List ℕ)) (now : ℤ) (given : RunInput) (failed : Store → Type 0) (status : Status) (before after : Option (List ℕ)) → ((c : Command) → Spells words c → ⊥) → Says Usage status before after
     → Runs words now given failed status before after
 usage_runs words now given failed status before after none says = record {
   ended = λ answer means. inl (subst (λ (a : RunAnswer). Ends a status before after) (means_one words now given (fault Usage) answer (usage none refl) means) (says_ends Usage status before after says));
@@ -86,14 +88,14 @@ usage_runs words now given failed status before after none says = record {
   ];
 }
 
-pub memory_runs : (words : List (List ℕ)) (now : ℤ) (given : RunInput) (failed : Store → Type 0) (status : ℕ) (before after : Option (List ℕ)) → Says Memory status before after → Runs words now given failed status before after
+pub memory_runs : (words : List (List ℕ)) (now : ℤ) (given : RunInput) (failed : Store → Type 0) (status : Status) (before after : Option (List ℕ)) → Says Memory status before after → Runs words now given failed status before after
 memory_runs words now given failed status before after says = record {
   ended = λ answer means. inl (memory_ends answer status before after (memory_written status before after says));
   meant = inl (memory_outside status before after says);
 }
 
 -- as its command runs, unless the input failed, or the disk of the source's log
-pub spelled_or_fails : (words : List (List ℕ)) (now : ℤ) (given : RunInput) (failed : Store → Type 0) (was later wal now_wal : ℕ) (status : ℕ) (before after : Option (List ℕ)) (c : Command) → Spells words c
+pub spelled_or_fails : (words : List (List ℕ)) (now : ℤ) (given : RunInput) (failed : Store → Type 0) (was later wal now_wal : ℕ) (status : Status) (before after : Option (List ℕ)) (c : Command) → Spells words c
     → RunsCommand c now given failed status before after ⊎ (((reads c ≡ true) × FailsReading was later status before after) ⊎ ((makes c ≡ true) × FailsSource wal now_wal status before after))
     → Runs words now given failed status before after ⊎ (InputFails words was later status before after ⊎ WalFails words wal now_wal status before after)
 spelled_or_fails words now given failed was later wal now_wal status before after c spells (inl runs) = inl (spelled_runs words now given failed status before after c spells runs)
@@ -131,20 +133,20 @@ reads_offsets (command.Gen number rows groups true) opens = refl
 reads_offsets (command.Gen number rows groups false) opens = opens
 
 -- a run in which fewer disks can have failed
-wider_ends : (few failed : Store → Type 0) → ((s : Store) → few s → failed s) → (answer : RunAnswer) (status : ℕ) (before after : Option (List ℕ)) → EndsOrFails few answer status before after → EndsOrFails failed answer status before after
+wider_ends : (few failed : Store → Type 0) → ((s : Store) → few s → failed s) → (answer : RunAnswer) (status : Status) (before after : Option (List ℕ)) → EndsOrFails few answer status before after → EndsOrFails failed answer status before after
 wider_ends few failed wider answer status before after (inl ends) = inl ends
 wider_ends few failed wider answer status before after (inr fails) = inr (record { store = fails.store; cause = wider fails.store fails.cause; count = fails.count; writes = fails.writes })
 
-pub wider_or_fails : (c : Command) (now : ℤ) (given : RunInput) (few failed : Store → Type 0) (status : ℕ) (before after : Option (List ℕ)) (P : Type 0) → ((s : Store) → few s → failed s)
+pub wider_or_fails : (c : Command) (now : ℤ) (given : RunInput) (few failed : Store → Type 0) (status : Status) (before after : Option (List ℕ)) (P : Type 0) → ((s : Store) → few s → failed s)
     → RunsCommand c now given few status before after ⊎ P → RunsCommand c now given failed status before after ⊎ P
 wider_or_fails c now given few failed status before after P wider (inl runs) = inl (record { ended = λ answer answers. wider_ends few failed wider answer status before after (runs.ended answer answers); meant = runs.meant })
 wider_or_fails c now given few failed status before after P wider (inr fails) = inr fails
 
 -- `init` runs as a command
-pub init_command : (c : Command) (now : ℤ) (given : RunInput) (failed : Store → Type 0) (status : ℕ) (before after : Option (List ℕ)) → c ≡ command.Init → RunsInit (given_init given) failed status before after → RunsCommand c now given failed status before after
+pub init_command : (c : Command) (now : ℤ) (given : RunInput) (failed : Store → Type 0) (status : Status) (before after : Option (List ℕ)) → c ≡ command.Init → RunsInit (given_init given) failed status before after → RunsCommand c now given failed status before after
 init_command c now given failed status before after is runs = subst (λ (k : Command). RunsCommand k now given failed status before after) (sym is) (record { ended = runs.ended; meant = runs.meant })
 
-pub init_or_fails : (c : Command) (now : ℤ) (given : RunInput) (P Q : Type 0) (was later wal now_wal status : ℕ) (before after : Option (List ℕ)) → c ≡ command.Init
+pub init_or_fails : (c : Command) (now : ℤ) (given : RunInput) (P Q : Type 0) (was later wal now_wal : ℕ) (status : Status) (before after : Option (List ℕ)) → c ≡ command.Init
     → RunsInit (given_init given) (OfDisk P Q) status before after ⊎ (FailsReading was later status before after ⊎ FailsSource wal now_wal status before after)
     → RunsCommand c now given (OfDisk ((uses_topics c ≡ true) × P) ((uses_offsets c ≡ true) × Q)) status before after ⊎ (((reads c ≡ true) × FailsReading was later status before after) ⊎ ((makes c ≡ true) × FailsSource wal now_wal status before after))
 init_or_fails c now given P Q was later wal now_wal status before after is (inl runs) =
@@ -162,28 +164,28 @@ as_spelled words P c d spells spells' p = subst P (one_command words c d spells 
 -- ---- a run of a command
 
 -- a command that reads nothing runs as its answer says
-pub ends_command : (c : Command) (now : ℤ) (given : RunInput) (failed : Store → Type 0) (answer : RunAnswer) (status : ℕ) (before after : Option (List ℕ)) → Answers c now given answer → EndsAs answer status before after
+pub ends_command : (c : Command) (now : ℤ) (given : RunInput) (failed : Store → Type 0) (answer : RunAnswer) (status : Status) (before after : Option (List ℕ)) → Answers c now given answer → EndsAs answer status before after
     → RunsCommand c now given failed status before after
 ends_command c now given failed answer status before after answers ends = record {
   ended = λ other means. inl (subst (λ (a : RunAnswer). Ends a status before after) (answers_one c now given answer other answers means) ends.ended);
   meant = elim ends.told [ inl outside ↦ inl outside | inr is ↦ inr (inr (answer, answers, is)) ];
 }
 
-pub ends_alone : (answer other : RunAnswer) (status : ℕ) (before after : Option (List ℕ)) → EndsAs answer status before after → other ≡ answer → EndsAs other status before after
+pub ends_alone : (answer other : RunAnswer) (status : Status) (before after : Option (List ℕ)) → EndsAs answer status before after → other ≡ answer → EndsAs other status before after
 ends_alone answer other status before after ends is = subst (λ (a : RunAnswer). EndsAs a status before after) (sym is) ends
 
 -- a text was to be written with this status
-pub written_ends : (answer : RunAnswer) (text : List ℕ) (status : ℕ) (before after : Option (List ℕ)) → text ≡ lines_text answer.lines → Writes answer.status text status before after → EndsAs answer status before after
+pub written_ends : (answer : RunAnswer) (text : List ℕ) (status : Status) (before after : Option (List ℕ)) → text ≡ lines_text answer.lines → Writes answer.status text status before after → EndsAs answer status before after
 written_ends answer text status before after is writes = record {
   ended = record { wanted = answer.status; text = text; may = whole refl is; writes = writes };
   told = elim (written_or_outside _ _ status before after writes) [ inl same ↦ inr (sym same) | inr outside ↦ inl outside ];
 }
 
 -- out of memory is a status of every command, and tells nothing of the input
-pub cut_short : (status : ℕ) (before after : Option (List ℕ)) → Says Memory status before after → IsCutShort status
+pub cut_short : (status : Status) (before after : Option (List ℕ)) → Says Memory status before after → IsCutShort status
 cut_short status before after says = elim (says_is Memory status before after says) [ inl is ↦ inr is | inr outside ↦ outside ]
 
-pub memory_status : (c : Command) (status : ℕ) (before after : Option (List ℕ)) → Says Memory status before after → IsStatusOf c status
+pub memory_status : (c : Command) (status : Status) (before after : Option (List ℕ)) → Says Memory status before after → IsStatusOf c status
 memory_status command.Init status before after says = inr (inr (inr (inr (inr (inr (inr (inr (cut_short status before after says))))))))
 memory_status command.Topics status before after says = inr (inr (inr (cut_short status before after says)))
 memory_status command.Offsets status before after says = inr (inr (inr (inr (cut_short status before after says))))
@@ -195,18 +197,18 @@ memory_status (command.Replay prefix db placeholder keys) status before after sa
 memory_status (command.Gen number rows groups true) status before after says = starved_known status before after says
 memory_status (command.Gen number rows groups false) status before after says = inr (cut_short status before after says)
 
-apply_apart : (status : ℕ) → (status ≡ output_failed_status) ⊎ (status ≡ status_of Memory) → (status ≡ 0) ⊎ (status ≡ 13) → ⊥
+apply_apart : (status : Status) → (status ≡ StdoutFailed) ⊎ (status ≡ status_of Memory) → (status ≡ Done) ⊎ (status ≡ InvalidInput) → ⊥
 apply_apart status (inl is) (inl told) = cc
 apply_apart status (inl is) (inr told) = cc
 apply_apart status (inr is) (inl told) = cc
 apply_apart status (inr is) (inr told) = cc
 
-init_apart : (status : ℕ) → IsCutShort status → IsInitAnswer status → ⊥
-init_apart status cut (inl is) = cut_other 0 status (λ e. cc, λ e. cc) cut is
-init_apart status cut (inr (inl is)) = cut_other 6 status (λ e. cc, λ e. cc) cut is
-init_apart status cut (inr (inr is)) = cut_other 13 status (λ e. cc, λ e. cc) cut is
+init_apart : (status : Status) → IsCutShort status → IsInitAnswer status → ⊥
+init_apart status cut (inl is) = cut_other Done status (λ e. cc, λ e. cc) cut is
+init_apart status cut (inr (inl is)) = cut_other Unsupported status (λ e. cc, λ e. cc) cut is
+init_apart status cut (inr (inr is)) = cut_other InvalidInput status (λ e. cc, λ e. cc) cut is
 
-pub memory_tells : (c : Command) (status : ℕ) (before after : Option (List ℕ)) → Says Memory status before after → ReportsInputStatus c status → ⊥
+pub memory_tells : (c : Command) (status : Status) (before after : Option (List ℕ)) → Says Memory status before after → ReportsInputStatus c status → ⊥
 memory_tells command.Init status before after says told = init_apart status (cut_short status before after says) told
 memory_tells command.Topics status before after says told = told
 memory_tells command.Offsets status before after says told = told
@@ -219,12 +221,12 @@ memory_tells (command.Gen number rows groups true) status before after says told
 memory_tells (command.Gen number rows groups false) status before after says told = told
 
 -- a run that ends before it reads the input has the answer that stands alone
-pub memory_alone : (answer : RunAnswer) (status : ℕ) (before after : Option (List ℕ)) → Says Memory status before after → EndsAs answer status before after
+pub memory_alone : (answer : RunAnswer) (status : Status) (before after : Option (List ℕ)) → Says Memory status before after → EndsAs answer status before after
 memory_alone answer status before after says = record { ended = memory_ends answer status before after (memory_written status before after says); told = inl (memory_outside status before after says) }
 
 -- ---- the commands
 
-pub replay_command : (c : Command) (prefix db placeholder : List ℕ) (keys : List TableKey) (options : ReplayOptions) (now : ℤ) (given : RunInput) (failed : Store → Type 0) (was later : ℕ) (status : ℕ) (before after : Option (List ℕ))
+pub replay_command : (c : Command) (prefix db placeholder : List ℕ) (keys : List TableKey) (options : ReplayOptions) (now : ℤ) (given : RunInput) (failed : Store → Type 0) (was later : ℕ) (status : Status) (before after : Option (List ℕ))
     → c ≡ command.Replay prefix db placeholder keys → options ≡ options_of prefix db placeholder keys → RunsReplaying options now given.input status before after ⊎ FailsReading was later status before after
     → RunsCommand c now given failed status before after ⊎ ((reads c ≡ true) × FailsReading was later status before after)
 replay_command c prefix db placeholder keys options now given failed was later status before after is same (inl runs) =
@@ -233,7 +235,7 @@ replay_command c prefix db placeholder keys options now given failed was later s
     (record { ended = λ answer answers. inl (as_given.ended answer answers); meant = elim as_given.meant [ inl outside ↦ inl outside | inr told ↦ inr (inr told) ] }))
 replay_command c prefix db placeholder keys options now given failed was later status before after is same (inr fails) = inr (ap reads is, fails)
 
-pub apply_command : (c : Command) (placeholder : List ℕ) (now : ℤ) (given : RunInput) (failed : Store → Type 0) (was later : ℕ) (status : ℕ) (before after : Option (List ℕ))
+pub apply_command : (c : Command) (placeholder : List ℕ) (now : ℤ) (given : RunInput) (failed : Store → Type 0) (was later : ℕ) (status : Status) (before after : Option (List ℕ))
     → c ≡ command.Apply true placeholder → RunsApplying placeholder given.input status before after ⊎ FailsReading was later status before after
     → RunsCommand c now given failed status before after ⊎ ((reads c ≡ true) × FailsReading was later status before after)
 apply_command c placeholder now given failed was later status before after is (inl runs) =
@@ -242,7 +244,7 @@ apply_command c placeholder now given failed was later status before after is (i
 apply_command c placeholder now given failed was later status before after is (inr fails) = inr (ap reads is, fails)
 
 -- a command that stands alone
-pub alone_command : (c d : Command) (now : ℤ) (given : RunInput) (failed : Store → Type 0) (answer : RunAnswer) (status : ℕ) (before after : Option (List ℕ)) → c ≡ d → Answers d now given answer → EndsAs answer status before after
+pub alone_command : (c d : Command) (now : ℤ) (given : RunInput) (failed : Store → Type 0) (answer : RunAnswer) (status : Status) (before after : Option (List ℕ)) → c ≡ d → Answers d now given answer → EndsAs answer status before after
     → RunsCommand c now given failed status before after
 alone_command c d now given failed answer status before after is answers ends =
     subst (λ (k : Command). RunsCommand k now given failed status before after) (sym is) (ends_command d now given failed answer status before after answers ends)
@@ -257,10 +259,10 @@ offset_alone c topics P shut (inl none) = absurd (switched (sym none.0 ∙ shut)
 offset_alone c topics P shut (inr told) = told
 
 -- a command over the stores, in which fewer disks can have failed
-pub stores_command : (c d : Command) (now : ℤ) (given : RunInput) (Trace : StoreAnswer → Type 0) (few failed : Store → Type 0) (status : ℕ) (before after : Option (List ℕ)) → c ≡ d → ((s : Store) → few s → failed s)
-    → ((answer : RunAnswer) → Answers d now given answer → IsAnswerOf Trace answer) → ((answer : RunAnswer) → IsAnswerOf Trace answer → Answers d now given answer)
-    → RunsStores Trace few status before after → RunsCommand c now given failed status before after
-stores_command c d now given Trace few failed status before after is wider back forth runs = subst (λ (k : Command). RunsCommand k now given failed status before after) (sym is) spelled_out
+pub stores_command : (c d : Command) (now : ℤ) (given : RunInput) (Allows : StoreAnswer → Type 0) (few failed : Store → Type 0) (status : Status) (before after : Option (List ℕ)) → c ≡ d → ((s : Store) → few s → failed s)
+    → ((answer : RunAnswer) → Answers d now given answer → IsAnswerOf Allows answer) → ((answer : RunAnswer) → IsAnswerOf Allows answer → Answers d now given answer)
+    → RunsStores Allows few status before after → RunsCommand c now given failed status before after
+stores_command c d now given Allows few failed status before after is wider back forth runs = subst (λ (k : Command). RunsCommand k now given failed status before after) (sym is) spelled_out
   where
     ends : (answer : RunAnswer) → Answers d now given answer → EndsOrFails failed answer status before after
     ends answer answers =

@@ -4,12 +4,14 @@ use Rattle.std.specs.Prelude.{max}
 use Rattle.dbl_cli.specs.declared.commands.Command.{Command}
 use Rattle.dbl_cli.specs.declared.commands.Command.TheVariants as command
 use Rattle.dbl_gen.specs.Workload.{workload}
+use Rattle.dbl_disk.specs.Model.{DiskModel}
 use Rattle.dblog_init.specs.declared.error.Store.TheVariants as store
 use Rattle.dblog_init.specs.Answers as inits
-use Rattle.dblog_init.specs.Disks.{HoldsBytes, IsAtMostMeasured}
+use Rattle.dblog_init.specs.declared.disks.Disks.{Disks}
+use Rattle.dblog_init.specs.Disks.{AreAtMostMeasured, HoldSomeBytes}
 use Rattle.dblog_capture.specs.Generated.{HasMade, IsMadeShort}
 use Rattle.dblog_capture.proofs.Fresh.{nothing_is_no_store}
-use Rattle.dblog_run.specs.Inits.{IsDiskUntouched}
+use Rattle.dblog_run.specs.Inits.{AreUntouched}
 use Rattle.dblog_run.specs.Means.{makes}
 use Rattle.dblog_run.proofs.InitEndLemmas.{untouched}
 use Rattle.dblog_run.proofs.StatusLemmas.{switched}
@@ -50,22 +52,20 @@ pub made_by : (P : Type 0) (c : Command) → (c ≡ command.Init → P) → ((nu
 made_by P c init generated is = elim (makes_by c is) [ inl same ↦ init same | inr gen ↦ generated gen.0 gen.1 gen.2 gen.3 ]
 
 -- disks of which one holds a byte aren't written by it
-module _ {W T F : Type 0} (seen_wal : W → Option (List ℕ)) (wals : W → List ℕ → Type 0) (faults_wal : W → ℕ) (seen_topics : T → Option (List ℕ)) (logs : T → List ℕ → Type 0) (faults_topics : T → ℕ)
-    (seen_offsets : F → Option (List ℕ)) (stores : F → List ℕ → Type 0) (faults_offsets : F → ℕ) (wal new_wal : W) (topics new_topics : T) (offsets new_offsets : F) where
+module _ {W T F : Type 0} (wal_model : DiskModel W) (topics_model : DiskModel T) (offsets_model : DiskModel F) (old new : Disks W T F) where
   abbrev Full : Type 0
-  Full = HoldsBytes seen_wal wal ⊎ (HoldsBytes seen_topics topics ⊎ HoldsBytes seen_offsets offsets)
+  Full = HoldSomeBytes wal_model topics_model offsets_model old
 
   abbrev Untouched : Type 0
-  Untouched = IsDiskUntouched seen_wal wals wal new_wal × (IsDiskUntouched seen_topics logs topics new_topics × IsDiskUntouched seen_offsets stores offsets new_offsets)
+  Untouched = AreUntouched wal_model topics_model offsets_model old new
 
   abbrev Asked : Type 0
-  Asked = (end : inits.InitEnd) × (Full → IsAtMostMeasured seen_wal wals faults_wal store.Wal end wal new_wal
-      × (IsAtMostMeasured seen_topics logs faults_topics store.Topics end topics new_topics × IsAtMostMeasured seen_offsets stores faults_offsets store.Offsets end offsets new_offsets))
+  Asked = (end : inits.InitEnd) × (Full → AreAtMostMeasured wal_model topics_model offsets_model end old new)
 
   untouched_by : Asked → Full → Untouched
   untouched_by asked full =
       let each = asked.1 full in
-      (untouched seen_wal wals faults_wal store.Wal asked.0 wal new_wal each.0, (untouched seen_topics logs faults_topics store.Topics asked.0 topics new_topics each.1.0, untouched seen_offsets stores faults_offsets store.Offsets asked.0 offsets new_offsets each.1.1))
+      (untouched wal_model store.Wal asked.0 old.wal new.wal each.0, (untouched topics_model store.Topics asked.0 old.topics new.topics each.1.0, untouched offsets_model store.Offsets asked.0 old.offsets new.offsets each.1.1))
 
   pub full_by : (c : Command) → (c ≡ command.Init → Full → Untouched) → ((number rows groups : ℕ) → c ≡ command.Gen number rows groups true → Asked) → makes c ≡ true → Full → Untouched
   full_by c init generated = made_by (Full → Untouched) c init (λ number rows groups same. untouched_by (generated number rows groups same))
@@ -77,8 +77,7 @@ same_short told before now was is =
     inl (subst (λ (b : List ℕ). length b ≤ max (length before) (2 ^ 30)) (sym bytes) (omega arith))
 
 -- a disk that wasn't touched is still empty, which is no store
-pub unmade : {W T F : Type 0} (seen_wal : W → Option (List ℕ)) (wals : W → List ℕ → Type 0) (seen_topics : T → Option (List ℕ)) (logs : T → List ℕ → Type 0) (seen_offsets : F → Option (List ℕ)) (stores : F → List ℕ → Type 0)
-    (wal : W) (topics : T) (offsets : F) → ((bytes : List ℕ) → seen_offsets offsets ≡ Some bytes → stores offsets bytes) → HasMade seen_wal wals seen_topics logs seen_offsets stores wal topics offsets offsets → ⊥
-unmade seen_wal wals seen_topics logs seen_offsets stores wal topics offsets crashed made =
+pub unmade : {W T F : Type 0} (wal_model : DiskModel W) (topics_model : DiskModel T) (offsets_model : DiskModel F) (disks : Disks W T F) → ((bytes : List ℕ) → offsets_model.seen disks.offsets ≡ Some bytes → offsets_model.may_leave disks.offsets bytes) → HasMade wal_model topics_model offsets_model disks disks → ⊥
+unmade wal_model topics_model offsets_model disks crashed made =
     let nothing = made.made [] (crashed [] made.offsets_empty.told) in
     nothing_is_no_store nothing.0 nothing.1

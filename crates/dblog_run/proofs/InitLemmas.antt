@@ -10,7 +10,9 @@ use Rattle.dblog_init.specs.declared.error.InitError.TheVariants as init
 use Rattle.dblog_init.specs.declared.error.Store.TheVariants as store
 use Rattle.dblog_init.specs.Answers as inits
 use Rattle.dblog_init.proofs.AnswerLaws.{one_answer}
-use Rattle.dbl_lines.specs.declared.halt.Halt.TheVariants.{Memory}
+use Rattle.dbl_lines.specs.declared.status.Status.{Status}
+use Rattle.dbl_lines.specs.declared.status.Status.TheVariants.{Done}
+use Rattle.dbl_lines.specs.declared.run_error.RunError.TheVariants.{Memory}
 use Rattle.dblog_run.specs.Disks.{DiskFails, IsDiskStatus, OfDisk}
 use Rattle.dbl_lines.specs.Faults.{fault_line, status_of}
 use Rattle.dblog_capture.specs.InitErrors.{SaysInit, init_line, init_status}
@@ -21,17 +23,17 @@ use Rattle.dblog_run.specs.Run.{RunAnswer, Ends, FailsReading, IsExternalStatus,
 use Rattle.dblog_run.proofs.RunLemmas.{memory_ends, memory_is_outside, written_or_outside}
 use Rattle.dbl_lines.specs.Says.{IsCutShort, Writes}
 
-abbrev pub end_status : inits.InitEnd → ℕ
-end_status (Ok made) = 0
+abbrev pub end_status : inits.InitEnd → Status
+end_status (Ok made) = Done
 end_status (Err e) = init_status e
 
 -- ---- the status
 
-pub finished_status : (end : inits.InitEnd) (status : ℕ) (before after : Option (List ℕ)) → FinishesInit end status before after → (status ≡ end_status end) ⊎ IsCutShort status
+pub finished_status : (end : inits.InitEnd) (status : Status) (before after : Option (List ℕ)) → FinishesInit end status before after → (status ≡ end_status end) ⊎ IsCutShort status
 finished_status (Ok made) status before after finishes = inl finishes.0
 finished_status (Err e) status before after finishes = said_status e status before after finishes
 
-own_status : (e : InitError) (status : ℕ) → status ≡ init_status e → IsInitStatus status
+own_status : (e : InitError) (status : Status) → status ≡ init_status e → IsInitStatus status
 own_status (init.Failed store.Wal) status is = inr (inr (inl is))
 own_status (init.Failed store.Topics) status is = inr (inr (inr (inl is)))
 own_status (init.Failed store.Offsets) status is = inr (inr (inr (inr (inl is))))
@@ -42,16 +44,16 @@ own_status (init.Script e) status is = inr (inr (inr (inr (inr (inr (inl is)))))
 own_status (init.Model e) status is = inr (inl is)
 own_status init.Memory status is = inr (inr (inr (inr (inr (inr (inr (inr (inr is))))))))
 
-pub init_known : (end : inits.InitEnd) (status : ℕ) (before after : Option (List ℕ)) → FinishesInit end status before after → IsInitStatus status
+pub init_known : (end : inits.InitEnd) (status : Status) (before after : Option (List ℕ)) → FinishesInit end status before after → IsInitStatus status
 init_known (Ok made) status before after finishes = inl finishes.0
 init_known (Err e) status before after finishes =
     elim (said_status e status before after finishes) [ inl is ↦ own_status e status is | inr cut ↦ inr (inr (inr (inr (inr (inr (inr (inr cut))))))) ]
 
 -- ---- what was written
 
-finish_ends : (end : inits.InitEnd) (status : ℕ) (before after : Option (List ℕ)) → FinishesInit end status before after → Ends (init_answer end) status before after
+finish_ends : (end : inits.InitEnd) (status : Status) (before after : Option (List ℕ)) → FinishesInit end status before after → Ends (init_answer end) status before after
 finish_ends (Ok made) status before after finishes = record {
-  wanted = 0;
+  wanted = Done;
   text = [];
   may = whole refl refl;
   writes = inl (finishes.0, λ bytes is. finishes.1 ∙ is ∙ ap (λ (l : List ℕ). let o : Option (List ℕ) = Some l in o) (sym (append-nil bytes)));
@@ -59,12 +61,12 @@ finish_ends (Ok made) status before after finishes = record {
 finish_ends (Err e) status before after (inl writes) = record { wanted = init_status e; text = lines_text (init_line e ∷ []); may = whole refl refl; writes = writes }
 finish_ends (Err e) status before after (inr writes) = memory_ends (init_fault e) status before after writes
 
-told_status : (answer : RunAnswer) (end : inits.InitEnd) (status : ℕ) → answer ≡ init_answer end → (status ≡ end_status end) ⊎ IsCutShort status → IsExternalStatus status ⊎ (answer.status ≡ status)
+told_status : (answer : RunAnswer) (end : inits.InitEnd) (status : Status) → answer ≡ init_answer end → (status ≡ end_status end) ⊎ IsCutShort status → IsExternalStatus status ⊎ (answer.status ≡ status)
 told_status answer (Ok made) status is (inl same) = inr (ap (λ (a : RunAnswer). a.status) is ∙ sym same)
 told_status answer (Err e) status is (inl same) = inr (ap (λ (a : RunAnswer). a.status) is ∙ sym same)
 told_status answer end status is (inr cut) = inl (inr cut)
 
-module _ (given : inits.InitInput) (failed : Kept → Type 0) (status : ℕ) (before after : Option (List ℕ)) where
+module _ (given : inits.InitInput) (failed : Kept → Type 0) (status : Status) (before after : Option (List ℕ)) where
   -- it told what the disks and the input tell
   pub init_answered : (end : inits.InitEnd) → inits.Answers given end → FinishesInit end status before after → RunsInit given failed status before after
   init_answered end answers finishes = record {
@@ -102,11 +104,11 @@ module _ (given : inits.InitInput) (failed : Kept → Type 0) (status : ℕ) (be
   starved_runs (inr writes) = memory_runs writes
 
 -- a run of `init`, by how it ended
-abbrev Runs : inits.InitInput → Type 0 → Type 0 → ℕ → ℕ → ℕ → ℕ → ℕ → Option (List ℕ) → Option (List ℕ) → Type 0
+abbrev Runs : inits.InitInput → Type 0 → Type 0 → ℕ → ℕ → ℕ → ℕ → Status → Option (List ℕ) → Option (List ℕ) → Type 0
 Runs given topics offsets was later wal now status before after =
     RunsInit given (OfDisk topics offsets) status before after ⊎ (FailsReading was later status before after ⊎ FailsSource wal now status before after)
 
-outside_run : (given : inits.InitInput) (topics offsets : Type 0) (was later wal now status : ℕ) (before after : Option (List ℕ)) (end : inits.InitEnd) → (end ≡ Err init.InputFailed → FaultCounted was later) → (end ≡ Err (init.Failed store.Wal) → FaultCounted wal now)
+outside_run : (given : inits.InitInput) (topics offsets : Type 0) (was later wal now : ℕ) (status : Status) (before after : Option (List ℕ)) (end : inits.InitEnd) → (end ≡ Err init.InputFailed → FaultCounted was later) → (end ≡ Err (init.Failed store.Wal) → FaultCounted wal now)
     → (end ≡ Err (init.Failed store.Topics) → topics) → (end ≡ Err (init.Failed store.Offsets) → offsets) → inits.IsExternalInitEnd end → FinishesInit end status before after → Runs given topics offsets was later wal now status before after
 outside_run given topics offsets was later wal now status before after (Ok made) input source first second outside finishes = absurd outside
 outside_run given topics offsets was later wal now status before after (Err (init.Failed store.Wal)) input source first second outside finishes = inr (inr (record { rose = source refl; says = finishes }))
@@ -121,7 +123,7 @@ outside_run given topics offsets was later wal now status before after (Err init
 outside_run given topics offsets was later wal now status before after (Err (init.Script e)) input source first second outside finishes = absurd outside
 outside_run given topics offsets was later wal now status before after (Err (init.Model e)) input source first second outside finishes = absurd outside
 
-pub init_run : (given : inits.InitInput) (topics offsets : Type 0) (was later wal now status : ℕ) (before after : Option (List ℕ)) (end : inits.InitEnd) → (end ≡ Err init.InputFailed → FaultCounted was later) → (end ≡ Err (init.Failed store.Wal) → FaultCounted wal now)
+pub init_run : (given : inits.InitInput) (topics offsets : Type 0) (was later wal now : ℕ) (status : Status) (before after : Option (List ℕ)) (end : inits.InitEnd) → (end ≡ Err init.InputFailed → FaultCounted was later) → (end ≡ Err (init.Failed store.Wal) → FaultCounted wal now)
     → (end ≡ Err (init.Failed store.Topics) → topics) → (end ≡ Err (init.Failed store.Offsets) → offsets) → inits.Answers given end ⊎ inits.IsExternalInitEnd end → FinishesInit end status before after → Runs given topics offsets was later wal now status before after
 init_run given topics offsets was later wal now status before after end input source first second (inl answers) finishes = inl (init_answered given (OfDisk topics offsets) status before after end answers finishes)
 init_run given topics offsets was later wal now status before after end input source first second (inr outside) finishes = outside_run given topics offsets was later wal now status before after end input source first second outside finishes

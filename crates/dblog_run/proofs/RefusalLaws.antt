@@ -3,15 +3,18 @@ use Rattle.std.proofs.Common.{◌≡◌, ◌≢◌, ◌⊎◌, inl, inr, ◌∙�
 use Rattle.dbl_cli.specs.declared.commands.Command.{Command}
 use Rattle.dbl_cli.specs.declared.commands.Command.TheVariants as command
 use Rattle.dbl_cli.specs.Commands.{Spells}
-use Rattle.dblog_stores.specs.declared.error.RunError.{RunError}
-use Rattle.dblog_stores.specs.declared.error.RunError.TheVariants as error
+use Rattle.dblog_stores.specs.declared.error.CommandError.{CommandError}
+use Rattle.dblog_stores.specs.declared.error.CommandError.TheVariants as error
 use Rattle.dblog_stores.specs.Answers.{LinesAnswer as StoreAnswer, AnswersApply, AnswersOffsets, AnswersTopics}
 use Rattle.dblog_stores.specs.Ends.{IsRefusal}
 use Rattle.dblog_stores.specs.Errors.{error_status}
 use Rattle.dblog_replay.specs.declared.options.ReplayOptions.{ReplayOptions}
 use Rattle.dblog_replay.specs.Log.{end_status}
 use Rattle.dbl_consume.specs.Printing.{row_line}
-use Rattle.dbl_lines.specs.declared.halt.Halt.TheVariants.{BadLine, InputTooLong, Usage}
+use Rattle.dbl_lines.specs.declared.status.Status.{Status}
+use Rattle.dbl_lines.specs.declared.status.Status.TheVariants.{Done, InvalidArguments, StartMismatch, Unsupported}
+use Rattle.dbl_lines.specs.declared.status.Status.TheVariants.{SourceFailed, OutOfMemory, InvalidInput, InvalidStore}
+use Rattle.dbl_lines.specs.declared.run_error.RunError.TheVariants.{BadLine, InputTooLong, Usage}
 use Rattle.dblog_run.specs.Run.{RunAnswer, Applies, Replays, applied, bad_line, done, fault, line_fault, log_answer, long_input, refused, replayed, too_long}
 use Rattle.dblog_run.specs.Disks.{store_answer, store_fault}
 use Rattle.dblog_run.specs.Means.{Answers, RunInput, Means, given_init, made, options_of, spelled, usage}
@@ -31,11 +34,11 @@ use Rattle.dblog_run.proofs.ReplayRunLemmas.{end_known}
 use Rattle.dblog_run.proofs.StatusLemmas.{replay_other}
 use Rattle.dblog_run.proofs.StoreRunLemmas.{apply_refuses, offsets_refuse, topics_refuse}
 
-abbrev Refuses : ℕ → Type 0
-Refuses status = (status ≡ 4) ⊎ (status ≡ 14)
+abbrev Refuses : Status → Type 0
+Refuses status = (status ≡ StartMismatch) ⊎ (status ≡ InvalidStore)
 
 -- an answer of another status refuses nothing
-other_status : (n : ℕ) → n ≢ 4 → n ≢ 14 → (status : ℕ) → status ≡ n → Refuses status → ⊥
+other_status : (n : Status) → n ≢ StartMismatch → n ≢ InvalidStore → (status : Status) → status ≡ n → Refuses status → ⊥
 other_status n four fourteen status is (inl same) = four (sym is ∙ same)
 other_status n four fourteen status is (inr same) = fourteen (sym is ∙ same)
 
@@ -44,41 +47,41 @@ status_is answer other is = ap (λ (a : RunAnswer). a.status) is
 
 -- ---- forth
 
-stores_told : (Trace : StoreAnswer → Type 0) (answer : RunAnswer) (P : Type 0) → ((e : RunError) → Trace (Err e) → answer ≡ store_fault e → P) → Refuses answer.status
-    → (told : StoreAnswer) → Trace told → answer ≡ store_answer told → P
-stores_told Trace answer P next refuses (Ok lines) told is = absurd (other_status 0 (λ e. cc) (λ e. cc) answer.status (status_is answer (store_answer (Ok lines)) is) refuses)
-stores_told Trace answer P next refuses (Err e) told is = next e told is
+stores_told : (Allows : StoreAnswer → Type 0) (answer : RunAnswer) (P : Type 0) → ((e : CommandError) → Allows (Err e) → answer ≡ store_fault e → P) → Refuses answer.status
+    → (told : StoreAnswer) → Allows told → answer ≡ store_answer told → P
+stores_told Allows answer P next refuses (Ok lines) told is = absurd (other_status Done (λ e. cc) (λ e. cc) answer.status (status_is answer (store_answer (Ok lines)) is) refuses)
+stores_told Allows answer P next refuses (Err e) told is = next e told is
 
 replay_refuses : (options : ReplayOptions) (now : ℤ) (bytes : List ℕ) (answer : RunAnswer) → Replays options now bytes answer → Refuses answer.status → ⊥
-replay_refuses options now bytes answer (too_long long is) refuses = other_status 13 (λ e. cc) (λ e. cc) answer.status (status_is answer (fault InputTooLong) is) refuses
-replay_refuses options now bytes answer (bad_line n within bad is) refuses = other_status 13 (λ e. cc) (λ e. cc) answer.status (status_is answer (fault (BadLine n)) is) refuses
+replay_refuses options now bytes answer (too_long long is) refuses = other_status InvalidInput (λ e. cc) (λ e. cc) answer.status (status_is answer (fault InputTooLong) is) refuses
+replay_refuses options now bytes answer (bad_line n within bad is) refuses = other_status InvalidInput (λ e. cc) (λ e. cc) answer.status (status_is answer (fault (BadLine n)) is) refuses
 replay_refuses options now bytes answer (replayed lines end within good writes is) refuses =
-    other_status (end_status end) (replay_other 4 (end_status end) (λ e. cc, λ e. cc, λ e. cc, λ e. cc) (λ e. cc, λ e. cc, λ e. cc) (end_known end))
-    (replay_other 14 (end_status end) (λ e. cc, λ e. cc, λ e. cc, λ e. cc) (λ e. cc, λ e. cc, λ e. cc) (end_known end)) answer.status (status_is answer (log_answer lines end) is) refuses
+    other_status (end_status end) (replay_other StartMismatch (end_status end) (λ e. cc, λ e. cc, λ e. cc, λ e. cc) (λ e. cc, λ e. cc, λ e. cc) (end_known end))
+    (replay_other InvalidStore (end_status end) (λ e. cc, λ e. cc, λ e. cc, λ e. cc) (λ e. cc, λ e. cc, λ e. cc) (end_known end)) answer.status (status_is answer (log_answer lines end) is) refuses
 
 lines_refuse : (placeholder bytes : List ℕ) (answer : RunAnswer) → Applies placeholder bytes answer → Refuses answer.status → ⊥
-lines_refuse placeholder bytes answer (long_input long is) refuses = other_status 13 (λ e. cc) (λ e. cc) answer.status (status_is answer (fault InputTooLong) is) refuses
-lines_refuse placeholder bytes answer (refused at within found is) refuses = other_status 13 (λ e. cc) (λ e. cc) answer.status (status_is answer (line_fault at) is) refuses
-lines_refuse placeholder bytes answer (applied rows within (none, are) is) refuses = other_status 0 (λ e. cc) (λ e. cc) answer.status (status_is answer (done (map row_line rows)) is) refuses
+lines_refuse placeholder bytes answer (long_input long is) refuses = other_status InvalidInput (λ e. cc) (λ e. cc) answer.status (status_is answer (fault InputTooLong) is) refuses
+lines_refuse placeholder bytes answer (refused at within found is) refuses = other_status InvalidInput (λ e. cc) (λ e. cc) answer.status (status_is answer (line_fault at) is) refuses
+lines_refuse placeholder bytes answer (applied rows within (none, are) is) refuses = other_status Done (λ e. cc) (λ e. cc) answer.status (status_is answer (done (map row_line rows)) is) refuses
 
 -- what the input means is told with another status
 demo_refuses : (e : DemoError) (answer : RunAnswer) → answer ≡ init_fault (demo_error e) → Refuses answer.status → ⊥
-demo_refuses (demo.Script e) answer is refuses = other_status 13 (λ e. cc) (λ e. cc) answer.status (status_is answer (init_fault (init.Script e)) is) refuses
-demo_refuses (demo.Model e) answer is refuses = other_status 6 (λ e. cc) (λ e. cc) answer.status (status_is answer (init_fault (init.Model e)) is) refuses
-demo_refuses (demo.BadEntry index) answer is refuses = other_status 12 (λ e. cc) (λ e. cc) answer.status (status_is answer (init_fault init.Memory) is) refuses
-demo_refuses demo.Memory answer is refuses = other_status 12 (λ e. cc) (λ e. cc) answer.status (status_is answer (init_fault init.Memory) is) refuses
-demo_refuses (demo.Journal journal.Failed) answer is refuses = other_status 7 (λ e. cc) (λ e. cc) answer.status (status_is answer (init_fault (init.Failed store.Wal)) is) refuses
-demo_refuses (demo.Journal (journal.NotAJournal at)) answer is refuses = other_status 12 (λ e. cc) (λ e. cc) answer.status (status_is answer (init_fault init.Memory) is) refuses
-demo_refuses (demo.Journal (journal.EntryTooLong len)) answer is refuses = other_status 12 (λ e. cc) (λ e. cc) answer.status (status_is answer (init_fault init.Memory) is) refuses
-demo_refuses (demo.Journal journal.Memory) answer is refuses = other_status 12 (λ e. cc) (λ e. cc) answer.status (status_is answer (init_fault init.Memory) is) refuses
+demo_refuses (demo.Script e) answer is refuses = other_status InvalidInput (λ e. cc) (λ e. cc) answer.status (status_is answer (init_fault (init.Script e)) is) refuses
+demo_refuses (demo.Model e) answer is refuses = other_status Unsupported (λ e. cc) (λ e. cc) answer.status (status_is answer (init_fault (init.Model e)) is) refuses
+demo_refuses (demo.BadEntry index) answer is refuses = other_status OutOfMemory (λ e. cc) (λ e. cc) answer.status (status_is answer (init_fault init.Memory) is) refuses
+demo_refuses demo.Memory answer is refuses = other_status OutOfMemory (λ e. cc) (λ e. cc) answer.status (status_is answer (init_fault init.Memory) is) refuses
+demo_refuses (demo.Journal journal.Failed) answer is refuses = other_status SourceFailed (λ e. cc) (λ e. cc) answer.status (status_is answer (init_fault (init.Failed store.Wal)) is) refuses
+demo_refuses (demo.Journal (journal.NotAJournal at)) answer is refuses = other_status OutOfMemory (λ e. cc) (λ e. cc) answer.status (status_is answer (init_fault init.Memory) is) refuses
+demo_refuses (demo.Journal (journal.EntryTooLong len)) answer is refuses = other_status OutOfMemory (λ e. cc) (λ e. cc) answer.status (status_is answer (init_fault init.Memory) is) refuses
+demo_refuses (demo.Journal journal.Memory) answer is refuses = other_status OutOfMemory (λ e. cc) (λ e. cc) answer.status (status_is answer (init_fault init.Memory) is) refuses
 
 input_refuses : (bytes : List ℕ) (end : inits.InitEnd) → inits.AnswersInput bytes end → (answer : RunAnswer) → answer ≡ init_answer end → Refuses answer.status → ⊥
-input_refuses bytes end (too_long_input long is) answer same refuses = other_status 13 (λ e. cc) (λ e. cc) answer.status (status_is answer (init_fault init.InputTooLong) (same ∙ ap init_answer is)) refuses
+input_refuses bytes end (too_long_input long is) answer same refuses = other_status InvalidInput (λ e. cc) (λ e. cc) answer.status (status_is answer (init_fault init.InputTooLong) (same ∙ ap init_answer is)) refuses
 input_refuses bytes end (refused_input short e why is) answer same refuses = demo_refuses e answer (same ∙ ap init_answer is) refuses
-input_refuses bytes end (made_input short w of is) answer same refuses = other_status 0 (λ e. cc) (λ e. cc) answer.status (status_is answer (done []) (same ∙ ap init_answer is)) refuses
+input_refuses bytes end (made_input short w of is) answer same refuses = other_status Done (λ e. cc) (λ e. cc) answer.status (status_is answer (done []) (same ∙ ap init_answer is)) refuses
 
 abbrev IsRefused : List (List ℕ) → RunInput → RunAnswer → Type 0
-IsRefused words given answer = ((e : RunError) × AreRefused words given e answer) ⊎ ((s : Store) × AreFull words given s answer)
+IsRefused words given answer = ((e : CommandError) × AreRefused words given e answer) ⊎ ((s : Store) × AreFull words given s answer)
 
 -- `init` refuses a disk that isn't empty
 init_refuses : (words : List (List ℕ)) (given : RunInput) (answer : RunAnswer) → Spells words command.Init → (end : inits.InitEnd) → inits.Answers (given_init given) end → answer ≡ init_answer end → Refuses answer.status → IsRefused words given answer
@@ -106,11 +109,11 @@ forth words now given answer (command.Apply false placeholder) spells is refuses
     stores_told (AnswersApply given.topics given.offsets) answer (IsRefused words given answer) (λ e told same. inl (e, record { command = command.Apply false placeholder; spells = spells; tells = told; answer_is = same })) refuses is.0 is.1 is.2
 forth words now given answer (command.Replay prefix db placeholder keys) spells is refuses = absurd (replay_refuses (options_of prefix db placeholder keys) now given.input answer is refuses)
 forth words now given answer (command.Gen number rows groups true) spells is refuses = absurd is
-forth words now given answer (command.Gen number rows groups false) spells is refuses = absurd (other_status 0 (λ e. cc) (λ e. cc) answer.status (status_is answer (made number rows groups) is) refuses)
+forth words now given answer (command.Gen number rows groups false) spells is refuses = absurd (other_status Done (λ e. cc) (λ e. cc) answer.status (status_is answer (made number rows groups) is) refuses)
 
 -- ---- back
 
-tells_refusal : (given : RunInput) (c : Command) (e : RunError) → StoresTell c given e → IsRefusal e
+tells_refusal : (given : RunInput) (c : Command) (e : CommandError) → StoresTell c given e → IsRefusal e
 tells_refusal given command.Init e tells = absurd tells
 tells_refusal given command.Topics e tells = topics_refuse given.topics e tells
 tells_refusal given command.Offsets e tells = offsets_refuse given.offsets e tells
@@ -121,7 +124,7 @@ tells_refusal given (command.Apply false placeholder) e tells = apply_refuses gi
 tells_refusal given (command.Replay prefix db placeholder keys) e tells = absurd tells
 tells_refusal given (command.Gen number rows groups run) e tells = absurd tells
 
-refusal_status : (e : RunError) → IsRefusal e → Refuses (error_status e)
+refusal_status : (e : CommandError) → IsRefusal e → Refuses (error_status e)
 refusal_status error.OutputFailed refusal = absurd refusal
 refusal_status error.Memory refusal = absurd refusal
 refusal_status (error.Failed s) refusal = absurd refusal
@@ -129,7 +132,7 @@ refusal_status error.NotStarted refusal = inl refl
 refusal_status (error.NotAStore s at) refusal = inr refl
 refusal_status (error.BadEntry s index) refusal = inr refl
 
-back : (words : List (List ℕ)) (given : RunInput) (answer : RunAnswer) (e : RunError) → AreRefused words given e answer → Refuses answer.status
+back : (words : List (List ℕ)) (given : RunInput) (answer : RunAnswer) (e : CommandError) → AreRefused words given e answer → Refuses answer.status
 back words given answer e is =
     elim (refusal_status e (tells_refusal given is.command e is.tells)) [
       | inl four ↦ inl (status_is answer (store_fault e) is.answer_is ∙ four)
@@ -140,5 +143,5 @@ pub faults_told : StoreFaultsAreTold
 faults_told words now given answer means = (told means, λ found. elim found [ inl e ↦ back words given answer e.0 e.1 | inr s ↦ full_refuses words given answer s.0 s.1 ])
   where
     told : Means words now given answer → Refuses answer.status → IsRefused words given answer
-    told (usage none is) refuses = absurd (other_status 2 (λ e. cc) (λ e. cc) answer.status (status_is answer (fault Usage) is) refuses)
+    told (usage none is) refuses = absurd (other_status InvalidArguments (λ e. cc) (λ e. cc) answer.status (status_is answer (fault Usage) is) refuses)
     told (spelled c spells is) refuses = forth words now given answer c spells is refuses

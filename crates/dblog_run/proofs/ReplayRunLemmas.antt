@@ -4,13 +4,15 @@ use Rattle.dbl_base.specs.Lines.{lines_of, lines_text}
 use Rattle.dbl_base.specs.Streams.{FaultCounted, input_limit}
 use Rattle.dbl_model_commit.specs.declared.txn_error.TxnError.{TxnError}
 use Rattle.dbl_model_commit.specs.declared.txn_error.TxnError.TheVariants as txn
-use Rattle.dbl_lines.specs.declared.halt.Halt.{Halt}
-use Rattle.dbl_lines.specs.declared.halt.Halt.TheVariants.{Usage, BadLine, InputTooLong, InputFailed, Memory}
+use Rattle.dbl_lines.specs.declared.status.Status.{Status}
+use Rattle.dbl_lines.specs.declared.status.Status.TheVariants.{StdoutFailed}
+use Rattle.dbl_lines.specs.declared.run_error.RunError.{RunError}
+use Rattle.dbl_lines.specs.declared.run_error.RunError.TheVariants.{Usage, BadLine, InputTooLong, InputFailed, Memory}
 use Rattle.dblog_replay.specs.declared.log_fault.LogFault.{LogFault}
 use Rattle.dblog_replay.specs.declared.log_fault.LogFault.TheVariants as log
 use Rattle.dblog_replay.specs.declared.options.ReplayOptions.{ReplayOptions}
 use Rattle.dbl_lines.specs.declared.error.PrintError.TheVariants as print_error
-use Rattle.dbl_lines.specs.Faults.{status_of, fault_line, output_failed_status}
+use Rattle.dbl_lines.specs.Faults.{status_of, fault_line}
 use Rattle.dblog_replay.specs.Lines.{message_bytes_in, first_bad_line}
 use Rattle.dblog_replay.specs.Log.{LogWrites, end_status, end_lines}
 use Rattle.dblog_replay.specs.LogFaults.{transaction_status}
@@ -25,7 +27,7 @@ use Rattle.dbl_lines.specs.Says.{Says}
 
 -- ---- how a run over messages ends
 
-pub printed_runs : (options : ReplayOptions) (now : ℤ) (bs : List (List ℕ)) (status : ℕ) (before after : Option (List ℕ)) → IsLogPrinted options now bs status before after → RunsLog options now bs status before after
+pub printed_runs : (options : ReplayOptions) (now : ℤ) (bs : List (List ℕ)) (status : Status) (before after : Option (List ℕ)) → IsLogPrinted options now bs status before after → RunsLog options now bs status before after
 printed_runs options now bs status before after is = record {
   ended = λ lines end writes. (
       let same = log_one options now [] bs is.lines lines is.end end is.writes writes in
@@ -34,14 +36,14 @@ printed_runs options now bs status before after is = record {
   meant = inr (is.lines, is.end, is.writes, sym is.is);
 }
 
-pub cut_runs : (options : ReplayOptions) (now : ℤ) (bs : List (List ℕ)) (status : ℕ) (before after : Option (List ℕ)) → status ≡ output_failed_status
+pub cut_runs : (options : ReplayOptions) (now : ℤ) (bs : List (List ℕ)) (status : Status) (before after : Option (List ℕ)) → status ≡ StdoutFailed
     → ((lines : List (List ℕ)) (end : Option LogFault) → LogWrites options now [] bs lines end → LogFails lines end print_error.OutputFailed before after) → RunsLog options now bs status before after
 cut_runs options now bs status before after is fails = record {
   ended = λ lines end writes. record { wanted = end_status end; text = lines_text (lines ++ end_lines end); may = whole refl refl; writes = inr (is, fails lines end writes) };
   meant = inl (inr (inl is));
 }
 
-pub starved_runs : (options : ReplayOptions) (now : ℤ) (bs : List (List ℕ)) (status : ℕ) (before middle after : Option (List ℕ))
+pub starved_runs : (options : ReplayOptions) (now : ℤ) (bs : List (List ℕ)) (status : Status) (before middle after : Option (List ℕ))
     → ((lines : List (List ℕ)) (end : Option LogFault) → LogWrites options now [] bs lines end → LogFails lines end print_error.Memory before middle) → Says Memory status middle after → RunsLog options now bs status before after
 starved_runs options now bs status before middle after fails says = record {
   ended = λ lines end writes. (
@@ -84,11 +86,11 @@ end_known (Some (log.Placeholder name column)) = inl (inr (inr (inl refl)))
 end_known (Some log.Unfinished) = inl (inr (inl refl))
 end_known (Some log.Memory) = inr (inr (inr refl))
 
-pub printed_known : (options : ReplayOptions) (now : ℤ) (bs : List (List ℕ)) (status : ℕ) (before after : Option (List ℕ)) → IsLogPrinted options now bs status before after → IsReplayStatus status
+pub printed_known : (options : ReplayOptions) (now : ℤ) (bs : List (List ℕ)) (status : Status) (before after : Option (List ℕ)) → IsLogPrinted options now bs status before after → IsReplayStatus status
 printed_known options now bs status before after is = subst IsReplayStatus (sym is.is) (end_known is.end)
 
 -- a log's status is neither that of a failed output nor that of a failed input
-transaction_other : (error : TxnError) → (transaction_status error ≢ output_failed_status) × (transaction_status error ≢ status_of InputFailed)
+transaction_other : (error : TxnError) → (transaction_status error ≢ StdoutFailed) × (transaction_status error ≢ status_of InputFailed)
 transaction_other (txn.SchemaChanged name) = (λ is. cc, λ is. cc)
 transaction_other (txn.MovedUnchanged name column) = (λ is. cc, λ is. cc)
 transaction_other (txn.Value name column error) = (λ is. cc, λ is. cc)
@@ -105,7 +107,7 @@ transaction_other (txn.UnchangedCell name column) = (λ is. cc, λ is. cc)
 transaction_other (txn.NullKey name) = (λ is. cc, λ is. cc)
 transaction_other txn.BadMark = (λ is. cc, λ is. cc)
 
-end_other : (end : Option LogFault) → (end_status end ≢ output_failed_status) × (end_status end ≢ status_of InputFailed)
+end_other : (end : Option LogFault) → (end_status end ≢ StdoutFailed) × (end_status end ≢ status_of InputFailed)
 end_other None = (λ is. cc, λ is. cc)
 end_other (Some (log.Message number error)) = (λ is. cc, λ is. cc)
 end_other (Some (log.Transaction number error)) = transaction_other error
@@ -115,14 +117,14 @@ end_other (Some (log.Placeholder name column)) = (λ is. cc, λ is. cc)
 end_other (Some log.Unfinished) = (λ is. cc, λ is. cc)
 end_other (Some log.Memory) = (λ is. cc, λ is. cc)
 
-pub printed_no_output : (options : ReplayOptions) (now : ℤ) (bs : List (List ℕ)) (status : ℕ) (before after : Option (List ℕ)) → IsLogPrinted options now bs status before after → status ≢ output_failed_status
+pub printed_no_output : (options : ReplayOptions) (now : ℤ) (bs : List (List ℕ)) (status : Status) (before after : Option (List ℕ)) → IsLogPrinted options now bs status before after → status ≢ StdoutFailed
 printed_no_output options now bs status before after is same = (end_other is.end).0 (sym is.is ∙ same)
 
-pub printed_no_input : (options : ReplayOptions) (now : ℤ) (bs : List (List ℕ)) (status : ℕ) (before after : Option (List ℕ)) → IsLogPrinted options now bs status before after → status ≢ status_of InputFailed
+pub printed_no_input : (options : ReplayOptions) (now : ℤ) (bs : List (List ℕ)) (status : Status) (before after : Option (List ℕ)) → IsLogPrinted options now bs status before after → status ≢ status_of InputFailed
 printed_no_input options now bs status before after is same = (end_other is.end).1 (sym is.is ∙ same)
 
 -- a fault before the messages was said
-pub replay_said : (halt : Halt) (status : ℕ) (before after : Option (List ℕ)) → halt ≢ Usage → Says halt status before after → IsReplayStatus status
+pub replay_said : (halt : RunError) (status : Status) (before after : Option (List ℕ)) → halt ≢ Usage → Says halt status before after → IsReplayStatus status
 replay_said Usage status before after other says = absurd (other refl)
 replay_said InputFailed status before after other says = elim (says_is InputFailed status before after says) [ inl is ↦ inr (inl is) | inr outside ↦ inr (outside_of status outside) ]
 replay_said Memory status before after other says = elim (says_is Memory status before after says) [ inl is ↦ inr (inr (inr is)) | inr outside ↦ inr (outside_of status outside) ]
@@ -130,7 +132,7 @@ replay_said (BadLine number) status before after other says = elim (says_is (Bad
 replay_said InputTooLong status before after other says = elim (says_is InputTooLong status before after says) [ inl is ↦ inl (inr (inr (inr is))) | inr outside ↦ inr (outside_of status outside) ]
 
 -- out of memory, or a fault of the input, tells nothing of what it means
-memory_no_answer : (status : ℕ) → (status ≡ output_failed_status) ⊎ (status ≡ status_of Memory) → IsReplayAnswer status → ⊥
+memory_no_answer : (status : Status) → (status ≡ StdoutFailed) ⊎ (status ≡ status_of Memory) → IsReplayAnswer status → ⊥
 memory_no_answer status (inl is) (inl told) = cc
 memory_no_answer status (inl is) (inr (inl told)) = cc
 memory_no_answer status (inl is) (inr (inr (inl told))) = cc
@@ -140,13 +142,13 @@ memory_no_answer status (inr is) (inr (inl told)) = cc
 memory_no_answer status (inr is) (inr (inr (inl told))) = cc
 memory_no_answer status (inr is) (inr (inr (inr told))) = cc
 
-input_no_answer : (status : ℕ) → status ≡ status_of InputFailed → IsReplayAnswer status → ⊥
+input_no_answer : (status : Status) → status ≡ status_of InputFailed → IsReplayAnswer status → ⊥
 input_no_answer status is (inl told) = cc
 input_no_answer status is (inr (inl told)) = cc
 input_no_answer status is (inr (inr (inl told))) = cc
 input_no_answer status is (inr (inr (inr told))) = cc
 
-pub outside_no_answer : (halt : Halt) (status : ℕ) (before after : Option (List ℕ)) → (halt ≡ InputFailed) ⊎ (halt ≡ Memory) → Says halt status before after → IsReplayAnswer status → ⊥
+pub outside_no_answer : (halt : RunError) (status : Status) (before after : Option (List ℕ)) → (halt ≡ InputFailed) ⊎ (halt ≡ Memory) → Says halt status before after → IsReplayAnswer status → ⊥
 outside_no_answer halt status before after (inl is) says told =
     elim (says_is halt status before after says) [ inl same ↦ input_no_answer status (same ∙ ap status_of is) told | inr outside ↦ memory_no_answer status outside told ]
 outside_no_answer halt status before after (inr is) says told =
@@ -154,7 +156,7 @@ outside_no_answer halt status before after (inr is) says told =
 
 -- ---- how a run over bytes ends
 
-answered : (options : ReplayOptions) (now : ℤ) (bytes : List ℕ) (halt : Halt) (status : ℕ) (before after : Option (List ℕ)) → Replays options now bytes (fault halt) → Says halt status before after → RunsReplaying options now bytes status before after
+answered : (options : ReplayOptions) (now : ℤ) (bytes : List ℕ) (halt : RunError) (status : Status) (before after : Option (List ℕ)) → Replays options now bytes (fault halt) → Says halt status before after → RunsReplaying options now bytes status before after
 answered options now bytes halt status before after replays (inl writes) = record {
   ended = λ answer other. subst (λ a. Ends a status before after) (replays_one options now bytes (fault halt) answer replays other) (says_ends halt status before after (inl writes));
   meant = elim (written_or_outside _ _ status before after writes) [ inl is ↦ inr (fault halt, replays, sym is) | inr outside ↦ inl outside ];
@@ -165,7 +167,7 @@ answered options now bytes halt status before after replays (inr writes) = recor
 }
 
 -- a fault of the lines was said
-pub halt_replays : (options : ReplayOptions) (now : ℤ) (bytes : List ℕ) (halt : Halt) (status : ℕ) (before after : Option (List ℕ)) → HaltsReplaying options now bytes halt → halt ≢ InputFailed
+pub halt_replays : (options : ReplayOptions) (now : ℤ) (bytes : List ℕ) (halt : RunError) (status : Status) (before after : Option (List ℕ)) → HaltsReplaying options now bytes halt → halt ≢ InputFailed
     → Says halt status before after → RunsReplaying options now bytes status before after
 halt_replays options now bytes Usage status before after halts read says = absurd halts
 halt_replays options now bytes InputFailed status before after halts read says = absurd (read refl)
@@ -177,7 +179,7 @@ halt_replays options now bytes (BadLine number) status before after halts read s
 halt_replays options now bytes InputTooLong status before after halts read says = answered options now bytes InputTooLong status before after halts says
 
 -- a fault of reading the lines was said
-pub read_replays : (options : ReplayOptions) (now : ℤ) (bytes : List ℕ) (halt : Halt) (was later : ℕ) (status : ℕ) (before after : Option (List ℕ)) → HaltsReplaying options now bytes halt → (halt ≡ InputFailed → FaultCounted was later)
+pub read_replays : (options : ReplayOptions) (now : ℤ) (bytes : List ℕ) (halt : RunError) (was later : ℕ) (status : Status) (before after : Option (List ℕ)) → HaltsReplaying options now bytes halt → (halt ≡ InputFailed → FaultCounted was later)
     → Says halt status before after → RunsReplaying options now bytes status before after ⊎ FailsReading was later status before after
 read_replays options now bytes Usage was later status before after halts failed says = absurd halts
 read_replays options now bytes InputFailed was later status before after halts failed says = inr (record { rose = failed refl; says = says })
@@ -185,7 +187,7 @@ read_replays options now bytes Memory was later status before after halts failed
 read_replays options now bytes (BadLine number) was later status before after halts failed says = inl (answered options now bytes (BadLine number) status before after halts says)
 read_replays options now bytes InputTooLong was later status before after halts failed says = inl (answered options now bytes InputTooLong status before after halts says)
 
-pub messages_replay : (options : ReplayOptions) (now : ℤ) (bytes : List ℕ) (bs : List (List ℕ)) (status : ℕ) (before after : Option (List ℕ)) → length bytes ≤ input_limit → bs ≡ message_bytes_in (lines_of bytes) → first_bad_line (lines_of bytes) ≡ None
+pub messages_replay : (options : ReplayOptions) (now : ℤ) (bytes : List ℕ) (bs : List (List ℕ)) (status : Status) (before after : Option (List ℕ)) → length bytes ≤ input_limit → bs ≡ message_bytes_in (lines_of bytes) → first_bad_line (lines_of bytes) ≡ None
     → RunsLog options now bs status before after → RunsReplaying options now bytes status before after
 messages_replay options now bytes bs status before after within are good runs = record {
   ended = ends;

@@ -1,8 +1,9 @@
 -- How a run ends, from what it read and what it wrote.
 use Rattle.std.proofs.Common.{◌≡◌, ◌⊎◌, inl, inr, ◌∙◌, ℕ, ℤ, Option, List, [], ◌∷◌, ◌++◌, refl, sym, ap, ap₂, arith}
 use Rattle.dbl_base.specs.Lines.{lines_of, lines_text}
-use Rattle.dbl_lines.specs.declared.halt.Halt.{Halt}
-use Rattle.dbl_lines.specs.declared.halt.Halt.TheVariants.{BadLine, Memory}
+use Rattle.dbl_lines.specs.declared.status.Status.{Status}
+use Rattle.dbl_lines.specs.declared.run_error.RunError.{RunError}
+use Rattle.dbl_lines.specs.declared.run_error.RunError.TheVariants.{BadLine, Memory}
 use Rattle.dblog_replay.specs.declared.log_fault.LogFault.{LogFault}
 use Rattle.dblog_replay.specs.declared.options.ReplayOptions.{ReplayOptions}
 use Rattle.dbl_lines.specs.Faults.{status_of, fault_line}
@@ -30,22 +31,22 @@ replays_one options now bytes a b (replayed l d within good writes is) (replayed
     let same = log_one options now [] (message_bytes_in (lines_of bytes)) l k d e (replayed_written options now _ l d writes) (replayed_written options now _ k e writes') in
     is ∙ ap₂ (λ (x : List (List ℕ)) (y : Option LogFault). log_answer x y) same.lines same.end ∙ sym is'
 
-pub says_ends : (halt : Halt) (status : ℕ) (before after : Option (List ℕ)) → Says halt status before after → Ends (fault halt) status before after
+pub says_ends : (halt : RunError) (status : Status) (before after : Option (List ℕ)) → Says halt status before after → Ends (fault halt) status before after
 says_ends halt status before after (inl writes) = record { wanted = status_of halt; text = lines_text (fault_line halt ∷ []); may = whole refl refl; writes = writes }
 says_ends halt status before after (inr writes) = record { wanted = status_of Memory; text = lines_text (fault_line Memory ∷ []); may = out_of_memory 0 refl refl; writes = writes }
 
 -- out of memory ends a run of any answer
-pub memory_ends : (answer : RunAnswer) (status : ℕ) (before after : Option (List ℕ)) → Writes (status_of Memory) (lines_text (fault_line Memory ∷ [])) status before after → Ends answer status before after
+pub memory_ends : (answer : RunAnswer) (status : Status) (before after : Option (List ℕ)) → Writes (status_of Memory) (lines_text (fault_line Memory ∷ [])) status before after → Ends answer status before after
 memory_ends answer status before after writes = record { wanted = status_of Memory; text = lines_text (fault_line Memory ∷ []); may = out_of_memory 0 refl refl; writes = writes }
 
-pub written_or_outside : (wanted : ℕ) (text : List ℕ) (status : ℕ) (before after : Option (List ℕ)) → Writes wanted text status before after → (status ≡ wanted) ⊎ IsExternalStatus status
+pub written_or_outside : (wanted : Status) (text : List ℕ) (status : Status) (before after : Option (List ℕ)) → Writes wanted text status before after → (status ≡ wanted) ⊎ IsExternalStatus status
 written_or_outside wanted text status before after (inl wrote) = inl wrote.0
 written_or_outside wanted text status before after (inr wrote) = inr (inr (inl wrote.0))
 
-pub memory_is_outside : (status : ℕ) → (status ≡ status_of Memory) ⊎ IsExternalStatus status → IsExternalStatus status
+pub memory_is_outside : (status : Status) → (status ≡ status_of Memory) ⊎ IsExternalStatus status → IsExternalStatus status
 memory_is_outside status (inl is) = inr (inr is)
 memory_is_outside status (inr outside) = outside
 
-pub writes_then : (wanted : ℕ) (status : ℕ) (before middle after : Option (List ℕ)) (first second : List ℕ) → Wrote before middle first → Writes wanted second status middle after → Writes wanted (first ++ second) status before after
+pub writes_then : (wanted : Status) (status : Status) (before middle after : Option (List ℕ)) (first second : List ℕ) → Wrote before middle first → Writes wanted second status middle after → Writes wanted (first ++ second) status before after
 writes_then wanted status before middle after first second wrote (inl whole') = inl (whole'.0, wrote_then before middle after first second wrote whole'.1)
 writes_then wanted status before middle after first second wrote (inr cut) = inr (cut.0, front_then before middle after first second wrote cut.1)

@@ -7,7 +7,8 @@ use Rattle.dblog_capture.specs.Connect.declared.asked.Asked.{Asked}
 use Rattle.dblog_capture.specs.Connect.declared.asked.Asked.TheVariants.{First, Again}
 use Rattle.dblog_capture.specs.Connect.declared.error.ConnectError.TheVariants as connect
 use Rattle.dblog_capture.specs.Connect.Asked.{asks_in}
-use Rattle.dbl_lines.specs.declared.halt.Halt.TheVariants.{Memory}
+use Rattle.dbl_lines.specs.declared.status.Status.{Status}
+use Rattle.dbl_lines.specs.declared.run_error.RunError.TheVariants.{Memory}
 use Rattle.dbl_lines.specs.Says.{Says}
 use Rattle.dblog_capture.specs.Runs.{RunsSession}
 use Rattle.dblog_run.specs.Sessions.{asked_by, asks_by}
@@ -33,7 +34,7 @@ asks_same c asked is held = sym (ap (λ (o : Option Asked). option_and_then (λ 
 
 -- ---- a run out of memory before its session began
 
-pub memory_session : (asked : Asked) (now : ℤ) (told_wal told_topics told_offsets : Option (List ℕ)) (wals logs stores : List ℕ → Type 0) (status : ℕ) (before after : Option (List ℕ)) → Says Memory status before after
+pub memory_session : (asked : Asked) (now : ℤ) (told_wal told_topics told_offsets : Option (List ℕ)) (wals logs stores : List ℕ → Type 0) (status : Status) (before after : Option (List ℕ)) → Says Memory status before after
     → RunsSession asked now told_wal told_topics told_offsets wals logs stores wals logs stores status before after
 memory_session asked now told_wal told_topics told_offsets wals logs stores status before after says = record {
   end = Err connect.Memory;

@@ -28,7 +28,7 @@ use Rattle.dbl_cli.specs.declared.commands.Command.TheVariants as command
 use Rattle.dbl_cli.specs.Commands.{Spells as Spelled}
 use Rattle.dbl_cli.proofs.SpelledLemmas.{spelled_or_not}
 use Rattle.dblog_replay.specs.declared.apply.FaultAt.{FaultAt}
-use Rattle.dbl_lines.specs.declared.halt.Halt.TheVariants.{Usage, BadLine, InputTooLong}
+use Rattle.dbl_lines.specs.declared.run_error.RunError.TheVariants.{Usage, BadLine, InputTooLong}
 use Rattle.dblog_replay.specs.declared.log_fault.LogFault.{LogFault}
 use Rattle.dblog_replay.specs.declared.log_fault.LogFault.TheVariants as log
 use Rattle.dblog_replay.specs.declared.options.ReplayOptions.{ReplayOptions}
@@ -185,8 +185,8 @@ apply_stands placeholder bytes = by_length (within_or_not (length bytes))
     by_length (inl within) = by_lines within _ refl
     by_length (inr long) = (fault InputTooLong, long_input long refl)
 
-stores_stand : (Trace : StoreAnswer → Type 0) → (found : StoreAnswer) → Trace found → (answer : RunAnswer) × IsAnswerOf Trace answer
-stores_stand Trace found told = (store_answer found, (found, told, refl))
+stores_stand : (Allows : StoreAnswer → Type 0) → (found : StoreAnswer) → Allows found → (answer : RunAnswer) × IsAnswerOf Allows answer
+stores_stand Allows found told = (store_answer found, (found, told, refl))
 
 command_stands : (c : Command) (now : ℤ) (given : RunInput) → connects c ≡ false → AreBytes given.topics → AreBytes given.offsets → (answer : RunAnswer) × Answers c now given answer
 command_stands command.Init now given none t f = let end = answers_stand (given_init given) in (init_answer end.0, (end.0, end.1, refl))

@@ -3,11 +3,13 @@ use Rattle.std.proofs.Common.{◌≡◌, ◌≢◌, ◌⊎◌, inl, inr, ◌∙�
 use Rattle.dbl_base.specs.Streams.{FaultCounted}
 use Rattle.dbl_cli.specs.declared.commands.Command.{Command}
 use Rattle.dbl_cli.specs.declared.commands.Command.TheVariants as command
-use Rattle.dbl_lines.specs.declared.halt.Halt.{Halt}
-use Rattle.dbl_lines.specs.declared.halt.Halt.TheVariants.{Usage, Memory}
+use Rattle.dbl_lines.specs.declared.status.Status.{Status}
+use Rattle.dbl_lines.specs.declared.status.Status.TheVariants.{Done, StartMismatch, MalformedLog, Unsupported, SourceFailed, TopicsFailed}
+use Rattle.dbl_lines.specs.declared.status.Status.TheVariants.{OffsetsFailed, StdinFailed, StdoutFailed, OutOfMemory, InvalidInput, InvalidStore}
+use Rattle.dbl_lines.specs.declared.run_error.RunError.{RunError}
+use Rattle.dbl_lines.specs.declared.run_error.RunError.TheVariants.{Usage, Memory}
 use Rattle.dbl_lines.specs.Faults.{status_of}
 use Rattle.dblog_run.specs.Run.{IsApplyStatus, IsExternalStatus, IsReplayStatus}
-use Rattle.dblog_run.specs.Disks.{offsets_status, topics_status, wal_status}
 use Rattle.dblog_run.specs.Inits.{IsInitStatus}
 use Rattle.dblog_run.specs.Means.{HasOpenedOffsets, HasOpenedTopics, IsOffsetsStatus, IsRowsStatus, IsStatusOf, IsTopicsStatus, opens_offsets, opens_topics, reads, uses_offsets, uses_topics, writes}
 use Rattle.dblog_capture.specs.Connect.declared.asked.Asked.{Asked}
@@ -19,47 +21,47 @@ use Rattle.dbl_lines.specs.Says.{IsCutShort, Says}
 
 -- ---- by the kind of the command
 
-outside_other : (n status : ℕ) → (n ≢ 10) × (n ≢ 11) × (n ≢ 12) → IsExternalStatus status → status ≡ n → ⊥
+outside_other : (n status : Status) → (n ≢ StdinFailed) × (n ≢ StdoutFailed) × (n ≢ OutOfMemory) → IsExternalStatus status → status ≡ n → ⊥
 outside_other n status other (inl is) same = other.0 (sym same ∙ is)
 outside_other n status other (inr (inl is)) same = other.1 (sym same ∙ is)
 outside_other n status other (inr (inr is)) same = other.2 (sym same ∙ is)
 
-pub replay_other : (n status : ℕ) → (n ≢ 0) × (n ≢ 5) × (n ≢ 6) × (n ≢ 13) → (n ≢ 10) × (n ≢ 11) × (n ≢ 12) → IsReplayStatus status → status ≡ n → ⊥
+pub replay_other : (n status : Status) → (n ≢ Done) × (n ≢ MalformedLog) × (n ≢ Unsupported) × (n ≢ InvalidInput) → (n ≢ StdinFailed) × (n ≢ StdoutFailed) × (n ≢ OutOfMemory) → IsReplayStatus status → status ≡ n → ⊥
 replay_other n status own other (inl (inl is)) same = own.0 (sym same ∙ is)
 replay_other n status own other (inl (inr (inl is))) same = own.1 (sym same ∙ is)
 replay_other n status own other (inl (inr (inr (inl is)))) same = own.2 (sym same ∙ is)
 replay_other n status own other (inl (inr (inr (inr is)))) same = own.3 (sym same ∙ is)
 replay_other n status own other (inr outside) same = outside_other n status other outside same
 
-lines_other : (n status : ℕ) → (n ≢ 0) × (n ≢ 13) → (n ≢ 10) × (n ≢ 11) × (n ≢ 12) → IsApplyStatus status → status ≡ n → ⊥
+lines_other : (n status : Status) → (n ≢ Done) × (n ≢ InvalidInput) → (n ≢ StdinFailed) × (n ≢ StdoutFailed) × (n ≢ OutOfMemory) → IsApplyStatus status → status ≡ n → ⊥
 lines_other n status own other (inl is) same = own.0 (sym same ∙ is)
 lines_other n status own other (inr (inl is)) same = own.1 (sym same ∙ is)
 lines_other n status own other (inr (inr outside)) same = outside_other n status other outside same
 
 -- the commands with one status of their own
-one_other : (m n status : ℕ) → m ≢ n → (n ≢ 11) × (n ≢ 12) → (status ≡ m) ⊎ IsCutShort status → status ≡ n → ⊥
+one_other : (m n status : Status) → m ≢ n → (n ≢ StdoutFailed) × (n ≢ OutOfMemory) → (status ≡ m) ⊎ IsCutShort status → status ≡ n → ⊥
 one_other m n status own other (inl is) same = own (sym is ∙ same)
 one_other m n status own other (inr cut) same = cut_other n status other cut same
 
-pub topics_other : (n status : ℕ) → (n ≢ 0) × (n ≢ 8) × (n ≢ 14) → (n ≢ 11) × (n ≢ 12) → IsTopicsStatus status → status ≡ n → ⊥
+pub topics_other : (n status : Status) → (n ≢ Done) × (n ≢ TopicsFailed) × (n ≢ InvalidStore) → (n ≢ StdoutFailed) × (n ≢ OutOfMemory) → IsTopicsStatus status → status ≡ n → ⊥
 topics_other n status own other (inl is) same = own.0 (sym same ∙ is)
 topics_other n status own other (inr (inl is)) same = own.1 (sym same ∙ is)
 topics_other n status own other (inr (inr (inl is))) same = own.2 (sym same ∙ is)
 topics_other n status own other (inr (inr (inr cut))) same = cut_other n status other cut same
 
-pub offsets_other : (n status : ℕ) → (n ≢ 0) × (n ≢ 4) × (n ≢ 9) × (n ≢ 14) → (n ≢ 11) × (n ≢ 12) → IsOffsetsStatus status → status ≡ n → ⊥
+pub offsets_other : (n status : Status) → (n ≢ Done) × (n ≢ StartMismatch) × (n ≢ OffsetsFailed) × (n ≢ InvalidStore) → (n ≢ StdoutFailed) × (n ≢ OutOfMemory) → IsOffsetsStatus status → status ≡ n → ⊥
 offsets_other n status own other (inl is) same = own.0 (sym same ∙ is)
 offsets_other n status own other (inr (inl is)) same = own.1 (sym same ∙ is)
 offsets_other n status own other (inr (inr (inl is))) same = own.2 (sym same ∙ is)
 offsets_other n status own other (inr (inr (inr (inl is)))) same = own.3 (sym same ∙ is)
 offsets_other n status own other (inr (inr (inr (inr cut)))) same = cut_other n status other cut same
 
-pub rows_other : (n status : ℕ) → n ≢ 8 → (n ≢ 0) × (n ≢ 4) × (n ≢ 9) × (n ≢ 14) → (n ≢ 11) × (n ≢ 12) → IsRowsStatus status → status ≡ n → ⊥
+pub rows_other : (n status : Status) → n ≢ TopicsFailed → (n ≢ Done) × (n ≢ StartMismatch) × (n ≢ OffsetsFailed) × (n ≢ InvalidStore) → (n ≢ StdoutFailed) × (n ≢ OutOfMemory) → IsRowsStatus status → status ≡ n → ⊥
 rows_other n status first own other (inl is) same = first (sym same ∙ is)
 rows_other n status first own other (inr rest) same = offsets_other n status own other rest same
 
 -- the line of a fault was said
-said_other : (halt : Halt) (n status : ℕ) (before after : Option (List ℕ)) → status_of halt ≢ n → (n ≢ 11) × (n ≢ 12) → Says halt status before after → status ≡ n → ⊥
+said_other : (halt : RunError) (n status : Status) (before after : Option (List ℕ)) → status_of halt ≢ n → (n ≢ StdoutFailed) × (n ≢ OutOfMemory) → Says halt status before after → status ≡ n → ⊥
 said_other halt n status before after own other says same =
     elim (says_is halt status before after says) [ inl is ↦ own (sym is ∙ same) | inr cut ↦ cut_other n status other cut same ]
 
@@ -68,41 +70,41 @@ said_other halt n status before after own other says same =
 pub switched : true ≡ false → ⊥
 switched is = cc
 
-pub topics_running : (status : ℕ) → HasOpenedTopics status → status ≡ topics_status → ⊥
+pub topics_running : (status : Status) → HasOpenedTopics status → status ≡ TopicsFailed → ⊥
 topics_running status (inl is) same = cc
 topics_running status (inr (inl is)) same = cc
 topics_running status (inr (inr (inl is))) same = cc
 topics_running status (inr (inr (inr is))) same = cc
 
-pub topics_whole : (status : ℕ) → HasOpenedTopics status → IsCutShort status → ⊥
-topics_whole status (inl is) cut = cut_other 0 status (λ e. cc, λ e. cc) cut is
-topics_whole status (inr (inl is)) cut = cut_other 4 status (λ e. cc, λ e. cc) cut is
-topics_whole status (inr (inr (inl is))) cut = cut_other 9 status (λ e. cc, λ e. cc) cut is
-topics_whole status (inr (inr (inr is))) cut = cut_other 14 status (λ e. cc, λ e. cc) cut is
+pub topics_whole : (status : Status) → HasOpenedTopics status → IsCutShort status → ⊥
+topics_whole status (inl is) cut = cut_other Done status (λ e. cc, λ e. cc) cut is
+topics_whole status (inr (inl is)) cut = cut_other StartMismatch status (λ e. cc, λ e. cc) cut is
+topics_whole status (inr (inr (inl is))) cut = cut_other OffsetsFailed status (λ e. cc, λ e. cc) cut is
+topics_whole status (inr (inr (inr is))) cut = cut_other InvalidStore status (λ e. cc, λ e. cc) cut is
 
-pub offsets_running : (status : ℕ) → (status ≡ 0) ⊎ ((status ≡ 4) ⊎ (status ≡ 14)) → status ≡ offsets_status → ⊥
+pub offsets_running : (status : Status) → (status ≡ Done) ⊎ ((status ≡ StartMismatch) ⊎ (status ≡ InvalidStore)) → status ≡ OffsetsFailed → ⊥
 offsets_running status (inl is) same = cc
 offsets_running status (inr (inl is)) same = cc
 offsets_running status (inr (inr is)) same = cc
 
-pub offsets_whole : (status : ℕ) → (status ≡ 0) ⊎ ((status ≡ 4) ⊎ (status ≡ 14)) → IsCutShort status → ⊥
-offsets_whole status (inl is) cut = cut_other 0 status (λ e. cc, λ e. cc) cut is
-offsets_whole status (inr (inl is)) cut = cut_other 4 status (λ e. cc, λ e. cc) cut is
-offsets_whole status (inr (inr is)) cut = cut_other 14 status (λ e. cc, λ e. cc) cut is
+pub offsets_whole : (status : Status) → (status ≡ Done) ⊎ ((status ≡ StartMismatch) ⊎ (status ≡ InvalidStore)) → IsCutShort status → ⊥
+offsets_whole status (inl is) cut = cut_other Done status (λ e. cc, λ e. cc) cut is
+offsets_whole status (inr (inl is)) cut = cut_other StartMismatch status (λ e. cc, λ e. cc) cut is
+offsets_whole status (inr (inr is)) cut = cut_other InvalidStore status (λ e. cc, λ e. cc) cut is
 
 -- of the offset, by the command that opens it
-pub told_offsets : (c : Command) (status : ℕ) → HasOpenedOffsets c status → (status ≡ 0) ⊎ ((status ≡ 4) ⊎ (status ≡ 14))
+pub told_offsets : (c : Command) (status : Status) → HasOpenedOffsets c status → (status ≡ Done) ⊎ ((status ≡ StartMismatch) ⊎ (status ≡ InvalidStore))
 told_offsets c status (inl is) = inl is
 told_offsets c status (inr (inl is)) = inr (inl is)
 told_offsets c status (inr (inr told)) = inr (inr told.1)
 
-pub told_rows : (c : Command) (status : ℕ) → opens_topics c ≡ true → HasOpenedOffsets c status → (status ≡ 0) ⊎ (status ≡ 4)
+pub told_rows : (c : Command) (status : Status) → opens_topics c ≡ true → HasOpenedOffsets c status → (status ≡ Done) ⊎ (status ≡ StartMismatch)
 told_rows c status opens (inl is) = inl is
 told_rows c status opens (inr (inl is)) = inr is
 told_rows c status opens (inr (inr told)) = absurd (switched (sym opens ∙ told.0))
 
 -- the statuses of `init`
-pub init_other : (n status : ℕ) → (n ≢ 0) × (n ≢ 6) × (n ≢ 7) × (n ≢ 8) × (n ≢ 9) → (n ≢ 10) × (n ≢ 13) × (n ≢ 14) → (n ≢ 11) × (n ≢ 12) → IsInitStatus status → status ≡ n → ⊥
+pub init_other : (n status : Status) → (n ≢ Done) × (n ≢ Unsupported) × (n ≢ SourceFailed) × (n ≢ TopicsFailed) × (n ≢ OffsetsFailed) → (n ≢ StdinFailed) × (n ≢ InvalidInput) × (n ≢ InvalidStore) → (n ≢ StdoutFailed) × (n ≢ OutOfMemory) → IsInitStatus status → status ≡ n → ⊥
 init_other n status own other short (inl is) same = own.0 (sym same ∙ is)
 init_other n status own other short (inr (inl is)) same = own.1 (sym same ∙ is)
 init_other n status own other short (inr (inr (inl is))) same = own.2 (sym same ∙ is)
@@ -116,20 +118,20 @@ init_other n status own other short (inr (inr (inr (inr (inr (inr (inr (inr cut)
 -- ---- by the command
 
 -- the disk of the source's log fails nowhere but where it is written
-pub no_wal : (c : Command) (status : ℕ) → writes c ≡ false → IsStatusOf c status → status ≡ wal_status → ⊥
+pub no_wal : (c : Command) (status : Status) → writes c ≡ false → IsStatusOf c status → status ≡ SourceFailed → ⊥
 no_wal command.Init status none known same = switched none
-no_wal command.Topics status none known same = topics_other 7 status (λ e. cc, λ e. cc, λ e. cc) (λ e. cc, λ e. cc) known same
-no_wal command.Offsets status none known same = offsets_other 7 status (λ e. cc, λ e. cc, λ e. cc, λ e. cc) (λ e. cc, λ e. cc) known same
+no_wal command.Topics status none known same = topics_other SourceFailed status (λ e. cc, λ e. cc, λ e. cc) (λ e. cc, λ e. cc) known same
+no_wal command.Offsets status none known same = offsets_other SourceFailed status (λ e. cc, λ e. cc, λ e. cc, λ e. cc) (λ e. cc, λ e. cc) known same
 no_wal (command.Capture options) status none known same = switched none
 no_wal (command.Resume chunk every messages) status none known same = switched none
-no_wal (command.Apply true placeholder) status none known same = lines_other 7 status (λ e. cc, λ e. cc) (λ e. cc, λ e. cc, λ e. cc) known same
-no_wal (command.Apply false placeholder) status none known same = rows_other 7 status (λ e. cc) (λ e. cc, λ e. cc, λ e. cc, λ e. cc) (λ e. cc, λ e. cc) known same
-no_wal (command.Replay prefix db placeholder keys) status none known same = replay_other 7 status (λ e. cc, λ e. cc, λ e. cc, λ e. cc) (λ e. cc, λ e. cc, λ e. cc) known same
+no_wal (command.Apply true placeholder) status none known same = lines_other SourceFailed status (λ e. cc, λ e. cc) (λ e. cc, λ e. cc, λ e. cc) known same
+no_wal (command.Apply false placeholder) status none known same = rows_other SourceFailed status (λ e. cc) (λ e. cc, λ e. cc, λ e. cc, λ e. cc) (λ e. cc, λ e. cc) known same
+no_wal (command.Replay prefix db placeholder keys) status none known same = replay_other SourceFailed status (λ e. cc, λ e. cc, λ e. cc, λ e. cc) (λ e. cc, λ e. cc, λ e. cc) known same
 no_wal (command.Gen number rows groups true) status none known same = switched none
-no_wal (command.Gen number rows groups false) status none known same = one_other 0 7 status (λ e. cc) (λ e. cc, λ e. cc) known same
+no_wal (command.Gen number rows groups false) status none known same = one_other Done SourceFailed status (λ e. cc) (λ e. cc, λ e. cc) known same
 
-pub wal_fails : (c : Command) (status was now : ℕ) → IsStatusOf c status → (c ≡ command.Init → status ≡ wal_status → FaultCounted was now) → ((asked : Asked) → asked_by c ≡ Some asked → status ≡ wal_status → FaultCounted was now)
-    → ((number rows groups : ℕ) → c ≡ command.Gen number rows groups true → status ≡ wal_status → FaultCounted was now) → status ≡ wal_status → FaultCounted was now
+pub wal_fails : (c : Command) (status : Status) (was now : ℕ) → IsStatusOf c status → (c ≡ command.Init → status ≡ SourceFailed → FaultCounted was now) → ((asked : Asked) → asked_by c ≡ Some asked → status ≡ SourceFailed → FaultCounted was now)
+    → ((number rows groups : ℕ) → c ≡ command.Gen number rows groups true → status ≡ SourceFailed → FaultCounted was now) → status ≡ SourceFailed → FaultCounted was now
 wal_fails command.Init status was now known init fails makes is = init refl is
 wal_fails command.Topics status was now known init fails makes is = absurd (no_wal command.Topics status refl known is)
 wal_fails command.Offsets status was now known init fails makes is = absurd (no_wal command.Offsets status refl known is)
@@ -141,45 +143,45 @@ wal_fails (command.Gen number rows groups true) status was now known init fails 
 wal_fails (command.Gen number rows groups false) status was now known init fails makes is = absurd (no_wal (command.Gen number rows groups false) status refl known is)
 
 -- what holds where nothing is read holds where a store is refused, or a disk that isn't empty
-pub refused_unread : (P : Type 0) (c : Command) (status : ℕ) → IsStatusOf c status → (reads c ≡ false → P) → (c ≡ command.Init → status ≡ 14 → P) → status ≡ 14 → P
+pub refused_unread : (P : Type 0) (c : Command) (status : Status) → IsStatusOf c status → (reads c ≡ false → P) → (c ≡ command.Init → status ≡ InvalidStore → P) → status ≡ InvalidStore → P
 refused_unread P command.Init status known unread full is = full refl is
 refused_unread P command.Topics status known unread full is = unread refl
 refused_unread P command.Offsets status known unread full is = unread refl
 refused_unread P (command.Capture options) status known unread full is = unread refl
 refused_unread P (command.Resume chunk every messages) status known unread full is = unread refl
-refused_unread P (command.Apply true placeholder) status known unread full is = absurd (lines_other 14 status (λ e. cc, λ e. cc) (λ e. cc, λ e. cc, λ e. cc) known is)
+refused_unread P (command.Apply true placeholder) status known unread full is = absurd (lines_other InvalidStore status (λ e. cc, λ e. cc) (λ e. cc, λ e. cc, λ e. cc) known is)
 refused_unread P (command.Apply false placeholder) status known unread full is = unread refl
-refused_unread P (command.Replay prefix db placeholder keys) status known unread full is = absurd (replay_other 14 status (λ e. cc, λ e. cc, λ e. cc, λ e. cc) (λ e. cc, λ e. cc, λ e. cc) known is)
+refused_unread P (command.Replay prefix db placeholder keys) status known unread full is = absurd (replay_other InvalidStore status (λ e. cc, λ e. cc, λ e. cc, λ e. cc) (λ e. cc, λ e. cc, λ e. cc) known is)
 refused_unread P (command.Gen number rows groups run) status known unread full is = unread refl
 
 -- nor does a disk that the command doesn't read
-pub no_topics : (c : Command) (status : ℕ) → IsStatusOf c status → uses_topics c ≡ false → status ≡ topics_status → ⊥
+pub no_topics : (c : Command) (status : Status) → IsStatusOf c status → uses_topics c ≡ false → status ≡ TopicsFailed → ⊥
 no_topics command.Init status known shut same = switched shut
 no_topics command.Topics status known shut same = switched shut
-no_topics command.Offsets status known shut same = offsets_other 8 status (λ e. cc, λ e. cc, λ e. cc, λ e. cc) (λ e. cc, λ e. cc) known same
+no_topics command.Offsets status known shut same = offsets_other TopicsFailed status (λ e. cc, λ e. cc, λ e. cc, λ e. cc) (λ e. cc, λ e. cc) known same
 no_topics (command.Capture options) status known shut same = switched shut
 no_topics (command.Resume chunk every messages) status known shut same = switched shut
-no_topics (command.Apply true placeholder) status known shut same = lines_other 8 status (λ e. cc, λ e. cc) (λ e. cc, λ e. cc, λ e. cc) known same
+no_topics (command.Apply true placeholder) status known shut same = lines_other TopicsFailed status (λ e. cc, λ e. cc) (λ e. cc, λ e. cc, λ e. cc) known same
 no_topics (command.Apply false placeholder) status known shut same = switched shut
-no_topics (command.Replay prefix db placeholder keys) status known shut same = replay_other 8 status (λ e. cc, λ e. cc, λ e. cc, λ e. cc) (λ e. cc, λ e. cc, λ e. cc) known same
+no_topics (command.Replay prefix db placeholder keys) status known shut same = replay_other TopicsFailed status (λ e. cc, λ e. cc, λ e. cc, λ e. cc) (λ e. cc, λ e. cc, λ e. cc) known same
 no_topics (command.Gen number rows groups true) status known shut same = switched shut
-no_topics (command.Gen number rows groups false) status known shut same = one_other 0 8 status (λ e. cc) (λ e. cc, λ e. cc) known same
+no_topics (command.Gen number rows groups false) status known shut same = one_other Done TopicsFailed status (λ e. cc) (λ e. cc, λ e. cc) known same
 
-pub no_offsets : (c : Command) (status : ℕ) → IsStatusOf c status → uses_offsets c ≡ false → status ≡ offsets_status → ⊥
+pub no_offsets : (c : Command) (status : Status) → IsStatusOf c status → uses_offsets c ≡ false → status ≡ OffsetsFailed → ⊥
 no_offsets command.Init status known shut same = switched shut
-no_offsets command.Topics status known shut same = topics_other 9 status (λ e. cc, λ e. cc, λ e. cc) (λ e. cc, λ e. cc) known same
+no_offsets command.Topics status known shut same = topics_other OffsetsFailed status (λ e. cc, λ e. cc, λ e. cc) (λ e. cc, λ e. cc) known same
 no_offsets command.Offsets status known shut same = switched shut
 no_offsets (command.Capture options) status known shut same = switched shut
 no_offsets (command.Resume chunk every messages) status known shut same = switched shut
-no_offsets (command.Apply true placeholder) status known shut same = lines_other 9 status (λ e. cc, λ e. cc) (λ e. cc, λ e. cc, λ e. cc) known same
+no_offsets (command.Apply true placeholder) status known shut same = lines_other OffsetsFailed status (λ e. cc, λ e. cc) (λ e. cc, λ e. cc, λ e. cc) known same
 no_offsets (command.Apply false placeholder) status known shut same = switched shut
-no_offsets (command.Replay prefix db placeholder keys) status known shut same = replay_other 9 status (λ e. cc, λ e. cc, λ e. cc, λ e. cc) (λ e. cc, λ e. cc, λ e. cc) known same
+no_offsets (command.Replay prefix db placeholder keys) status known shut same = replay_other OffsetsFailed status (λ e. cc, λ e. cc, λ e. cc, λ e. cc) (λ e. cc, λ e. cc, λ e. cc) known same
 no_offsets (command.Gen number rows groups true) status known shut same = switched shut
-no_offsets (command.Gen number rows groups false) status known shut same = one_other 0 9 status (λ e. cc) (λ e. cc, λ e. cc) known same
+no_offsets (command.Gen number rows groups false) status known shut same = one_other Done OffsetsFailed status (λ e. cc) (λ e. cc, λ e. cc) known same
 
 -- where the status is that of the disk's fault, the command makes the store there, or reads it, or runs a session over it
-pub topics_fail : (P : Type 0) (c : Command) (status : ℕ) → IsStatusOf c status → (c ≡ command.Init → status ≡ topics_status → P) → (opens_topics c ≡ true → status ≡ topics_status → P)
-    → ((asked : Asked) → asked_by c ≡ Some asked → status ≡ topics_status → P) → ((number rows groups : ℕ) → c ≡ command.Gen number rows groups true → status ≡ topics_status → P) → status ≡ topics_status → P
+pub topics_fail : (P : Type 0) (c : Command) (status : Status) → IsStatusOf c status → (c ≡ command.Init → status ≡ TopicsFailed → P) → (opens_topics c ≡ true → status ≡ TopicsFailed → P)
+    → ((asked : Asked) → asked_by c ≡ Some asked → status ≡ TopicsFailed → P) → ((number rows groups : ℕ) → c ≡ command.Gen number rows groups true → status ≡ TopicsFailed → P) → status ≡ TopicsFailed → P
 topics_fail P command.Init status known init reads fails makes is = init refl is
 topics_fail P command.Topics status known init reads fails makes is = reads refl is
 topics_fail P command.Offsets status known init reads fails makes is = absurd (no_topics command.Offsets status known refl is)
@@ -191,8 +193,8 @@ topics_fail P (command.Replay prefix db placeholder keys) status known init read
 topics_fail P (command.Gen number rows groups true) status known init reads fails makes is = makes number rows groups refl is
 topics_fail P (command.Gen number rows groups false) status known init reads fails makes is = absurd (no_topics (command.Gen number rows groups false) status known refl is)
 
-pub offsets_fail : (P : Type 0) (c : Command) (status : ℕ) → IsStatusOf c status → (c ≡ command.Init → status ≡ offsets_status → P) → (opens_offsets c ≡ true → status ≡ offsets_status → P)
-    → ((asked : Asked) → asked_by c ≡ Some asked → status ≡ offsets_status → P) → ((number rows groups : ℕ) → c ≡ command.Gen number rows groups true → status ≡ offsets_status → P) → status ≡ offsets_status → P
+pub offsets_fail : (P : Type 0) (c : Command) (status : Status) → IsStatusOf c status → (c ≡ command.Init → status ≡ OffsetsFailed → P) → (opens_offsets c ≡ true → status ≡ OffsetsFailed → P)
+    → ((asked : Asked) → asked_by c ≡ Some asked → status ≡ OffsetsFailed → P) → ((number rows groups : ℕ) → c ≡ command.Gen number rows groups true → status ≡ OffsetsFailed → P) → status ≡ OffsetsFailed → P
 offsets_fail P command.Init status known init reads fails makes is = init refl is
 offsets_fail P command.Topics status known init reads fails makes is = absurd (no_offsets command.Topics status known refl is)
 offsets_fail P command.Offsets status known init reads fails makes is = reads refl is
@@ -229,20 +231,20 @@ unused_offsets (command.Gen number rows groups run) none shut = none
 
 -- ---- words that spell no command, and runs out of memory
 
-pub usage_no_wal : (status : ℕ) (before after : Option (List ℕ)) → Says Usage status before after → status ≡ wal_status → ⊥
-usage_no_wal status before after says = said_other Usage 7 status before after (λ e. cc) (λ e. cc, λ e. cc) says
+pub usage_no_wal : (status : Status) (before after : Option (List ℕ)) → Says Usage status before after → status ≡ SourceFailed → ⊥
+usage_no_wal status before after says = said_other Usage SourceFailed status before after (λ e. cc) (λ e. cc, λ e. cc) says
 
-pub usage_no_topics : (status : ℕ) (before after : Option (List ℕ)) → Says Usage status before after → status ≡ topics_status → ⊥
-usage_no_topics status before after says = said_other Usage 8 status before after (λ e. cc) (λ e. cc, λ e. cc) says
+pub usage_no_topics : (status : Status) (before after : Option (List ℕ)) → Says Usage status before after → status ≡ TopicsFailed → ⊥
+usage_no_topics status before after says = said_other Usage TopicsFailed status before after (λ e. cc) (λ e. cc, λ e. cc) says
 
-pub usage_no_offsets : (status : ℕ) (before after : Option (List ℕ)) → Says Usage status before after → status ≡ offsets_status → ⊥
-usage_no_offsets status before after says = said_other Usage 9 status before after (λ e. cc) (λ e. cc, λ e. cc) says
+pub usage_no_offsets : (status : Status) (before after : Option (List ℕ)) → Says Usage status before after → status ≡ OffsetsFailed → ⊥
+usage_no_offsets status before after says = said_other Usage OffsetsFailed status before after (λ e. cc) (λ e. cc, λ e. cc) says
 
-pub memory_no_wal : (status : ℕ) (before after : Option (List ℕ)) → Says Memory status before after → status ≡ wal_status → ⊥
-memory_no_wal status before after says = said_other Memory 7 status before after (λ e. cc) (λ e. cc, λ e. cc) says
+pub memory_no_wal : (status : Status) (before after : Option (List ℕ)) → Says Memory status before after → status ≡ SourceFailed → ⊥
+memory_no_wal status before after says = said_other Memory SourceFailed status before after (λ e. cc) (λ e. cc, λ e. cc) says
 
-pub memory_no_topics : (status : ℕ) (before after : Option (List ℕ)) → Says Memory status before after → status ≡ topics_status → ⊥
-memory_no_topics status before after says = said_other Memory 8 status before after (λ e. cc) (λ e. cc, λ e. cc) says
+pub memory_no_topics : (status : Status) (before after : Option (List ℕ)) → Says Memory status before after → status ≡ TopicsFailed → ⊥
+memory_no_topics status before after says = said_other Memory TopicsFailed status before after (λ e. cc) (λ e. cc, λ e. cc) says
 
-pub memory_no_offsets : (status : ℕ) (before after : Option (List ℕ)) → Says Memory status before after → status ≡ offsets_status → ⊥
-memory_no_offsets status before after says = said_other Memory 9 status before after (λ e. cc) (λ e. cc, λ e. cc) says
+pub memory_no_offsets : (status : Status) (before after : Option (List ℕ)) → Says Memory status before after → status ≡ OffsetsFailed → ⊥
+memory_no_offsets status before after says = said_other Memory OffsetsFailed status before after (λ e. cc) (λ e. cc, λ e. cc) says

@@ -1,18 +1,20 @@
 -- What the command `init` returns, writes, and leaves of the disks.
 use Rattle.std.specs.Prelude.{◌≡◌, ◌≢◌, ◌⊎◌, ℕ, ◌≤◌, max, Option, Some, Ok, Err, List, [], ◌∷◌, length}
 use Rattle.dbl_base.specs.Streams.{FaultCounted}
+use Rattle.dbl_disk.specs.Model.{DiskModel}
 use Rattle.dbl_journal.specs.Growth.{growth_room}
 use Rattle.dbl_journal.specs.Stored.{IsSteady}
+use Rattle.dblog_init.specs.declared.disks.Disks.{Disks}
 use Rattle.dblog_init.specs.declared.error.InitError.{InitError}
 use Rattle.dblog_init.specs.declared.error.InitError.TheVariants as init
 use Rattle.dblog_init.specs.declared.error.Store.{Store}
 use Rattle.dblog_init.specs.declared.error.Store.TheVariants as store
 use Rattle.dblog_init.specs.Answers as inits
 use Rattle.dblog_capture.specs.InitErrors.{SaysInit, init_line, init_status}
-use Rattle.dbl_lines.specs.declared.halt.Halt.TheVariants as halt
-use Rattle.dbl_lines.specs.Faults.{status_of}
+use Rattle.dbl_lines.specs.declared.status.Status.{Status}
+use Rattle.dbl_lines.specs.declared.status.Status.TheVariants.{Done, Unsupported, SourceFailed, TopicsFailed}
+use Rattle.dbl_lines.specs.declared.status.Status.TheVariants.{OffsetsFailed, StdinFailed, InvalidInput, InvalidStore}
 use Rattle.dblog_capture.specs.Ends.{store_status}
-use Rattle.dblog_run.specs.Disks.{offsets_status, topics_status, wal_status}
 use Rattle.dblog_run.specs.Run.{RunAnswer, done}
 use Rattle.dbl_lines.specs.Says.{IsCutShort}
 
@@ -30,53 +32,57 @@ abbrev pub AnswersInit : inits.InitInput → RunAnswer → Type 0
 AnswersInit given answer = (end : inits.InitEnd) × inits.Answers given end × (answer ≡ init_answer end)
 
 -- The statuses of `init`, for every behaviour of the streams and the disks.
-abbrev pub IsInitStatus : ℕ → Type 0
+abbrev pub IsInitStatus : Status → Type 0
 IsInitStatus status =
-    (status ≡ 0) ⊎ ((status ≡ 6) ⊎ ((status ≡ wal_status) ⊎ ((status ≡ topics_status) ⊎ ((status ≡ offsets_status)
-    ⊎ ((status ≡ status_of halt.InputFailed) ⊎ ((status ≡ 13) ⊎ ((status ≡ 14) ⊎ IsCutShort status)))))))
+    (status ≡ Done) ⊎ ((status ≡ Unsupported) ⊎ ((status ≡ SourceFailed) ⊎ ((status ≡ TopicsFailed) ⊎ ((status ≡ OffsetsFailed)
+    ⊎ ((status ≡ StdinFailed) ⊎ ((status ≡ InvalidInput) ⊎ ((status ≡ InvalidStore) ⊎ IsCutShort status)))))))
 
 -- The statuses of an answer about the contents of the input.
-abbrev pub IsInitAnswer : ℕ → Type 0
-IsInitAnswer status = (status ≡ 0) ⊎ ((status ≡ 6) ⊎ (status ≡ 13))
+abbrev pub IsInitAnswer : Status → Type 0
+IsInitAnswer status = (status ≡ Done) ⊎ ((status ≡ Unsupported) ⊎ (status ≡ InvalidInput))
 
 -- The statuses of an `init` that ended before a byte of any disk was written.
-abbrev pub IsUnmade : ℕ → Type 0
-IsUnmade status = (status ≡ 6) ⊎ ((status ≡ status_of halt.InputFailed) ⊎ ((status ≡ 13) ⊎ (status ≡ 14)))
+abbrev pub IsUnmade : Status → Type 0
+IsUnmade status = (status ≡ Unsupported) ⊎ ((status ≡ StdinFailed) ⊎ ((status ≡ InvalidInput) ⊎ (status ≡ InvalidStore)))
 
 -- The statuses of an `init` that ended before a byte of this store's disk was written.
-abbrev pub IsUnwritten : Store → ℕ → Type 0
+abbrev pub IsUnwritten : Store → Status → Type 0
 IsUnwritten store.Wal status = IsUnmade status
-IsUnwritten store.Topics status = (status ≡ wal_status) ⊎ IsUnmade status
-IsUnwritten store.Offsets status = (status ≡ topics_status) ⊎ ((status ≡ wal_status) ⊎ IsUnmade status)
+IsUnwritten store.Topics status = (status ≡ SourceFailed) ⊎ IsUnmade status
+IsUnwritten store.Offsets status = (status ≡ TopicsFailed) ⊎ ((status ≡ SourceFailed) ⊎ IsUnmade status)
 
 -- What an `init` with this status leaves of a disk: bounded contents, the same if none were to be written yet, and a failure by its status
 -- only if its count of faults rose.
 pub record IsInitLeft
     {D : Type 0}
-    (seen : D → Option (List ℕ))
-    (may_leave : D → List ℕ → Type 0)
-    (faults : D → ℕ)
+    (model : DiskModel D)
     (made : Store)
-    (status : ℕ)
+    (status : Status)
     (old new : D) : Type 0 where
-  pub later : faults old ≤ faults new
-  pub cause : status ≡ store_status made → FaultCounted (faults old) (faults new)
-  pub steady : status ≢ store_status made → ¬ IsCutShort status → IsSteady seen faults old new
-  pub short : (before after : List ℕ) → seen old ≡ Some before → seen new ≡ Some after → length after ≤ max (length before) growth_room
-  pub same : IsUnwritten made status → seen new ≡ seen old
-  pub crash : IsUnwritten made status → (crashed : List ℕ) → may_leave new crashed → may_leave old crashed
+  pub later : model.faults old ≤ model.faults new
+  pub cause : status ≡ store_status made → FaultCounted (model.faults old) (model.faults new)
+  pub steady : status ≢ store_status made → ¬ IsCutShort status → IsSteady model old new
+  pub short : (before after : List ℕ) → model.seen old ≡ Some before → model.seen new ≡ Some after → length after ≤ max (length before) growth_room
+  pub same : IsUnwritten made status → model.seen new ≡ model.seen old
+  pub crash : IsUnwritten made status → (crashed : List ℕ) → model.may_leave new crashed → model.may_leave old crashed
 
--- No byte of the disk was written: its contents are the same, and so is what a crash leaves.
-pub record IsDiskUntouched {D : Type 0} (seen : D → Option (List ℕ)) (may_leave : D → List ℕ → Type 0) (old new : D) : Type 0 where
-  pub same : seen new ≡ seen old
-  pub crash : (crashed : List ℕ) → may_leave new crashed → may_leave old crashed
+-- The disk is as if no byte of it was written: its contents are the same, and a crash leaves nothing that it couldn't leave before.
+pub record IsDiskUntouched {D : Type 0} (model : DiskModel D) (old new : D) : Type 0 where
+  pub same : model.seen new ≡ model.seen old
+  pub crash : (crashed : List ℕ) → model.may_leave new crashed → model.may_leave old crashed
+
+-- Each of the disks is as if no byte of it was written.
+abbrev pub AreUntouched : {W T F : Type 0} → DiskModel W → DiskModel T → DiskModel F → Disks W T F → Disks W T F → Type 0
+AreUntouched wal_model topics_model offsets_model old new =
+    IsDiskUntouched wal_model old.wal new.wal
+    × (IsDiskUntouched topics_model old.topics new.topics × IsDiskUntouched offsets_model old.offsets new.offsets)
 
 -- For private clauses: the status after an `init` with this result.
-abbrev pub FinishesInit : inits.InitEnd → ℕ → Option (List ℕ) → Option (List ℕ) → Type 0
-FinishesInit (Ok made) status before after = (status ≡ 0) × (after ≡ before)
+abbrev pub FinishesInit : inits.InitEnd → Status → Option (List ℕ) → Option (List ℕ) → Type 0
+FinishesInit (Ok made) status before after = (status ≡ Done) × (after ≡ before)
 FinishesInit (Err e) status before after = SaysInit e status before after
 
 -- The end of a run in which the disk of the source's log failed: that failure's line was to be written.
-pub record FailsSource (was now : ℕ) (status : ℕ) (before after : Option (List ℕ)) : Type 0 where
+pub record FailsSource (was now : ℕ) (status : Status) (before after : Option (List ℕ)) : Type 0 where
   pub rose : FaultCounted was now
   pub says : SaysInit (init.Failed store.Wal) status before after

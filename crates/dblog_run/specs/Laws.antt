@@ -1,10 +1,11 @@
 -- What the definitions of the program's answers determine.
 use Rattle.std.specs.Prelude.{◌≡◌, ◌≢◌, ◌⊎◌, ◌↔◌, ℕ, ℤ, false, List, []}
+use Rattle.dbl_lines.specs.declared.status.Status.TheVariants.{StartMismatch, InvalidStore}
 use Rattle.dbl_pgmsg.specs.Faults.{AreBytes}
 use Rattle.dbl_cli.specs.declared.commands.Command.{Command}
 use Rattle.dbl_cli.specs.declared.commands.Command.TheVariants.{Init, Topics, Offsets, Apply}
 use Rattle.dbl_cli.specs.Commands.{Spells}
-use Rattle.dblog_stores.specs.declared.error.RunError.{RunError}
+use Rattle.dblog_stores.specs.declared.error.CommandError.{CommandError}
 use Rattle.dblog_stores.specs.Answers.{AppliesNot, HasNoOffset, IsNoLog}
 use Rattle.dblog_init.specs.declared.error.InitError.TheVariants.{NotEmpty}
 use Rattle.dblog_init.specs.declared.error.Store.{Store}
@@ -25,14 +26,14 @@ AnswersStand = (words : List (List ℕ)) (now : ℤ) (given : RunInput) → Spel
     → (answer : RunAnswer) × Means words now given answer
 
 -- Why the stores that a command reads aren't what it needs.
-abbrev pub StoresTell : Command → RunInput → RunError → Type 0
+abbrev pub StoresTell : Command → RunInput → CommandError → Type 0
 StoresTell Topics given error = IsNoLog given.topics error
 StoresTell Offsets given error = HasNoOffset given.offsets error
 StoresTell (Apply false placeholder) given error = AppliesNot given.topics given.offsets error
 StoresTell command given error = ⊥
 
 -- The arguments are of a command over the stores, which aren't what it needs, and the answer is that error.
-pub record AreRefused (words : List (List ℕ)) (given : RunInput) (error : RunError) (answer : RunAnswer) : Type 0 where
+pub record AreRefused (words : List (List ℕ)) (given : RunInput) (error : CommandError) (answer : RunAnswer) : Type 0 where
   pub command : Command
   pub spells : Spells words command
   pub tells : StoresTell command given error
@@ -53,4 +54,5 @@ pub record AreFull (words : List (List ℕ)) (given : RunInput) (store : Store) 
 -- The statuses 4 and 14 are returned if and only if no offset is stored, a store is invalid, or `init` finds a disk that isn't empty.
 abbrev pub StoreFaultsAreTold : Type 0
 StoreFaultsAreTold = (words : List (List ℕ)) (now : ℤ) (given : RunInput) (answer : RunAnswer) → Means words now given answer
-    → ((answer.status ≡ 4) ⊎ (answer.status ≡ 14)) ↔ (((error : RunError) × AreRefused words given error answer) ⊎ ((store : Store) × AreFull words given store answer))
+    → ((answer.status ≡ StartMismatch) ⊎ (answer.status ≡ InvalidStore))
+    ↔ (((error : CommandError) × AreRefused words given error answer) ⊎ ((store : Store) × AreFull words given store answer))

@@ -8,20 +8,23 @@ use Rattle.dbl_cli.specs.declared.commands.Command.{Command}
 use Rattle.dbl_cli.specs.declared.commands.Command.TheVariants.{Init, Topics, Offsets, Capture, Resume, Replay, Apply, Gen}
 use Rattle.dbl_cli.specs.Commands.{Spells}
 use Rattle.dblog_init.specs.Answers as inits
-use Rattle.dbl_lines.specs.declared.halt.Halt.TheVariants.{Usage}
+use Rattle.dbl_lines.specs.declared.status.Status.{Status}
+use Rattle.dbl_lines.specs.declared.status.Status.TheVariants.{Done, StartMismatch, TopicsFailed}
+use Rattle.dbl_lines.specs.declared.status.Status.TheVariants.{OffsetsFailed, InvalidInput, InvalidStore}
+use Rattle.dbl_lines.specs.declared.run_error.RunError.TheVariants.{Usage}
 use Rattle.dblog_replay.specs.declared.options.ReplayOptions.{ReplayOptions}
 use Rattle.dblog_stores.specs.Answers.{AnswersTopics, AnswersOffsets, AnswersApply}
 use Rattle.dblog_stores.specs.declared.error.Store.{Store}
 use Rattle.dblog_capture.specs.Ends.{IsSessionStatus}
 use Rattle.dblog_capture.specs.Generated.{IsGeneratedStatus}
-use Rattle.dblog_run.specs.Disks.{EndsOrFails, IsAnswerOf, IsDiskStatus, topics_status, offsets_status}
+use Rattle.dblog_run.specs.Disks.{EndsOrFails, IsAnswerOf, IsDiskStatus}
 use Rattle.dblog_run.specs.Inits.{AnswersInit, FailsSource, IsInitAnswer, IsInitStatus}
 use Rattle.dblog_run.specs.Run.{RunAnswer, fault, Replays, Applies, FailsReading, IsExternalStatus, IsReplayAnswer, IsReplayStatus, IsApplyStatus}
 use Rattle.dbl_lines.specs.Says.{IsCutShort}
 
 -- The answer of `gen`: the lines of the workload, which are written at once.
 abbrev pub made : ℕ → ℕ → ℕ → RunAnswer
-made number rows groups = record { status = 0; lines = workload_lines number rows groups; one_by_one = [] }
+made number rows groups = record { status = Done; lines = workload_lines number rows groups; one_by_one = [] }
 
 -- The options of `replay` for these arguments.
 abbrev pub options_of : List ℕ → List ℕ → List ℕ → List TableKey → ReplayOptions
@@ -59,7 +62,8 @@ pub data Means (words : List (List ℕ)) (now : ℤ) (given : RunInput) (answer 
 
 -- The end of a run for these arguments and contents at a time, in which only such disks failed: as one of the answers says, or with the
 -- status of a failure.
-pub record Runs (words : List (List ℕ)) (now : ℤ) (given : RunInput) (failed : Store → Type 0) (status : ℕ) (before after : Option (List ℕ)) : Type 0 where
+pub record Runs (words : List (List ℕ)) (now : ℤ) (given : RunInput) (failed : Store → Type 0) (status : Status)
+    (before after : Option (List ℕ)) : Type 0 where
   pub ended : (answer : RunAnswer) → Means words now given answer → EndsOrFails failed answer status before after
   pub meant : IsExternalStatus status ⊎ (IsDiskStatus status ⊎ ((answer : RunAnswer) × Means words now given answer × (answer.status ≡ status)))
 
@@ -108,12 +112,12 @@ abbrev pub uses_offsets : Command → Bool
 uses_offsets command = opens_offsets command || writes command
 
 -- The statuses with which a command that opens the disk of the topic log has opened it.
-abbrev pub HasOpenedTopics : ℕ → Type 0
-HasOpenedTopics status = (status ≡ 0) ⊎ ((status ≡ 4) ⊎ ((status ≡ offsets_status) ⊎ (status ≡ 14)))
+abbrev pub HasOpenedTopics : Status → Type 0
+HasOpenedTopics status = (status ≡ Done) ⊎ ((status ≡ StartMismatch) ⊎ ((status ≡ OffsetsFailed) ⊎ (status ≡ InvalidStore)))
 
 -- The statuses with which a command that opens the disk of the offset has opened it; 14 may be of the topic log.
-abbrev pub HasOpenedOffsets : Command → ℕ → Type 0
-HasOpenedOffsets command status = (status ≡ 0) ⊎ ((status ≡ 4) ⊎ ((opens_topics command ≡ false) × (status ≡ 14)))
+abbrev pub HasOpenedOffsets : Command → Status → Type 0
+HasOpenedOffsets command status = (status ≡ Done) ⊎ ((status ≡ StartMismatch) ⊎ ((opens_topics command ≡ false) × (status ≡ InvalidStore)))
 
 -- The disk of the topic log has no valid log, after which the command reads no other disk.
 abbrev pub FindsNoLog : Command → List ℕ → Type 0
@@ -139,7 +143,7 @@ abbrev pub SpellNone : List (List ℕ) → (Command → Bool) → Type 0
 SpellNone words holds = (command : Command) → Spells words command → holds command ≡ false
 
 -- The end of a run whose input failed: the command reads it, and that failure's line was to be written.
-pub record InputFails (words : List (List ℕ)) (was now : ℕ) (status : ℕ) (before after : Option (List ℕ)) : Type 0 where
+pub record InputFails (words : List (List ℕ)) (was now : ℕ) (status : Status) (before after : Option (List ℕ)) : Type 0 where
   pub command : Command
   pub spells : Spells words command
   pub reading : reads command ≡ true
@@ -147,7 +151,7 @@ pub record InputFails (words : List (List ℕ)) (was now : ℕ) (status : ℕ) (
 
 -- The end of a run in which the disk of the source's log failed: the command makes the store there, and that failure's line was to be
 -- written.
-pub record WalFails (words : List (List ℕ)) (was now : ℕ) (status : ℕ) (before after : Option (List ℕ)) : Type 0 where
+pub record WalFails (words : List (List ℕ)) (was now : ℕ) (status : Status) (before after : Option (List ℕ)) : Type 0 where
   pub command : Command
   pub spells : Spells words command
   pub making : makes command ≡ true
@@ -166,26 +170,27 @@ StandsAlone (Gen number rows groups false) answer = answer ≡ made number rows 
 StandsAlone (Gen number rows groups true) answer = ⊥
 
 -- The statuses of an answer about the contents of the input, which was then read to its end.
-abbrev pub ReportsInputStatus : Command → ℕ → Type 0
+abbrev pub ReportsInputStatus : Command → Status → Type 0
 ReportsInputStatus (Replay prefix db placeholder keys) status = IsReplayAnswer status
-ReportsInputStatus (Apply true placeholder) status = (status ≡ 0) ⊎ (status ≡ 13)
+ReportsInputStatus (Apply true placeholder) status = (status ≡ Done) ⊎ (status ≡ InvalidInput)
 ReportsInputStatus Init status = IsInitAnswer status
 ReportsInputStatus command status = ⊥
 
 -- The statuses of `topics`, for every behaviour of the disks and the output.
-abbrev pub IsTopicsStatus : ℕ → Type 0
-IsTopicsStatus status = (status ≡ 0) ⊎ ((status ≡ topics_status) ⊎ ((status ≡ 14) ⊎ IsCutShort status))
+abbrev pub IsTopicsStatus : Status → Type 0
+IsTopicsStatus status = (status ≡ Done) ⊎ ((status ≡ TopicsFailed) ⊎ ((status ≡ InvalidStore) ⊎ IsCutShort status))
 
 -- The statuses of `offsets`, for every behaviour of the disks and the output.
-abbrev pub IsOffsetsStatus : ℕ → Type 0
-IsOffsetsStatus status = (status ≡ 0) ⊎ ((status ≡ 4) ⊎ ((status ≡ offsets_status) ⊎ ((status ≡ 14) ⊎ IsCutShort status)))
+abbrev pub IsOffsetsStatus : Status → Type 0
+IsOffsetsStatus status =
+    (status ≡ Done) ⊎ ((status ≡ StartMismatch) ⊎ ((status ≡ OffsetsFailed) ⊎ ((status ≡ InvalidStore) ⊎ IsCutShort status)))
 
 -- The statuses of `apply` over the stores, for every behaviour of the disks and the output.
-abbrev pub IsRowsStatus : ℕ → Type 0
-IsRowsStatus status = (status ≡ topics_status) ⊎ IsOffsetsStatus status
+abbrev pub IsRowsStatus : Status → Type 0
+IsRowsStatus status = (status ≡ TopicsFailed) ⊎ IsOffsetsStatus status
 
 -- The statuses of a command, for every behaviour of the streams and the disks.
-abbrev pub IsStatusOf : Command → ℕ → Type 0
+abbrev pub IsStatusOf : Command → Status → Type 0
 IsStatusOf (Replay prefix db placeholder keys) status = IsReplayStatus status
 IsStatusOf (Apply true placeholder) status = IsApplyStatus status
 IsStatusOf (Apply false placeholder) status = IsRowsStatus status
@@ -194,15 +199,16 @@ IsStatusOf Topics status = IsTopicsStatus status
 IsStatusOf Offsets status = IsOffsetsStatus status
 IsStatusOf (Capture options) status = IsSessionStatus status
 IsStatusOf (Resume chunk every messages) status = IsSessionStatus status
-IsStatusOf (Gen number rows groups false) status = (status ≡ 0) ⊎ IsCutShort status
+IsStatusOf (Gen number rows groups false) status = (status ≡ Done) ⊎ IsCutShort status
 IsStatusOf (Gen number rows groups true) status = IsGeneratedStatus status
 
 -- For private clauses: the end of a run of `init`.
-pub record RunsInit (given : inits.InitInput) (failed : Store → Type 0) (status : ℕ) (before after : Option (List ℕ)) : Type 0 where
+pub record RunsInit (given : inits.InitInput) (failed : Store → Type 0) (status : Status) (before after : Option (List ℕ)) : Type 0 where
   pub ended : (answer : RunAnswer) → AnswersInit given answer → EndsOrFails failed answer status before after
   pub meant : IsExternalStatus status ⊎ (IsDiskStatus status ⊎ ((answer : RunAnswer) × AnswersInit given answer × (answer.status ≡ status)))
 
 -- For private clauses: the end of a run of a command.
-pub record RunsCommand (command : Command) (now : ℤ) (given : RunInput) (failed : Store → Type 0) (status : ℕ) (before after : Option (List ℕ)) : Type 0 where
+pub record RunsCommand (command : Command) (now : ℤ) (given : RunInput) (failed : Store → Type 0) (status : Status)
+    (before after : Option (List ℕ)) : Type 0 where
   pub ended : (answer : RunAnswer) → Answers command now given answer → EndsOrFails failed answer status before after
   pub meant : IsExternalStatus status ⊎ (IsDiskStatus status ⊎ ((answer : RunAnswer) × Answers command now given answer × (answer.status ≡ status)))

@@ -2,9 +2,12 @@
 use Rattle.std.specs.Prelude.{◌≡◌, ◌⊎◌, ℕ, ℤ, ◌<◌, ◌≤◌, Option, Some, None, Ok, Err, List, [], ◌∷◌, ◌++◌, take, length, map}
 use Rattle.dbl_base.specs.Lines.{lines_of, lines_text}
 use Rattle.dbl_base.specs.Streams.{FaultCounted, input_limit}
-use Rattle.dbl_lines.specs.declared.halt.Halt.{Halt}
-use Rattle.dbl_lines.specs.declared.halt.Halt.TheVariants.{Usage, BadLine, InputTooLong, InputFailed, Memory}
-use Rattle.dbl_lines.specs.Faults.{status_of, fault_line, output_failed_status}
+use Rattle.dbl_lines.specs.declared.status.Status.{Status}
+use Rattle.dbl_lines.specs.declared.status.Status.TheVariants.{Done, MalformedLog, Unsupported, StdinFailed}
+use Rattle.dbl_lines.specs.declared.status.Status.TheVariants.{StdoutFailed, OutOfMemory, InvalidInput}
+use Rattle.dbl_lines.specs.declared.run_error.RunError.{RunError}
+use Rattle.dbl_lines.specs.declared.run_error.RunError.TheVariants.{Usage, BadLine, InputTooLong, InputFailed, Memory}
+use Rattle.dbl_lines.specs.Faults.{status_of, fault_line}
 use Rattle.dbl_lines.specs.Says.{Says, Writes}
 use Rattle.dbl_record.specs.Consumers.{HeldCells}
 use Rattle.dbl_consume.specs.Printing.{HeldRow, AreRowsOf, row_line}
@@ -19,16 +22,16 @@ use Rattle.dblog_replay.specs.Replay.{IsReplayed}
 
 -- The answer of a command: a status, the lines that are written before it is returned, and those written one by one.
 pub record RunAnswer : Type 0 where
-  pub status : ℕ
+  pub status : Status
   pub lines : List (List ℕ)
   pub one_by_one : List (List ℕ)
 
 -- The answer with status 0 and these lines, which are written one by one.
 abbrev pub done : List (List ℕ) → RunAnswer
-done lines = record { status = 0; lines = lines; one_by_one = lines }
+done lines = record { status = Done; lines = lines; one_by_one = lines }
 
 -- The answer of an error: its status and its line.
-abbrev pub fault : Halt → RunAnswer
+abbrev pub fault : RunError → RunAnswer
 fault halt = record { status = status_of halt; lines = fault_line halt ∷ []; one_by_one = [] }
 
 -- The answer of a log with these lines and this error, or none.
@@ -43,7 +46,7 @@ pub data Replays (options : ReplayOptions) (now : ℤ) (bytes : List ℕ) (answe
 
 -- The answer of a line that isn't applied.
 abbrev pub line_fault : FaultAt → RunAnswer
-line_fault at = record { status = 13; lines = fault_text at ∷ []; one_by_one = [] }
+line_fault at = record { status = InvalidInput; lines = fault_text at ∷ []; one_by_one = [] }
 
 -- The answer of `apply --lines` with this placeholder: the rows in the state of the consumer of the input, or the first line that isn't
 -- applied.
@@ -54,40 +57,41 @@ pub data Applies (placeholder bytes : List ℕ) (answer : RunAnswer) : Type 0 wh
 
 -- The text and the status of a run with this answer, before the output may fail: the answer's own, or those of out of memory after some of
 -- the lines that are written one by one.
-pub data MayEnd (answer : RunAnswer) (status : ℕ) (text : List ℕ) : Type 0 where
+pub data MayEnd (answer : RunAnswer) (status : Status) (text : List ℕ) : Type 0 where
   whole : status ≡ answer.status → text ≡ lines_text answer.lines → MayEnd answer status text
-  out_of_memory : (n : ℕ) → status ≡ status_of Memory → text ≡ lines_text (take n answer.one_by_one) ++ lines_text (fault_line Memory ∷ []) → MayEnd answer status text
+  out_of_memory : (n : ℕ) → status ≡ OutOfMemory
+      → text ≡ lines_text (take n answer.one_by_one) ++ lines_text (fault_line Memory ∷ []) → MayEnd answer status text
 
 -- The end of a run with this answer: its text, or a prefix if the output failed, and its status.
-pub record Ends (answer : RunAnswer) (status : ℕ) (before after : Option (List ℕ)) : Type 0 where
-  pub wanted : ℕ
+pub record Ends (answer : RunAnswer) (status : Status) (before after : Option (List ℕ)) : Type 0 where
+  pub wanted : Status
   pub text : List ℕ
   pub may : MayEnd answer wanted text
   pub writes : Writes wanted text status before after
 
 -- The statuses of a failed input, a failed output, and out of memory.
-abbrev pub IsExternalStatus : ℕ → Type 0
-IsExternalStatus status = (status ≡ status_of InputFailed) ⊎ ((status ≡ output_failed_status) ⊎ (status ≡ status_of Memory))
+abbrev pub IsExternalStatus : Status → Type 0
+IsExternalStatus status = (status ≡ StdinFailed) ⊎ ((status ≡ StdoutFailed) ⊎ (status ≡ OutOfMemory))
 
 -- The statuses of an answer of `replay` about the contents of its input.
-abbrev pub IsReplayAnswer : ℕ → Type 0
-IsReplayAnswer status = (status ≡ 0) ⊎ ((status ≡ 5) ⊎ ((status ≡ 6) ⊎ (status ≡ 13)))
+abbrev pub IsReplayAnswer : Status → Type 0
+IsReplayAnswer status = (status ≡ Done) ⊎ ((status ≡ MalformedLog) ⊎ ((status ≡ Unsupported) ⊎ (status ≡ InvalidInput)))
 
 -- The statuses of `replay`, for every behaviour of the streams.
-abbrev pub IsReplayStatus : ℕ → Type 0
+abbrev pub IsReplayStatus : Status → Type 0
 IsReplayStatus status = IsReplayAnswer status ⊎ IsExternalStatus status
 
 -- The statuses of `apply --lines`, for every behaviour of the streams.
-abbrev pub IsApplyStatus : ℕ → Type 0
-IsApplyStatus status = (status ≡ 0) ⊎ ((status ≡ 13) ⊎ IsExternalStatus status)
+abbrev pub IsApplyStatus : Status → Type 0
+IsApplyStatus status = (status ≡ Done) ⊎ ((status ≡ InvalidInput) ⊎ IsExternalStatus status)
 
 -- The end of a run whose input failed: that failure's line was to be written.
-pub record FailsReading (was now : ℕ) (status : ℕ) (before after : Option (List ℕ)) : Type 0 where
+pub record FailsReading (was now : ℕ) (status : Status) (before after : Option (List ℕ)) : Type 0 where
   pub rose : FaultCounted was now
   pub says : Says InputFailed status before after
 
 -- For private clauses: an error of `replay` is its answer for the bytes, unless it is a failure.
-abbrev pub HaltsReplaying : ReplayOptions → ℤ → List ℕ → Halt → Type 0
+abbrev pub HaltsReplaying : ReplayOptions → ℤ → List ℕ → RunError → Type 0
 HaltsReplaying options now bytes Usage = ⊥
 HaltsReplaying options now bytes InputFailed = Unit {0}
 HaltsReplaying options now bytes Memory = Unit {0}
@@ -95,12 +99,13 @@ HaltsReplaying options now bytes (BadLine number) = Replays options now bytes (f
 HaltsReplaying options now bytes InputTooLong = Replays options now bytes (fault InputTooLong)
 
 -- For private clauses: the end of a run of `replay`.
-pub record RunsReplaying (options : ReplayOptions) (now : ℤ) (bytes : List ℕ) (status : ℕ) (before after : Option (List ℕ)) : Type 0 where
+pub record RunsReplaying (options : ReplayOptions) (now : ℤ) (bytes : List ℕ) (status : Status)
+    (before after : Option (List ℕ)) : Type 0 where
   pub ended : (answer : RunAnswer) → Replays options now bytes answer → Ends answer status before after
   pub meant : IsExternalStatus status ⊎ ((answer : RunAnswer) × Replays options now bytes answer × (answer.status ≡ status))
 
 -- For private clauses: an error of `apply --lines` is its answer for the bytes, unless it is a failure.
-abbrev pub HaltsApplying : List ℕ → List ℕ → Halt → Type 0
+abbrev pub HaltsApplying : List ℕ → List ℕ → RunError → Type 0
 HaltsApplying placeholder bytes Usage = ⊥
 HaltsApplying placeholder bytes InputFailed = Unit {0}
 HaltsApplying placeholder bytes Memory = Unit {0}
@@ -108,22 +113,23 @@ HaltsApplying placeholder bytes (BadLine number) = ⊥
 HaltsApplying placeholder bytes InputTooLong = Applies placeholder bytes (fault InputTooLong)
 
 -- For private clauses: the end of a run of `apply --lines`.
-pub record RunsApplying (placeholder bytes : List ℕ) (status : ℕ) (before after : Option (List ℕ)) : Type 0 where
+pub record RunsApplying (placeholder bytes : List ℕ) (status : Status) (before after : Option (List ℕ)) : Type 0 where
   pub ended : (answer : RunAnswer) → Applies placeholder bytes answer → Ends answer status before after
   pub meant : IsExternalStatus status ⊎ ((answer : RunAnswer) × Applies placeholder bytes answer × (answer.status ≡ status))
 
--- For private clauses: the end of a run with this answer, with its status or that of a failure.
-pub record EndsAs (answer : RunAnswer) (status : ℕ) (before after : Option (List ℕ)) : Type 0 where
+-- The end of a run with this answer: its status, or that of a failed input, a failed output or out of memory.
+pub record EndsAs (answer : RunAnswer) (status : Status) (before after : Option (List ℕ)) : Type 0 where
   pub ended : Ends answer status before after
   pub told : IsExternalStatus status ⊎ (answer.status ≡ status)
 
 -- For private clauses: the lines of the rows of this state were to be written.
-pub record PrintedAs (held : List ℕ → List ℕ → Option HeldCells) (status : ℕ) (before after : Option (List ℕ)) : Type 0 where
+pub record PrintedAs (held : List ℕ → List ℕ → Option HeldCells) (status : Status) (before after : Option (List ℕ)) : Type 0 where
   pub rows : List HeldRow
   pub are : AreRowsOf held rows
   pub ends : EndsAs (done (map row_line rows)) status before after
 
 -- For private clauses: the end of a run of these messages.
-pub record RunsLog (options : ReplayOptions) (now : ℤ) (bs : List (List ℕ)) (status : ℕ) (before after : Option (List ℕ)) : Type 0 where
+pub record RunsLog (options : ReplayOptions) (now : ℤ) (bs : List (List ℕ)) (status : Status)
+    (before after : Option (List ℕ)) : Type 0 where
   pub ended : (lines : List (List ℕ)) (end : Option LogFault) → LogWrites options now [] bs lines end → Ends (log_answer lines end) status before after
   pub meant : IsExternalStatus status ⊎ ((lines : List (List ℕ)) × (end : Option LogFault) × LogWrites options now [] bs lines end × (end_status end ≡ status))

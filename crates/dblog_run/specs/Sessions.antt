@@ -1,5 +1,7 @@
 -- The session that a command requests.
-use Rattle.std.specs.Prelude.{◌≡◌, ℕ, Option, Some, None, IsSome, option_and_then}
+use Rattle.std.specs.Prelude.{◌≡◌, Option, Some, None, IsSome, option_and_then}
+use Rattle.dbl_lines.specs.declared.status.Status.{Status}
+use Rattle.dbl_lines.specs.declared.status.Status.TheVariants.{Done}
 use Rattle.dbl_model_table.specs.declared.config.Config.{Config}
 use Rattle.dbl_cli.specs.declared.commands.Command.{Command}
 use Rattle.dbl_cli.specs.declared.commands.Command.TheVariants.{Capture, Resume}
@@ -19,5 +21,5 @@ abbrev pub asks_by : Command → Contents → Option Config
 asks_by command held = option_and_then (λ asked. asks_in asked held) (asked_by command)
 
 -- The session that the command requests was complete, by the status of the run.
-abbrev pub IsCompleteRun : Command → ℕ → Type 0
-IsCompleteRun command status = IsSome (asked_by command) × (status ≡ 0)
+abbrev pub IsCompleteRun : Command → Status → Type 0
+IsCompleteRun command status = IsSome (asked_by command) × (status ≡ Done)

@@ -7,5 +7,6 @@ mod program;
 mod stores;
 mod streams;
 
-pub use dbl_lines::{Finished, Halt, say};
+pub use dbl_lines::{RunError, Status, say};
+pub use dblog_init::{Disks, Outcome};
 pub use program::run;

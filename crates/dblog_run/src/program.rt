@@ -1,6 +1,5 @@
 ghost use Rattle.std.specs.Prelude.{◌≡◌, ◌≢◌, ◌⊎◌, true, false, ℕ, ◌≤◌, List, [], length, Some, IsSome, Err};
 ghost use Rattle.dbl_base.specs.Streams.{FaultCounted, input_limit};
-ghost use Rattle.dbl_lines.specs.Faults.{status_of, output_failed_status};
 ghost use Rattle.dblog_replay.specs.declared.options.ReplayOptions.{ReplayOptions};
 ghost use Rattle.dbl_cli.specs.declared.commands.Command.{Command};
 ghost use Rattle.dbl_cli.specs.Commands.{Spells};
@@ -11,22 +10,24 @@ ghost use Rattle.dblog_run.specs.Means.{RunsCommand, SpellNone, SpellSome, Tell,
 ghost use Rattle.dblog_run.specs.Means.{opens_offsets, opens_topics, uses_offsets, uses_topics, StandsAlone, ReportsInputStatus, IsStatusOf};
 ghost use Rattle.dblog_init.specs.DemoLaws.Made.{IsFreshWal};
 ghost use Rattle.dblog_init.specs.declared.error.Store.TheVariants.{Wal, Topics, Offsets};
-ghost use Rattle.dblog_init.specs.Disks.{HasStoredBytes, HoldsBytes};
+ghost use Rattle.dblog_init.specs.Disks.{HasStoredBytes, HoldSomeBytes};
 ghost use Rattle.dblog_init.specs.Fresh.{IsEmptyLog, IsEmptyStore};
 ghost use Rattle.dblog_capture.specs.Connect.declared.asked.Asked.{Asked as SpecAsked};
 ghost use Rattle.dblog_capture.specs.Connect.Promise.Bounds.{IsBounded};
 ghost use Rattle.dblog_capture.specs.Connect.Promise.Headline.{GuaranteesAfterCrash};
-ghost use Rattle.dblog_capture.specs.Connect.Promise.Kept.{AreKept};
-ghost use Rattle.dblog_run.specs.Inits.{FailsSource, IsInitLeft, IsDiskUntouched};
-ghost use Rattle.dblog_capture.specs.Runs.{RunsConnected, RunsSession};
+ghost use Rattle.dblog_capture.specs.Connect.Disks.{AreKeptDisks, IsTrueAfterCrash};
+ghost use Rattle.dblog_run.specs.Inits.{AreUntouched, FailsSource, IsInitLeft};
+ghost use Rattle.dblog_capture.specs.Runs.{RunsConnected, RunsSessionOn};
 ghost use Rattle.dblog_capture.specs.Connect.Asked.{asks_in};
 ghost use Rattle.dbl_gen.specs.Workload.{workload};
 ghost use Rattle.dblog_capture.specs.Generated.{EndsGenerated, HasMade, IsMadeShort, RunsGenerated, plainly};
 ghost use Rattle.dblog_run.specs.Sessions.{IsCompleteRun, asked_by, asks_by};
-ghost use Rattle.dblog_run.specs.Disks.{IsOnlyRead, OfDisk, offsets_status, topics_status, wal_status};
+ghost use Rattle.dblog_run.specs.Disks.{IsOnlyRead, OfDisk};
 ghost use Rattle.dbl_record.specs.declared.record.Record.{Record};
 ghost use Rattle.dbl_topic.specs.Logs.{IsLog};
 ghost use Rattle.dblog_run.specs.Run.{RunAnswer, FailsReading, EndsAs};
+ghost use Rattle.dbl_lines.specs.declared.status.Status.TheVariants.{Done, SourceFailed, TopicsFailed, OffsetsFailed};
+ghost use Rattle.dbl_lines.specs.declared.status.Status.TheVariants.{StdinFailed, StdoutFailed, InvalidStore};
 ghost use Rattle.dbl_lines.specs.Says.{Says};
 
 use crate::initializing::run_init;
@@ -36,9 +37,10 @@ use dbl_base::{Input, Output, Seq, Text};
 use dbl_cli::{CliError, Command};
 use dbl_disk::Disk;
 use dbl_gen::script;
-use dbl_lines::{Finished, Halt, say, write_text};
+use dbl_lines::{RunError, Status, say, write_text};
 use dbl_model_table::{Identity, TableKey};
 use dblog_capture::{Asked, run_generated, run_session};
+use dblog_init::{Disks, Outcome};
 use dblog_replay::ReplayOptions;
 use std::alloc::Global;
 
@@ -51,198 +53,198 @@ pub fn run<I: Input, O: Output, W: Disk, T: Disk, F: Disk>(
     now_ms: i64,
     input: &mut I,
     output: &mut O,
-    wal: W,
-    topics: T,
-    offsets: F,
-) -> Finished<W, T, F>
-    // The output and the answer are the meaning of the arguments with the input and the disks that
-    // the command opens, unless one of these failed and its count of faults rose.
+    disks: Disks<W, T, F>,
+) -> Outcome<W, T, F, Status>
+    // Unless the arguments request a session: if what the command reads has known contents, the
+    // output and the status are the meaning of the arguments with these, or report that the input
+    // or a disk failed, whose count of faults rose. Memory may run out, also after some of the
+    // lines, and the output may fail within them.
     ensures told { (given : RunInput) → SpellNone words.now.items connects →
         Tell words.now.items
-        (I.left input.old) (W.seen wal) (T.seen topics) (F.seen offsets) given →
+        (I.left input.old) (W.seen disks.wal) (T.seen disks.topics) (F.seen disks.offsets) given →
         Runs words.now.items now_ms given
         (OfDisk
-        (SpellSome words.now.items uses_topics × FaultCounted (T.faults topics) (T.faults result.topics))
+        (SpellSome words.now.items uses_topics ×
+        FaultCounted (T.faults disks.topics) (T.faults result.disks.topics))
         (SpellSome words.now.items uses_offsets ×
-        FaultCounted (F.faults offsets) (F.faults result.offsets)))
-        result.status (O.written output.old) (O.written output.new)
-        ⊎ (InputFails words.now.items (I.faults input.old) (I.faults input.new) result.status
+        FaultCounted (F.faults disks.offsets) (F.faults result.disks.offsets)))
+        result.end (O.written output.old) (O.written output.new)
+        ⊎ (InputFails words.now.items (I.faults input.old) (I.faults input.new) result.end
         (O.written output.old) (O.written output.new)
-        ⊎ WalFails words.now.items (W.faults wal) (W.faults result.wal) result.status
+        ⊎ WalFails words.now.items (W.faults disks.wal) (W.faults result.disks.wal) result.end
         (O.written output.old) (O.written output.new)) }
 
-    // Invalid arguments are a usage error, for all streams and disks.
+    // Invalid arguments are reported as a usage error, or as out of memory, for all streams and
+    // disks; the output may fail within that line.
     ensures usage { ((command : Command) → Spells words.now.items command → ⊥) →
-        Says Halt.Usage result.status (O.written output.old) (O.written output.new) }
+        Says RunError.Usage result.end (O.written output.old) (O.written output.new) }
 
-    // A command that reads neither the input nor a disk has this answer for all streams and disks.
+    // A command that reads neither the input nor a disk has this answer for all streams and disks,
+    // unless memory ran out or the output failed.
     ensures alone { (command : Command) (answer : RunAnswer) → Spells words.now.items command →
         StandsAlone command answer →
-        EndsAs answer result.status (O.written output.old) (O.written output.new) }
+        EndsAs answer result.end (O.written output.old) (O.written output.new) }
 
     // If the arguments are of no command that reads the input, nothing is read.
     ensures unread { ((command : Command) → Spells words.now.items command →
         reads command ≡ false) → input.new ≡ input.old }
 
     // If a store is refused, or a disk that isn't empty, the input isn't read.
-    ensures refused_unread { result.status ≡ 14 → input.new ≡ input.old }
+    ensures refused_unread { result.end ≡ InvalidStore → input.new ≡ input.old }
 
-    // An input within the limit is read to its end.
+    // If the status is one of an answer about the contents of the input, an input with known
+    // contents within the limit was read to its end.
     ensures whole { (bytes : List ℕ) (command : Command) → I.left input.old ≡ Some bytes →
         Spells words.now.items command → length bytes ≤ input_limit →
-        ReportsInputStatus command result.status → I.left input.new ≡ Some [] }
+        ReportsInputStatus command result.end → I.left input.new ≡ Some [] }
 
-    // The status is one of the command's, for every behaviour of the streams and the disks.
+    // The status is one of the command's, for every behaviour of the streams and the disks. That of
+    // a failed input, output or source's log is returned only if its count of faults rose.
     ensures status { (command : Command) → Spells words.now.items command →
-        IsStatusOf command result.status }
-    ensures input_failed { result.status ≡ status_of Halt.InputFailed →
+        IsStatusOf command result.end }
+    ensures input_failed { result.end ≡ StdinFailed →
         FaultCounted (I.faults input.old) (I.faults input.new) }
-    ensures output_failed { result.status ≡ output_failed_status →
+    ensures output_failed { result.end ≡ StdoutFailed →
         FaultCounted (O.faults output.old) (O.faults output.new) }
-    ensures wal_failed { result.status ≡ wal_status →
-        FaultCounted (W.faults wal) (W.faults result.wal) }
+    ensures wal_failed { result.end ≡ SourceFailed →
+        FaultCounted (W.faults disks.wal) (W.faults result.disks.wal) }
 
     // A disk that the command neither reads nor writes is returned as it was passed; so is the
-    // offset's if `apply` finds no valid topic log.
-    ensures wal_stays { SpellNone words.now.items writes → result.wal ≡ wal }
-    ensures topics_stay { SpellNone words.now.items uses_topics → result.topics ≡ topics }
-    ensures offsets_stay { SpellNone words.now.items uses_offsets → result.offsets ≡ offsets }
+    // offset's if `apply` finds known contents that are no topic log.
+    ensures wal_stays { SpellNone words.now.items writes → result.disks.wal ≡ disks.wal }
+    ensures topics_stay { SpellNone words.now.items uses_topics →
+        result.disks.topics ≡ disks.topics }
+    ensures offsets_stay { SpellNone words.now.items uses_offsets →
+        result.disks.offsets ≡ disks.offsets }
     ensures unopened { (command : Command) (bytes : List ℕ) → Spells words.now.items command →
-        opens_topics command ≡ true → T.seen topics ≡ Some bytes →
-        ((groups : List (List Record)) → ¬ IsLog bytes groups) → result.offsets ≡ offsets }
+        opens_topics command ≡ true → T.seen disks.topics ≡ Some bytes →
+        ((groups : List (List Record)) → ¬ IsLog bytes groups) →
+        result.disks.offsets ≡ disks.offsets }
 
-    // A disk that was opened, by the status, was synced: a crash leaves only its known contents.
+    // A disk with known contents that the command only reads was synced if it was opened, by the
+    // status: a crash leaves only these contents.
     ensures topics_synced { (command : Command) → Spells words.now.items command →
-        opens_topics command ≡ true → HasOpenedTopics result.status →
-        IsSynced T.seen T.may_leave topics result.topics }
+        opens_topics command ≡ true → HasOpenedTopics result.end →
+        IsSynced T.Disk disks.topics result.disks.topics }
     ensures offsets_synced { (command : Command) → Spells words.now.items command →
-        opens_offsets command ≡ true → HasOpenedOffsets command result.status →
-        IsSynced F.seen F.may_leave offsets result.offsets }
+        opens_offsets command ≡ true → HasOpenedOffsets command result.end →
+        IsSynced F.Disk disks.offsets result.disks.offsets }
 
     // A command that doesn't write the disks only reads them, and each has failed if the status
     // says so.
     ensures topics_read { SpellNone words.now.items writes →
-        IsOnlyRead T.seen T.may_leave T.faults
-        topics_status result.status topics result.topics }
+        IsOnlyRead T.Disk
+        TopicsFailed result.end disks.topics result.disks.topics }
     ensures offsets_read { SpellNone words.now.items writes →
-        IsOnlyRead F.seen F.may_leave F.faults
-        offsets_status result.status offsets result.offsets }
+        IsOnlyRead F.Disk
+        OffsetsFailed result.end disks.offsets result.disks.offsets }
 
-    // An `init` with status 0 leaves the stores of its input, and a crash leaves only them.
+    // An `init` that is done leaves the store of its input on each disk whose contents were known
+    // (for the source's log, those of the input too), and a crash leaves only that store.
     ensures wal_made { (bytes before : List ℕ) → Spells words.now.items Command.Init →
-        I.left input.old ≡ Some bytes → W.seen wal ≡ Some before → result.status ≡ 0 →
-        HasStoredBytes W.seen W.may_leave (IsFreshWal bytes) result.wal }
+        I.left input.old ≡ Some bytes → W.seen disks.wal ≡ Some before → result.end ≡ Done →
+        HasStoredBytes W.Disk (IsFreshWal bytes) result.disks.wal }
     ensures topics_made { (before : List ℕ) → Spells words.now.items Command.Init →
-        T.seen topics ≡ Some before → result.status ≡ 0 →
-        HasStoredBytes T.seen T.may_leave IsEmptyLog result.topics }
+        T.seen disks.topics ≡ Some before → result.end ≡ Done →
+        HasStoredBytes T.Disk IsEmptyLog result.disks.topics }
     ensures offsets_made { (before : List ℕ) → Spells words.now.items Command.Init →
-        F.seen offsets ≡ Some before → result.status ≡ 0 →
-        HasStoredBytes F.seen F.may_leave IsEmptyStore result.offsets }
+        F.seen disks.offsets ≡ Some before → result.end ≡ Done →
+        HasStoredBytes F.Disk IsEmptyStore result.disks.offsets }
 
-    // After an `init` with status 0 the disks are crash-consistent, and stay so by `kept` below.
+    // After an `init` that is done the disks are crash-consistent if the contents of the input and
+    // of all disks were known, and they stay so by `kept` below.
     ensures made { (bytes w t f : List ℕ) → Spells words.now.items Command.Init →
-        I.left input.old ≡ Some bytes → W.seen wal ≡ Some w → T.seen topics ≡ Some t →
-        F.seen offsets ≡ Some f → result.status ≡ 0 →
-        AreKept (W.seen result.wal) (T.seen result.topics) (F.seen result.offsets)
-        (W.may_leave result.wal) (T.may_leave result.topics) (F.may_leave result.offsets) }
+        I.left input.old ≡ Some bytes → W.seen disks.wal ≡ Some w → T.seen disks.topics ≡ Some t →
+        F.seen disks.offsets ≡ Some f → result.end ≡ Done →
+        AreKeptDisks W.Disk T.Disk F.Disk result.disks }
 
-    // If one of the disks isn't empty, a command that makes the stores writes none of them.
+    // If one of the disks has known contents and isn't empty, a command that makes the stores
+    // changes the contents of none of them.
     ensures full_stay { SpellSome words.now.items makes →
-        HoldsBytes W.seen wal ⊎ (HoldsBytes T.seen topics ⊎ HoldsBytes F.seen offsets) →
-        IsDiskUntouched W.seen W.may_leave wal result.wal ×
-        (IsDiskUntouched T.seen T.may_leave topics result.topics ×
-        IsDiskUntouched F.seen F.may_leave offsets result.offsets) }
+        HoldSomeBytes W.Disk T.Disk F.Disk disks →
+        AreUntouched W.Disk T.Disk F.Disk disks result.disks }
 
-    // An `init` with any status writes nothing before the workload was found to be valid.
+    // What an `init` with any status leaves of a disk: what was there, if the input failed, was
+    // invalid or unsupported, if a disk wasn't empty, or if one that is written earlier failed.
+    // Known contents don't get longer than they were, or than 2^30 bytes.
     ensures wal_left { Spells words.now.items Command.Init →
-        IsInitLeft W.seen W.may_leave W.faults Wal result.status wal result.wal }
+        IsInitLeft W.Disk Wal result.end disks.wal result.disks.wal }
     ensures topics_left { Spells words.now.items Command.Init →
-        IsInitLeft T.seen T.may_leave T.faults Topics result.status topics result.topics }
+        IsInitLeft T.Disk Topics result.end disks.topics result.disks.topics }
     ensures offsets_left { Spells words.now.items Command.Init →
-        IsInitLeft F.seen F.may_leave F.faults Offsets result.status offsets result.offsets }
+        IsInitLeft F.Disk Offsets result.end disks.offsets result.disks.offsets }
 
     // THE HEADLINE. For crash-consistent (kept) disks, everything that a crash at any point of the
     // run may leave satisfies the connector's promise, and extends what was stored before by what
     // the arguments request; a command without a session changes nothing. The disks stay
     // crash-consistent.
     ensures headline { (command : Command) → Spells words.now.items command →
-        AreKept (W.seen wal) (T.seen topics) (F.seen offsets)
-        (W.may_leave wal) (T.may_leave topics) (F.may_leave offsets) → (w t f : List ℕ) →
-        W.may_leave result.wal w → T.may_leave result.topics t → F.may_leave result.offsets f →
-        GuaranteesAfterCrash (IsCompleteRun command result.status) (asks_by command)
-        (W.may_leave wal) (T.may_leave topics) (F.may_leave offsets) w t f }
-    ensures kept { AreKept (W.seen wal) (T.seen topics) (F.seen offsets)
-        (W.may_leave wal) (T.may_leave topics) (F.may_leave offsets) →
-        AreKept (W.seen result.wal) (T.seen result.topics) (F.seen result.offsets)
-        (W.may_leave result.wal) (T.may_leave result.topics) (F.may_leave result.offsets) }
+        AreKeptDisks W.Disk T.Disk F.Disk disks →
+        IsTrueAfterCrash W.Disk T.Disk F.Disk result.disks
+        (GuaranteesAfterCrash (IsCompleteRun command result.end) (asks_by command)
+        (W.may_leave disks.wal) (T.may_leave disks.topics) (F.may_leave disks.offsets)) }
+    ensures kept { AreKeptDisks W.Disk T.Disk F.Disk disks →
+        AreKeptDisks W.Disk T.Disk F.Disk result.disks }
 
-    // The result of a session is written: its report, or the line of its error; and why it had it.
+    // The result of a session is written (its report, or the line of its error), unless memory ran
+    // out or the output failed; and the reason for it, as far as the disks have known contents.
     ensures session { (command : Command) (asked : SpecAsked) → Spells words.now.items command →
         asked_by command ≡ Some asked →
-        RunsSession asked now_ms (W.seen wal) (T.seen topics) (F.seen offsets)
-        (W.may_leave wal) (T.may_leave topics) (F.may_leave offsets)
-        (W.may_leave result.wal) (T.may_leave result.topics) (F.may_leave result.offsets)
-        result.status (O.written output.old) (O.written output.new) }
+        RunsSessionOn W.Disk T.Disk F.Disk asked now_ms disks result.disks
+        result.end (O.written output.old) (O.written output.new) }
 
     // After the `init` part of `gen --run` on empty disks, everything that a crash may leave
     // satisfies the connector's promise for a capture without arguments, and extends the stores of
-    // the number's workload. Disks with known contents are then crash-consistent.
+    // the generated workload. Disks with known contents are then crash-consistent.
     ensures generated { (number rows groups : ℕ) →
         Spells words.now.items (Command.Gen number rows groups true) →
-        HasMade W.seen W.may_leave T.seen T.may_leave F.seen F.may_leave
-        wal topics offsets result.offsets → (w t f : List ℕ) →
-        W.may_leave result.wal w → T.may_leave result.topics t → F.may_leave result.offsets f →
-        GuaranteesAfterCrash (result.status ≡ 0) (asks_in plainly)
-        (IsFreshWal (workload number rows groups)) IsEmptyLog IsEmptyStore w t f }
+        HasMade W.Disk T.Disk F.Disk disks result.disks →
+        IsTrueAfterCrash W.Disk T.Disk F.Disk result.disks
+        (GuaranteesAfterCrash (result.end ≡ Done) (asks_in plainly)
+        (IsFreshWal (workload number rows groups)) IsEmptyLog IsEmptyStore) }
     ensures generated_kept { (number rows groups : ℕ) →
         Spells words.now.items (Command.Gen number rows groups true) →
-        HasMade W.seen W.may_leave T.seen T.may_leave F.seen F.may_leave
-        wal topics offsets result.offsets →
-        IsSome (W.seen result.wal) → IsSome (T.seen result.topics) →
-        IsSome (F.seen result.offsets) →
-        AreKept (W.seen result.wal) (T.seen result.topics) (F.seen result.offsets)
-        (W.may_leave result.wal) (T.may_leave result.topics) (F.may_leave result.offsets) }
+        HasMade W.Disk T.Disk F.Disk disks result.disks →
+        IsSome (W.seen result.disks.wal) → IsSome (T.seen result.disks.topics) →
+        IsSome (F.seen result.disks.offsets) →
+        AreKeptDisks W.Disk T.Disk F.Disk result.disks }
 
     // The result of `gen --run` on any disks: as by `init` of that workload, or, if that was done,
     // as by a session over its stores.
     ensures generating { (number rows groups : ℕ) →
         Spells words.now.items (Command.Gen number rows groups true) →
-        EndsGenerated W.seen W.may_leave T.seen T.may_leave F.seen F.may_leave
-        (workload number rows groups) now_ms wal result.wal topics result.topics
-        offsets result.offsets result.status (O.written output.old) (O.written output.new) }
+        EndsGenerated W.Disk T.Disk F.Disk (workload number rows groups) now_ms
+        disks result.disks result.end (O.written output.old) (O.written output.new) }
 
-    // A failure of a disk is reported only if its count of faults rose; the contents of the disks
-    // stay bounded, by 2^30 bytes past the closed commit byte of each journal.
-    ensures topics_failed { result.status ≡ topics_status →
-        FaultCounted (T.faults topics) (T.faults result.topics) }
-    ensures offsets_failed { result.status ≡ offsets_status →
-        FaultCounted (F.faults offsets) (F.faults result.offsets) }
+    // A failure of a disk is reported only if its count of faults rose. Known contents of a disk
+    // don't get longer than they were, or than 2^30 bytes past their journal's unset commit byte,
+    // or (by `init` and `gen --run`) than 2^30 bytes.
+    ensures topics_failed { result.end ≡ TopicsFailed →
+        FaultCounted (T.faults disks.topics) (T.faults result.disks.topics) }
+    ensures offsets_failed { result.end ≡ OffsetsFailed →
+        FaultCounted (F.faults disks.offsets) (F.faults result.disks.offsets) }
     ensures wal_bounded { SpellNone words.now.items makes →
-        IsBounded (W.seen wal) (W.seen result.wal) }
+        IsBounded (W.seen disks.wal) (W.seen result.disks.wal) }
     ensures topics_bounded { SpellNone words.now.items makes →
-        IsBounded (T.seen topics) (T.seen result.topics) }
+        IsBounded (T.seen disks.topics) (T.seen result.disks.topics) }
     ensures offsets_bounded { SpellNone words.now.items makes →
-        IsBounded (F.seen offsets) (F.seen result.offsets) }
+        IsBounded (F.seen disks.offsets) (F.seen result.disks.offsets) }
     ensures wal_short { SpellSome words.now.items makes →
-        IsMadeShort (W.seen wal) (W.seen result.wal) }
+        IsMadeShort (W.seen disks.wal) (W.seen result.disks.wal) }
     ensures topics_short { SpellSome words.now.items makes →
-        IsMadeShort (T.seen topics) (T.seen result.topics) }
+        IsMadeShort (T.seen disks.topics) (T.seen result.disks.topics) }
     ensures offsets_short { SpellSome words.now.items makes →
-        IsMadeShort (F.seen offsets) (F.seen result.offsets) }
+        IsMadeShort (F.seen disks.offsets) (F.seen result.disks.offsets) }
 {
     match dbl_cli::command(alloc, words) {
-        Ok(command) => run_command(alloc, command, &now_ms, input, output, wal, topics, offsets),
-        Err(CliError::Usage) => Finished {
-            status: say(alloc, Halt::Usage, output),
-            wal,
-            topics,
-            offsets,
+        Ok(command) => run_command(alloc, command, &now_ms, input, output, disks),
+        Err(CliError::Usage) => Outcome {
+            disks,
+            end: say(alloc, RunError::Usage, output),
         },
-        Err(CliError::Memory) => Finished {
-            status: say(alloc, Halt::Memory, output),
-            wal,
-            topics,
-            offsets,
+        Err(CliError::Memory) => Outcome {
+            disks,
+            end: say(alloc, RunError::Memory, output),
         },
     }
 }
@@ -253,78 +255,75 @@ fn run_command<I: Input, O: Output, W: Disk, T: Disk, F: Disk>(
     now_ms: &i64,
     input: &mut I,
     output: &mut O,
-    wal: W,
-    topics: T,
-    offsets: F,
-) -> Finished<W, T, F>
+    disks: Disks<W, T, F>,
+) -> Outcome<W, T, F, Status>
     requires { IsWithin command }
     ensures told { (given : RunInput) → connects command ≡ false →
-        ReadsGivenInput command (I.left input.old) (W.seen wal) (T.seen topics) (F.seen offsets) given →
+        ReadsGivenInput command
+        (I.left input.old) (W.seen disks.wal) (T.seen disks.topics) (F.seen disks.offsets) given →
         RunsCommand command now_ms.now given
-        (OfDisk ((uses_topics command ≡ true) × FaultCounted (T.faults topics) (T.faults result.topics))
-        ((uses_offsets command ≡ true) × FaultCounted (F.faults offsets) (F.faults result.offsets)))
-        result.status (O.written output.old) (O.written output.new)
+        (OfDisk ((uses_topics command ≡ true) ×
+        FaultCounted (T.faults disks.topics) (T.faults result.disks.topics))
+        ((uses_offsets command ≡ true) ×
+        FaultCounted (F.faults disks.offsets) (F.faults result.disks.offsets)))
+        result.end (O.written output.old) (O.written output.new)
         ⊎ (((reads command ≡ true) × FailsReading (I.faults input.old) (I.faults input.new)
-        result.status (O.written output.old) (O.written output.new))
-        ⊎ ((makes command ≡ true) × FailsSource (W.faults wal) (W.faults result.wal)
-        result.status (O.written output.old) (O.written output.new))) }
+        result.end (O.written output.old) (O.written output.new))
+        ⊎ ((makes command ≡ true) × FailsSource (W.faults disks.wal) (W.faults result.disks.wal)
+        result.end (O.written output.old) (O.written output.new))) }
     ensures alone { (answer : RunAnswer) → StandsAlone command answer →
-        EndsAs answer result.status (O.written output.old) (O.written output.new) }
+        EndsAs answer result.end (O.written output.old) (O.written output.new) }
     ensures unread { reads command ≡ false → input.new ≡ input.old }
-    ensures refused_unread { command ≡ Command.Init → result.status ≡ 14 →
+    ensures refused_unread { command ≡ Command.Init → result.end ≡ InvalidStore →
         input.new ≡ input.old }
     ensures whole { (bytes : List ℕ) → I.left input.old ≡ Some bytes →
-        length bytes ≤ input_limit → ReportsInputStatus command result.status →
+        length bytes ≤ input_limit → ReportsInputStatus command result.end →
         I.left input.new ≡ Some [] }
-    ensures known { IsStatusOf command result.status }
-    ensures input_failed { result.status ≡ status_of Halt.InputFailed →
+    ensures known { IsStatusOf command result.end }
+    ensures input_failed { result.end ≡ StdinFailed →
         FaultCounted (I.faults input.old) (I.faults input.new) }
-    ensures output_failed { result.status ≡ output_failed_status →
+    ensures output_failed { result.end ≡ StdoutFailed →
         FaultCounted (O.faults output.old) (O.faults output.new) }
-    ensures wal_stays { writes command ≡ false → result.wal ≡ wal }
-    ensures topics_stay { uses_topics command ≡ false → result.topics ≡ topics }
-    ensures offsets_stay { uses_offsets command ≡ false → result.offsets ≡ offsets }
+    ensures wal_stays { writes command ≡ false → result.disks.wal ≡ disks.wal }
+    ensures topics_stay { uses_topics command ≡ false → result.disks.topics ≡ disks.topics }
+    ensures offsets_stay { uses_offsets command ≡ false → result.disks.offsets ≡ disks.offsets }
     ensures wal_made { (bytes before : List ℕ) → command ≡ Command.Init →
-        I.left input.old ≡ Some bytes → W.seen wal ≡ Some before → result.status ≡ 0 →
-        HasStoredBytes W.seen W.may_leave (IsFreshWal bytes) result.wal }
+        I.left input.old ≡ Some bytes → W.seen disks.wal ≡ Some before → result.end ≡ Done →
+        HasStoredBytes W.Disk (IsFreshWal bytes) result.disks.wal }
     ensures topics_made { (before : List ℕ) → command ≡ Command.Init →
-        T.seen topics ≡ Some before → result.status ≡ 0 →
-        HasStoredBytes T.seen T.may_leave IsEmptyLog result.topics }
+        T.seen disks.topics ≡ Some before → result.end ≡ Done →
+        HasStoredBytes T.Disk IsEmptyLog result.disks.topics }
     ensures offsets_made { (before : List ℕ) → command ≡ Command.Init →
-        F.seen offsets ≡ Some before → result.status ≡ 0 →
-        HasStoredBytes F.seen F.may_leave IsEmptyStore result.offsets }
+        F.seen disks.offsets ≡ Some before → result.end ≡ Done →
+        HasStoredBytes F.Disk IsEmptyStore result.disks.offsets }
     ensures full_stay { command ≡ Command.Init →
-        HoldsBytes W.seen wal ⊎ (HoldsBytes T.seen topics ⊎ HoldsBytes F.seen offsets) →
-        IsDiskUntouched W.seen W.may_leave wal result.wal ×
-        (IsDiskUntouched T.seen T.may_leave topics result.topics ×
-        IsDiskUntouched F.seen F.may_leave offsets result.offsets) }
+        HoldSomeBytes W.Disk T.Disk F.Disk disks →
+        AreUntouched W.Disk T.Disk F.Disk disks result.disks }
     ensures wal_left { command ≡ Command.Init →
-        IsInitLeft W.seen W.may_leave W.faults Wal result.status wal result.wal }
+        IsInitLeft W.Disk Wal result.end disks.wal result.disks.wal }
     ensures topics_left { command ≡ Command.Init →
-        IsInitLeft T.seen T.may_leave T.faults Topics result.status topics result.topics }
+        IsInitLeft T.Disk Topics result.end disks.topics result.disks.topics }
     ensures offsets_left { command ≡ Command.Init →
-        IsInitLeft F.seen F.may_leave F.faults Offsets result.status offsets result.offsets }
+        IsInitLeft F.Disk Offsets result.end disks.offsets result.disks.offsets }
     ensures unopened { (bytes : List ℕ) → opens_topics command ≡ true →
-        T.seen topics ≡ Some bytes → ((groups : List (List Record)) → ¬ IsLog bytes groups) →
-        result.offsets ≡ offsets }
-    ensures topics_synced { opens_topics command ≡ true → HasOpenedTopics result.status →
-        IsSynced T.seen T.may_leave topics result.topics }
+        T.seen disks.topics ≡ Some bytes → ((groups : List (List Record)) → ¬ IsLog bytes groups) →
+        result.disks.offsets ≡ disks.offsets }
+    ensures topics_synced { opens_topics command ≡ true → HasOpenedTopics result.end →
+        IsSynced T.Disk disks.topics result.disks.topics }
     ensures offsets_synced { opens_offsets command ≡ true →
-        HasOpenedOffsets command result.status →
-        IsSynced F.seen F.may_leave offsets result.offsets }
-    ensures topics_read { opens_topics command ≡ true → IsOnlyRead T.seen T.may_leave T.faults
-        topics_status result.status topics result.topics }
-    ensures offsets_read { opens_offsets command ≡ true → IsOnlyRead F.seen F.may_leave F.faults
-        offsets_status result.status offsets result.offsets }
+        HasOpenedOffsets command result.end →
+        IsSynced F.Disk disks.offsets result.disks.offsets }
+    ensures topics_read { opens_topics command ≡ true → IsOnlyRead T.Disk
+        TopicsFailed result.end disks.topics result.disks.topics }
+    ensures offsets_read { opens_offsets command ≡ true → IsOnlyRead F.Disk
+        OffsetsFailed result.end disks.offsets result.disks.offsets }
     ensures generated { (number rows groups : ℕ) →
         command ≡ Command.Gen number rows groups true → RunsGenerated
-        W.seen W.may_leave W.faults T.seen T.may_leave T.faults F.seen F.may_leave F.faults
-        (workload number rows groups) now_ms.now wal result.wal topics result.topics
-        offsets result.offsets result.status (O.written output.old) (O.written output.new) }
+        W.Disk T.Disk F.Disk (workload number rows groups) now_ms.now
+        disks result.disks result.end (O.written output.old) (O.written output.new) }
     ensures connected { (asked : SpecAsked) → asked_by command ≡ Some asked → RunsConnected
-        W.seen W.may_leave W.faults T.seen T.may_leave T.faults F.seen F.may_leave F.faults
-        asked now_ms.now wal result.wal topics result.topics offsets result.offsets
-        result.status (O.written output.old) (O.written output.new) }
+        W.Disk T.Disk F.Disk asked now_ms.now disks result.disks
+        result.end (O.written output.old) (O.written output.new) }
 {
     match command {
         Command::Replay {
@@ -332,26 +331,22 @@ fn run_command<I: Input, O: Output, W: Disk, T: Disk, F: Disk>(
             db,
             placeholder,
             keys,
-        } => Finished {
-            status: replay_lines(
+        } => Outcome {
+            disks,
+            end: replay_lines(
                 alloc,
                 options_of(prefix, db, placeholder, keys),
                 now_ms,
                 input,
                 output,
             ),
-            wal,
-            topics,
-            offsets,
         },
         Command::Apply {
             lines: true,
             placeholder,
-        } => Finished {
-            status: apply_lines(alloc, placeholder, input, output),
-            wal,
-            topics,
-            offsets,
+        } => Outcome {
+            disks,
+            end: apply_lines(alloc, placeholder, input, output),
         },
         Command::Gen {
             number,
@@ -360,24 +355,20 @@ fn run_command<I: Input, O: Output, W: Disk, T: Disk, F: Disk>(
             run: is_run,
         } => {
             if is_run {
-                run_generated(
-                    alloc, number, rows, groups, now_ms, output, wal, topics, offsets,
-                )
+                run_generated(alloc, number, rows, groups, now_ms, output, disks)
             } else {
-                Finished {
-                    status: print_workload(alloc, number, rows, groups, output),
-                    wal,
-                    topics,
-                    offsets,
+                Outcome {
+                    disks,
+                    end: print_workload(alloc, number, rows, groups, output),
                 }
             }
         }
-        Command::Init => run_init(alloc, input, output, wal, topics, offsets),
-        Command::Topics => run_topics(alloc, output, wal, topics, offsets),
-        Command::Offsets => run_offsets(alloc, output, wal, topics, offsets),
+        Command::Init => run_init(alloc, input, output, disks),
+        Command::Topics => run_topics(alloc, output, disks),
+        Command::Offsets => run_offsets(alloc, output, disks),
         Command::Capture { options } => {
             let asked = Asked::First { options };
-            run_session(alloc, asked, now_ms, output, wal, topics, offsets)
+            run_session(alloc, asked, now_ms, output, disks)
         }
         Command::Resume {
             chunk,
@@ -389,9 +380,9 @@ fn run_command<I: Input, O: Output, W: Disk, T: Disk, F: Disk>(
                 every,
                 messages,
             };
-            run_session(alloc, asked, now_ms, output, wal, topics, offsets)
+            run_session(alloc, asked, now_ms, output, disks)
         }
-        Command::Apply { .. } => run_apply(alloc, output, wal, topics, offsets),
+        Command::Apply { .. } => run_apply(alloc, output, disks),
     }
 }
 
@@ -414,17 +405,17 @@ fn print_workload<O: Output>(
     rows: u32,
     groups: u32,
     output: &mut O,
-) -> u8
+) -> Status
     requires rows { rows ≤ 400_000 }
     requires groups { groups ≤ 90_000 }
     ensures ends { EndsAs (made number rows groups) result
         (O.written output.old) (O.written output.new) }
-    ensures not_input { result ≢ status_of Halt.InputFailed }
-    ensures output_failed { result ≡ output_failed_status →
+    ensures not_input { result ≢ StdinFailed }
+    ensures output_failed { result ≡ StdoutFailed →
         FaultCounted (O.faults output.old) (O.faults output.new) }
 {
     match script(alloc, number, rows, groups) {
-        Ok(text) => write_text(text.as_str(), 0, output),
-        Err(_) => say(alloc, Halt::Memory, output),
+        Ok(text) => write_text(text.as_str(), Status::Done, output),
+        Err(_) => say(alloc, RunError::Memory, output),
     }
 }

@@ -5,24 +5,21 @@ ghost use Rattle.dbl_base.specs.Streams.{FaultCounted, input_limit};
 ghost use Rattle.dbl_record.specs.Acts.{Reading};
 ghost use Rattle.dbl_record.specs.Consumers.{consumer_of};
 ghost use Rattle.dbl_consume.specs.Holdings.{Took, placeholder_of};
-ghost use Rattle.dbl_lines.specs.Faults.{status_of, output_failed_status};
 ghost use Rattle.dblog_replay.specs.Lines.{message_bytes_in, first_bad_line};
 ghost use Rattle.dblog_replay.specs.declared.options.ReplayOptions.{ReplayOptions};
 ghost use Rattle.dblog_run.specs.Run.{RunsLog};
 ghost use Rattle.dblog_run.specs.Run.{FailsReading, HaltsReplaying, RunsReplaying, HaltsApplying, RunsApplying, EndsAs, PrintedAs};
 ghost use Rattle.dblog_run.specs.Run.{IsReplayAnswer, IsReplayStatus, IsApplyStatus, line_fault};
+ghost use Rattle.dbl_lines.specs.declared.status.Status.TheVariants.{Done, StdinFailed, StdoutFailed, OutOfMemory, InvalidInput};
 ghost use Rattle.dbl_lines.specs.Says.{Says};
 
 use dbl_base::{Bytes, Input, InputError, Output, Text, read_all};
 use dbl_consume::Consumer;
-use dbl_lines::{Halt, OUTPUT_FAILED, say, write_text};
+use dbl_lines::{RunError, Status, say, write_text};
 use dblog_replay::{FaultAt, LineError, LineFault, PrintError, ReplayOptions, consume, print_log};
 use std::alloc::Global;
 
-/// The exit status of a line that isn't applied.
-const BAD_INPUT: u8 = 13;
-
-fn read_input<I: Input>(alloc: Global, input: &mut I) -> Result<Bytes, Halt>
+fn read_input<I: Input>(alloc: Global, input: &mut I) -> Result<Bytes, RunError>
     ensures all { (bytes : List ℕ) → I.left input.old ≡ Some bytes →
         IfOk result (λ read. read ≡ bytes) }
     ensures end { (bytes : List ℕ) → I.left input.old ≡ Some bytes →
@@ -31,37 +28,37 @@ fn read_input<I: Input>(alloc: Global, input: &mut I) -> Result<Bytes, Halt>
     ensures halts { (bytes : List ℕ) (options : ReplayOptions) (now : ℤ) →
         I.left input.old ≡ Some bytes → IfErr result (HaltsReplaying options now bytes) }
     ensures long { (bytes : List ℕ) → I.left input.old ≡ Some bytes → length bytes ≤ input_limit →
-        IfErr result (λ halt. (halt ≡ Halt.InputFailed) ⊎ (halt ≡ Halt.Memory)) }
+        IfErr result (λ halt. (halt ≡ RunError.InputFailed) ⊎ (halt ≡ RunError.Memory)) }
     ensures applying { (bytes placeholder : List ℕ) → I.left input.old ≡ Some bytes →
         IfErr result (HaltsApplying placeholder bytes) }
-    ensures failed { result ≡ Err Halt.InputFailed →
+    ensures failed { result ≡ Err RunError.InputFailed →
         FaultCounted (I.faults input.old) (I.faults input.new) }
     ensures kinds { IfErr result
-        (λ halt. (halt ≡ Halt.InputFailed) ⊎ ((halt ≡ Halt.InputTooLong) ⊎ (halt ≡ Halt.Memory))) }
-    ensures command { IfErr result (λ halt. halt ≢ Halt.Usage) }
+        (λ halt. (halt ≡ RunError.InputFailed) ⊎ ((halt ≡ RunError.InputTooLong) ⊎ (halt ≡ RunError.Memory))) }
+    ensures command { IfErr result (λ halt. halt ≢ RunError.Usage) }
 {
     match read_all(alloc, input) {
         Ok(bytes) => Ok(bytes),
-        Err(InputError::Failed) => Err(Halt::InputFailed),
-        Err(InputError::TooLong) => Err(Halt::InputTooLong),
-        Err(InputError::Memory) => Err(Halt::Memory),
+        Err(InputError::Failed) => Err(RunError::InputFailed),
+        Err(InputError::TooLong) => Err(RunError::InputTooLong),
+        Err(InputError::Memory) => Err(RunError::Memory),
     }
 }
 
 // The bytes of the messages of an input within the limit, which is freed.
-fn messages_of(alloc: Global, text: Bytes) -> Result<Vec<Bytes>, Halt>
+fn messages_of(alloc: Global, text: Bytes) -> Result<Vec<Bytes>, RunError>
     requires { length text ≤ input_limit }
     ensures ok { IfOk result (λ found. found.items ≡ message_bytes_in (lines_of text)) }
     ensures good { OnOk result (first_bad_line (lines_of text) ≡ None) }
     ensures halts { (options : ReplayOptions) (now : ℤ) →
         IfErr result (HaltsReplaying options now text) }
-    ensures kinds { IfErr result (λ halt. halt ≢ Halt.InputFailed) }
-    ensures command { IfErr result (λ halt. halt ≢ Halt.Usage) }
+    ensures kinds { IfErr result (λ halt. halt ≢ RunError.InputFailed) }
+    ensures command { IfErr result (λ halt. halt ≢ RunError.Usage) }
 {
     match dblog_replay::messages(alloc, text.items().as_slice()) {
         Ok(found) => Ok(found),
-        Err(LineError::BadLine { number }) => Err(Halt::BadLine { number }),
-        Err(LineError::Memory) => Err(Halt::Memory),
+        Err(LineError::BadLine { number }) => Err(RunError::BadLine { number }),
+        Err(LineError::Memory) => Err(RunError::Memory),
     }
 }
 
@@ -71,18 +68,18 @@ fn replay_messages<O: Output>(
     messages: Vec<Bytes>,
     now_ms: &i64,
     output: &mut O,
-) -> u8
+) -> Status
     ensures told { RunsLog options now_ms.now messages.items result
         (O.written output.old) (O.written output.new) }
-    ensures output_failed { result ≡ output_failed_status →
+    ensures output_failed { result ≡ StdoutFailed →
         FaultCounted (O.faults output.old) (O.faults output.new) }
-    ensures not_input { result ≢ status_of Halt.InputFailed }
+    ensures not_input { result ≢ StdinFailed }
     ensures known { IsReplayStatus result }
 {
     match print_log(alloc, options, messages, now_ms, output) {
         Ok(status) => status,
-        Err(PrintError::OutputFailed) => OUTPUT_FAILED,
-        Err(PrintError::Memory) => say(alloc, Halt::Memory, output),
+        Err(PrintError::OutputFailed) => Status::StdoutFailed,
+        Err(PrintError::Memory) => say(alloc, RunError::Memory, output),
     }
 }
 
@@ -92,13 +89,13 @@ fn replay_text<O: Output>(
     text: Bytes,
     now_ms: &i64,
     output: &mut O,
-) -> u8
+) -> Status
     requires { length text ≤ input_limit }
     ensures told { RunsReplaying options now_ms.now text result
         (O.written output.old) (O.written output.new) }
-    ensures output_failed { result ≡ output_failed_status →
+    ensures output_failed { result ≡ StdoutFailed →
         FaultCounted (O.faults output.old) (O.faults output.new) }
-    ensures not_input { result ≢ status_of Halt.InputFailed }
+    ensures not_input { result ≢ StdinFailed }
     ensures known { IsReplayStatus result }
 {
     match messages_of(alloc, text) {
@@ -114,7 +111,7 @@ pub(crate) fn replay_lines<I: Input, O: Output>(
     now_ms: &i64,
     input: &mut I,
     output: &mut O,
-) -> u8
+) -> Status
     ensures told { (bytes : List ℕ) → I.left input.old ≡ Some bytes →
         RunsReplaying options now_ms.now bytes result (O.written output.old) (O.written output.new)
         ⊎ FailsReading (I.faults input.old) (I.faults input.new) result
@@ -122,9 +119,9 @@ pub(crate) fn replay_lines<I: Input, O: Output>(
     ensures whole { (bytes : List ℕ) → I.left input.old ≡ Some bytes → length bytes ≤ input_limit →
         IsReplayAnswer result → I.left input.new ≡ Some [] }
     ensures known { IsReplayStatus result }
-    ensures input_failed { result ≡ status_of Halt.InputFailed →
+    ensures input_failed { result ≡ StdinFailed →
         FaultCounted (I.faults input.old) (I.faults input.new) }
-    ensures output_failed { result ≡ output_failed_status →
+    ensures output_failed { result ≡ StdoutFailed →
         FaultCounted (O.faults output.old) (O.faults output.new) }
 {
     match read_input(alloc, input) {
@@ -133,48 +130,48 @@ pub(crate) fn replay_lines<I: Input, O: Output>(
     }
 }
 
-fn say_fault<O: Output>(alloc: Global, at: &FaultAt, output: &mut O) -> u8
+fn say_fault<O: Output>(alloc: Global, at: &FaultAt, output: &mut O) -> Status
     ensures told { at.now.fault ≢ LineFault.Memory →
         EndsAs (line_fault at.now) result (O.written output.old) (O.written output.new) }
     ensures memory { at.now.fault ≡ LineFault.Memory →
-        Says Halt.Memory result (O.written output.old) (O.written output.new) }
-    ensures output_failed { result ≡ output_failed_status →
+        Says RunError.Memory result (O.written output.old) (O.written output.new) }
+    ensures output_failed { result ≡ StdoutFailed →
         FaultCounted (O.faults output.old) (O.faults output.new) }
-    ensures known { (result ≡ 13) ⊎
-        ((result ≡ output_failed_status) ⊎ (result ≡ status_of Halt.Memory)) }
+    ensures known { (result ≡ InvalidInput) ⊎
+        ((result ≡ StdoutFailed) ⊎ (result ≡ OutOfMemory)) }
 {
     if let LineFault::Memory = &at.fault {
-        return say(alloc, Halt::Memory, output);
+        return say(alloc, RunError::Memory, output);
     }
     match at.text(alloc) {
-        Ok(text) => write_text(text.as_str(), BAD_INPUT, output),
-        Err(_) => say(alloc, Halt::Memory, output),
+        Ok(text) => write_text(text.as_str(), Status::InvalidInput, output),
+        Err(_) => say(alloc, RunError::Memory, output),
     }
 }
 
-fn print_rows<O: Output>(alloc: Global, held: &Consumer, output: &mut O) -> u8
+fn print_rows<O: Output>(alloc: Global, held: &Consumer, output: &mut O) -> Status
     ensures told { (taken : List Reading) → Took taken held.now →
         PrintedAs (consumer_of (placeholder_of held.now) taken) result
         (O.written output.old) (O.written output.new) }
-    ensures output_failed { result ≡ output_failed_status →
+    ensures output_failed { result ≡ StdoutFailed →
         FaultCounted (O.faults output.old) (O.faults output.new) }
-    ensures known { (result ≡ 0) ⊎
-        ((result ≡ output_failed_status) ⊎ (result ≡ status_of Halt.Memory)) }
+    ensures known { (result ≡ Done) ⊎
+        ((result ≡ StdoutFailed) ⊎ (result ≡ OutOfMemory)) }
 {
     match held.print(output) {
-        Ok(_) => 0,
-        Err(PrintError::OutputFailed) => OUTPUT_FAILED,
-        Err(PrintError::Memory) => say(alloc, Halt::Memory, output),
+        Ok(_) => Status::Done,
+        Err(PrintError::OutputFailed) => Status::StdoutFailed,
+        Err(PrintError::Memory) => say(alloc, RunError::Memory, output),
     }
 }
 
-fn apply_text<O: Output>(alloc: Global, placeholder: Text, text: &[u8], output: &mut O) -> u8
+fn apply_text<O: Output>(alloc: Global, placeholder: Text, text: &[u8], output: &mut O) -> Status
     requires { length text.now ≤ input_limit }
     ensures told { RunsApplying placeholder text.now result
         (O.written output.old) (O.written output.new) }
-    ensures output_failed { result ≡ output_failed_status →
+    ensures output_failed { result ≡ StdoutFailed →
         FaultCounted (O.faults output.old) (O.faults output.new) }
-    ensures not_input { result ≢ status_of Halt.InputFailed }
+    ensures not_input { result ≢ StdinFailed }
     ensures known { IsApplyStatus result }
 {
     match consume(alloc, placeholder, text) {
@@ -189,17 +186,17 @@ pub(crate) fn apply_lines<I: Input, O: Output>(
     placeholder: Text,
     input: &mut I,
     output: &mut O,
-) -> u8
+) -> Status
     ensures told { (bytes : List ℕ) → I.left input.old ≡ Some bytes →
         RunsApplying placeholder bytes result (O.written output.old) (O.written output.new)
         ⊎ FailsReading (I.faults input.old) (I.faults input.new) result
         (O.written output.old) (O.written output.new) }
     ensures whole { (bytes : List ℕ) → I.left input.old ≡ Some bytes → length bytes ≤ input_limit →
-        (result ≡ 0) ⊎ (result ≡ 13) → I.left input.new ≡ Some [] }
+        (result ≡ Done) ⊎ (result ≡ InvalidInput) → I.left input.new ≡ Some [] }
     ensures known { IsApplyStatus result }
-    ensures input_failed { result ≡ status_of Halt.InputFailed →
+    ensures input_failed { result ≡ StdinFailed →
         FaultCounted (I.faults input.old) (I.faults input.new) }
-    ensures output_failed { result ≡ output_failed_status →
+    ensures output_failed { result ≡ StdoutFailed →
         FaultCounted (O.faults output.old) (O.faults output.new) }
 {
     match read_input(alloc, input) {

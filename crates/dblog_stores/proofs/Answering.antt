@@ -7,28 +7,28 @@ use Rattle.dbl_consume.specs.Printing.{row_line}
 use Rattle.dbl_topic.specs.Logs.{IsLog}
 use Rattle.dbl_offset.specs.declared.offset.Offset.{Offset}
 use Rattle.dbl_offset.specs.Stores.{IsStore}
-use Rattle.dblog_stores.specs.declared.error.RunError.{RunError}
-use Rattle.dblog_stores.specs.declared.error.RunError.TheVariants.{NotStarted}
+use Rattle.dblog_stores.specs.declared.error.CommandError.{CommandError}
+use Rattle.dblog_stores.specs.declared.error.CommandError.TheVariants.{NotStarted}
 use Rattle.dblog_stores.specs.Answers.{AnswersApply, AnswersOffsets, AnswersTopics, HasNoOffset, IsNoLog, first_refused, no_log, no_offset, offset_lines, refused, topic_lines}
 use Rattle.dblog_stores.specs.Applying.{AppliesStores, AppliesGroups, PrintedRows, TellsOffset, bad, printed, stopped}
 use Rattle.dblog_stores.specs.Consuming.{RefusesAt, readings_of}
-use Rattle.dblog_stores.specs.Ends.{CommandEnd, Ends, IsExternalRunError, Runs, answered, cut}
+use Rattle.dblog_stores.specs.Ends.{CommandEnd, Ends, IsExternalCommandError, Runs, answered, cut}
 
 -- ---- errors of opening
 
-pub no_topics_run : (bytes : List ℕ) (error : RunError) (before : Option (List ℕ)) → IsExternalRunError error ⊎ IsNoLog bytes error → Runs (AnswersTopics bytes) (Err error) before before
+pub no_topics_run : (bytes : List ℕ) (error : CommandError) (before : Option (List ℕ)) → IsExternalCommandError error ⊎ IsNoLog bytes error → Runs (AnswersTopics bytes) (Err error) before before
 no_topics_run bytes error before (inl outside) = cut outside refl
 no_topics_run bytes error before (inr why) = answered (Err error) why (refl, refl)
 
-pub no_offsets_run : (bytes : List ℕ) (error : RunError) (before : Option (List ℕ)) → IsExternalRunError error ⊎ HasNoOffset bytes error → Runs (AnswersOffsets bytes) (Err error) before before
+pub no_offsets_run : (bytes : List ℕ) (error : CommandError) (before : Option (List ℕ)) → IsExternalCommandError error ⊎ HasNoOffset bytes error → Runs (AnswersOffsets bytes) (Err error) before before
 no_offsets_run bytes error before (inl outside) = cut outside refl
 no_offsets_run bytes error before (inr why) = answered (Err error) why (refl, refl)
 
-pub no_log_run : (topics offsets : List ℕ) (error : RunError) (before : Option (List ℕ)) → IsExternalRunError error ⊎ IsNoLog topics error → Runs (AnswersApply topics offsets) (Err error) before before
+pub no_log_run : (topics offsets : List ℕ) (error : CommandError) (before : Option (List ℕ)) → IsExternalCommandError error ⊎ IsNoLog topics error → Runs (AnswersApply topics offsets) (Err error) before before
 no_log_run topics offsets error before (inl outside) = cut outside refl
 no_log_run topics offsets error before (inr why) = answered (Err error) (no_log why) (refl, refl)
 
-pub no_store_run : (topics offsets : List ℕ) (groups : List (List Record)) (error : RunError) (before : Option (List ℕ)) → IsLog topics groups → IsExternalRunError error ⊎ HasNoOffset offsets error → Runs (AnswersApply topics offsets) (Err error) before before
+pub no_store_run : (topics offsets : List ℕ) (groups : List (List Record)) (error : CommandError) (before : Option (List ℕ)) → IsLog topics groups → IsExternalCommandError error ⊎ HasNoOffset offsets error → Runs (AnswersApply topics offsets) (Err error) before before
 no_store_run topics offsets groups error before log (inl outside) = cut outside refl
 no_store_run topics offsets groups error before log (inr why) = answered (Err error) (no_offset groups log why) (refl, refl)
 
@@ -57,7 +57,7 @@ apply_run topics offsets groups (Some offset) end before after log store applies
 
 -- ---- groups that were consumed
 
-pub groups_refused : (placeholder : List ℕ) (groups : List (List Record)) (error : RunError) (before : Option (List ℕ)) → RefusesAt placeholder groups error → AppliesGroups placeholder groups (Err error) before before
+pub groups_refused : (placeholder : List ℕ) (groups : List (List Record)) (error : CommandError) (before : Option (List ℕ)) → RefusesAt placeholder groups error → AppliesGroups placeholder groups (Err error) before before
 groups_refused placeholder groups error before (inl outside) = stopped outside refl
 groups_refused placeholder groups error before (inr first) = bad error refl first refl
 

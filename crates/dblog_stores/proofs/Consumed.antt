@@ -8,12 +8,12 @@ use Rattle.dbl_record.specs.Cuts.{joined}
 use Rattle.dbl_record.specs.Reading.{as_line}
 use Rattle.dbl_consume.specs.declared.consumer.Consumer.{Consumer}
 use Rattle.dbl_consume.specs.Holdings.{Took, placeholder_of}
-use Rattle.dblog_stores.specs.declared.error.RunError.{RunError}
-use Rattle.dblog_stores.specs.declared.error.RunError.TheVariants.{Memory, Failed, BadEntry}
+use Rattle.dblog_stores.specs.declared.error.CommandError.{CommandError}
+use Rattle.dblog_stores.specs.declared.error.CommandError.TheVariants.{Memory, Failed, BadEntry}
 use Rattle.dblog_stores.specs.declared.error.Store.TheVariants.{Topics}
 use Rattle.dblog_stores.specs.Answers.{accepts, first_refused, first_refused_from, takes}
 use Rattle.dblog_stores.specs.Consuming.{HasTakenRecords, RefusesAt, readings_of}
-use Rattle.dblog_stores.specs.Ends.{IsErrorOf, IsExternalRunError}
+use Rattle.dblog_stores.specs.Ends.{IsErrorOf, IsExternalCommandError}
 use Rattle.dblog_stores.proofs.CrashState.{next_got, nothing_left}
 
 -- ---- records of a group
@@ -72,8 +72,8 @@ module _ (placeholder : List ℕ) (groups : List (List Record)) (number : ℕ) (
       so_far.refused ∙ ap (first_refused_from number placeholder) split
       ∙ ap (λ b. cond b (first_refused_from (number + 1) placeholder (drop (number + 1) groups)) (Some number)) bad'
 
-  pub refuses : (error : RunError) → (error ≡ Memory) ⊎ ((error ≡ BadEntry Topics number) × (takes (placeholder_of old) group ≡ false)) → RefusesAt placeholder groups error
-  refuses error (inl memory) = inl (subst IsExternalRunError (sym memory) tt)
+  pub refuses : (error : CommandError) → (error ≡ Memory) ⊎ ((error ≡ BadEntry Topics number) × (takes (placeholder_of old) group ≡ false)) → RefusesAt placeholder groups error
+  refuses error (inl memory) = inl (subst IsExternalCommandError (sym memory) tt)
   refuses error (inr bad) = inr (record { index = number; first = one_refused bad.1; error_is = bad.0 })
 
 pub consumed_all : (placeholder : List ℕ) (groups : List (List Record)) (number : ℕ) (held : Consumer) → IsConsuming placeholder groups number held → length groups ≤ number → HasTakenRecords placeholder groups held
@@ -87,22 +87,22 @@ consumed_all placeholder groups number held so_far end =
 
 -- ---- the error of a group that isn't taken
 
-pub refused_kind : (number : ℕ) (P : Type 0) (error : RunError) → (error ≡ Memory) ⊎ ((error ≡ BadEntry Topics number) × P) → IsErrorOf Topics error
+pub refused_kind : (number : ℕ) (P : Type 0) (error : CommandError) → (error ≡ Memory) ⊎ ((error ≡ BadEntry Topics number) × P) → IsErrorOf Topics error
 refused_kind number P error (inl memory) = subst (IsErrorOf Topics) (sym memory) tt
 refused_kind number P error (inr bad) = subst (IsErrorOf Topics) (sym bad.0) refl
 
 -- it is no failure of the disk
-pub refused_running : (number : ℕ) (P : Type 0) (error : RunError) → (error ≡ Memory) ⊎ ((error ≡ BadEntry Topics number) × P) → error ≡ Failed Topics → ⊥
+pub refused_running : (number : ℕ) (P : Type 0) (error : CommandError) → (error ≡ Memory) ⊎ ((error ≡ BadEntry Topics number) × P) → error ≡ Failed Topics → ⊥
 refused_running number P error (inl memory) f = let contra : Memory ≡ Failed Topics = sym memory ∙ f in cc
 refused_running number P error (inr bad) f = let contra : BadEntry Topics number ≡ Failed Topics = sym bad.0 ∙ f in cc
 
 -- ---- memory ran out before any group was read
 
-pub wanting_outside : (error : RunError) → error ≡ Memory → IsExternalRunError error
-wanting_outside error memory = subst IsExternalRunError (sym memory) tt
+pub wanting_outside : (error : CommandError) → error ≡ Memory → IsExternalCommandError error
+wanting_outside error memory = subst IsExternalCommandError (sym memory) tt
 
-pub wanting_kind : (error : RunError) → error ≡ Memory → IsErrorOf Topics error
+pub wanting_kind : (error : CommandError) → error ≡ Memory → IsErrorOf Topics error
 wanting_kind error memory = subst (IsErrorOf Topics) (sym memory) tt
 
-pub wanting_running : (error : RunError) → error ≡ Memory → error ≡ Failed Topics → ⊥
+pub wanting_running : (error : CommandError) → error ≡ Memory → error ≡ Failed Topics → ⊥
 wanting_running error memory f = let contra : Memory ≡ Failed Topics = sym memory ∙ f in cc

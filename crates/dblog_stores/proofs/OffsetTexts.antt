@@ -12,7 +12,7 @@ use Rattle.dbl_model_table.specs.Tables.{full_name}
 use Rattle.dbl_model_history.specs.declared.cursor.Cursor.{Cursor}
 use Rattle.dbl_model_history.specs.Fit.{AreOf, IsKeyOf}
 use Rattle.dbl_lines.specs.Writing.{Wrote, WrotePrefix}
-use Rattle.dblog_stores.specs.declared.error.RunError.TheVariants.{OutputFailed}
+use Rattle.dblog_stores.specs.declared.error.CommandError.TheVariants.{OutputFailed}
 use Rattle.dblog_stores.specs.Answers.{last_text, state_text, table_line}
 use Rattle.dblog_stores.specs.Ends.{CutsLines, CommandEnd, Ends}
 

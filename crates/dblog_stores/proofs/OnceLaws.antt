@@ -14,8 +14,8 @@ use Rattle.dbl_topic.proofs.LogLaws as logs
 use Rattle.dbl_offset.specs.declared.offset.Offset.{Offset}
 use Rattle.dbl_offset.specs.Stores.{HasBadOffset, IsNoStoreAt, IsStore}
 use Rattle.dbl_offset.proofs.StoreLaws.{no_bad_offset, no_fault, not_both, one_bad_offset, one_store}
-use Rattle.dblog_stores.specs.declared.error.RunError.{RunError}
-use Rattle.dblog_stores.specs.declared.error.RunError.TheVariants.{OutputFailed, Memory, Failed, NotStarted, NotAStore, BadEntry}
+use Rattle.dblog_stores.specs.declared.error.CommandError.{CommandError}
+use Rattle.dblog_stores.specs.declared.error.CommandError.TheVariants.{OutputFailed, Memory, Failed, NotStarted, NotAStore, BadEntry}
 use Rattle.dblog_stores.specs.declared.error.Store.TheVariants.{Topics, Offsets}
 use Rattle.dblog_stores.specs.Answers.{AppliesNot, HasNoOffset, IsNoLog, PrintsConsumer, RefusesGroup, first_refused, no_log, no_offset, offset_lines, refused, topic_lines}
 use Rattle.dblog_stores.specs.Laws.{ApplyAnswersOnce, OffsetsAnswerOnce, StoresAreReadOnce, TopicsAnswerOnce}
@@ -28,11 +28,11 @@ stores_once topics offsets first second a b =
 
 -- ---- why bytes are no topic log
 
-data NoLog (bytes : List ℕ) (error : RunError) : Type 0 where
+data NoLog (bytes : List ℕ) (error : CommandError) : Type 0 where
   no_journal : (at : ℕ) → error ≡ NotAStore Topics at → IsFaultAt bytes at → NoLog bytes error
   bad_entry : (index : ℕ) → error ≡ BadEntry Topics index → HasBadEntry bytes index → NoLog bytes error
 
-no_log_is : (bytes : List ℕ) (error : RunError) → IsNoLog bytes error → NoLog bytes error
+no_log_is : (bytes : List ℕ) (error : CommandError) → IsNoLog bytes error → NoLog bytes error
 no_log_is bytes OutputFailed why = absurd why
 no_log_is bytes Memory why = absurd why
 no_log_is bytes (Failed store) why = absurd why
@@ -42,11 +42,11 @@ no_log_is bytes (NotAStore Offsets at) why = absurd why
 no_log_is bytes (BadEntry Topics index) why = bad_entry index refl why
 no_log_is bytes (BadEntry Offsets index) why = absurd why
 
-log_not : (bytes : List ℕ) (groups : List (List Record)) (error : RunError) → IsLog bytes groups → NoLog bytes error → ⊥
+log_not : (bytes : List ℕ) (groups : List (List Record)) (error : CommandError) → IsLog bytes groups → NoLog bytes error → ⊥
 log_not bytes groups error log (no_journal at is fault) = logs.not_faulty bytes groups at log fault
 log_not bytes groups error log (bad_entry index is bad) = logs.not_bad bytes groups index log bad
 
-one_no_log : (bytes : List ℕ) (first second : RunError) → NoLog bytes first → NoLog bytes second → first ≡ second
+one_no_log : (bytes : List ℕ) (first second : CommandError) → NoLog bytes first → NoLog bytes second → first ≡ second
 one_no_log bytes first second (no_journal at is fault) (no_journal at' is' fault') = is ∙ ap (λ n. NotAStore Topics n) (one_fault bytes at at' fault fault') ∙ sym is'
 one_no_log bytes first second (no_journal at is fault) (bad_entry index is' bad) = absurd (logs.one_cause bytes index at bad fault)
 one_no_log bytes first second (bad_entry index is bad) (no_journal at is' fault) = absurd (logs.one_cause bytes index at bad fault)
@@ -60,12 +60,12 @@ topics_once bytes (Err error) (Err other) a b = ap (λ e. Err e) (one_no_log byt
 
 -- ---- why bytes hold no offset
 
-data NoOffset (bytes : List ℕ) (error : RunError) : Type 0 where
+data NoOffset (bytes : List ℕ) (error : CommandError) : Type 0 where
   no_store : (at : ℕ) → error ≡ NotAStore Offsets at → IsNoStoreAt bytes at → NoOffset bytes error
   bad_offset : (index : ℕ) → error ≡ BadEntry Offsets index → HasBadOffset bytes index → NoOffset bytes error
   none_stored : error ≡ NotStarted → IsStore bytes None → NoOffset bytes error
 
-no_offset_is : (bytes : List ℕ) (error : RunError) → HasNoOffset bytes error → NoOffset bytes error
+no_offset_is : (bytes : List ℕ) (error : CommandError) → HasNoOffset bytes error → NoOffset bytes error
 no_offset_is bytes OutputFailed why = absurd why
 no_offset_is bytes Memory why = absurd why
 no_offset_is bytes (Failed store) why = absurd why
@@ -78,12 +78,12 @@ no_offset_is bytes (BadEntry Offsets index) why = bad_offset index refl why
 none_some : (offset : Offset) → None ≡ Some offset → ⊥
 none_some offset e = cc
 
-offset_not : (bytes : List ℕ) (offset : Offset) (error : RunError) → IsStore bytes (Some offset) → NoOffset bytes error → ⊥
+offset_not : (bytes : List ℕ) (offset : Offset) (error : CommandError) → IsStore bytes (Some offset) → NoOffset bytes error → ⊥
 offset_not bytes offset error store (no_store at is fault) = no_fault bytes (Some offset) at store fault
 offset_not bytes offset error store (bad_offset index is bad) = no_bad_offset bytes (Some offset) index store bad
 offset_not bytes offset error store (none_stored is none) = none_some offset (one_store bytes None (Some offset) none store)
 
-one_no_offset : (bytes : List ℕ) (first second : RunError) → NoOffset bytes first → NoOffset bytes second → first ≡ second
+one_no_offset : (bytes : List ℕ) (first second : CommandError) → NoOffset bytes first → NoOffset bytes second → first ≡ second
 one_no_offset bytes first second (no_store at is fault) (no_store at' is' fault') = is ∙ ap (λ n. NotAStore Offsets n) (one_fault bytes at at' fault fault') ∙ sym is'
 one_no_offset bytes first second (no_store at is fault) (bad_offset index is' bad) = absurd (not_both bytes at index fault bad)
 one_no_offset bytes first second (no_store at is fault) (none_stored is' none) = absurd (no_fault bytes None at none fault)
@@ -123,12 +123,12 @@ module _ (topics offsets : List ℕ) where
       let one = one_offset offsets offset other store store' in
       ap (λ gs. first_refused offset.identity.placeholder gs) same ∙ ap (λ (o : Offset). first_refused o.identity.placeholder others) one
 
-  one_refused : (first second : RunError) → RefusesGroup topics offsets first → RefusesGroup topics offsets second → first ≡ second
+  one_refused : (first second : CommandError) → RefusesGroup topics offsets first → RefusesGroup topics offsets second → first ≡ second
   one_refused first second a b =
       let index = some_number a.index b.index (sym a.first ∙ same_first a.groups b.groups a.offset b.offset a.read.log b.read.log a.read.store b.read.store ∙ b.first) in
       a.error_is ∙ ap (λ n. BadEntry Topics n) index ∙ sym b.error_is
 
-  one_not : (first second : RunError) → AppliesNot topics offsets first → AppliesNot topics offsets second → first ≡ second
+  one_not : (first second : CommandError) → AppliesNot topics offsets first → AppliesNot topics offsets second → first ≡ second
   one_not first second (no_log a) (no_log b) = one_no_log topics first second (no_log_is topics first a) (no_log_is topics second b)
   one_not first second (no_log a) (no_offset groups log b) = absurd (log_not topics groups first log (no_log_is topics first a))
   one_not first second (no_log a) (refused b) = absurd (log_not topics b.groups first b.read.log (no_log_is topics first a))
@@ -139,7 +139,7 @@ module _ (topics offsets : List ℕ) where
   one_not first second (refused a) (no_offset groups log b) = absurd (offset_not offsets a.offset second a.read.store (no_offset_is offsets second b))
   one_not first second (refused a) (refused b) = one_refused first second a b
 
-  prints_not : (lines : List (List ℕ)) (error : RunError) → PrintsConsumer topics offsets lines → AppliesNot topics offsets error → ⊥
+  prints_not : (lines : List (List ℕ)) (error : CommandError) → PrintsConsumer topics offsets lines → AppliesNot topics offsets error → ⊥
   prints_not lines error a (no_log b) = log_not topics a.groups error a.read.log (no_log_is topics error b)
   prints_not lines error a (no_offset groups log b) = offset_not offsets a.offset error a.read.store (no_offset_is offsets error b)
   prints_not lines error a (refused b) = none_number b.index (sym a.taken ∙ same_first a.groups b.groups a.offset b.offset a.read.log b.read.log a.read.store b.read.store ∙ b.first)

@@ -27,8 +27,8 @@ use Rattle.dbl_offset.specs.Offsets as offsets
 use Rattle.dbl_offset.specs.Reading.{whole}
 use Rattle.dbl_offset.specs.Stores.{EndsWith, IsStore}
 use Rattle.dbl_offset.proofs.OffsetLaws.{no_entry, whole_takes}
-use Rattle.dblog_stores.specs.declared.error.RunError.{RunError}
-use Rattle.dblog_stores.specs.declared.error.RunError.TheVariants.{NotStarted, NotAStore, BadEntry}
+use Rattle.dblog_stores.specs.declared.error.CommandError.{CommandError}
+use Rattle.dblog_stores.specs.declared.error.CommandError.TheVariants.{NotStarted, NotAStore, BadEntry}
 use Rattle.dblog_stores.specs.declared.error.Store.TheVariants.{Topics, Offsets}
 use Rattle.dblog_stores.specs.Answers.{LinesAnswer, AnswersApply, HasNoOffset, IsNoLog, first_refused, no_log, no_offset, offset_lines, refused, topic_lines}
 use Rattle.dblog_stores.specs.Laws.{ApplyAnswersStand, OffsetsAnswersStand, TopicsAnswersStand}
@@ -220,7 +220,7 @@ groups_or_bad (entry ∷ entries) fit =
     ]
 
 -- bytes are a topic log, or an error tells why not
-log_stands : (bytes : List ℕ) → AreBytes bytes → ((groups : List (List Record)) × IsLog bytes groups) ⊎ ((error : RunError) × IsNoLog bytes error)
+log_stands : (bytes : List ℕ) → AreBytes bytes → ((groups : List (List Record)) × IsLog bytes groups) ⊎ ((error : CommandError) × IsNoLog bytes error)
 log_stands bytes fit =
     elim (journal_stands bytes fit) [
       | inr fault ↦ inr (NotAStore Topics fault.0, fault.1)
@@ -267,12 +267,12 @@ last_of entry (next ∷ entries) each =
     let rest = last_of next entries (All-tail offsets.IsOffsetEntry entry (next ∷ entries) each) in
     (rest.0, record { before = entry ∷ rest.1.before; entry = rest.1.entry; last = ap (λ es. entry ∷ es) rest.1.last; spelled = rest.1.spelled })
 
-read_of : (bytes : List ℕ) (entries : List (List ℕ)) → IsJournal bytes entries → All offsets.IsOffsetEntry entries → ((offset : Offset) × IsStore bytes (Some offset)) ⊎ ((error : RunError) × HasNoOffset bytes error)
+read_of : (bytes : List ℕ) (entries : List (List ℕ)) → IsJournal bytes entries → All offsets.IsOffsetEntry entries → ((offset : Offset) × IsStore bytes (Some offset)) ⊎ ((error : CommandError) × HasNoOffset bytes error)
 read_of bytes [] journal each = inr (NotStarted, record { entries = []; journal = journal; each = each; last = refl })
 read_of bytes (entry ∷ entries) journal each = let last = last_of entry entries each in inl (last.0, record { entries = entry ∷ entries; journal = journal; each = each; last = last.1 })
 
 -- bytes hold an offset, or an error tells why not
-offset_stands : (bytes : List ℕ) → AreBytes bytes → ((offset : Offset) × IsStore bytes (Some offset)) ⊎ ((error : RunError) × HasNoOffset bytes error)
+offset_stands : (bytes : List ℕ) → AreBytes bytes → ((offset : Offset) × IsStore bytes (Some offset)) ⊎ ((error : CommandError) × HasNoOffset bytes error)
 offset_stands bytes fit =
     elim (journal_stands bytes fit) [
       | inr fault ↦ inr (NotAStore Offsets fault.0, fault.1)

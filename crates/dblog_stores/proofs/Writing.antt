@@ -8,15 +8,15 @@ use Rattle.dbl_lines.specs.Writing.{PrintFails}
 use Rattle.dbl_record.specs.declared.record.Record.{Record}
 use Rattle.dbl_record.specs.Cuts.{joined}
 use Rattle.dbl_record.specs.Line.{line_of}
-use Rattle.dblog_stores.specs.declared.error.RunError.{RunError}
-use Rattle.dblog_stores.specs.declared.error.RunError.TheVariants.{OutputFailed, Memory, Failed, NotStarted, NotAStore, BadEntry}
+use Rattle.dblog_stores.specs.declared.error.CommandError.{CommandError}
+use Rattle.dblog_stores.specs.declared.error.CommandError.TheVariants.{OutputFailed, Memory, Failed, NotStarted, NotAStore, BadEntry}
 use Rattle.dblog_stores.specs.Errors.{print_error}
 use Rattle.dblog_stores.specs.Answers.{topic_lines}
-use Rattle.dblog_stores.specs.Ends.{CutsLines, IsExternalRunError, WroteFirst}
+use Rattle.dblog_stores.specs.Ends.{CutsLines, IsExternalCommandError, WroteFirst}
 use Rattle.dblog_stores.proofs.CrashState.{next_got, nothing_left}
 
 -- a fault of printing cuts the lines
-pub print_cuts : (lines : List (List ℕ)) (error : PrintError) (told : RunError) (before after : Option (List ℕ)) → told ≡ print_error error → PrintFails lines error before after → CutsLines lines told before after
+pub print_cuts : (lines : List (List ℕ)) (error : PrintError) (told : CommandError) (before after : Option (List ℕ)) → told ≡ print_error error → PrintFails lines error before after → CutsLines lines told before after
 print_cuts lines print.OutputFailed told before after is fails = subst (λ e. CutsLines lines e before after) (sym is) fails
 print_cuts lines print.Memory told before after is fails = subst (λ e. CutsLines lines e before after) (sym is) fails
 
@@ -25,7 +25,7 @@ pub none_written : (lines : List (List ℕ)) (before after : Option (List ℕ)) 
 none_written lines before after same = (0, λ bytes told. same ∙ told ∙ ap Some (sym (append-nil bytes)))
 
 -- lines are cut where memory runs out or a disk fails
-pub outside_cuts : (lines : List (List ℕ)) (error : RunError) (before after : Option (List ℕ)) → IsExternalRunError error → WroteFirst lines before after → CutsLines lines error before after
+pub outside_cuts : (lines : List (List ℕ)) (error : CommandError) (before after : Option (List ℕ)) → IsExternalCommandError error → WroteFirst lines before after → CutsLines lines error before after
 outside_cuts lines OutputFailed before after outside first = absurd outside
 outside_cuts lines Memory before after outside first = first
 outside_cuts lines (Failed store) before after outside first = first

@@ -17,14 +17,14 @@ use Rattle.dbl_journal.specs.Form.{IsFaultAt}
 use Rattle.dbl_topic.specs.Logs.{IsLog, HasBadEntry}
 use Rattle.dbl_offset.specs.declared.offset.Offset.{Offset}
 use Rattle.dbl_offset.specs.Stores.{HasBadOffset, IsNoStoreAt, IsStore}
-use Rattle.dblog_stores.specs.declared.error.RunError.{RunError}
-use Rattle.dblog_stores.specs.declared.error.RunError.TheVariants.{NotStarted, NotAStore, BadEntry}
+use Rattle.dblog_stores.specs.declared.error.CommandError.{CommandError}
+use Rattle.dblog_stores.specs.declared.error.CommandError.TheVariants.{NotStarted, NotAStore, BadEntry}
 use Rattle.dblog_stores.specs.declared.error.Store.TheVariants.{Topics, Offsets}
 use Rattle.dblog_stores.specs.Stores.{ReadAsStores}
 
 -- The lines to be written, or the error instead.
 abbrev pub LinesAnswer : Type 0
-LinesAnswer = Result (List (List ℕ)) RunError
+LinesAnswer = Result (List (List ℕ)) CommandError
 
 -- ---- `topics`
 
@@ -33,7 +33,7 @@ abbrev pub topic_lines : List (List Record) → List (List ℕ)
 topic_lines groups = map line_of (joined groups)
 
 -- Why the bytes are no topic log: they are no journal, or an entry is no group of records.
-abbrev pub IsNoLog : List ℕ → RunError → Type 0
+abbrev pub IsNoLog : List ℕ → CommandError → Type 0
 IsNoLog bytes (NotAStore Topics at) = IsFaultAt bytes at
 IsNoLog bytes (BadEntry Topics index) = HasBadEntry bytes index
 IsNoLog bytes error = ⊥
@@ -68,7 +68,7 @@ abbrev pub offset_lines : Offset → List (List ℕ)
 offset_lines offset = number_lines offset ++ map table_line (zip offset.infos offset.cursors)
 
 -- Why the bytes have no offset: they are no journal, an entry is no offset, or none is stored.
-abbrev pub HasNoOffset : List ℕ → RunError → Type 0
+abbrev pub HasNoOffset : List ℕ → CommandError → Type 0
 HasNoOffset bytes (NotAStore Offsets at) = IsNoStoreAt bytes at
 HasNoOffset bytes (BadEntry Offsets index) = HasBadOffset bytes index
 HasNoOffset bytes NotStarted = IsStore bytes None
@@ -109,7 +109,7 @@ pub record PrintsConsumer (topics offsets : List ℕ) (lines : List (List ℕ)) 
   pub lines_are : lines ≡ map row_line rows
 
 -- The first group with a record that the consumer refuses is a bad entry.
-pub record RefusesGroup (topics offsets : List ℕ) (error : RunError) : Type 0 where
+pub record RefusesGroup (topics offsets : List ℕ) (error : CommandError) : Type 0 where
   pub groups : List (List Record)
   pub offset : Offset
   pub read : ReadAsStores topics offsets (record { groups = groups; offset = Some offset })
@@ -118,7 +118,7 @@ pub record RefusesGroup (topics offsets : List ℕ) (error : RunError) : Type 0 
   pub error_is : error ≡ BadEntry Topics index
 
 -- Why no rows are printed, in this order: the topic log, the offset, a record.
-pub data AppliesNot (topics offsets : List ℕ) (error : RunError) : Type 0 where
+pub data AppliesNot (topics offsets : List ℕ) (error : CommandError) : Type 0 where
   no_log : IsNoLog topics error → AppliesNot topics offsets error
   no_offset : (groups : List (List Record)) → IsLog topics groups → HasNoOffset offsets error → AppliesNot topics offsets error
   refused : RefusesGroup topics offsets error → AppliesNot topics offsets error

@@ -6,8 +6,8 @@ use Rattle.dbl_record.specs.Cuts.{joined}
 use Rattle.dbl_record.specs.Reading.{as_line}
 use Rattle.dbl_consume.specs.Printing.{HeldRow, AreRowsOf, row_line}
 use Rattle.dbl_offset.specs.declared.offset.Offset.{Offset}
-use Rattle.dblog_stores.specs.declared.error.RunError.{RunError}
-use Rattle.dblog_stores.specs.declared.error.RunError.TheVariants.{NotStarted}
+use Rattle.dblog_stores.specs.declared.error.CommandError.{CommandError}
+use Rattle.dblog_stores.specs.declared.error.CommandError.TheVariants.{NotStarted}
 use Rattle.dblog_stores.specs.Answers.{first_refused, offset_lines}
 use Rattle.dblog_stores.specs.Consuming.{IsFirstBadGroup}
 use Rattle.dblog_stores.specs.Ends.{CommandEnd, Ends, EndsOutside}
@@ -26,7 +26,7 @@ pub record PrintedRows (held : List ℕ → List ℕ → Option HeldCells) (end 
 -- The log of these groups was applied with this placeholder.
 pub data AppliesGroups (placeholder : List ℕ) (groups : List (List Record)) (end : CommandEnd) (before after : Option (List ℕ)) : Type 0 where
   stopped : EndsOutside end → after ≡ before → AppliesGroups placeholder groups end before after
-  bad : (error : RunError) → end ≡ Err error → IsFirstBadGroup placeholder groups error → after ≡ before → AppliesGroups placeholder groups end before after
+  bad : (error : CommandError) → end ≡ Err error → IsFirstBadGroup placeholder groups error → after ≡ before → AppliesGroups placeholder groups end before after
   printed : first_refused placeholder groups ≡ None → PrintedRows (consumer placeholder (map as_line (joined groups))) end before after → AppliesGroups placeholder groups end before after
 
 -- The log of these groups was applied with the placeholder of an offset, if there is one.

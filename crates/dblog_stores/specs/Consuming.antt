@@ -6,11 +6,11 @@ use Rattle.dbl_record.specs.Cuts.{joined}
 use Rattle.dbl_record.specs.Reading.{as_line}
 use Rattle.dbl_consume.specs.declared.consumer.Consumer.{Consumer}
 use Rattle.dbl_consume.specs.Holdings.{Took, placeholder_of}
-use Rattle.dblog_stores.specs.declared.error.RunError.{RunError}
-use Rattle.dblog_stores.specs.declared.error.RunError.TheVariants.{BadEntry}
+use Rattle.dblog_stores.specs.declared.error.CommandError.{CommandError}
+use Rattle.dblog_stores.specs.declared.error.CommandError.TheVariants.{BadEntry}
 use Rattle.dblog_stores.specs.declared.error.Store.TheVariants.{Topics}
 use Rattle.dblog_stores.specs.Answers.{first_refused}
-use Rattle.dblog_stores.specs.Ends.{IsExternalRunError}
+use Rattle.dblog_stores.specs.Ends.{IsExternalCommandError}
 
 -- The readings of the records.
 abbrev pub readings_of : List Record → List Reading
@@ -23,11 +23,11 @@ pub record HasTakenRecords (placeholder : List ℕ) (groups : List (List Record)
   pub none : first_refused placeholder groups ≡ None
 
 -- A record of the first group that isn't accepted was refused.
-pub record IsFirstBadGroup (placeholder : List ℕ) (groups : List (List Record)) (error : RunError) : Type 0 where
+pub record IsFirstBadGroup (placeholder : List ℕ) (groups : List (List Record)) (error : CommandError) : Type 0 where
   pub index : ℕ
   pub first : first_refused placeholder groups ≡ Some index
   pub error_is : error ≡ BadEntry Topics index
 
 -- The error is that a record was refused, or that a disk failed or memory ran out.
-abbrev pub RefusesAt : List ℕ → List (List Record) → RunError → Type 0
-RefusesAt placeholder groups error = IsExternalRunError error ⊎ IsFirstBadGroup placeholder groups error
+abbrev pub RefusesAt : List ℕ → List (List Record) → CommandError → Type 0
+RefusesAt placeholder groups error = IsExternalCommandError error ⊎ IsFirstBadGroup placeholder groups error

@@ -5,10 +5,13 @@ use Rattle.dbl_topic.specs.declared.error.TopicError.{TopicError}
 use Rattle.dbl_topic.specs.declared.error.TopicError.TheVariants as topic
 use Rattle.dbl_offset.specs.declared.error.OffsetError.{OffsetError}
 use Rattle.dbl_offset.specs.declared.error.OffsetError.TheVariants as offset
+use Rattle.dbl_lines.specs.declared.status.Status.{Status}
+use Rattle.dbl_lines.specs.declared.status.Status.TheVariants.{StartMismatch, TopicsFailed, OffsetsFailed}
+use Rattle.dbl_lines.specs.declared.status.Status.TheVariants.{StdoutFailed, OutOfMemory, InvalidStore}
 use Rattle.dbl_lines.specs.declared.error.PrintError.{PrintError}
 use Rattle.dbl_lines.specs.declared.error.PrintError.TheVariants as print
-use Rattle.dblog_stores.specs.declared.error.RunError.{RunError}
-use Rattle.dblog_stores.specs.declared.error.RunError.TheVariants.{OutputFailed, Memory, Failed, NotStarted, NotAStore, BadEntry}
+use Rattle.dblog_stores.specs.declared.error.CommandError.{CommandError}
+use Rattle.dblog_stores.specs.declared.error.CommandError.TheVariants.{OutputFailed, Memory, Failed, NotStarted, NotAStore, BadEntry}
 use Rattle.dblog_stores.specs.declared.error.Store.{Store}
 use Rattle.dblog_stores.specs.declared.error.Store.TheVariants.{Topics, Offsets}
 
@@ -18,17 +21,17 @@ store_name Topics = codes "topics"
 store_name Offsets = codes "offsets"
 
 -- The program's exit status for an error.
-abbrev pub error_status : RunError → ℕ
-error_status OutputFailed = 11
-error_status Memory = 12
-error_status (Failed Topics) = 8
-error_status (Failed Offsets) = 9
-error_status NotStarted = 4
-error_status (NotAStore store at) = 14
-error_status (BadEntry store index) = 14
+abbrev pub error_status : CommandError → Status
+error_status OutputFailed = StdoutFailed
+error_status Memory = OutOfMemory
+error_status (Failed Topics) = TopicsFailed
+error_status (Failed Offsets) = OffsetsFailed
+error_status NotStarted = StartMismatch
+error_status (NotAStore store at) = InvalidStore
+error_status (BadEntry store index) = InvalidStore
 
 -- The error's line, without its newline.
-abbrev pub error_line : RunError → List ℕ
+abbrev pub error_line : CommandError → List ℕ
 error_line OutputFailed = codes "dblog: output failed"
 error_line Memory = codes "dblog: out of memory"
 error_line (Failed store) = codes "dblog: " ++ store_name store ++ codes " failed"
@@ -39,12 +42,12 @@ error_line (BadEntry store index) = codes "dblog: bad entry " ++ decimal index +
 -- ---- for private clauses: the errors of the parts
 
 -- The error of printing lines.
-abbrev pub print_error : PrintError → RunError
+abbrev pub print_error : PrintError → CommandError
 print_error print.OutputFailed = OutputFailed
 print_error print.Memory = Memory
 
 -- The error of a topic log.
-abbrev pub topic_error : TopicError → RunError
+abbrev pub topic_error : TopicError → CommandError
 topic_error (topic.Journal journal.Failed) = Failed Topics
 topic_error (topic.Journal (journal.NotAJournal at)) = NotAStore Topics at
 topic_error (topic.Journal (journal.EntryTooLong len)) = Memory
@@ -53,7 +56,7 @@ topic_error (topic.BadEntry index) = BadEntry Topics index
 topic_error topic.Memory = Memory
 
 -- The error of an offset store.
-abbrev pub offset_error : OffsetError → RunError
+abbrev pub offset_error : OffsetError → CommandError
 offset_error offset.Failed = Failed Offsets
 offset_error (offset.NotAStore at) = NotAStore Offsets at
 offset_error (offset.BadOffset index) = BadEntry Offsets index

@@ -15,7 +15,7 @@ ghost use Rattle.dbl_journal.specs.Calls.{Keeps};
 
 use crate::consuming::consume;
 use crate::opening::{open_offsets, open_topics};
-use crate::{Applied, RunError, Store};
+use crate::{Applied, CommandError, Store};
 use dbl_base::{Output, Text};
 use dbl_consume::Consumer;
 use dbl_disk::{Disk, Refused};
@@ -41,22 +41,22 @@ pub fn apply<T: Disk, F: Disk, O: Output>(
         Runs (AnswersApply t f) result.end (O.written output.old) (O.written output.new) }
     ensures unopened { (t : List ℕ) → T.seen topics ≡ Some t →
         ((groups : List (List Record)) → ¬ IsLog t groups) → result.offsets ≡ offsets }
-    ensures no_store { (at : ℕ) → result.end ≡ Err (RunError.NotAStore Store.Topics at) →
+    ensures no_store { (at : ℕ) → result.end ≡ Err (CommandError.NotAStore Store.Topics at) →
         result.offsets ≡ offsets }
 
     // A disk that was opened was synced: a crash leaves only its known contents.
-    ensures topics_stable { result.end ≢ Err (RunError.Failed Store.Topics) →
-        IsSynced T.seen T.may_leave topics result.topics }
+    ensures topics_stable { result.end ≢ Err (CommandError.Failed Store.Topics) →
+        IsSynced T.Disk topics result.topics }
     ensures offsets_stable { HasOpenedOffset result.end →
-        IsSynced F.seen F.may_leave offsets result.offsets }
+        IsSynced F.Disk offsets result.offsets }
 
     // The disks are only read, for any contents.
-    ensures keeps_topics { Keeps T.seen T.may_leave T.faults
-        (result.end ≡ Err (RunError.Failed Store.Topics)) topics result.topics }
-    ensures keeps_offsets { Keeps F.seen F.may_leave F.faults
-        (result.end ≡ Err (RunError.Failed Store.Offsets)) offsets result.offsets }
+    ensures keeps_topics { Keeps T.Disk
+        (result.end ≡ Err (CommandError.Failed Store.Topics)) topics result.topics }
+    ensures keeps_offsets { Keeps F.Disk
+        (result.end ≡ Err (CommandError.Failed Store.Offsets)) offsets result.offsets }
     ensures unwritten { IfErr result.end (λ error. IsRefusal error → output.new ≡ output.old) }
-    ensures output { FailsOnlyIfCounted (result.end ≡ Err RunError.OutputFailed)
+    ensures output { FailsOnlyIfCounted (result.end ≡ Err CommandError.OutputFailed)
         (O.faults output.old) (O.faults output.new) }
 {
     let mut log = match open_topics(alloc, topics) {
@@ -91,24 +91,24 @@ fn print_consumer<D: Disk, O: Output>(
     log: &mut TopicLog<D>,
     loaded: Option<&Offset>,
     output: &mut O,
-) -> Result<(), RunError>
+) -> Result<(), CommandError>
     requires { IsTrue log.old.live }
-    ensures told { (groups : List (List Record)) → HoldsGroups D.seen D.may_leave log.old groups →
+    ensures told { (groups : List (List Record)) → HoldsGroups D.Disk log.old groups →
         AppliesStores groups (option_map (λ offset. offset.now) loaded.entry) result
         (O.written output.old) (O.written output.new) }
-    ensures keeps { Keeps D.seen D.may_leave D.faults
-        (result ≡ Err (RunError.Failed Store.Topics)) log.old.disk log.new.disk }
+    ensures keeps { Keeps D.Disk
+        (result ≡ Err (CommandError.Failed Store.Topics)) log.old.disk log.new.disk }
     ensures kinds { IfErr result
-        (λ error. (error ≡ RunError.OutputFailed) ⊎
-        ((error ≡ RunError.NotStarted) ⊎ IsErrorOf Store.Topics error)) }
+        (λ error. (error ≡ CommandError.OutputFailed) ⊎
+        ((error ≡ CommandError.NotStarted) ⊎ IsErrorOf Store.Topics error)) }
     ensures a_store { IfErr result IsAfterJournalOpening }
     ensures unwritten { IfErr result (λ error. IsRefusal error → output.new ≡ output.old) }
-    ensures output { FailsOnlyIfCounted (result ≡ Err RunError.OutputFailed)
+    ensures output { FailsOnlyIfCounted (result ≡ Err CommandError.OutputFailed)
         (O.faults output.old) (O.faults output.new) }
 {
     match loaded {
         Some(offset) => print_groups(alloc, log, &offset.identity.placeholder, output),
-        None => Err(RunError::NotStarted),
+        None => Err(CommandError::NotStarted),
     }
 }
 
@@ -117,17 +117,17 @@ fn print_groups<D: Disk, O: Output>(
     log: &mut TopicLog<D>,
     placeholder: &Text,
     output: &mut O,
-) -> Result<(), RunError>
+) -> Result<(), CommandError>
     requires { IsTrue log.old.live }
-    ensures told { (groups : List (List Record)) → HoldsGroups D.seen D.may_leave log.old groups →
+    ensures told { (groups : List (List Record)) → HoldsGroups D.Disk log.old groups →
         AppliesGroups placeholder.now groups result (O.written output.old) (O.written output.new) }
-    ensures keeps { Keeps D.seen D.may_leave D.faults
-        (result ≡ Err (RunError.Failed Store.Topics)) log.old.disk log.new.disk }
+    ensures keeps { Keeps D.Disk
+        (result ≡ Err (CommandError.Failed Store.Topics)) log.old.disk log.new.disk }
     ensures kinds { IfErr result
-        (λ error. (error ≡ RunError.OutputFailed) ⊎ IsErrorOf Store.Topics error) }
+        (λ error. (error ≡ CommandError.OutputFailed) ⊎ IsErrorOf Store.Topics error) }
     ensures a_store { IfErr result IsAfterJournalOpening }
     ensures unwritten { IfErr result (λ error. IsRefusal error → output.new ≡ output.old) }
-    ensures output { FailsOnlyIfCounted (result ≡ Err RunError.OutputFailed)
+    ensures output { FailsOnlyIfCounted (result ≡ Err CommandError.OutputFailed)
         (O.faults output.old) (O.faults output.new) }
 {
     match consume(alloc, log, placeholder) {
@@ -136,18 +136,18 @@ fn print_groups<D: Disk, O: Output>(
     }
 }
 
-fn print_rows<O: Output>(held: &Consumer, output: &mut O) -> Result<(), RunError>
+fn print_rows<O: Output>(held: &Consumer, output: &mut O) -> Result<(), CommandError>
     ensures told { (taken : List Reading) → Took taken held.now →
         PrintedRows (consumer_of (placeholder_of held.now) taken) result
         (O.written output.old) (O.written output.new) }
     ensures kinds { IfErr result
-        (λ error. (error ≡ RunError.OutputFailed) ⊎ (error ≡ RunError.Memory)) }
+        (λ error. (error ≡ CommandError.OutputFailed) ⊎ (error ≡ CommandError.Memory)) }
     ensures a_store { IfErr result IsAfterJournalOpening }
-    ensures output { FailsOnlyIfCounted (result ≡ Err RunError.OutputFailed)
+    ensures output { FailsOnlyIfCounted (result ≡ Err CommandError.OutputFailed)
         (O.faults output.old) (O.faults output.new) }
 {
     match held.print(output) {
         Ok(()) => Ok(()),
-        Err(error) => Err(RunError::from(error)),
+        Err(error) => Err(CommandError::from(error)),
     }
 }

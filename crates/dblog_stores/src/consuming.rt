@@ -14,7 +14,7 @@ ghost use Rattle.dblog_stores.specs.Ends.{IsAfterJournalOpening, IsErrorOf};
 ghost use Rattle.dbl_journal.specs.Calls.{Keeps};
 
 use crate::opening::read_group;
-use crate::{RunError, Store};
+use crate::{CommandError, Store};
 use dbl_base::Text;
 use dbl_consume::{ConsumeError, Consumer};
 use dbl_disk::Disk;
@@ -54,23 +54,23 @@ fn take_group(
     group: &Vec<Record>,
     null: &Text,
     number: u64,
-) -> Result<(), RunError>
+) -> Result<(), CommandError>
     requires { null.now ≡ codes "null" }
     ensures took { (taken : List Reading) → Took taken held.old →
         OnOk result (Took (taken ++ readings_of group.now.items) held.new) }
     ensures taken { OnOk result (takes (placeholder_of held.old) group.now.items ≡ true) }
     ensures refused { IfErr result
-        (λ error. (error ≡ RunError.Memory) ⊎
-        ((error ≡ RunError.BadEntry Store.Topics number) ×
+        (λ error. (error ≡ CommandError.Memory) ⊎
+        ((error ≡ CommandError.BadEntry Store.Topics number) ×
         (takes (placeholder_of held.old) group.now.items ≡ false))) }
     ensures placeholder { placeholder_of held.new ≡ placeholder_of held.old }
 {
     'records: for item in group {
         match take_record(held, item, null) {
             Ok(()) => {}
-            Err(ConsumeError::Memory) => return Err(RunError::Memory),
+            Err(ConsumeError::Memory) => return Err(CommandError::Memory),
             Err(_) => {
-                return Err(RunError::BadEntry {
+                return Err(CommandError::BadEntry {
                     store: Store::Topics,
                     index: number,
                 });
@@ -80,17 +80,17 @@ fn take_group(
     Ok(())
 }
 
-fn empty_consumer(alloc: Global, placeholder: &Text) -> Result<Consumer, RunError>
+fn empty_consumer(alloc: Global, placeholder: &Text) -> Result<Consumer, CommandError>
     ensures took { IfOk result (Took []) }
     ensures placeholder { IfOk result (λ held. placeholder_of held ≡ placeholder.now) }
-    ensures memory { IfErr result (λ error. error ≡ RunError.Memory) }
+    ensures memory { IfErr result (λ error. error ≡ CommandError.Memory) }
 {
     match placeholder.copy(alloc) {
         Ok(own) => match Consumer::make(alloc, own) {
             Ok(held) => Ok(held),
-            Err(_) => Err(RunError::Memory),
+            Err(_) => Err(CommandError::Memory),
         },
-        Err(_) => Err(RunError::Memory),
+        Err(_) => Err(CommandError::Memory),
     }
 }
 
@@ -98,15 +98,15 @@ fn take_groups<D: Disk>(
     log: &mut TopicLog<D>,
     held: &mut Consumer,
     null: &Text,
-) -> Result<(), RunError>
+) -> Result<(), CommandError>
     requires live { IsTrue log.old.live }
     requires null { null.now ≡ codes "null" }
     requires empty { Took [] held.old }
-    ensures told { (groups : List (List Record)) → HoldsGroups D.seen D.may_leave log.old groups →
+    ensures told { (groups : List (List Record)) → HoldsGroups D.Disk log.old groups →
         MatchResult result (λ done. HasTakenRecords (placeholder_of held.old) groups held.new)
         (RefusesAt (placeholder_of held.old) groups) }
-    ensures keeps { Keeps D.seen D.may_leave D.faults
-        (result ≡ Err (RunError.Failed Store.Topics)) log.old.disk log.new.disk }
+    ensures keeps { Keeps D.Disk
+        (result ≡ Err (CommandError.Failed Store.Topics)) log.old.disk log.new.disk }
     ensures kinds { IfErr result (IsErrorOf Store.Topics) }
     ensures a_store { IfErr result IsAfterJournalOpening }
 {
@@ -128,18 +128,18 @@ pub(crate) fn consume<D: Disk>(
     alloc: Global,
     log: &mut TopicLog<D>,
     placeholder: &Text,
-) -> Result<Consumer, RunError>
+) -> Result<Consumer, CommandError>
     requires { IsTrue log.old.live }
-    ensures told { (groups : List (List Record)) → HoldsGroups D.seen D.may_leave log.old groups →
+    ensures told { (groups : List (List Record)) → HoldsGroups D.Disk log.old groups →
         MatchResult result (HasTakenRecords placeholder.now groups) (RefusesAt placeholder.now groups) }
-    ensures keeps { Keeps D.seen D.may_leave D.faults
-        (result ≡ Err (RunError.Failed Store.Topics)) log.old.disk log.new.disk }
+    ensures keeps { Keeps D.Disk
+        (result ≡ Err (CommandError.Failed Store.Topics)) log.old.disk log.new.disk }
     ensures kinds { IfErr result (IsErrorOf Store.Topics) }
     ensures a_store { IfErr result IsAfterJournalOpening }
 {
     let null = match Text::of(alloc, "null") {
         Ok(null) => null,
-        Err(_) => return Err(RunError::Memory),
+        Err(_) => return Err(CommandError::Memory),
     };
     let mut held = match empty_consumer(alloc, placeholder) {
         Ok(held) => held,

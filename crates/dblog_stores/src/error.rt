@@ -4,7 +4,7 @@ ghost use Rattle.dbl_base.specs.Lines.{lines_text};
 ghost use Rattle.dblog_stores.specs.Errors.{error_line, error_status};
 
 use dbl_journal::JournalError;
-use dbl_lines::PrintError;
+use dbl_lines::{PrintError, Status};
 use dbl_offset::OffsetError;
 use dbl_topic::TopicError;
 use std::alloc::{AllocError, Global};
@@ -34,7 +34,7 @@ impl fmt::Display for Store {
 
 /// Why a command over the stores writes no text, or not all of it.
 #[derive(Clone, Copy, Debug, PartialEq, Eq, Error)]
-pub enum RunError {
+pub enum CommandError {
     #[error("output failed")]
     OutputFailed,
     #[error("out of memory")]
@@ -55,22 +55,22 @@ pub enum RunError {
     BadEntry { store: Store, index: u64 },
 }
 
-impl RunError {
-    /// The program's exit status.
-    pub fn status(self) -> u8
+impl CommandError {
+    /// The status of a run that ends with this error.
+    pub fn status(self) -> Status
         ensures { result ≡ error_status self }
     {
         match self {
-            RunError::OutputFailed => 11,
-            RunError::Memory => 12,
-            RunError::Failed {
+            CommandError::OutputFailed => Status::StdoutFailed,
+            CommandError::Memory => Status::OutOfMemory,
+            CommandError::Failed {
                 store: Store::Topics,
-            } => 8,
-            RunError::Failed {
+            } => Status::TopicsFailed,
+            CommandError::Failed {
                 store: Store::Offsets,
-            } => 9,
-            RunError::NotStarted => 4,
-            RunError::NotAStore { .. } | RunError::BadEntry { .. } => 14,
+            } => Status::OffsetsFailed,
+            CommandError::NotStarted => Status::StartMismatch,
+            CommandError::NotAStore { .. } | CommandError::BadEntry { .. } => Status::InvalidStore,
         }
     }
 
@@ -79,14 +79,14 @@ impl RunError {
         ensures { IfOk result (λ text. string_bytes text ≡ lines_text (error_line self ∷ [])) }
     {
         let line = match self {
-            RunError::OutputFailed => "dblog: output failed\n",
-            RunError::Memory => "dblog: out of memory\n",
-            RunError::NotStarted => "dblog: not started\n",
-            RunError::Failed { store } => return format!(in alloc; "dblog: {store} failed\n"),
-            RunError::NotAStore { store, at } => return format!(in alloc;
+            CommandError::OutputFailed => "dblog: output failed\n",
+            CommandError::Memory => "dblog: out of memory\n",
+            CommandError::NotStarted => "dblog: not started\n",
+            CommandError::Failed { store } => return format!(in alloc; "dblog: {store} failed\n"),
+            CommandError::NotAStore { store, at } => return format!(in alloc;
                 "dblog: not a store: {store} at {at}\n"
             ),
-            RunError::BadEntry { store, index } => return format!(in alloc;
+            CommandError::BadEntry { store, index } => return format!(in alloc;
                 "dblog: bad entry {index} in {store}\n"
             ),
         };
@@ -94,66 +94,66 @@ impl RunError {
     }
 }
 
-impl From<AllocError> for RunError {
+impl From<AllocError> for CommandError {
     ghost use Rattle.std.specs.Prelude.{◌≡◌};
-    ghost use Rattle.dblog_stores.specs.declared.error.RunError.TheVariants.{Memory};
+    ghost use Rattle.dblog_stores.specs.declared.error.CommandError.TheVariants.{Memory};
 
     ghost from_gives = { λ _ e. e ≡ Memory };
 
-    fn from(_error: AllocError) -> RunError {
-        RunError::Memory
+    fn from(_error: AllocError) -> CommandError {
+        CommandError::Memory
     }
 }
 
-impl From<PrintError> for RunError {
+impl From<PrintError> for CommandError {
     ghost use Rattle.std.specs.Prelude.{◌≡◌};
     ghost use Rattle.dblog_stores.specs.Errors.{print_error};
 
     ghost from_gives = { λ e f. f ≡ print_error e };
 
-    fn from(error: PrintError) -> RunError {
+    fn from(error: PrintError) -> CommandError {
         match error {
-            PrintError::OutputFailed => RunError::OutputFailed,
-            PrintError::Memory => RunError::Memory,
+            PrintError::OutputFailed => CommandError::OutputFailed,
+            PrintError::Memory => CommandError::Memory,
         }
     }
 }
 
-impl From<TopicError> for RunError {
+impl From<TopicError> for CommandError {
     ghost use Rattle.std.specs.Prelude.{◌≡◌};
     ghost use Rattle.dblog_stores.specs.Errors.{topic_error};
 
     ghost from_gives = { λ e f. f ≡ topic_error e };
 
     // Opening and reading a topic log have no other error.
-    fn from(error: TopicError) -> RunError {
+    fn from(error: TopicError) -> CommandError {
         let store = Store::Topics;
         match error {
-            TopicError::Journal(JournalError::Failed) => RunError::Failed { store },
-            TopicError::Journal(JournalError::NotAJournal { at }) => RunError::NotAStore {
+            TopicError::Journal(JournalError::Failed) => CommandError::Failed { store },
+            TopicError::Journal(JournalError::NotAJournal { at }) => CommandError::NotAStore {
                 store,
                 at,
             },
-            TopicError::BadEntry { index } => RunError::BadEntry { store, index },
-            TopicError::Journal(_) | TopicError::Memory => RunError::Memory,
+            TopicError::BadEntry { index } => CommandError::BadEntry { store, index },
+            TopicError::Journal(_) | TopicError::Memory => CommandError::Memory,
         }
     }
 }
 
-impl From<OffsetError> for RunError {
+impl From<OffsetError> for CommandError {
     ghost use Rattle.std.specs.Prelude.{◌≡◌};
     ghost use Rattle.dblog_stores.specs.Errors.{offset_error};
 
     ghost from_gives = { λ e f. f ≡ offset_error e };
 
     // Opening an offset store has no other error.
-    fn from(error: OffsetError) -> RunError {
+    fn from(error: OffsetError) -> CommandError {
         let store = Store::Offsets;
         match error {
-            OffsetError::Failed => RunError::Failed { store },
-            OffsetError::NotAStore { at } => RunError::NotAStore { store, at },
-            OffsetError::BadOffset { index } => RunError::BadEntry { store, index },
-            OffsetError::TooLong { .. } | OffsetError::Memory => RunError::Memory,
+            OffsetError::Failed => CommandError::Failed { store },
+            OffsetError::NotAStore { at } => CommandError::NotAStore { store, at },
+            OffsetError::BadOffset { index } => CommandError::BadEntry { store, index },
+            OffsetError::TooLong { .. } | OffsetError::Memory => CommandError::Memory,
         }
     }
 }

@@ -20,8 +20,7 @@ pub fn stores_are_read_once()
 /// The disks of a log with groups and of a store with an offset, or none, represent these.
 pub fn held_stores_are_read<T: Disk, F: Disk>()
     ensures { (log : OnDisk T) (store : StoreOn F) (groups : List (List Record))
-        (offset : Option Offset) → HoldsGroups T.seen T.may_leave log groups →
-        HoldsOffset F.seen F.may_leave store offset →
+        (offset : Option Offset) → HoldsGroups T.Disk log groups → HoldsOffset F.Disk store offset →
         (t f : List ℕ) × (T.seen log.disk ≡ Some t) × (F.seen (disk_of store) ≡ Some f) ×
         ReadAsStores t f (record { groups = groups; offset = offset }) }
 {}

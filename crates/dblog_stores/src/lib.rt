@@ -12,6 +12,6 @@ mod topics;
 
 pub use applying::apply;
 pub use ended::{Applied, Ended};
-pub use error::{RunError, Store};
+pub use error::{CommandError, Store};
 pub use offsets::print_offset;
 pub use topics::print_topics;

@@ -14,7 +14,7 @@ ghost use Rattle.dblog_stores.specs.Ends.{Ends, IsErrorOf, IsRefusal, IsSynced, 
 ghost use Rattle.dbl_journal.specs.Calls.{Keeps};
 
 use crate::opening::open_offsets;
-use crate::{Ended, RunError, Store};
+use crate::{CommandError, Ended, Store};
 use dbl_base::Output;
 use dbl_disk::{Disk, Refused};
 use dbl_envelope_json::key_text;
@@ -31,17 +31,17 @@ pub fn print_offset<D: Disk, O: Output>(alloc: Global, disk: D, output: &mut O) 
         Runs (AnswersOffsets bytes) result.end (O.written output.old) (O.written output.new) }
 
     // Unless the disk failed, it was synced: a crash leaves only its known contents.
-    ensures stable { result.end ≢ Err (RunError.Failed Store.Offsets) →
-        IsSynced D.seen D.may_leave disk result.disk }
+    ensures stable { result.end ≢ Err (CommandError.Failed Store.Offsets) →
+        IsSynced D.Disk disk result.disk }
 
     // The disk is only read, for any contents, and the error is of the disk, the output or memory.
-    ensures keeps { Keeps D.seen D.may_leave D.faults
-        (result.end ≡ Err (RunError.Failed Store.Offsets)) disk result.disk }
+    ensures keeps { Keeps D.Disk
+        (result.end ≡ Err (CommandError.Failed Store.Offsets)) disk result.disk }
     ensures kinds { IfErr result.end
-        (λ error. (error ≡ RunError.OutputFailed) ⊎
-        ((error ≡ RunError.NotStarted) ⊎ IsErrorOf Store.Offsets error)) }
+        (λ error. (error ≡ CommandError.OutputFailed) ⊎
+        ((error ≡ CommandError.NotStarted) ⊎ IsErrorOf Store.Offsets error)) }
     ensures unwritten { IfErr result.end (λ error. IsRefusal error → output.new ≡ output.old) }
-    ensures output { FailsOnlyIfCounted (result.end ≡ Err RunError.OutputFailed)
+    ensures output { FailsOnlyIfCounted (result.end ≡ Err CommandError.OutputFailed)
         (O.faults output.old) (O.faults output.new) }
 {
     match open_offsets(alloc, disk) {
@@ -63,50 +63,50 @@ fn print_loaded<O: Output>(
     alloc: Global,
     loaded: Option<&Offset>,
     output: &mut O,
-) -> Result<(), RunError>
+) -> Result<(), CommandError>
     requires { IfSome loaded (λ offset. IsOffset offset.now) }
     ensures told { TellsOffset (option_map (λ offset. offset.now) loaded.entry) result
         (O.written output.old) (O.written output.new) }
     ensures kinds { IfErr result
-        (λ error. (error ≡ RunError.OutputFailed) ⊎
-        ((error ≡ RunError.NotStarted) ⊎ IsErrorOf Store.Offsets error)) }
-    ensures running { (store : Store) → result ≢ Err (RunError.Failed store) }
+        (λ error. (error ≡ CommandError.OutputFailed) ⊎
+        ((error ≡ CommandError.NotStarted) ⊎ IsErrorOf Store.Offsets error)) }
+    ensures running { (store : Store) → result ≢ Err (CommandError.Failed store) }
     ensures unwritten { IfErr result (λ error. IsRefusal error → output.new ≡ output.old) }
-    ensures output { FailsOnlyIfCounted (result ≡ Err RunError.OutputFailed)
+    ensures output { FailsOnlyIfCounted (result ≡ Err CommandError.OutputFailed)
         (O.faults output.old) (O.faults output.new) }
 {
     match loaded {
         Some(offset) => print_text(alloc, offset, output),
-        None => Err(RunError::NotStarted),
+        None => Err(CommandError::NotStarted),
     }
 }
 
-fn print_text<O: Output>(alloc: Global, offset: &Offset, output: &mut O) -> Result<(), RunError>
+fn print_text<O: Output>(alloc: Global, offset: &Offset, output: &mut O) -> Result<(), CommandError>
     requires { IsOffset offset.now }
     ensures told { Ends (Ok (offset_lines offset.now)) result
         (O.written output.old) (O.written output.new) }
     ensures kinds { IfErr result
-        (λ error. (error ≡ RunError.OutputFailed) ⊎ (error ≡ RunError.Memory)) }
-    ensures output { FailsOnlyIfCounted (result ≡ Err RunError.OutputFailed)
+        (λ error. (error ≡ CommandError.OutputFailed) ⊎ (error ≡ CommandError.Memory)) }
+    ensures output { FailsOnlyIfCounted (result ≡ Err CommandError.OutputFailed)
         (O.faults output.old) (O.faults output.new) }
 {
     match offset_text(alloc, offset) {
         Ok(text) => write_text(text.as_str(), output),
-        Err(_) => Err(RunError::Memory),
+        Err(_) => Err(CommandError::Memory),
     }
 }
 
-fn write_text<O: Output>(text: &str, output: &mut O) -> Result<(), RunError>
+fn write_text<O: Output>(text: &str, output: &mut O) -> Result<(), CommandError>
     ensures wrote { OnOk result (Wrote (O.written output.old) (O.written output.new) text.now) }
     ensures prefix { IfErr result
-        (λ error. (error ≡ RunError.OutputFailed) ×
+        (λ error. (error ≡ CommandError.OutputFailed) ×
         WrotePrefix (O.written output.old) (O.written output.new) text.now) }
-    ensures output { FailsOnlyIfCounted (result ≡ Err RunError.OutputFailed)
+    ensures output { FailsOnlyIfCounted (result ≡ Err CommandError.OutputFailed)
         (O.faults output.old) (O.faults output.new) }
 {
     match output.write(text.as_bytes()) {
         Ok(()) => Ok(()),
-        Err(_) => Err(RunError::OutputFailed),
+        Err(_) => Err(CommandError::OutputFailed),
     }
 }
 

@@ -9,7 +9,7 @@ ghost use Rattle.dblog_stores.specs.Ends.{CutsLines, Ends, IsErrorOf, IsRefusal,
 ghost use Rattle.dbl_journal.specs.Calls.{Keeps};
 
 use crate::opening::{open_topics, read_group};
-use crate::{Ended, RunError, Store};
+use crate::{CommandError, Ended, Store};
 use dbl_base::Output;
 use dbl_disk::{Disk, Refused};
 use dbl_lines::LineWriter;
@@ -26,15 +26,15 @@ pub fn print_topics<D: Disk, O: Output>(alloc: Global, disk: D, output: &mut O) 
         IfErr result.end (λ error. IsRefusal error → output.new ≡ output.old) }
 
     // Unless the disk failed, it was synced: a crash leaves only its known contents.
-    ensures stable { result.end ≢ Err (RunError.Failed Store.Topics) →
-        IsSynced D.seen D.may_leave disk result.disk }
+    ensures stable { result.end ≢ Err (CommandError.Failed Store.Topics) →
+        IsSynced D.Disk disk result.disk }
 
     // The disk is only read, for any contents, and the error is of the disk, the output or memory.
-    ensures keeps { Keeps D.seen D.may_leave D.faults
-        (result.end ≡ Err (RunError.Failed Store.Topics)) disk result.disk }
+    ensures keeps { Keeps D.Disk
+        (result.end ≡ Err (CommandError.Failed Store.Topics)) disk result.disk }
     ensures kinds { IfErr result.end
-        (λ error. (error ≡ RunError.OutputFailed) ⊎ IsErrorOf Store.Topics error) }
-    ensures output { FailsOnlyIfCounted (result.end ≡ Err RunError.OutputFailed)
+        (λ error. (error ≡ CommandError.OutputFailed) ⊎ IsErrorOf Store.Topics error) }
+    ensures output { FailsOnlyIfCounted (result.end ≡ Err CommandError.OutputFailed)
         (O.faults output.old) (O.faults output.new) }
 {
     match open_topics(alloc, disk) {
@@ -56,25 +56,25 @@ fn put_groups<D: Disk, O: Output>(
     alloc: Global,
     log: &mut TopicLog<D>,
     output: &mut O,
-) -> Result<(), RunError>
+) -> Result<(), CommandError>
     requires { IsTrue log.old.live }
-    ensures told { (groups : List (List Record)) → HoldsGroups D.seen D.may_leave log.old groups →
+    ensures told { (groups : List (List Record)) → HoldsGroups D.Disk log.old groups →
         Ends (Ok (topic_lines groups)) result (O.written output.old) (O.written output.new) }
-    ensures keeps { Keeps D.seen D.may_leave D.faults
-        (result ≡ Err (RunError.Failed Store.Topics)) log.old.disk log.new.disk }
+    ensures keeps { Keeps D.Disk
+        (result ≡ Err (CommandError.Failed Store.Topics)) log.old.disk log.new.disk }
     ensures kinds { IfErr result
-        (λ error. (error ≡ RunError.OutputFailed) ⊎ IsErrorOf Store.Topics error) }
-    ensures output { FailsOnlyIfCounted (result ≡ Err RunError.OutputFailed)
+        (λ error. (error ≡ CommandError.OutputFailed) ⊎ IsErrorOf Store.Topics error) }
+    ensures output { FailsOnlyIfCounted (result ≡ Err CommandError.OutputFailed)
         (O.faults output.old) (O.faults output.new) }
 {
     let mut lines = match LineWriter::make(alloc) {
         Ok(lines) => lines,
-        Err(_) => return Err(RunError::Memory),
+        Err(_) => return Err(CommandError::Memory),
     };
     match gather_groups(log, &mut lines, output) {
         Ok(()) => match lines.finish(output) {
             Ok(()) => Ok(()),
-            Err(error) => Err(RunError::from(error)),
+            Err(error) => Err(CommandError::from(error)),
         },
         Err(error) => Err(error),
     }
@@ -85,18 +85,18 @@ fn gather_groups<D: Disk, O: Output>(
     log: &mut TopicLog<D>,
     lines: &mut LineWriter,
     output: &mut O,
-) -> Result<(), RunError>
+) -> Result<(), CommandError>
     requires { IsTrue log.old.live }
-    ensures told { (groups : List (List Record)) → HoldsGroups D.seen D.may_leave log.old groups →
+    ensures told { (groups : List (List Record)) → HoldsGroups D.Disk log.old groups →
         (start : Option (List ℕ)) → IsPut start (O.written output.old) lines.old [] →
         MatchResult result
         (λ done. IsPut start (O.written output.new) lines.new (topic_lines groups))
         (λ error. CutsLines (topic_lines groups) error start (O.written output.new)) }
-    ensures keeps { Keeps D.seen D.may_leave D.faults
-        (result ≡ Err (RunError.Failed Store.Topics)) log.old.disk log.new.disk }
+    ensures keeps { Keeps D.Disk
+        (result ≡ Err (CommandError.Failed Store.Topics)) log.old.disk log.new.disk }
     ensures kinds { IfErr result
-        (λ error. (error ≡ RunError.OutputFailed) ⊎ IsErrorOf Store.Topics error) }
-    ensures output { FailsOnlyIfCounted (result ≡ Err RunError.OutputFailed)
+        (λ error. (error ≡ CommandError.OutputFailed) ⊎ IsErrorOf Store.Topics error) }
+    ensures output { FailsOnlyIfCounted (result ≡ Err CommandError.OutputFailed)
         (O.faults output.old) (O.faults output.new) }
 {
     'each: for number in 0..log.groups() {
@@ -106,7 +106,7 @@ fn gather_groups<D: Disk, O: Output>(
         };
         match lines.put_records(output, &group) {
             Ok(()) => {}
-            Err(error) => return Err(RunError::from(error)),
+            Err(error) => return Err(CommandError::from(error)),
         }
     }
     Ok(())

@@ -54,14 +54,14 @@ returns-in_err-put_offset-clause-left g c tell entry asked f honest had =
     (subst IsFitHistory f.history (g.met.S.Source.fit _ (left_of f.standing) (g.met.S.Source.may _ f.standing f.source_is) (c.offset_of.ensures.honest honest)))
     c.offset_of.new.src (λ left is. g.met.S.Source.fit _ left is honest) stood.standing c.in_ok-offset.offset c.put_offset.new.store stood.is (g.met.S.Source.rising _ stood.standing stood.is)
     (λ left is. g.met.S.Source.only _ stood.standing left stood.is is) (g.met.S.Source.may _ stood.standing stood.is) stood.holds
-    (λ t. subst (λ (o : Offset). LeavesOffset g.D.Disk.may_leave (disk_of c.put_offset.new.store) (λ left. (left ≡ entry.offset) ⊎ (left ≡ Some o))) c.in_ok-stored.ensures (c.put_offset.ensures.left entry.offset (f.store_is t))))
+    (λ t. subst (λ (o : Offset). LeavesOffset g.D.Disk (disk_of c.put_offset.new.store) (λ left. (left ≡ entry.offset) ⊎ (left ≡ Some o))) c.in_ok-stored.ensures (c.put_offset.ensures.left entry.offset (f.store_is t))))
 
 -- behind it
 pub returns-clause-begun : goal.returns-clause-begun
 returns-clause-begun g c tell entry asked f honest had =
     let stood = c.in_ok-offset.ensures.begins entry asked f.offset_is had f.standing f.source_is f.history in
     began_at f c.offset_of.new.src c.put_offset.new.store stood.standing c.in_ok-offset.offset stood.is stood.holds
-    (λ t. subst (λ (o : Offset). HoldsOffset g.D.Disk.seen g.D.Disk.may_leave c.put_offset.new.store (Some o)) c.in_ok-stored.ensures (c.in_ok-put_offset.ensures.stored entry.offset (f.store_is t)))
+    (λ t. subst (λ (o : Offset). HoldsOffset g.D.Disk c.put_offset.new.store (Some o)) c.in_ok-stored.ensures (c.in_ok-put_offset.ensures.stored entry.offset (f.store_is t)))
 
 -- ---- counts, and what no call undoes
 
@@ -238,11 +238,11 @@ returns-in_err-stored-clause-held g c held other = held
 
 pub returns-in_err-put_offset-clause-held : goal.returns-in_err-put_offset-clause-held
 returns-in_err-put_offset-clause-held g c held other =
-    held_same g.D.Disk.seen g.D.Disk.may_leave c.args.store.now c.put_offset.new.store
+    held_same g.D.Disk c.args.store.now c.put_offset.new.store
     (c.in_err-put_offset.ensures.kept (λ is. other (residual_on c.put_offset.result c.from_residual-in_err-put_offset.result _ halt.Offsets (c.in_err-put_offset.was ∙ is) c.in_err-put_offset.was c.from_residual-in_err-put_offset.ensures.1))) held
 
 pub returns-clause-held : goal.returns-clause-held
-returns-clause-held g c held other = held_stored g.D.Disk.seen g.D.Disk.may_leave c.put_offset.new.store c.in_ok-stored.stored c.in_ok-put_offset.ensures.loads (c.in_ok-put_offset.ensures.stored c.args.store.now.offset held)
+returns-clause-held g c held other = held_stored g.D.Disk c.put_offset.new.store c.in_ok-stored.stored c.in_ok-put_offset.ensures.loads (c.in_ok-put_offset.ensures.stored c.args.store.now.offset held)
 
 pub returns-clause-first : goal.returns-clause-first
 returns-clause-first g c s is none = (c.in_ok-offset.ensures.first s is none).1

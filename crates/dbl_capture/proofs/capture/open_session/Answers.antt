@@ -161,7 +161,7 @@ returns-clause-report g c = (refl, refl)
 pub returns-in_err-offset-clause-halted : goal.returns-in_err-offset-clause-halted
 returns-in_err-offset-clause-halted g c at stood none =
     residual_of c.from_residual.result _ (Halts g.S.Source.stands at (g.S.Source.told c.args.src.now) c.args.config.now c.args.now_ms c.args.store.now.offset c.begin_session.new.store.offset c.args.report.now c.begin_session.new.src (g.S.Source.told c.begin_session.new.src)) c.from_residual.ensures.1
-    (record { halted = halts_unread g.S.Source.stands at (g.S.Source.told c.args.src.now) c.args.config.now c.args.now_ms c.args.store.now.offset c.begin_session.new.store.offset c.args.report.now c.args.src.now c.begin_session.new.src (g.S.Source.told c.begin_session.new.src) _ stood (inl (c.in_err-offset.ensures.halt, c.in_err-offset.ensures.keeps)) none.0 none.1 (inl c.begin_session.ensures.taken) (λ s t was now. inl (c.begin_session.ensures.still s t was now)); stood = λ s first. begin_stood c.args.config.now c.args.now_ms c.args.store.now.offset c.begin_session.new.store.offset c.args.report.now (g.S.Source.stands c.begin_session.new.src) (g.S.Source.told c.begin_session.new.src) _ c.in_err-offset.ensures.keeps c.in_err-offset.ensures.halt (c.in_err-offset.ensures.standing s (stood s first)); cause = open_caused c.args.config.now c.args.now_ms c.args.store.now.offset c.begin_session.new.store.offset c.args.report.now (g.S.Source.told c.begin_session.new.src) _ (inl (c.in_err-offset.ensures.halt, c.in_err-offset.ensures.keeps)); ask = λ t. c.in_err-offset.ensures.ask c.args.report.now t none.0 })
+    (record { halted = halts_unread g.S.Source.stands at (g.S.Source.told c.args.src.now) c.args.config.now c.args.now_ms c.args.store.now.offset c.begin_session.new.store.offset c.args.report.now c.args.src.now c.begin_session.new.src (g.S.Source.told c.begin_session.new.src) _ stood (inl (c.in_err-offset.ensures.halt, c.in_err-offset.ensures.keeps)) none.0 none.1 (inl c.begin_session.ensures.taken) (λ s t was now. inl (c.begin_session.ensures.still s t was now)); stood = λ s first. begin_stood c.args.config.now c.args.now_ms c.args.store.now.offset c.begin_session.new.store.offset c.args.report.now (g.S.Source.stands c.begin_session.new.src) (g.S.Source.told c.begin_session.new.src) _ c.in_err-offset.ensures.keeps c.in_err-offset.ensures.halt (c.in_err-offset.ensures.standing s (stood s first)); cause = open_caused c.args.config.now c.args.now_ms c.args.store.now.offset c.begin_session.new.store.offset c.args.report.now (g.S.Source.told c.begin_session.new.src) _ (inl (c.in_err-offset.ensures.halt, c.in_err-offset.ensures.keeps)); must = λ t. c.in_err-offset.ensures.ask c.args.report.now t none.0 })
 
 pub returns-in_err-start_reading-clause-halted : goal.returns-in_err-start_reading-clause-halted
 returns-in_err-start_reading-clause-halted g c at stood none =
@@ -173,13 +173,13 @@ returns-in_err-start_reading-clause-halted g c at stood none =
           none.0 none.1 (fell_on (g.S.Source.told c.args.src.now) (g.S.Source.told c.begin_session.new.src) (g.S.Source.told c.start_reading.new.src) c.begin_session.ensures.taken c.in_err-start_reading.ensures.fell) (λ s t was now. let mid = c.in_ok-offset.ensures.stood s was in inr (read_none c.in_ok-offset.offset.lsn t.reading (c.start_reading.ensures.unread mid.standing t mid.is now)));
       stood = λ s first. start_stood c.args.config.now c.args.now_ms c.args.store.now.offset c.begin_session.new.store.offset (record c.args.report.now { position = c.in_ok-offset.offset.lsn.0 }) (g.S.Source.stands c.start_reading.new.src) c.in_ok-offset.offset.lsn _ c.in_err-start_reading.ensures.halt;
       cause = open_caused c.args.config.now c.args.now_ms c.args.store.now.offset c.begin_session.new.store.offset (record c.args.report.now { position = c.in_ok-offset.offset.lsn.0 }) (g.S.Source.told c.start_reading.new.src) _ (start_opens c.args.config.now c.args.store.now.offset c.begin_session.new.store.offset (g.S.Source.told c.start_reading.new.src) c.in_ok-offset.offset.lsn _ stored (ap (λ (o : Offset). o.lsn) (first_some c.in_ok-offset.offset stored.offset (sym c.in_ok-offset.ensures.loads ∙ stored.is))) (λ asked first is. c.in_err-start_reading.ensures.gone asked first (ap (λ (h : Halt). Err h) is)) c.in_err-start_reading.ensures.halt);
-      ask = λ t. start_asks c.args.config.now c.args.store.now.offset c.begin_session.new.store.offset (g.S.Source.told c.start_reading.new.src) c.in_ok-offset.offset.lsn c.in_err-start_reading.field-0.0 stored (ap (λ (o : Offset). o.lsn) (first_some c.in_ok-offset.offset stored.offset (sym c.in_ok-offset.ensures.loads ∙ stored.is))) (λ asked first is. c.in_err-start_reading.ensures.gone asked first (ap (λ (h : Halt). Err h) is)) c.requires.config.some_tables c.in_err-start_reading.ensures.halt (record c.args.report.now { position = c.in_ok-offset.offset.lsn.0 }) t none.0;
+      must = λ t. start_asks c.args.config.now c.args.store.now.offset c.begin_session.new.store.offset (g.S.Source.told c.start_reading.new.src) c.in_ok-offset.offset.lsn c.in_err-start_reading.field-0.0 stored (ap (λ (o : Offset). o.lsn) (first_some c.in_ok-offset.offset stored.offset (sym c.in_ok-offset.ensures.loads ∙ stored.is))) (λ asked first is. c.in_err-start_reading.ensures.gone asked first (ap (λ (h : Halt). Err h) is)) c.requires.config.some_tables c.in_err-start_reading.ensures.halt (record c.args.report.now { position = c.in_ok-offset.offset.lsn.0 }) t none.0;
     })
 
 pub returns-clause-halted : goal.returns-clause-halted
 returns-clause-halted g c at stood none =
     err_then c.make.result _ (Halts g.S.Source.stands at (g.S.Source.told c.args.src.now) c.args.config.now c.args.now_ms c.args.store.now.offset c.begin_session.new.store.offset (record c.args.report.now { position = c.in_ok-offset.offset.lsn.0 }) c.start_reading.new.src (g.S.Source.told c.start_reading.new.src)) c.make.ensures.memory
-    (λ h is. record { halted = halts_unread g.S.Source.stands at (g.S.Source.told c.args.src.now) c.args.config.now c.args.now_ms c.args.store.now.offset c.begin_session.new.store.offset (record c.args.report.now { position = c.in_ok-offset.offset.lsn.0 }) c.args.src.now c.start_reading.new.src (g.S.Source.told c.start_reading.new.src) h stood (inr (inr (inl is))) none.0 none.1 (inr (anew_on (g.S.Source.told c.args.src.now) (g.S.Source.told c.begin_session.new.src) (g.S.Source.told c.start_reading.new.src) c.begin_session.ensures.taken c.in_ok-start_reading.ensures.taken)) (λ s t was now. let mid = c.in_ok-offset.ensures.stood s was in inr (read_none c.in_ok-offset.offset.lsn t.reading (c.start_reading.ensures.unread mid.standing t mid.is now))); stood = λ s first. memory_stood c.args.config.now c.args.now_ms c.args.store.now.offset c.begin_session.new.store.offset (record c.args.report.now { position = c.in_ok-offset.offset.lsn.0 }) (g.S.Source.stands c.start_reading.new.src) h is; cause = open_caused c.args.config.now c.args.now_ms c.args.store.now.offset c.begin_session.new.store.offset (record c.args.report.now { position = c.in_ok-offset.offset.lsn.0 }) (g.S.Source.told c.start_reading.new.src) h (inr (inr (inl is))); ask = λ t. memory_asks c.args.config.now c.args.store.now.offset c.begin_session.new.store.offset (g.S.Source.told c.start_reading.new.src) h c.requires.config.some_tables is (record c.args.report.now { position = c.in_ok-offset.offset.lsn.0 }) t none.0 })
+    (λ h is. record { halted = halts_unread g.S.Source.stands at (g.S.Source.told c.args.src.now) c.args.config.now c.args.now_ms c.args.store.now.offset c.begin_session.new.store.offset (record c.args.report.now { position = c.in_ok-offset.offset.lsn.0 }) c.args.src.now c.start_reading.new.src (g.S.Source.told c.start_reading.new.src) h stood (inr (inr (inl is))) none.0 none.1 (inr (anew_on (g.S.Source.told c.args.src.now) (g.S.Source.told c.begin_session.new.src) (g.S.Source.told c.start_reading.new.src) c.begin_session.ensures.taken c.in_ok-start_reading.ensures.taken)) (λ s t was now. let mid = c.in_ok-offset.ensures.stood s was in inr (read_none c.in_ok-offset.offset.lsn t.reading (c.start_reading.ensures.unread mid.standing t mid.is now))); stood = λ s first. memory_stood c.args.config.now c.args.now_ms c.args.store.now.offset c.begin_session.new.store.offset (record c.args.report.now { position = c.in_ok-offset.offset.lsn.0 }) (g.S.Source.stands c.start_reading.new.src) h is; cause = open_caused c.args.config.now c.args.now_ms c.args.store.now.offset c.begin_session.new.store.offset (record c.args.report.now { position = c.in_ok-offset.offset.lsn.0 }) (g.S.Source.told c.start_reading.new.src) h (inr (inr (inl is))); must = λ t. memory_asks c.args.config.now c.args.store.now.offset c.begin_session.new.store.offset (g.S.Source.told c.start_reading.new.src) h c.requires.config.some_tables is (record c.args.report.now { position = c.in_ok-offset.offset.lsn.0 }) t none.0 })
 
 pub returns-clause-under_way : goal.returns-clause-under_way
 returns-clause-under_way g c at stood none =

@@ -58,7 +58,7 @@ returns-in_err-work-clause-faithful g c entry asked f honest had = going_left (c
 
 pub returns-in_err-work-clause-marks : goal.returns-in_err-work-clause-marks
 returns-in_err-work-clause-marks g c s is honest had left may =
-    (c.in_err-work.ensures.left false (session_start_at c.args.config.now c.args.now_ms s c.args.offsets.now.offset) refl (source_found _ _ _ _ c.args.config.now c.args.now_ms s _ _ c.args.offsets.now is) honest had).few left may
+    (c.in_err-work.ensures.left false (session_start_at c.args.config.now c.args.now_ms s c.args.offsets.now.offset) refl (source_found _ _ _ c.args.config.now c.args.now_ms s _ _ c.args.offsets.now is) honest had).few left may
 
 pub returns-in_err-work-clause-stores : goal.returns-in_err-work-clause-stores
 returns-in_err-work-clause-stores g c = c.in_err-work.ensures.stored
@@ -91,7 +91,7 @@ returns-clause-complete g c entry asked f honest had is =
 pub returns-clause-marks : goal.returns-clause-marks
 returns-clause-marks g c s is honest had left may =
     let entry = session_start_at c.args.config.now c.args.now_ms s c.args.offsets.now.offset in
-    let in_session = c.in_ok-work.ensures.opened false entry refl (sym (to_z-of_z c.ranges.now_ms)) (source_found _ _ _ _ c.args.config.now c.args.now_ms s _ _ c.args.offsets.now is) (c.process_messages.ensures.honest honest) had in
+    let in_session = c.in_ok-work.ensures.opened false entry refl (sym (to_z-of_z c.ranges.now_ms)) (source_found _ _ _ c.args.config.now c.args.now_ms s _ _ c.args.offsets.now is) (c.process_messages.ensures.honest honest) had in
     (either_answer c.process_messages.result _ _ (c.process_messages.ensures.ran false entry in_session honest) (c.process_messages.ensures.left false entry in_session honest)
     (λ t. rests t _ _ _ (g.met.S.Source.only _) (g.met.S.Source.may _) (g.met.K.Sink.only _) (g.met.K.Sink.may _) honest (λ h l is. g.met.S.Source.fit _ l is h) (some_chunk t))).few left may
 
@@ -251,7 +251,7 @@ returns-clause-halt g c =
 pub returns-clause-exactly : goal.returns-clause-exactly
 returns-clause-exactly g c s was honest had =
     let entry = session_start_at c.args.config.now c.args.now_ms s c.args.offsets.now.offset in
-    let in_session = c.in_ok-work.ensures.opened false entry refl (sym (to_z-of_z c.ranges.now_ms)) (source_found _ _ _ _ c.args.config.now c.args.now_ms s _ _ c.args.offsets.now was) (c.process_messages.ensures.honest honest) had in
+    let in_session = c.in_ok-work.ensures.opened false entry refl (sym (to_z-of_z c.ranges.now_ms)) (source_found _ _ _ c.args.config.now c.args.now_ms s _ _ c.args.offsets.now was) (c.process_messages.ensures.honest honest) had in
     let way = c.in_ok-work.ensures.under_way None (at_none g.S.Source.stands c.args.src.now) (refl, refl, refl) in
     let b = beginning_at c.args.config.now c.args.now_ms c.args.offsets.now.offset way.0 in
     let u = subst (λ (n : ℤ). IsUnderWay g.S.Source.stands None (g.S.Source.told c.args.src.now) (beginning_at c.args.config.now n c.args.offsets.now.offset way.0) c.open_session.new.store.offset c.in_ok-work.work c.open_session.new.report c.open_session.new.src (g.S.Source.told c.open_session.new.src)) (to_z-of_z c.ranges.now_ms) way.1 in
@@ -330,7 +330,7 @@ returns-in_err-work-clause-own g c s was honest had =
 pub returns-clause-own : goal.returns-clause-own
 returns-clause-own g c s was honest had =
     let entry = session_start_at c.args.config.now c.args.now_ms s c.args.offsets.now.offset in
-    let in_session = c.in_ok-work.ensures.opened false entry refl (sym (to_z-of_z c.ranges.now_ms)) (source_found _ _ _ _ c.args.config.now c.args.now_ms s _ _ c.args.offsets.now was) (c.process_messages.ensures.honest honest) had in
+    let in_session = c.in_ok-work.ensures.opened false entry refl (sym (to_z-of_z c.ranges.now_ms)) (source_found _ _ _ c.args.config.now c.args.now_ms s _ _ c.args.offsets.now was) (c.process_messages.ensures.honest honest) had in
     let way = c.in_ok-work.ensures.under_way (Some s) (at_some g.S.Source.stands c.args.src.now s was) (refl, refl, refl) in
     let b = beginning_at c.args.config.now c.args.now_ms c.args.offsets.now.offset way.0 in
     let u = subst (λ (n : ℤ). IsUnderWay g.S.Source.stands (Some s) (g.S.Source.told c.args.src.now) (beginning_at c.args.config.now n c.args.offsets.now.offset way.0) c.open_session.new.store.offset c.in_ok-work.work c.open_session.new.report c.open_session.new.src (g.S.Source.told c.open_session.new.src)) (to_z-of_z c.ranges.now_ms) way.1 in
@@ -342,7 +342,7 @@ returns-in_err-work-clause-most g c s was honest had left may = none_most c.open
 pub returns-clause-most : goal.returns-clause-most
 returns-clause-most g c s was honest had left may =
     let entry = session_start_at c.args.config.now c.args.now_ms s c.args.offsets.now.offset in
-    let in_session = c.in_ok-work.ensures.opened false entry refl (sym (to_z-of_z c.ranges.now_ms)) (source_found _ _ _ _ c.args.config.now c.args.now_ms s _ _ c.args.offsets.now was) (c.process_messages.ensures.honest honest) had in
+    let in_session = c.in_ok-work.ensures.opened false entry refl (sym (to_z-of_z c.ranges.now_ms)) (source_found _ _ _ c.args.config.now c.args.now_ms s _ _ c.args.offsets.now was) (c.process_messages.ensures.honest honest) had in
     let way = c.in_ok-work.ensures.under_way None (at_none g.S.Source.stands c.args.src.now) (refl, refl, refl) in
     let b = beginning_at c.args.config.now c.args.now_ms c.args.offsets.now.offset way.0 in
     let u = subst (λ (n : ℤ). IsUnderWay g.S.Source.stands None (g.S.Source.told c.args.src.now) (beginning_at c.args.config.now n c.args.offsets.now.offset way.0) c.open_session.new.store.offset c.in_ok-work.work c.open_session.new.report c.open_session.new.src (g.S.Source.told c.open_session.new.src)) (to_z-of_z c.ranges.now_ms) way.1 in
@@ -360,7 +360,7 @@ process_messages-requires-clause-some g c = c.requires.config.messages.0
 pub returns-in_err-work-clause-answered : goal.returns-in_err-work-clause-answered
 returns-in_err-work-clause-answered g c t is =
     residual_as c.from_residual.result _ (λ x. MustHalt c.args.config.now c.args.offsets.now.offset c.open_session.new.store.offset c.open_session.new.report t x) c.from_residual.ensures.1
-    ((subst (λ (n : ℤ). Halts g.S.Source.stands None (g.S.Source.told c.args.src.now) c.args.config.now n c.args.offsets.now.offset c.open_session.new.store.offset c.open_session.new.report c.open_session.new.src (g.S.Source.told c.open_session.new.src) c.in_err-work.field-0.0) (to_z-of_z c.ranges.now_ms) (c.in_err-work.ensures.halted None (at_none g.S.Source.stands c.args.src.now) (refl, refl, refl))).ask t is)
+    ((subst (λ (n : ℤ). Halts g.S.Source.stands None (g.S.Source.told c.args.src.now) c.args.config.now n c.args.offsets.now.offset c.open_session.new.store.offset c.open_session.new.report c.open_session.new.src (g.S.Source.told c.open_session.new.src) c.in_err-work.field-0.0) (to_z-of_z c.ranges.now_ms) (c.in_err-work.ensures.halted None (at_none g.S.Source.stands c.args.src.now) (refl, refl, refl))).must t is)
 
 pub returns-clause-answered : goal.returns-clause-answered
 returns-clause-answered g c t is =
@@ -371,7 +371,7 @@ returns-clause-answered g c t is =
     let halted = c.process_messages.ensures.halted None (g.S.Source.told c.args.src.now) b u in
     answer_as c.process_messages.result _ _ (λ r. MustHalt c.args.config.now c.args.offsets.now.offset c.process_messages.new.store.offset c.process_messages.new.report t r) (ok_pair c.process_messages.result _ _ all c.process_messages.ensures.quiet) halted
     (λ a e. quiet_asks b a.0.messages c.process_messages.new.store.offset c.process_messages.new.work c.process_messages.new.report c.process_messages.new.report (g.S.Source.told c.args.src.now) (g.S.Source.told c.process_messages.new.src) c.process_messages.new.store.offset (Ok e) a.0.is.is a.0.tells a.1 (inl refl) t is)
-    (λ h x. x.ask t is)
+    (λ h x. x.must t is)
 
 pub returns-in_err-work-clause-content : goal.returns-in_err-work-clause-content
 returns-in_err-work-clause-content g c entry asked f honest faithful =

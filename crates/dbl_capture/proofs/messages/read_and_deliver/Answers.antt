@@ -181,7 +181,7 @@ returns-in_err-bytes-clause-halted g c at found b u =
           (λ s t was now. absurd (dead_source (g.S.Source.is_live c.read.new.self) (g.met.S.Source.lives c.read.new.self t now) c.in_err-bytes.ensures.dead)) (source_left c.in_err-bytes.field-0.0) refl refl (inl refl);
       stood = λ s first. source_stood b.config b.now b.held c.args.store.now.offset c.args.report.now (g.S.Source.stands c.read.new.self) c.in_err-bytes.field-0.0;
       cause = source_caused b.config b.now b.held c.args.store.now.offset c.args.report.now (g.S.Source.told c.read.new.self) c.in_err-bytes.field-0.0;
-      ask = failure_asks b u.messages c.args.store.now.offset c.args.work.now c.args.report.now c.args.report.now found (g.S.Source.told c.args.src.now) (g.S.Source.told c.read.new.self) c.args.store.now.offset _ u.is.is u.tells c.in_err-bytes.ensures.untaken (source_fails c.in_err-bytes.field-0.0) (inl refl);
+      must = failure_asks b u.messages c.args.store.now.offset c.args.work.now c.args.report.now c.args.report.now found (g.S.Source.told c.args.src.now) (g.S.Source.told c.read.new.self) c.args.store.now.offset _ u.is.is u.tells c.in_err-bytes.ensures.untaken (source_fails c.in_err-bytes.field-0.0) (inl refl);
     })
 
 pub returns-in_err-commit-in-Some-clause-halted : goal.returns-in_err-commit-in-Some-clause-halted
@@ -192,7 +192,7 @@ returns-in_err-commit-in-Some-clause-halted g c at found b u =
           (taken_cause (c.args.report.now.messages + 1) b.first.lsn u.messages c.in-Some.bytes c.args.work.now _ (c.in_err-commit-in-Some.ensures.halt b.first.lsn u.messages u.is.is.is)) refl refl;
       stood = λ s first. messages_stood g.S.Source.stands at found b c.args.store.now.offset c.args.work.now c.args.src.now c.read.new.self (g.S.Source.told c.args.src.now) c.args.report.now c.in-Some.bytes _ u (λ s is. some_read _ _ _ _ c.in-Some.is (c.in_ok-bytes.ensures.took s is)) (c.in_err-commit-in-Some.ensures.halt b.first.lsn u.messages u.is.is.is) s first;
       cause = taken_caused b u.messages c.args.store.now.offset c.args.work.now c.args.report.now found (g.S.Source.told c.args.src.now) (g.S.Source.told c.read.new.self) c.in-Some.bytes _ u.is u.tells (some_read _ _ _ _ c.in-Some.is c.in_ok-bytes.ensures.taken) (c.in_err-commit-in-Some.ensures.halt b.first.lsn u.messages u.is.is.is);
-      ask = newest_asks b u.messages c.args.store.now.offset c.args.work.now c.args.report.now (record c.args.report.now { messages = c.args.report.now.messages + 1 }) (g.S.Source.told c.args.src.now) (g.S.Source.told c.read.new.self) c.in-Some.bytes _ u.is.is (some_read _ _ _ _ c.in-Some.is c.in_ok-bytes.ensures.taken) (subst (λ (o : Option (List ℕ)). LastAnswerIs (g.S.Source.told c.read.new.self) (Read o)) c.in-Some.is c.in_ok-bytes.ensures.told)
+      must = newest_asks b u.messages c.args.store.now.offset c.args.work.now c.args.report.now (record c.args.report.now { messages = c.args.report.now.messages + 1 }) (g.S.Source.told c.args.src.now) (g.S.Source.told c.read.new.self) c.in-Some.bytes _ u.is.is (some_read _ _ _ _ c.in-Some.is c.in_ok-bytes.ensures.taken) (subst (λ (o : Option (List ℕ)). LastAnswerIs (g.S.Source.told c.read.new.self) (Read o)) c.in-Some.is c.in_ok-bytes.ensures.told)
           (taken_cause (c.args.report.now.messages + 1) b.first.lsn u.messages c.in-Some.bytes c.args.work.now _ (c.in_err-commit-in-Some.ensures.halt b.first.lsn u.messages u.is.is.is));
     })
 
@@ -205,7 +205,7 @@ returns-in_err-closed-in-Some-2-clause-halted g c at found b u =
           (follow_cause c.deliver_commit.new.report.messages b.first.lsn u.messages c.in-Some.bytes c.args.work.now c.take_message.new.work c.in-Some-2.commit _ (subst (WasTaken b.first.lsn u.messages c.in-Some.bytes c.args.work.now c.take_message.new.work) c.in-Some-2.is (c.in_ok-commit-in-Some.ensures.taken b.first.lsn u.messages u.is.is.is)) (λ is. c.in_err-closed-in-Some-2.ensures.sink (ap (λ (k : Halt). Err k) is)) c.in_err-closed-in-Some-2.ensures.halt) counts.messages counts.commits;
       stood = λ s first. commits_stood g.S.Source.stands at found b c.args.store.now.offset c.args.work.now c.args.src.now c.read.new.self (g.S.Source.told c.args.src.now) c.args.report.now c.deliver_commit.new.report c.in-Some.bytes c.take_message.new.work c.in-Some-2.commit _ u (λ s is. some_read _ _ _ _ c.in-Some.is (c.in_ok-bytes.ensures.took s is)) (subst (WasTaken b.first.lsn u.messages c.in-Some.bytes c.args.work.now c.take_message.new.work) c.in-Some-2.is (c.in_ok-commit-in-Some.ensures.taken b.first.lsn u.messages u.is.is.is)) counts.messages c.in_err-closed-in-Some-2.ensures.counts c.in_err-closed-in-Some-2.ensures.halt s first;
       cause = follow_caused b u.messages c.args.store.now.offset c.args.work.now c.args.report.now c.deliver_commit.new.report found (g.S.Source.told c.args.src.now) (g.S.Source.told c.read.new.self) c.in-Some.bytes c.take_message.new.work c.in-Some-2.commit _ u.is u.tells (some_read _ _ _ _ c.in-Some.is c.in_ok-bytes.ensures.taken) (subst (WasTaken b.first.lsn u.messages c.in-Some.bytes c.args.work.now c.take_message.new.work) c.in-Some-2.is (c.in_ok-commit-in-Some.ensures.taken b.first.lsn u.messages u.is.is.is)) counts.messages c.in_err-closed-in-Some-2.ensures.counts c.in_err-closed-in-Some-2.ensures.halt;
-      ask = newest_asks b u.messages c.args.store.now.offset c.args.work.now c.args.report.now c.deliver_commit.new.report (g.S.Source.told c.args.src.now) (g.S.Source.told c.read.new.self) c.in-Some.bytes _ u.is.is (some_read _ _ _ _ c.in-Some.is c.in_ok-bytes.ensures.taken) (subst (λ (o : Option (List ℕ)). LastAnswerIs (g.S.Source.told c.read.new.self) (Read o)) c.in-Some.is c.in_ok-bytes.ensures.told)
+      must = newest_asks b u.messages c.args.store.now.offset c.args.work.now c.args.report.now c.deliver_commit.new.report (g.S.Source.told c.args.src.now) (g.S.Source.told c.read.new.self) c.in-Some.bytes _ u.is.is (some_read _ _ _ _ c.in-Some.is c.in_ok-bytes.ensures.taken) (subst (λ (o : Option (List ℕ)). LastAnswerIs (g.S.Source.told c.read.new.self) (Read o)) c.in-Some.is c.in_ok-bytes.ensures.told)
           (follow_cause c.deliver_commit.new.report.messages b.first.lsn u.messages c.in-Some.bytes c.args.work.now c.take_message.new.work c.in-Some-2.commit _ (subst (WasTaken b.first.lsn u.messages c.in-Some.bytes c.args.work.now c.take_message.new.work) c.in-Some-2.is (c.in_ok-commit-in-Some.ensures.taken b.first.lsn u.messages u.is.is.is)) (λ is. c.in_err-closed-in-Some-2.ensures.sink (ap (λ (k : Halt). Err k) is)) c.in_err-closed-in-Some-2.ensures.halt);
     })
 

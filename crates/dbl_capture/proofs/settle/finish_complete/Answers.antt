@@ -61,11 +61,11 @@ returns-in_err-copy-in-Some-clause-report g c =
 pub returns-in_err-copy-in-Some-clause-halted : goal.returns-in_err-copy-in-Some-clause-halted
 returns-in_err-copy-in-Some-clause-halted g c at found b u answer =
     residual_of c.from_residual.result halt.Memory (Halts g.S.Source.stands at found b.config b.now b.held c.args.store.now.offset c.args.report.now c.args.src.now (g.S.Source.told c.args.src.now)) c.from_residual.ensures.1
-    (record { halted = halts_between g.S.Source.stands at found b c.args.store.now.offset c.args.store.now.offset c.args.work.now c.args.report.now c.args.report.now c.args.src.now c.args.src.now (g.S.Source.told c.args.src.now) (g.S.Source.told c.args.src.now) halt.Memory (at_rest g.S.Source.stands at found b c.args.store.now.offset c.args.work.now c.args.report.now c.args.src.now (g.S.Source.told c.args.src.now) u) (none_taken (g.S.Source.told c.args.src.now)) (λ s t was now. ap (λ (x : SourceState). x.reading) (g.met.S.Source.one c.args.src.now t s now was)) memory_left refl refl (inl refl); stood = λ s first. memory_stood b.config b.now b.held c.args.store.now.offset c.args.report.now (g.S.Source.stands c.args.src.now) halt.Memory refl; cause = memory_caused b.config b.now b.held c.args.store.now.offset c.args.report.now (g.S.Source.told c.args.src.now) halt.Memory refl; ask = quiet_asks b u.messages c.args.store.now.offset c.args.work.now c.args.report.now c.args.report.now found (g.S.Source.told c.args.src.now) c.args.store.now.offset (Err halt.Memory) u.is.is u.tells (read_quiet (g.S.Source.told c.args.src.now) None answer) (inl refl) })
+    (record { halted = halts_between g.S.Source.stands at found b c.args.store.now.offset c.args.store.now.offset c.args.work.now c.args.report.now c.args.report.now c.args.src.now c.args.src.now (g.S.Source.told c.args.src.now) (g.S.Source.told c.args.src.now) halt.Memory (at_rest g.S.Source.stands at found b c.args.store.now.offset c.args.work.now c.args.report.now c.args.src.now (g.S.Source.told c.args.src.now) u) (none_taken (g.S.Source.told c.args.src.now)) (λ s t was now. ap (λ (x : SourceState). x.reading) (g.met.S.Source.one c.args.src.now t s now was)) memory_left refl refl (inl refl); stood = λ s first. memory_stood b.config b.now b.held c.args.store.now.offset c.args.report.now (g.S.Source.stands c.args.src.now) halt.Memory refl; cause = memory_caused b.config b.now b.held c.args.store.now.offset c.args.report.now (g.S.Source.told c.args.src.now) halt.Memory refl; must = quiet_asks b u.messages c.args.store.now.offset c.args.work.now c.args.report.now c.args.report.now found (g.S.Source.told c.args.src.now) c.args.store.now.offset (Err halt.Memory) u.is.is u.tells (read_quiet (g.S.Source.told c.args.src.now) None answer) (inl refl) })
 
 pub returns-in_ok-copy-in-Some-clause-halted : goal.returns-in_ok-copy-in-Some-clause-halted
 returns-in_ok-copy-in-Some-clause-halted g c at found b u answer =
-    record { halted = halts_between g.S.Source.stands at found b c.args.store.now.offset c.args.store.now.offset c.args.work.now c.args.report.now c.args.report.now c.args.src.now c.args.src.now (g.S.Source.told c.args.src.now) (g.S.Source.told c.args.src.now) _ (at_rest g.S.Source.stands at found b c.args.store.now.offset c.args.work.now c.args.report.now c.args.src.now (g.S.Source.told c.args.src.now) u) (none_taken (g.S.Source.told c.args.src.now)) (λ s t was now. ap (λ (x : SourceState). x.reading) (g.met.S.Source.one c.args.src.now t s now was)) refl refl refl (inl refl); stood = λ s first. marks_stood g.S.Source.stands at found b c.args.store.now.offset c.args.work.now c.args.src.now c.args.src.now (g.S.Source.told c.args.src.now) c.args.report.now _ u (sym c.in-Some.ensures.text ∙ ap (λ (v : List ℕ). Some v) (sym c.in_ok-copy-in-Some.ensures)) s first; cause = missed_caused b u.messages c.args.store.now.offset c.args.work.now c.args.report.now found (g.S.Source.told c.args.src.now) _ u.is u.tells (sym c.in-Some.ensures.text ∙ ap (λ (v : List ℕ). Some v) (sym c.in_ok-copy-in-Some.ensures)) answer; ask = quiet_asks b u.messages c.args.store.now.offset c.args.work.now c.args.report.now c.args.report.now found (g.S.Source.told c.args.src.now) c.args.store.now.offset _ u.is.is u.tells (read_quiet (g.S.Source.told c.args.src.now) None answer) (inl refl) }
+    record { halted = halts_between g.S.Source.stands at found b c.args.store.now.offset c.args.store.now.offset c.args.work.now c.args.report.now c.args.report.now c.args.src.now c.args.src.now (g.S.Source.told c.args.src.now) (g.S.Source.told c.args.src.now) _ (at_rest g.S.Source.stands at found b c.args.store.now.offset c.args.work.now c.args.report.now c.args.src.now (g.S.Source.told c.args.src.now) u) (none_taken (g.S.Source.told c.args.src.now)) (λ s t was now. ap (λ (x : SourceState). x.reading) (g.met.S.Source.one c.args.src.now t s now was)) refl refl refl (inl refl); stood = λ s first. marks_stood g.S.Source.stands at found b c.args.store.now.offset c.args.work.now c.args.src.now c.args.src.now (g.S.Source.told c.args.src.now) c.args.report.now _ u (sym c.in-Some.ensures.text ∙ ap (λ (v : List ℕ). Some v) (sym c.in_ok-copy-in-Some.ensures)) s first; cause = missed_caused b u.messages c.args.store.now.offset c.args.work.now c.args.report.now found (g.S.Source.told c.args.src.now) _ u.is u.tells (sym c.in-Some.ensures.text ∙ ap (λ (v : List ℕ). Some v) (sym c.in_ok-copy-in-Some.ensures)) answer; must = quiet_asks b u.messages c.args.store.now.offset c.args.work.now c.args.report.now c.args.report.now found (g.S.Source.told c.args.src.now) c.args.store.now.offset _ u.is.is u.tells (read_quiet (g.S.Source.told c.args.src.now) None answer) (inl refl) }
 
 pub returns-in-None-clause-all : goal.returns-in-None-clause-all
 returns-in-None-clause-all g c at found b u = c.store_and_confirm.ensures.all at found b (at_rest g.S.Source.stands at found b c.args.store.now.offset c.args.work.now c.args.report.now c.args.src.now (g.S.Source.told c.args.src.now) u)

@@ -46,7 +46,7 @@ pub returns-in_err-put_offset-clause-left : goal.returns-in_err-put_offset-claus
 returns-in_err-put_offset-clause-left g c tell entry s honest =
     on_err _ _
     (store_fails s _ _ c.put_offset.new.store _
-    (λ t. subst (λ (o : Offset). LeavesOffset g.D.Disk.may_leave (disk_of c.put_offset.new.store) (λ left. (left ≡ Some s.stage.stored) ⊎ (left ≡ Some o))) c.in_ok-offset.ensures.next (c.put_offset.ensures.left (Some s.stage.stored) (s.store_is t)))
+    (λ t. subst (λ (o : Offset). LeavesOffset g.D.Disk (disk_of c.put_offset.new.store) (λ left. (left ≡ Some s.stage.stored) ⊎ (left ≡ Some o))) c.in_ok-offset.ensures.next (c.put_offset.ensures.left (Some s.stage.stored) (s.store_is t)))
     (g.met.S.Source.only _) (g.met.S.Source.may _) honest (λ h l is. g.met.S.Source.fit _ l is h)
     (λ t groups is. g.met.K.Sink.only _ s.stage.groups groups (s.sink_is t) is) (λ t. (s.stage.groups, g.met.K.Sink.may _ s.stage.groups (s.sink_is t))))
 
@@ -55,7 +55,7 @@ pub returns-in_err-confirm-clause-left : goal.returns-in_err-confirm-clause-left
 returns-in_err-confirm-clause-left g c tell entry s honest =
     on_err _ _
     (settle_fails s _ _ c.confirm.new.self c.put_offset.new.store
-    (λ t. subst (λ (o : Offset). HoldsOffset g.D.Disk.seen g.D.Disk.may_leave c.put_offset.new.store (Some o)) c.in_ok-offset.ensures.next (c.in_ok-put_offset.ensures.stored (Some s.stage.stored) (s.store_is t)))
+    (λ t. subst (λ (o : Offset). HoldsOffset g.D.Disk c.put_offset.new.store (Some o)) c.in_ok-offset.ensures.next (c.in_ok-put_offset.ensures.stored (Some s.stage.stored) (s.store_is t)))
     (λ left is. subst (λ (o : Offset). MayFollowConfirm o.lsn (state_at_stage s.stage) left) c.in_ok-offset.ensures.next (c.confirm.ensures.left (state_at_stage s.stage) left s.source_is is))
     (λ left is. g.met.S.Source.fit _ left is honest)
     (λ t groups is. g.met.K.Sink.only _ s.stage.groups groups (s.sink_is t) is)
@@ -66,7 +66,7 @@ pub returns-clause-settled : goal.returns-clause-settled
 returns-clause-settled g c tell entry s honest =
     let stood = c.in_ok-confirm.ensures.confirmed (state_at_stage s.stage) s.source_is in
     settled_on s c.confirm.new.self c.put_offset.new.store stood.standing
-    (λ t. subst (λ (o : Offset). HoldsOffset g.D.Disk.seen g.D.Disk.may_leave c.put_offset.new.store (Some o)) c.in_ok-offset.ensures.next (c.in_ok-put_offset.ensures.stored (Some s.stage.stored) (s.store_is t)))
+    (λ t. subst (λ (o : Offset). HoldsOffset g.D.Disk c.put_offset.new.store (Some o)) c.in_ok-offset.ensures.next (c.in_ok-put_offset.ensures.stored (Some s.stage.stored) (s.store_is t)))
     stood.is (subst (λ (o : Offset). IsConfirmed o.lsn (state_at_stage s.stage) stood.standing) c.in_ok-offset.ensures.next stood.holds)
     (g.met.S.Source.fit _ _ (g.met.S.Source.may _ stood.standing stood.is) honest)
 
@@ -74,7 +74,7 @@ pub returns-clause-whole : goal.returns-clause-whole
 returns-clause-whole g c tell entry h honest =
     let stood = c.in_ok-confirm.ensures.confirmed (state_at_stage h.is.stage) h.is.source_is in
     settled_whole h c.confirm.new.self c.put_offset.new.store stood.standing
-    (λ t. subst (λ (o : Offset). HoldsOffset g.D.Disk.seen g.D.Disk.may_leave c.put_offset.new.store (Some o)) c.in_ok-offset.ensures.next (c.in_ok-put_offset.ensures.stored (Some h.is.stage.stored) (h.is.store_is t)))
+    (λ t. subst (λ (o : Offset). HoldsOffset g.D.Disk c.put_offset.new.store (Some o)) c.in_ok-offset.ensures.next (c.in_ok-put_offset.ensures.stored (Some h.is.stage.stored) (h.is.store_is t)))
     stood.is (subst (λ (o : Offset). IsConfirmed o.lsn (state_at_stage h.is.stage) stood.standing) c.in_ok-offset.ensures.next stood.holds)
     (g.met.S.Source.fit _ _ (g.met.S.Source.may _ stood.standing stood.is) honest)
 
@@ -128,12 +128,12 @@ returns-clause-never g c value at is = cc
 pub returns-in_err-offset-clause-halted : goal.returns-in_err-offset-clause-halted
 returns-in_err-offset-clause-halted g c at found b u quiet =
     residual_of c.from_residual.result halt.Memory (Halts g.S.Source.stands at found b.config b.now b.held c.args.store.now.offset c.args.report.now c.args.src.now (g.S.Source.told c.args.src.now)) c.from_residual.ensures.1
-    (record { halted = halts_between g.S.Source.stands at found b c.args.store.now.offset c.args.store.now.offset c.args.work.now c.args.report.now c.args.report.now c.args.src.now c.args.src.now (g.S.Source.told c.args.src.now) (g.S.Source.told c.args.src.now) halt.Memory u (none_taken (g.S.Source.told c.args.src.now)) (λ s t was now. ap (λ (x : SourceState). x.reading) (g.met.S.Source.one c.args.src.now t s now was)) memory_left refl refl (inl refl); stood = λ s first. memory_stood b.config b.now b.held c.args.store.now.offset c.args.report.now (g.S.Source.stands c.args.src.now) halt.Memory refl; cause = memory_caused b.config b.now b.held c.args.store.now.offset c.args.report.now (g.S.Source.told c.args.src.now) halt.Memory refl; ask = quiet_asks b u.messages c.args.store.now.offset c.args.work.now c.args.report.now c.args.report.now found (g.S.Source.told c.args.src.now) c.args.store.now.offset (Err halt.Memory) u.is u.tells quiet (inl refl) })
+    (record { halted = halts_between g.S.Source.stands at found b c.args.store.now.offset c.args.store.now.offset c.args.work.now c.args.report.now c.args.report.now c.args.src.now c.args.src.now (g.S.Source.told c.args.src.now) (g.S.Source.told c.args.src.now) halt.Memory u (none_taken (g.S.Source.told c.args.src.now)) (λ s t was now. ap (λ (x : SourceState). x.reading) (g.met.S.Source.one c.args.src.now t s now was)) memory_left refl refl (inl refl); stood = λ s first. memory_stood b.config b.now b.held c.args.store.now.offset c.args.report.now (g.S.Source.stands c.args.src.now) halt.Memory refl; cause = memory_caused b.config b.now b.held c.args.store.now.offset c.args.report.now (g.S.Source.told c.args.src.now) halt.Memory refl; must = quiet_asks b u.messages c.args.store.now.offset c.args.work.now c.args.report.now c.args.report.now found (g.S.Source.told c.args.src.now) c.args.store.now.offset (Err halt.Memory) u.is u.tells quiet (inl refl) })
 
 pub returns-in_err-put_offset-clause-halted : goal.returns-in_err-put_offset-clause-halted
 returns-in_err-put_offset-clause-halted g c at found b u quiet =
     residual_of c.from_residual-in_err-put_offset.result _ (Halts g.S.Source.stands at found b.config b.now b.held c.put_offset.new.store.offset c.args.report.now c.args.src.now (g.S.Source.told c.args.src.now)) c.from_residual-in_err-put_offset.ensures.1
-    (record { halted = halts_between g.S.Source.stands at found b c.args.store.now.offset c.put_offset.new.store.offset c.args.work.now c.args.report.now c.args.report.now c.args.src.now c.args.src.now (g.S.Source.told c.args.src.now) (g.S.Source.told c.args.src.now) _ u (none_taken (g.S.Source.told c.args.src.now)) (λ s t was now. ap (λ (x : SourceState). x.reading) (g.met.S.Source.one c.args.src.now t s now was)) (store_left _ _ c.in_err-put_offset.ensures.halt) refl refl (inl c.in_err-put_offset.ensures.keeps); stood = λ s first. subst (λ (o : Option Offset). IsHaltStanding b.config b.now b.held o c.args.report.now (g.S.Source.stands c.args.src.now) c.in_err-put_offset.field-0.0) (sym c.in_err-put_offset.ensures.keeps) (offsets_stood g.S.Source.stands at found b c.args.store.now.offset c.args.work.now c.args.src.now c.args.src.now (g.S.Source.told c.args.src.now) c.args.report.now c.in_err-put_offset.field-0.0 u (subst IsOffset c.in_ok-offset.ensures.next c.in_ok-offset.ensures.asked) (subst (λ (o : Offset). (c.in_err-put_offset.field-0.0 ≡ halt.Memory) ⊎ ((c.in_err-put_offset.field-0.0 ≡ halt.Offsets) ⊎ IsTooLong o c.in_err-put_offset.field-0.0)) c.in_ok-offset.ensures.next c.in_err-put_offset.ensures.halt) s first); cause = subst (λ (o : Option Offset). IsHalt b.config b.now b.held o c.args.report.now (g.S.Source.told c.args.src.now) c.in_err-put_offset.field-0.0) (sym c.in_err-put_offset.ensures.keeps) (store_caused b u.messages c.args.store.now.offset c.args.work.now c.args.report.now found (g.S.Source.told c.args.src.now) _ u.is u.tells (subst IsOffset c.in_ok-offset.ensures.next c.in_ok-offset.ensures.asked) (subst (λ (o : Offset). (c.in_err-put_offset.field-0.0 ≡ halt.Memory) ⊎ ((c.in_err-put_offset.field-0.0 ≡ halt.Offsets) ⊎ IsTooLong o c.in_err-put_offset.field-0.0)) c.in_ok-offset.ensures.next c.in_err-put_offset.ensures.halt)); ask = quiet_asks b u.messages c.args.store.now.offset c.args.work.now c.args.report.now c.args.report.now found (g.S.Source.told c.args.src.now) c.put_offset.new.store.offset (Err c.in_err-put_offset.field-0.0) u.is u.tells quiet (inl c.in_err-put_offset.ensures.keeps) })
+    (record { halted = halts_between g.S.Source.stands at found b c.args.store.now.offset c.put_offset.new.store.offset c.args.work.now c.args.report.now c.args.report.now c.args.src.now c.args.src.now (g.S.Source.told c.args.src.now) (g.S.Source.told c.args.src.now) _ u (none_taken (g.S.Source.told c.args.src.now)) (λ s t was now. ap (λ (x : SourceState). x.reading) (g.met.S.Source.one c.args.src.now t s now was)) (store_left _ _ c.in_err-put_offset.ensures.halt) refl refl (inl c.in_err-put_offset.ensures.keeps); stood = λ s first. subst (λ (o : Option Offset). IsHaltStanding b.config b.now b.held o c.args.report.now (g.S.Source.stands c.args.src.now) c.in_err-put_offset.field-0.0) (sym c.in_err-put_offset.ensures.keeps) (offsets_stood g.S.Source.stands at found b c.args.store.now.offset c.args.work.now c.args.src.now c.args.src.now (g.S.Source.told c.args.src.now) c.args.report.now c.in_err-put_offset.field-0.0 u (subst IsOffset c.in_ok-offset.ensures.next c.in_ok-offset.ensures.asked) (subst (λ (o : Offset). (c.in_err-put_offset.field-0.0 ≡ halt.Memory) ⊎ ((c.in_err-put_offset.field-0.0 ≡ halt.Offsets) ⊎ IsTooLong o c.in_err-put_offset.field-0.0)) c.in_ok-offset.ensures.next c.in_err-put_offset.ensures.halt) s first); cause = subst (λ (o : Option Offset). IsHalt b.config b.now b.held o c.args.report.now (g.S.Source.told c.args.src.now) c.in_err-put_offset.field-0.0) (sym c.in_err-put_offset.ensures.keeps) (store_caused b u.messages c.args.store.now.offset c.args.work.now c.args.report.now found (g.S.Source.told c.args.src.now) _ u.is u.tells (subst IsOffset c.in_ok-offset.ensures.next c.in_ok-offset.ensures.asked) (subst (λ (o : Offset). (c.in_err-put_offset.field-0.0 ≡ halt.Memory) ⊎ ((c.in_err-put_offset.field-0.0 ≡ halt.Offsets) ⊎ IsTooLong o c.in_err-put_offset.field-0.0)) c.in_ok-offset.ensures.next c.in_err-put_offset.ensures.halt)); must = quiet_asks b u.messages c.args.store.now.offset c.args.work.now c.args.report.now c.args.report.now found (g.S.Source.told c.args.src.now) c.put_offset.new.store.offset (Err c.in_err-put_offset.field-0.0) u.is u.tells quiet (inl c.in_err-put_offset.ensures.keeps) })
 
 pub returns-in_err-confirm-clause-halted : goal.returns-in_err-confirm-clause-halted
 returns-in_err-confirm-clause-halted g c at found b u quiet =
@@ -143,7 +143,7 @@ returns-in_err-confirm-clause-halted g c at found b u quiet =
           (λ s t was now. absurd (dead_source (g.S.Source.is_live c.confirm.new.self) (g.met.S.Source.lives c.confirm.new.self t now) c.in_err-confirm.ensures.dead)) (source_left c.in_err-confirm.field-0.0) refl refl (inr (c.in_ok-put_offset.ensures.loads ∙ ap (λ (o : Offset). Some o) c.in_ok-offset.ensures.next));
       stood = λ s first. source_stood b.config b.now b.held c.put_offset.new.store.offset (record c.args.report.now { position = c.in_ok-offset.offset.lsn.0 }) (g.S.Source.stands c.confirm.new.self) c.in_err-confirm.field-0.0;
       cause = source_caused b.config b.now b.held c.put_offset.new.store.offset (record c.args.report.now { position = c.in_ok-offset.offset.lsn.0 }) (g.S.Source.told c.confirm.new.self) c.in_err-confirm.field-0.0;
-      ask = failure_asks b u.messages c.args.store.now.offset c.args.work.now c.args.report.now (record c.args.report.now { position = c.in_ok-offset.offset.lsn.0 }) found (g.S.Source.told c.args.src.now) (g.S.Source.told c.confirm.new.self) c.put_offset.new.store.offset _ u.is u.tells c.confirm.ensures.taken (source_fails c.in_err-confirm.field-0.0) (inr (c.in_ok-put_offset.ensures.loads ∙ ap (λ (o : Offset). Some o) c.in_ok-offset.ensures.next));
+      must = failure_asks b u.messages c.args.store.now.offset c.args.work.now c.args.report.now (record c.args.report.now { position = c.in_ok-offset.offset.lsn.0 }) found (g.S.Source.told c.args.src.now) (g.S.Source.told c.confirm.new.self) c.put_offset.new.store.offset _ u.is u.tells c.confirm.ensures.taken (source_fails c.in_err-confirm.field-0.0) (inr (c.in_ok-put_offset.ensures.loads ∙ ap (λ (o : Offset). Some o) c.in_ok-offset.ensures.next));
     })
 
 pub returns-clause-all : goal.returns-clause-all
@@ -236,14 +236,14 @@ returns-in_err-offset-clause-held g c held other = held
 
 pub returns-in_err-put_offset-clause-held : goal.returns-in_err-put_offset-clause-held
 returns-in_err-put_offset-clause-held g c held other =
-    held_same g.D.Disk.seen g.D.Disk.may_leave c.args.store.now c.put_offset.new.store
+    held_same g.D.Disk c.args.store.now c.put_offset.new.store
     (c.in_err-put_offset.ensures.kept (λ is. other (residual_on c.put_offset.result c.from_residual-in_err-put_offset.result _ halt.Offsets (c.in_err-put_offset.was ∙ is) c.in_err-put_offset.was c.from_residual-in_err-put_offset.ensures.1))) held
 
 pub returns-in_err-confirm-clause-held : goal.returns-in_err-confirm-clause-held
-returns-in_err-confirm-clause-held g c held other = held_stored g.D.Disk.seen g.D.Disk.may_leave c.put_offset.new.store c.in_ok-offset.offset c.in_ok-put_offset.ensures.loads (c.in_ok-put_offset.ensures.stored c.args.store.now.offset held)
+returns-in_err-confirm-clause-held g c held other = held_stored g.D.Disk c.put_offset.new.store c.in_ok-offset.offset c.in_ok-put_offset.ensures.loads (c.in_ok-put_offset.ensures.stored c.args.store.now.offset held)
 
 pub returns-clause-held : goal.returns-clause-held
-returns-clause-held g c held other = held_stored g.D.Disk.seen g.D.Disk.may_leave c.put_offset.new.store c.in_ok-offset.offset c.in_ok-put_offset.ensures.loads (c.in_ok-put_offset.ensures.stored c.args.store.now.offset held)
+returns-clause-held g c held other = held_stored g.D.Disk c.put_offset.new.store c.in_ok-offset.offset c.in_ok-put_offset.ensures.loads (c.in_ok-put_offset.ensures.stored c.args.store.now.offset held)
 
 -- ---- whose fault it is
 

@@ -123,7 +123,7 @@ returns-in_ok-finish_complete-in-None-clause-complete g c tell entry s honest is
     c.in_ok-finish_complete-in-None.ensures.ended tell entry (c.read_and_deliver.ensures.whole tell entry (c.in_ok-open_next_window.ensures.armed tell entry s (c.read_and_deliver.ensures.honest before)) before (c.in_ok-read_and_deliver.was ∙ ap (λ o. Ok o) c.in-None.is)) honest
 
 pub returns-in_ok-finish_complete-in-None-clause-done : goal.returns-in_ok-finish_complete-in-None-clause-done
-returns-in_ok-finish_complete-in-None-clause-done g c is = done_at c.open_next_window.new.work c.read_and_deliver.new.work c.finish_complete.new.work c.in_ok-open_next_window.ensures.waits.none (subst (IsDue c.open_next_window.new.work c.read_and_deliver.new.work) c.in-None.is c.in_ok-read_and_deliver.ensures.due) c.in_ok-finish_complete-in-None.ensures.waited c.in_ok-finish_complete-in-None.ensures.same
+returns-in_ok-finish_complete-in-None-clause-done g c is = done_at c.open_next_window.new.work c.read_and_deliver.new.work c.finish_complete.new.work c.in_ok-open_next_window.ensures.waits.none_next (subst (IsDue c.open_next_window.new.work c.read_and_deliver.new.work) c.in-None.is c.in_ok-read_and_deliver.ensures.due) c.in_ok-finish_complete-in-None.ensures.waited c.in_ok-finish_complete-in-None.ensures.same
 
 pub returns-in_ok-finish_complete-in-None-clause-loads : goal.returns-in_ok-finish_complete-in-None-clause-loads
 returns-in_ok-finish_complete-in-None-clause-loads g c is = c.in_ok-finish_complete-in-None.ensures.report.0 ∙ ap (λ (w : SessionState). Some (next_offset_of w)) (sym c.in_ok-finish_complete-in-None.ensures.same)
@@ -343,7 +343,7 @@ returns-in-Some-false-clause-under_way g c at found b u = goes_false g.S.Source.
 pub returns-in_ok-finish_complete-in-None-clause-none : goal.returns-in_ok-finish_complete-in-None-clause-none
 returns-in_ok-finish_complete-in-None-clause-none g c is =
     let same = subst (IsDue c.open_next_window.new.work c.read_and_deliver.new.work) c.in-None.is c.in_ok-read_and_deliver.ensures.due in
-    (none_settled c.open_next_window.new.work c.read_and_deliver.new.work c.finish_complete.new.work c.in_ok-open_next_window.ensures.waits.none same c.in_ok-finish_complete-in-None.ensures.same, absent_settled c.read_and_deliver.new.work c.finish_complete.new.work c.in_ok-finish_complete-in-None.ensures.waited c.in_ok-finish_complete-in-None.ensures.same)
+    (none_settled c.open_next_window.new.work c.read_and_deliver.new.work c.finish_complete.new.work c.in_ok-open_next_window.ensures.waits.none_next same c.in_ok-finish_complete-in-None.ensures.same, absent_settled c.read_and_deliver.new.work c.finish_complete.new.work c.in_ok-finish_complete-in-None.ensures.waited c.in_ok-finish_complete-in-None.ensures.same)
 
 pub returns-in_err-open_next_window-clause-put : goal.returns-in_err-open_next_window-clause-put
 returns-in_err-open_next_window-clause-put g c groups at found b u = residual_of c.from_residual.result _ (HasHaltedPut g.S.Source.stands g.K.Sink.holds g.K.Sink.may_leave groups at b.config b.now b.held c.args.store.now.offset c.args.report.now c.open_next_window.new.src (g.S.Source.told c.open_next_window.new.src) c.args.sink.now) c.from_residual.ensures.1 (c.in_err-open_next_window.ensures.put groups at found b c.args.report.now u)

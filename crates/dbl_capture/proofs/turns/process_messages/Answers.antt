@@ -326,7 +326,7 @@ pub returns-then-branch-clause-all : goal.returns-then-branch-clause-all
 returns-then-branch-clause-all g c at found b u = c.process_message.ensures.all at found b (c.turns.invariant.under_way at found b u) (c.in_ok-process_message.was ∙ ap (λ (x : Bool). Ok x) c.if-branch.true)
 
 pub returns-clause-none : goal.returns-clause-none
-returns-clause-none g c = none_settled c.open_next_window.new.work c.open_next_window.new.work c.store_and_confirm.new.work c.in_ok-open_next_window.ensures.waits.none refl c.in_ok-store_and_confirm.ensures.same
+returns-clause-none g c = none_settled c.open_next_window.new.work c.open_next_window.new.work c.store_and_confirm.new.work c.in_ok-open_next_window.ensures.waits.none_next refl c.in_ok-store_and_confirm.ensures.same
 
 pub returns-clause-waited : goal.returns-clause-waited
 returns-clause-waited g c is = cc

@@ -16,8 +16,8 @@ use Rattle.dbl_capture.proofs.turns.process_messages.Given as goal
 
 abbrev pub invariant-turns : goal.invariant-turns
 invariant-turns g l = record {
-  kept : (tell : Bool) (entry : SessionStart) → InSession tell g.S.Source.stands g.K.Sink.holds g.D.Disk.seen g.D.Disk.may_leave entry l.fn.work l.fn.src l.fn.sink l.fn.store → g.S.Source.honest l.src →
-      InSession tell g.S.Source.stands g.K.Sink.holds g.D.Disk.seen g.D.Disk.may_leave entry l.work l.src l.sink l.store;
+  kept : (tell : Bool) (entry : SessionStart) → InSession tell g.S.Source.stands g.K.Sink.holds g.D.Disk entry l.fn.work l.fn.src l.fn.sink l.fn.store → g.S.Source.honest l.src →
+      InSession tell g.S.Source.stands g.K.Sink.holds g.D.Disk entry l.work l.src l.sink l.store;
   under_way : (at : Option SourceState) (found : Option Trace) (b : Beginning) → IsUnderWay g.S.Source.stands at found b l.fn.store.offset l.fn.work l.fn.report l.fn.src (g.S.Source.told l.fn.src) →
       IsUnderWay g.S.Source.stands at found b l.store.offset l.work l.report l.src (g.S.Source.told l.src);
   awaits : (at : Option SourceState) (found : Option Trace) (b : Beginning) → IsUnderWay g.S.Source.stands at found b l.fn.store.offset l.fn.work l.fn.report l.fn.src (g.S.Source.told l.fn.src) → (s : SourceState) → at ≡ Some s →
@@ -29,7 +29,7 @@ invariant-turns g l = record {
   offset_is : l.work.offset ≡ record l.fn.work.offset { lsn = l.work.offset.lsn; end_lsn = l.work.offset.end_lsn };
   stored : HasOwnStored l.fn.work.offset l.fn.store.offset → HasOwnStored l.fn.work.offset l.store.offset;
   position : IsAtPosition l.fn.store.offset l.fn.report → IsAtPosition l.store.offset l.report;
-  held : HoldsOffset g.D.Disk.seen g.D.Disk.may_leave l.fn.store l.fn.store.offset → HoldsOffset g.D.Disk.seen g.D.Disk.may_leave l.store l.store.offset;
+  held : HoldsOffset g.D.Disk l.fn.store l.fn.store.offset → HoldsOffset g.D.Disk l.store l.store.offset;
   now_is : l.work.now_ms ≡ l.fn.work.now_ms;
   since : l.work.since < l.work.every;
   number : l.work.number ≤ l._count;
@@ -42,7 +42,7 @@ invariant-turns g l = record {
   honest : g.S.Source.honest l.src → g.S.Source.honest l.fn.src;
   source_comes : g.S.Source.comes_of l.fn.src l.src;
   sink_comes : g.K.Sink.comes_of l.fn.sink l.sink;
-  store_comes : ExtendsOffsets g.D.Disk.seen g.D.Disk.may_leave l.fn.store l.store;
+  store_comes : ExtendsOffsets g.D.Disk l.fn.store l.store;
   source_later : g.S.Source.faults l.fn.src ≤ g.S.Source.faults l.src;
   sink_later : g.K.Sink.faults l.fn.sink ≤ g.K.Sink.faults l.sink;
   store_later : g.D.Disk.faults (disk_of l.fn.store) ≤ g.D.Disk.faults (disk_of l.store);

@@ -60,7 +60,7 @@ returns-clause-under_way g c at found b report u =
 pub returns-clause-halted : goal.returns-clause-halted
 returns-clause-halted g c at found b report u =
     err_then c.read_window.result _ (Halts g.S.Source.stands at found b.config b.now b.held c.args.store.now.offset report c.read_window.new.src (g.S.Source.told c.read_window.new.src)) c.read_window.ensures.halt
-    (λ h chunk. record { halted = halts_between g.S.Source.stands at found b c.args.store.now.offset c.args.store.now.offset c.args.work.now report report c.args.src.now c.read_window.new.src (g.S.Source.told c.args.src.now) (g.S.Source.told c.read_window.new.src) h (at_rest g.S.Source.stands at found b c.args.store.now.offset c.args.work.now report c.args.src.now (g.S.Source.told c.args.src.now) u) c.read_window.ensures.taken c.read_window.ensures.still (chunk_left c.args.work.now c.args.table _ h chunk) refl refl (inl refl); stood = λ s first. chunk_stood b.config b.now b.held c.args.store.now.offset report (g.S.Source.stands c.read_window.new.src) c.args.work.now c.args.table (g.S.Source.told c.read_window.new.src) h chunk; cause = chunk_caused b u.messages c.args.store.now.offset c.args.work.now report c.args.table (g.S.Source.told c.read_window.new.src) h u.is c.requires.absent c.requires.table chunk; ask = chunk_asks b u.messages c.args.store.now.offset c.args.work.now report c.args.table found (g.S.Source.told c.args.src.now) (g.S.Source.told c.read_window.new.src) h u.is u.tells c.read_window.ensures.taken c.requires.absent c.requires.table chunk })
+    (λ h chunk. record { halted = halts_between g.S.Source.stands at found b c.args.store.now.offset c.args.store.now.offset c.args.work.now report report c.args.src.now c.read_window.new.src (g.S.Source.told c.args.src.now) (g.S.Source.told c.read_window.new.src) h (at_rest g.S.Source.stands at found b c.args.store.now.offset c.args.work.now report c.args.src.now (g.S.Source.told c.args.src.now) u) c.read_window.ensures.taken c.read_window.ensures.still (chunk_left c.args.work.now c.args.table _ h chunk) refl refl (inl refl); stood = λ s first. chunk_stood b.config b.now b.held c.args.store.now.offset report (g.S.Source.stands c.read_window.new.src) c.args.work.now c.args.table (g.S.Source.told c.read_window.new.src) h chunk; cause = chunk_caused b u.messages c.args.store.now.offset c.args.work.now report c.args.table (g.S.Source.told c.read_window.new.src) h u.is c.requires.absent c.requires.table chunk; must = chunk_asks b u.messages c.args.store.now.offset c.args.work.now report c.args.table found (g.S.Source.told c.args.src.now) (g.S.Source.told c.read_window.new.src) h u.is u.tells c.read_window.ensures.taken c.requires.absent c.requires.table chunk })
 
 pub returns-clause-putting : goal.returns-clause-putting
 returns-clause-putting g c groups at found b report u =

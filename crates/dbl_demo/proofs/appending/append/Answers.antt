@@ -11,7 +11,7 @@ pub returns-in-Err-clause-kept : goal.returns-in-Err-clause-kept
 returns-in-Err-clause-kept g c = λ forms lists is.
     let e = c.in-Err.error in
     let memory : source_error e ≡ source.Memory = (let told = c.source_error.ensures in let t = is in cc) in
-    lists_kept g.D.Disk.seen g.D.Disk.may_leave c.args.journal.now c.append_built.new.self (c.in-Err.ensures.unchanged (λ failed. not_failed e memory (let f = failed in cc))) forms lists
+    lists_kept g.D.Disk c.args.journal.now c.append_built.new.self (c.in-Err.ensures.unchanged (λ failed. not_failed e memory (let f = failed in cc))) forms lists
 
 pub returns-in-Err-clause-stays : goal.returns-in-Err-clause-stays
 returns-in-Err-clause-stays g c =

@@ -7,10 +7,10 @@ use Rattle.dbl_demo.proofs.AppendLemmas.{comes_by_read, was_failed}
 use Rattle.dbl_demo.proofs.appending.entry.Goals as goal
 
 pub returns-in-Ok-clause-comes : goal.returns-in-Ok-clause-comes
-returns-in-Ok-clause-comes g c = let e = c.entry.ensures in comes_by_read g.D.Disk.seen g.D.Disk.may_leave c.args.journal.now c.entry.new.self e.same e.seen e.lists
+returns-in-Ok-clause-comes g c = let e = c.entry.ensures in comes_by_read g.D.Disk c.args.journal.now c.entry.new.self e.same e.seen e.lists
 
 pub returns-in-Err-clause-comes : goal.returns-in-Err-clause-comes
-returns-in-Err-clause-comes g c = let e = c.entry.ensures in comes_by_read g.D.Disk.seen g.D.Disk.may_leave c.args.journal.now c.entry.new.self e.same e.seen e.lists
+returns-in-Err-clause-comes g c = let e = c.entry.ensures in comes_by_read g.D.Disk c.args.journal.now c.entry.new.self e.same e.seen e.lists
 
 pub returns-in-Err-clause-cause : goal.returns-in-Err-clause-cause
 returns-in-Err-clause-cause g c = record { later = c.in-Err.ensures.cause.later; cause = λ is. let failed : source_error c.in-Err.error ≡ source.Failed = (let told = c.source_error.ensures in let t = is in cc) in c.in-Err.ensures.cause.cause (ap (λ (e : JournalError). Err e) (was_failed c.in-Err.error failed)) }

@@ -11,4 +11,4 @@ returns-clause-opened g c = λ forms lists.
     let read = c.in-Ok.ensures.read in
     let same : length c.check_log.new.journal.places ≡ length c.args.journal.places = ap (λ (j : OnDisk g.row.D.Denot). length j.places) read.same in
     let small : length c.check_log.new.journal.places < 2 ^ 40 = (let few = c.in-Ok.ensures.small in omega (arith, same, few)) in
-    opened_demo g.D.Disk.seen g.D.Disk.may_leave forms _ (c.in-Ok.ensures.opened forms lists) c.in-Ok.ensures.found _ (read.lists forms lists) small refl refl refl refl refl refl refl refl refl refl
+    opened_demo g.D.Disk forms _ (c.in-Ok.ensures.opened forms lists) c.in-Ok.ensures.found _ (read.lists forms lists) small refl refl refl refl refl refl refl refl refl refl

@@ -4,7 +4,7 @@ use Rattle.dbl_demo_laws.proofs.laws.crashes_leave_what_follows.Goals as goal
 
 pub returns : goal.returns
 returns g c = λ old new upto. record {
-  released = λ first. left_held g.D.Disk.seen g.D.Disk.may_leave old new upto first;
-  marked = λ value first. left_mark g.D.Disk.seen g.D.Disk.may_leave old new upto value first;
-  confirmed = λ lsn first. left_confirm g.D.Disk.seen g.D.Disk.may_leave old new upto lsn first;
+  released = λ first. left_held g.D.Disk old new upto first;
+  marked = λ value first. left_mark g.D.Disk old new upto value first;
+  confirmed = λ lsn first. left_confirm g.D.Disk old new upto lsn first;
 }

@@ -3,4 +3,4 @@ use Rattle.dbl_demo_laws.proofs.laws.reads_answer_as_promised.Goals as goal
 
 pub returns : goal.returns
 returns g c = λ old new wal place s read is there stands live ended subsequent.
-    lead_read g.D.Disk.seen g.D.Disk.may_leave old new wal place is there s stands read (demo_behind g.D.Disk.seen g.D.Disk.may_leave old new wal place is there live read ended subsequent) subsequent
+    lead_read g.D.Disk old new wal place is there s stands read (demo_behind g.D.Disk old new wal place is there live read ended subsequent) subsequent

@@ -9,7 +9,7 @@ use Rattle.dbl_demo_workload.proofs.ReadLemmas.{count_same, entry_stops, fault_o
 use Rattle.dbl_demo_workload.proofs.logs.check_entries.Goals as goal
 
 pub loop-number-init : goal.loop-number-init
-loop-number-init g c = check_begins g.D.Disk.seen g.D.Disk.may_leave g.D.Disk.faults c.args.journal.now c.args.checked.now c.requires.parts
+loop-number-init g c = check_begins g.D.Disk c.args.journal.now c.args.checked.now c.requires.parts
 
 pub read_entry-requires-clause-live : goal.read_entry-requires-clause-live
 read_entry-requires-clause-live g c = live_same c.args.journal.now c.loop-number.journal c.loop-number.invariant.read.same c.requires.live
@@ -22,7 +22,7 @@ loop-number-preserved g c =
     let d = g.D.Disk in
     let old = c.args.journal.now in
     let l = c.loop-number in
-    check_goes d.seen d.may_leave d.faults old l.journal c.read_entry.new.journal c.args.checked.now l.checked l.number l.invariant c.in_ok-entry.entry (read_none d.seen d.may_leave d.faults l.journal c.read_entry.new.journal c.in_ok-entry.entry c.in_ok-entry.ensures.read)
+    check_goes d old l.journal c.read_entry.new.journal c.args.checked.now l.checked l.number l.invariant c.in_ok-entry.entry (read_none d l.journal c.read_entry.new.journal c.in_ok-entry.entry c.in_ok-entry.ensures.read)
     c.in_ok-entry.ensures.found c.take.new.self (subst (λ (b : List ℕ). Checks l.number b l.checked c.take.new.self (Ok tt)) (c.as_slice.ensures.value ∙ c.items.ensures) c.in_ok-take.ensures.checks) c.in_ok-take.ensures.parts
 
 -- an entry can't be read
@@ -42,7 +42,7 @@ returns-in_err-entry-clause-read g c =
     let old = c.args.journal.now in
     let l = c.loop-number in
     let p = err_from_is_err_and c.from_residual.result c.from_residual.ensures.1 in
-    rw (p.1, p.2) (read_on d.seen d.may_leave d.faults _ old l.journal c.read_entry.new.journal l.invariant.read (read_err d.seen d.may_leave d.faults l.journal c.read_entry.new.journal c.in_err-entry.field-0.0 c.in_err-entry.ensures.read))
+    rw (p.1, p.2) (read_on d _ old l.journal c.read_entry.new.journal l.invariant.read (read_err d l.journal c.read_entry.new.journal c.in_err-entry.field-0.0 c.in_err-entry.ensures.read))
 
 -- it isn't taken
 pub returns-in_err-take-clause-checks : goal.returns-in_err-take-clause-checks
@@ -52,7 +52,7 @@ returns-in_err-take-clause-checks g c = λ forms lists first others are opened.
     let l = c.loop-number in
     let p = err_from_is_err_and c.from_residual-in_err-take.result c.from_residual-in_err-take.ensures.1 in
     let e = c.in_err-take.field-0.0 in
-    rw (p.1, p.2) (check_stops d.seen d.may_leave d.faults old l.journal c.read_entry.new.journal c.args.checked.now l.checked l.number l.invariant c.in_ok-entry.entry (read_none d.seen d.may_leave d.faults l.journal c.read_entry.new.journal c.in_ok-entry.entry c.in_ok-entry.ensures.read)
+    rw (p.1, p.2) (check_stops d old l.journal c.read_entry.new.journal c.args.checked.now l.checked l.number l.invariant c.in_ok-entry.entry (read_none d l.journal c.read_entry.new.journal c.in_ok-entry.entry c.in_ok-entry.ensures.read)
     c.in_ok-entry.ensures.found c.take.new.self e (subst (λ (b : List ℕ). Checks l.number b l.checked c.take.new.self (Err e)) (c.as_slice.ensures.value ∙ c.items.ensures) c.in_err-take.ensures.checks) forms lists first others are opened)
 
 pub returns-in_err-take-clause-kinds : goal.returns-in_err-take-clause-kinds
@@ -67,14 +67,14 @@ returns-in_err-take-clause-read g c =
     let l = c.loop-number in
     let p = err_from_is_err_and c.from_residual-in_err-take.result c.from_residual-in_err-take.ensures.1 in
     let e = c.in_err-take.field-0.0 in
-    rw (p.1, p.2) (read_on d.seen d.may_leave d.faults _ old l.journal c.read_entry.new.journal l.invariant.read
-    (read_other d.seen d.may_leave d.faults l.journal c.read_entry.new.journal c.in_ok-entry.entry e (other_kind l.number e c.in_err-take.ensures.kinds) c.in_ok-entry.ensures.read))
+    rw (p.1, p.2) (read_on d _ old l.journal c.read_entry.new.journal l.invariant.read
+    (read_other d l.journal c.read_entry.new.journal c.in_ok-entry.entry e (other_kind l.number e c.in_err-take.ensures.kinds) c.in_ok-entry.ensures.read))
 
 -- all were taken
 pub returns-clause-checks : goal.returns-clause-checks
 returns-clause-checks g c =
     let all : count_of c.args.journal.now ≤ c.loop-number.number = omega arith in
-    check_ends g.D.Disk.seen g.D.Disk.may_leave g.D.Disk.faults c.args.journal.now c.loop-number.journal c.args.checked.now c.loop-number.checked c.loop-number.number c.loop-number.invariant all
+    check_ends g.D.Disk c.args.journal.now c.loop-number.journal c.args.checked.now c.loop-number.checked c.loop-number.number c.loop-number.invariant all
 
 pub returns-clause-parts : goal.returns-clause-parts
 returns-clause-parts g c =
@@ -82,4 +82,4 @@ returns-clause-parts g c =
     subst (λ (n : ℕ). HasReadParts n c.loop-number.checked) all c.loop-number.invariant.parts
 
 pub returns-clause-read : goal.returns-clause-read
-returns-clause-read g c = read_done g.D.Disk.seen g.D.Disk.may_leave g.D.Disk.faults c.args.journal.now c.loop-number.journal tt c.loop-number.invariant.read
+returns-clause-read g c = read_done g.D.Disk c.args.journal.now c.loop-number.journal tt c.loop-number.invariant.read

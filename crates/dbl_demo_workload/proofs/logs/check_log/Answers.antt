@@ -30,7 +30,7 @@ returns-in_err-checked-clause-kinds g c =
 pub returns-in_err-checked-clause-read : goal.returns-in_err-checked-clause-read
 returns-in_err-checked-clause-read g c =
     let p = err_from_is_err_and c.from_residual.result c.from_residual.ensures.1 in
-    rw (p.1, p.2) (read_err g.D.Disk.seen g.D.Disk.may_leave g.D.Disk.faults c.args.journal.now c.read_first.new.journal c.in_err-checked.field-0.0 c.in_err-checked.ensures.read)
+    rw (p.1, p.2) (read_err g.D.Disk c.args.journal.now c.read_first.new.journal c.in_err-checked.field-0.0 c.in_err-checked.ensures.read)
 
 -- the others
 pub returns-in_err-check_entries-clause-opened : goal.returns-in_err-check_entries-clause-opened
@@ -50,9 +50,9 @@ returns-in_err-check_entries-clause-read g c =
     let first = c.args.journal.now in
     let second = c.read_first.new.journal in
     let third = c.check_entries.new.journal in
-    let begun = read_none d.seen d.may_leave d.faults first second c.in_ok-checked.checked c.in_ok-checked.ensures.read in
+    let begun = read_none d first second c.in_ok-checked.checked c.in_ok-checked.ensures.read in
     let p = err_from_is_err_and c.from_residual-in_err-check_entries.result c.from_residual-in_err-check_entries.ensures.1 in
-    rw (p.1, p.2) (read_on d.seen d.may_leave d.faults _ first second third begun (read_err d.seen d.may_leave d.faults second third c.in_err-check_entries.field-0.0 c.in_err-check_entries.ensures.read))
+    rw (p.1, p.2) (read_on d _ first second third begun (read_err d second third c.in_err-check_entries.field-0.0 c.in_err-check_entries.ensures.read))
 
 -- the commit of the rows is missing
 pub returns-then-is_some-clause-opened : goal.returns-then-is_some-clause-opened
@@ -69,8 +69,8 @@ returns-then-is_some-clause-read g c =
     let first = c.args.journal.now in
     let second = c.read_first.new.journal in
     let third = c.check_entries.new.journal in
-    let begun = read_none d.seen d.may_leave d.faults first second c.in_ok-checked.checked c.in_ok-checked.ensures.read in
-    read_on d.seen d.may_leave d.faults _ first second third begun (read_other d.seen d.may_leave d.faults second third tt (demo.BadEntry 1) (other_kind 1 (demo.BadEntry 1) (inr refl)) c.in_ok-check_entries.ensures.read)
+    let begun = read_none d first second c.in_ok-checked.checked c.in_ok-checked.ensures.read in
+    read_on d _ first second third begun (read_other d second third tt (demo.BadEntry 1) (other_kind 1 (demo.BadEntry 1) (inr refl)) c.in_ok-check_entries.ensures.read)
 
 -- nothing is missing
 pub returns-clause-opened : goal.returns-clause-opened
@@ -93,5 +93,5 @@ returns-clause-read g c =
     let first = c.args.journal.now in
     let second = c.read_first.new.journal in
     let third = c.check_entries.new.journal in
-    let begun = read_none d.seen d.may_leave d.faults first second c.in_ok-checked.checked c.in_ok-checked.ensures.read in
-    read_on d.seen d.may_leave d.faults _ first second third begun (read_ok d.seen d.may_leave d.faults second third tt c.check_entries.new.checked c.in_ok-check_entries.ensures.read)
+    let begun = read_none d first second c.in_ok-checked.checked c.in_ok-checked.ensures.read in
+    read_on d _ first second third begun (read_ok d second third tt c.check_entries.new.checked c.in_ok-check_entries.ensures.read)

@@ -7,13 +7,13 @@ use Rattle.dbl_demo_workload.proofs.logs.read_first.Goals as goal
 
 -- there is none
 pub returns-then-count-eq0-clause-first : goal.returns-then-count-eq0-clause-first
-returns-then-count-eq0-clause-first g c = first_none g.D.Disk.seen g.D.Disk.may_leave c.args.journal.now c.no_workload.result c.no_workload.ensures (sym c.count.ensures.count ∙ c.if-count-eq0.true)
+returns-then-count-eq0-clause-first g c = first_none g.D.Disk c.args.journal.now c.no_workload.result c.no_workload.ensures (sym c.count.ensures.count ∙ c.if-count-eq0.true)
 
 pub returns-then-count-eq0-clause-kinds : goal.returns-then-count-eq0-clause-kinds
 returns-then-count-eq0-clause-kinds g c = inr (inr (0, c.no_workload.ensures))
 
 pub returns-then-count-eq0-clause-read : goal.returns-then-count-eq0-clause-read
-returns-then-count-eq0-clause-read g c = not_read g.D.Disk.seen g.D.Disk.may_leave g.D.Disk.faults _ c.args.journal.now (λ failed. other_kind {T = _} 0 c.no_workload.result (inr c.no_workload.ensures) failed)
+returns-then-count-eq0-clause-read g c = not_read g.D.Disk _ c.args.journal.now (λ failed. other_kind {T = _} 0 c.no_workload.result (inr c.no_workload.ensures) failed)
 
 -- it can't be read
 pub returns-in_err-entry-clause-first : goal.returns-in_err-entry-clause-first
@@ -29,7 +29,7 @@ returns-in_err-entry-clause-kinds g c =
 pub returns-in_err-entry-clause-read : goal.returns-in_err-entry-clause-read
 returns-in_err-entry-clause-read g c =
     let p = err_from_is_err_and c.from_residual.result c.from_residual.ensures.1 in
-    rw (p.1, p.2) (read_err g.D.Disk.seen g.D.Disk.may_leave g.D.Disk.faults c.args.journal.now c.read_entry.new.journal c.in_err-entry.field-0.0 c.in_err-entry.ensures.read)
+    rw (p.1, p.2) (read_err g.D.Disk c.args.journal.now c.read_entry.new.journal c.in_err-entry.field-0.0 c.in_err-entry.ensures.read)
 
 -- it is no workload
 pub returns-in_err-prepared-clause-first : goal.returns-in_err-prepared-clause-first
@@ -46,7 +46,7 @@ pub returns-in_err-prepared-clause-read : goal.returns-in_err-prepared-clause-re
 returns-in_err-prepared-clause-read g c =
     let p = err_from_is_err_and c.from_residual-in_err-prepared.result c.from_residual-in_err-prepared.ensures.1 in
     let e = c.in_err-prepared.field-0.0 in
-    rw (p.1, p.2) (read_other g.D.Disk.seen g.D.Disk.may_leave g.D.Disk.faults c.args.journal.now c.read_entry.new.journal c.in_ok-entry.entry e (other_kind 0 e (workload_kind e c.in_err-prepared.ensures.refused)) c.in_ok-entry.ensures.read)
+    rw (p.1, p.2) (read_other g.D.Disk c.args.journal.now c.read_entry.new.journal c.in_ok-entry.entry e (other_kind 0 e (workload_kind e c.in_err-prepared.ensures.refused)) c.in_ok-entry.ensures.read)
 
 -- it is one
 pub returns-clause-first : goal.returns-clause-first
@@ -60,4 +60,4 @@ returns-clause-parts g c =
     first_parts c.as_slice.result.now (record { prepared = c.in_ok-prepared.prepared; done = 0; commits = c.new.result; confirmed = record { 0 = 0 } }) c.in_ok-prepared.ensures.ready c.in_ok-prepared.ensures.fits refl c.new.ensures.items
 
 pub returns-clause-read : goal.returns-clause-read
-returns-clause-read g c = read_ok g.D.Disk.seen g.D.Disk.may_leave g.D.Disk.faults c.args.journal.now c.read_entry.new.journal c.in_ok-entry.entry (record { prepared = c.in_ok-prepared.prepared; done = 0; commits = c.new.result; confirmed = record { 0 = 0 } }) c.in_ok-entry.ensures.read
+returns-clause-read g c = read_ok g.D.Disk c.args.journal.now c.read_entry.new.journal c.in_ok-entry.entry (record { prepared = c.in_ok-prepared.prepared; done = 0; commits = c.new.result; confirmed = record { 0 = 0 } }) c.in_ok-entry.ensures.read

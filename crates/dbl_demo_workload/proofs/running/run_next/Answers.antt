@@ -4,7 +4,7 @@ use Rattle.dbl_demo_workload.proofs.running.run_next.Goals as goal
 pub run_step-requires : goal.run_step-requires
 run_step-requires c =
     let step = c.index-steps-done in
-    runnable_at c.args.steps.now c.args.done c.args.store.now step.result c.requires.subsequent (get_there c.args.steps.now c.args.done step.result c.requires.left step.is)
+    runnable_at c.args.steps.now c.args.done c.args.store.now step.result c.requires.has_run (get_there c.args.steps.now c.args.done step.result c.requires.left step.is)
 
 pub returns-clause-ran : goal.returns-clause-ran
 returns-clause-ran c = λ w are stands.
@@ -14,11 +14,11 @@ returns-clause-ran c = λ w are stands.
 pub returns-clause-fits : goal.returns-clause-fits
 returns-clause-fits c =
     let step = c.index-steps-done in
-    let subsequent = c.requires.subsequent in
-    all_fit c.args.steps.now c.args.done step.result c.run_step.new.store (get_there c.args.steps.now c.args.done step.result c.requires.left step.is) c.args.store.now subsequent c.run_step.result (c.run_step.ensures.ran subsequent.w.tables _ subsequent.stands)
+    let has_run = c.requires.has_run in
+    all_fit c.args.steps.now c.args.done step.result c.run_step.new.store (get_there c.args.steps.now c.args.done step.result c.requires.left step.is) c.args.store.now has_run c.run_step.result (c.run_step.ensures.ran has_run.w.tables _ has_run.stands)
 
-pub returns-clause-subsequent : goal.returns-clause-subsequent
-returns-clause-subsequent c =
+pub returns-clause-has_run : goal.returns-clause-has_run
+returns-clause-has_run c =
     let step = c.index-steps-done in
-    let subsequent = c.requires.subsequent in
-    all_behind c.args.steps.now c.args.done step.result c.run_step.new.store (get_there c.args.steps.now c.args.done step.result c.requires.left step.is) c.args.store.now subsequent c.requires.left c.run_step.result (c.run_step.ensures.ran subsequent.w.tables _ subsequent.stands)
+    let has_run = c.requires.has_run in
+    all_behind c.args.steps.now c.args.done step.result c.run_step.new.store (get_there c.args.steps.now c.args.done step.result c.requires.left step.is) c.args.store.now has_run c.requires.left c.run_step.result (c.run_step.ensures.ran has_run.w.tables _ has_run.stands)

@@ -9,7 +9,7 @@ pub returns-clause-one : goal.returns-clause-one
 returns-clause-one g c = count_one
 
 pub returns-clause-told : goal.returns-clause-told
-returns-clause-told g c old new offset comes held = told_from g.D.Disk.seen g.D.Disk.may_leave old.journal new.journal held.entries comes held.lists
+returns-clause-told g c old new offset comes held = told_from g.D.Disk old.journal new.journal held.entries comes held.lists
 
 pub returns-clause-grown : goal.returns-clause-grown
-returns-clause-grown g c = store_grown g.D.Disk.seen g.D.Disk.may_leave
+returns-clause-grown g c = store_grown g.D.Disk

@@ -9,9 +9,9 @@ use Rattle.dbl_offset.proofs.store.read_last.Given as goal
 abbrev pub invariant-loop-index : goal.invariant-loop-index
 invariant-loop-index g l = record {
   same : l.journal ≡ record l.fn.journal { disk = l.journal.disk };
-  lists : (entries : List (List ℕ)) → Lists g.D.Disk.seen g.D.Disk.may_leave l.fn.journal entries → Lists g.D.Disk.seen g.D.Disk.may_leave l.journal entries;
-  each : (entries : List (List ℕ)) → Lists g.D.Disk.seen g.D.Disk.may_leave l.fn.journal entries → All IsOffsetEntry (take l.index entries);
-  last : (entries : List (List ℕ)) → Lists g.D.Disk.seen g.D.Disk.may_leave l.fn.journal entries → IsLastOf (take l.index entries) l.last;
+  lists : (entries : List (List ℕ)) → Lists g.D.Disk l.fn.journal entries → Lists g.D.Disk l.journal entries;
+  each : (entries : List (List ℕ)) → Lists g.D.Disk l.fn.journal entries → All IsOffsetEntry (take l.index entries);
+  last : (entries : List (List ℕ)) → Lists g.D.Disk l.fn.journal entries → IsLastOf (take l.index entries) l.last;
   asked : IfSome l.last IsOffset;
   count : l.index-end ≡ count_of l.fn.journal;
   seen : g.D.Disk.seen l.journal.disk ≡ g.D.Disk.seen l.fn.journal.disk;

@@ -22,7 +22,7 @@ returns-in-Ok-clause-keeps g c = record {
 
 pub returns-in-Err-clause-keeps : goal.returns-in-Err-clause-keeps
 returns-in-Err-clause-keeps g c =
-    subst (λ (d : g.row.D.Denot). Keeps g.D.Disk.seen g.D.Disk.may_leave g.D.Disk.faults (c.in-Err.error ≡ Journal journal.Failed) c.args.journal.disk d) (sym c.into_disk.ensures)
+    subst (λ (d : g.row.D.Denot). Keeps g.D.Disk (c.in-Err.error ≡ Journal journal.Failed) c.args.journal.disk d) (sym c.into_disk.ensures)
     (record {
       same = c.in-Err.ensures.seen;
       crash = c.in-Err.ensures.crash;

@@ -1,6 +1,7 @@
 use mir.Syntax.{w64}
 use mir.Val.{SFits}
 use Rattle.std.proofs.Common.{◌≡◌, ℤ, refl, rules, subst}
+use Rattle.dbl_lines.specs.declared.status.Status.TheVariants.{Done}
 use Rattle.std.proofs.Math.Facts.{to_z-of_z}
 use Rattle.dblog_init.specs.declared.error.Store.TheVariants.{Wal, Topics, Offsets}
 use Rattle.dblog_connect.specs.Asked.{asks_in}
@@ -18,14 +19,14 @@ returns-clause-connected g c =
     let says = c.finish_session.ensures.says in
     let fits : SFits w64 c.args.now_ms.now = search rules in
     let moment = to_z-of_z fits in
-    let wals = g.W.Disk.may_leave c.args.wal in
-    let logs = g.T.Disk.may_leave c.args.topics in
-    let new_wals = g.W.Disk.may_leave connected.wal in
-    let new_logs = g.T.Disk.may_leave connected.topics in
-    let new_stores = g.F.Disk.may_leave connected.offsets in
+    let wals = g.W.Disk.may_leave c.args.disks.wal in
+    let logs = g.T.Disk.may_leave c.args.disks.topics in
+    let new_wals = g.W.Disk.may_leave connected.disks.wal in
+    let new_logs = g.T.Disk.may_leave connected.disks.topics in
+    let new_stores = g.F.Disk.may_leave connected.disks.offsets in
     record {
       headline = λ kept w t f may_w may_t may_f.
-          promised_less (IsCompleteEnd end) (status ≡ 0) (asks_in c.args.asked) (asks_in c.args.asked) _ _ _ w t f (complete_end end told.kinds status _ _ says) (λ held. refl) (told.headline kept w t f may_w may_t may_f);
+          promised_less (IsCompleteEnd end) (status ≡ Done) (asks_in c.args.asked) (asks_in c.args.asked) _ _ _ w t f (complete_end end told.kinds status _ _ says) (λ held. refl) (told.headline kept w t f may_w may_t may_f);
       kept = told.kept;
       runs = record {
         end = end;
@@ -37,13 +38,13 @@ returns-clause-connected g c =
             subst (λ (n : ℤ). AnswersKept c.args.asked n new_wals new_logs new_stores w t f end) moment
             (record { report = told.report kept w t f wal topics offsets; never = told.never kept w t f wal topics offsets });
         wal_wrong = told.wal_wrong;
-        refused = refused_end g.W.Disk.seen g.W.Disk.may_leave g.T.Disk.seen g.T.Disk.may_leave g.F.Disk.seen g.F.Disk.may_leave _ _ _ _ _ _ end told.wal_read told.topics_read told.offsets_read;
+        refused = refused_end g.W.Disk g.T.Disk g.F.Disk c.args.disks connected.disks end told.wal_read told.topics_read told.offsets_read;
         spent = told.spent;
         kinds = told.kinds;
       };
-      wal_failed = failed_cause g.W.Disk.faults Wal end _ _ told.kinds status _ _ says told.wal_counts;
-      topics_failed = failed_cause g.T.Disk.faults Topics end _ _ told.kinds status _ _ says told.topics_count;
-      offsets_failed = failed_cause g.F.Disk.faults Offsets end _ _ told.kinds status _ _ says told.offsets_count;
+      wal_failed = failed_cause g.W.Disk Wal end _ _ told.kinds status _ _ says told.wal_counts;
+      topics_failed = failed_cause g.T.Disk Topics end _ _ told.kinds status _ _ says told.topics_count;
+      offsets_failed = failed_cause g.F.Disk Offsets end _ _ told.kinds status _ _ says told.offsets_count;
       wal_bounded = told.wal_bounded;
       topics_bounded = told.topics_bounded;
       offsets_bounded = told.offsets_bounded;

@@ -6,7 +6,7 @@ use Rattle.dblog_promise.specs.Bounds.{IsBounded}
 use Rattle.dblog_connect.specs.declared.error.ConnectError.{ConnectError}
 use Rattle.dblog_connect.specs.Ends.{CountsFaults, IsRefused}
 use Rattle.dblog_connect.specs.Errors.{IsAfterOpening, IsConnectError, IsExternalConnectError}
-use Rattle.dblog_connect.specs.Steps.{AnswersConnect}
+use Rattle.dblog_connect.specs.Steps.{AnswersConnect, disks_of}
 use Rattle.dblog_connect.proofs.ErrorKinds.{behind_topics, counts_by, counts_same, counts_on, err_as, moved_crash, moved_to, offset_ends, offset_fails, offset_kind, only_same, read_on, read_stayed, bounded_on}
 use Rattle.dblog_connect.proofs.Opened.{bounded_same}
 use Rattle.dblog_connect.proofs.Stays.{IsUnhalted, answers_before, answers_moved, answers_stay}
@@ -16,7 +16,7 @@ use Rattle.dblog_connect.proofs.connecting.connect_log.Goals as goal
 
 pub returns-in-Err-clause-answers : goal.returns-in-Err-clause-answers
 returns-in-Err-clause-answers g c =
-    answers_stay g.W.Disk.seen g.W.Disk.may_leave g.T.Disk.seen g.T.Disk.may_leave g.F.Disk.seen g.F.Disk.may_leave g.met.W.Disk.seen_may_be_left g.met.T.Disk.seen_may_be_left g.met.F.Disk.seen_may_be_left c.args.source.journal.disk c.into_disk-in-Err.result c.args.log.disk c.into_disk-in-Err-2.result c.args.offsets c.in-Err.field-0.disk (ap g.W.Disk.seen c.into_disk-in-Err.ensures) (ap g.T.Disk.seen c.into_disk-in-Err-2.ensures) c.in-Err.ensures.keeps.same (moved_crash g.W.Disk.may_leave c.args.source.journal.disk c.into_disk-in-Err.result c.into_disk-in-Err.ensures) (moved_crash g.T.Disk.may_leave c.args.log.disk c.into_disk-in-Err-2.result c.into_disk-in-Err-2.ensures) c.in-Err.ensures.keeps.crash
+    answers_stay g.W.Disk g.T.Disk g.F.Disk g.met.W.Disk.seen_may_be_left g.met.T.Disk.seen_may_be_left g.met.F.Disk.seen_may_be_left (disks_of c.args.source.journal.disk c.args.log.disk c.args.offsets) (disks_of c.into_disk-in-Err.result c.into_disk-in-Err-2.result c.in-Err.field-0.disk) (ap g.W.Disk.seen c.into_disk-in-Err.ensures) (ap g.T.Disk.seen c.into_disk-in-Err-2.ensures) c.in-Err.ensures.keeps.same (moved_crash g.W.Disk c.args.source.journal.disk c.into_disk-in-Err.result c.into_disk-in-Err.ensures) (moved_crash g.T.Disk c.args.log.disk c.into_disk-in-Err-2.result c.into_disk-in-Err-2.ensures) c.in-Err.ensures.keeps.crash
     c.args.asked c.args.now_ms c.from.result (subst IsUnhalted (sym c.from.ensures) (offset_kind c.in-Err.field-0.error).1)
     (λ w t f told_w told_t told_f. subst (λ (x : ConnectError). IsExternalConnectError x ⊎ IsRefused c.args.asked w t f x) (sym c.from.ensures)
     (offset_ends c.args.asked w t f (c.requires.source_opened w told_w).wal (c.requires.log_opened t told_t).groups (c.requires.source_opened w told_w).is (c.requires.log_opened t told_t).is c.in-Err.field-0.error (λ index is. c.in-Err.ensures.bad_offset f index told_f is) (λ at is. c.in-Err.ensures.not_a_store f at told_f is)))
@@ -24,35 +24,35 @@ returns-in-Err-clause-answers g c =
 pub returns-in-Err-clause-kinds : goal.returns-in-Err-clause-kinds
 returns-in-Err-clause-kinds g c = subst IsConnectError (sym c.from.ensures) (offset_kind c.in-Err.field-0.error).0
 
-pub returns-in-Err-clause-subsequent : goal.returns-in-Err-clause-subsequent
-returns-in-Err-clause-subsequent g c = subst (IsAfterOpening store.Topics) (sym c.from.ensures) (offset_kind c.in-Err.field-0.error).2
+pub returns-in-Err-clause-after_opening : goal.returns-in-Err-clause-after_opening
+returns-in-Err-clause-after_opening g c = subst (IsAfterOpening store.Topics) (sym c.from.ensures) (offset_kind c.in-Err.field-0.error).2
 
 pub returns-in-Err-clause-wal_read : goal.returns-in-Err-clause-wal_read
-returns-in-Err-clause-wal_read g c = λ refusal. only_same g.W.Disk.seen g.W.Disk.may_leave c.args.source.journal.disk c.into_disk-in-Err.result c.into_disk-in-Err.ensures
+returns-in-Err-clause-wal_read g c = λ refusal. only_same g.W.Disk c.args.source.journal.disk c.into_disk-in-Err.result c.into_disk-in-Err.ensures
 
 pub returns-in-Err-clause-topics_read : goal.returns-in-Err-clause-topics_read
-returns-in-Err-clause-topics_read g c = λ refusal. only_same g.T.Disk.seen g.T.Disk.may_leave c.args.log.disk c.into_disk-in-Err-2.result c.into_disk-in-Err-2.ensures
+returns-in-Err-clause-topics_read g c = λ refusal. only_same g.T.Disk c.args.log.disk c.into_disk-in-Err-2.result c.into_disk-in-Err-2.ensures
 
 pub returns-in-Err-clause-offsets_read : goal.returns-in-Err-clause-offsets_read
 returns-in-Err-clause-offsets_read g c = λ refusal. record { same = c.in-Err.ensures.keeps.same; crash = c.in-Err.ensures.keeps.crash }
 
 pub returns-in-Err-clause-wal_counts : goal.returns-in-Err-clause-wal_counts
-returns-in-Err-clause-wal_counts g c = counts_same g.W.Disk.faults store.Wal _ c.args.source.journal.disk c.into_disk-in-Err.result c.into_disk-in-Err.ensures (λ is. (let wrong = (offset_fails c.in-Err.field-0.error store.Wal (sym c.from.ensures ∙ (let i = is in cc))).0 in cc))
+returns-in-Err-clause-wal_counts g c = counts_same g.W.Disk store.Wal _ c.args.source.journal.disk c.into_disk-in-Err.result c.into_disk-in-Err.ensures (λ is. (let wrong = (offset_fails c.in-Err.field-0.error store.Wal (sym c.from.ensures ∙ (let i = is in cc))).0 in cc))
 
 pub returns-in-Err-clause-topics_count : goal.returns-in-Err-clause-topics_count
-returns-in-Err-clause-topics_count g c = counts_same g.T.Disk.faults store.Topics _ c.args.log.disk c.into_disk-in-Err-2.result c.into_disk-in-Err-2.ensures (λ is. (let wrong = (offset_fails c.in-Err.field-0.error store.Topics (sym c.from.ensures ∙ (let i = is in cc))).0 in cc))
+returns-in-Err-clause-topics_count g c = counts_same g.T.Disk store.Topics _ c.args.log.disk c.into_disk-in-Err-2.result c.into_disk-in-Err-2.ensures (λ is. (let wrong = (offset_fails c.in-Err.field-0.error store.Topics (sym c.from.ensures ∙ (let i = is in cc))).0 in cc))
 
 pub returns-in-Err-clause-offsets_count : goal.returns-in-Err-clause-offsets_count
-returns-in-Err-clause-offsets_count g c = counts_by g.F.Disk.faults store.Offsets c.from.result c.args.offsets c.in-Err.field-0.disk c.in-Err.ensures.keeps.later (λ is. c.in-Err.ensures.keeps.cause (offset_fails c.in-Err.field-0.error store.Offsets (sym c.from.ensures ∙ is)).1)
+returns-in-Err-clause-offsets_count g c = counts_by g.F.Disk store.Offsets c.from.result c.args.offsets c.in-Err.field-0.disk c.in-Err.ensures.keeps.later (λ is. c.in-Err.ensures.keeps.cause (offset_fails c.in-Err.field-0.error store.Offsets (sym c.from.ensures ∙ is)).1)
 
 pub returns-in-Err-clause-wal_bounded : goal.returns-in-Err-clause-wal_bounded
-returns-in-Err-clause-wal_bounded g c = bounded_same g.W.Disk.seen g.W.Disk.may_leave c.args.source.journal.disk c.into_disk-in-Err.result (ap g.W.Disk.seen c.into_disk-in-Err.ensures)
+returns-in-Err-clause-wal_bounded g c = bounded_same g.W.Disk c.args.source.journal.disk c.into_disk-in-Err.result (ap g.W.Disk.seen c.into_disk-in-Err.ensures)
 
 pub returns-in-Err-clause-topics_bounded : goal.returns-in-Err-clause-topics_bounded
-returns-in-Err-clause-topics_bounded g c = bounded_same g.T.Disk.seen g.T.Disk.may_leave c.args.log.disk c.into_disk-in-Err-2.result (ap g.T.Disk.seen c.into_disk-in-Err-2.ensures)
+returns-in-Err-clause-topics_bounded g c = bounded_same g.T.Disk c.args.log.disk c.into_disk-in-Err-2.result (ap g.T.Disk.seen c.into_disk-in-Err-2.ensures)
 
 pub returns-in-Err-clause-offsets_bounded : goal.returns-in-Err-clause-offsets_bounded
-returns-in-Err-clause-offsets_bounded g c = bounded_same g.F.Disk.seen g.F.Disk.may_leave c.args.offsets c.in-Err.field-0.disk c.in-Err.ensures.keeps.same
+returns-in-Err-clause-offsets_bounded g c = bounded_same g.F.Disk c.args.offsets c.in-Err.field-0.disk c.in-Err.ensures.keeps.same
 
 -- ---- the session
 
@@ -61,36 +61,36 @@ run_session-end-requires-clause-store_opened g c = λ bytes told. record { told 
 
 pub returns-in-Ok-clause-answers : goal.returns-in-Ok-clause-answers
 returns-in-Ok-clause-answers g c =
-    answers_before g.W.Disk.seen g.W.Disk.may_leave g.T.Disk.seen g.T.Disk.may_leave g.F.Disk.seen g.F.Disk.may_leave g.met.W.Disk.seen_may_be_left g.met.T.Disk.seen_may_be_left g.met.F.Disk.seen_may_be_left c.args.source.journal.disk c.args.source.journal.disk c.args.log.disk c.args.log.disk c.args.offsets (disk_of c.in-Ok.store) refl refl c.in-Ok.ensures.keeps.same (λ i m. m) (λ i m. m) c.in-Ok.ensures.keeps.crash
-    c.args.asked c.args.now_ms c.into_disk.result c.into_disk-in-Ok.result c.into_disk-in-Ok-2.result c.run_session-end.result
-    (answers_moved g.W.Disk.seen g.W.Disk.may_leave g.T.Disk.seen g.T.Disk.may_leave g.F.Disk.seen g.F.Disk.may_leave c.args.asked c.args.now_ms c.args.source.journal.disk c.run_session-end.new.source.journal.disk c.into_disk.result c.args.log.disk c.run_session-end.new.log.disk c.into_disk-in-Ok.result (disk_of c.in-Ok.store) (disk_of c.run_session-end.new.store) c.into_disk-in-Ok-2.result c.run_session-end.result
+    answers_before g.W.Disk g.T.Disk g.F.Disk g.met.W.Disk.seen_may_be_left g.met.T.Disk.seen_may_be_left g.met.F.Disk.seen_may_be_left (disks_of c.args.source.journal.disk c.args.log.disk c.args.offsets) (disks_of c.args.source.journal.disk c.args.log.disk (disk_of c.in-Ok.store)) refl refl c.in-Ok.ensures.keeps.same (λ i m. m) (λ i m. m) c.in-Ok.ensures.keeps.crash
+    c.args.asked c.args.now_ms (disks_of c.into_disk.result c.into_disk-in-Ok.result c.into_disk-in-Ok-2.result) c.run_session-end.result
+    (answers_moved g.W.Disk g.T.Disk g.F.Disk c.args.asked c.args.now_ms (disks_of c.args.source.journal.disk c.args.log.disk (disk_of c.in-Ok.store)) c.run_session-end.new.source.journal.disk c.into_disk.result c.run_session-end.new.log.disk c.into_disk-in-Ok.result (disk_of c.run_session-end.new.store) c.into_disk-in-Ok-2.result c.run_session-end.result
     c.into_disk.ensures c.into_disk-in-Ok.ensures c.into_disk-in-Ok-2.ensures
-    (subst (λ (n : ℤ). AnswersConnect g.W.Disk.seen g.W.Disk.may_leave g.T.Disk.seen g.T.Disk.may_leave g.F.Disk.seen g.F.Disk.may_leave c.args.asked n c.args.source.journal.disk c.run_session-end.new.source.journal.disk c.args.log.disk c.run_session-end.new.log.disk (disk_of c.in-Ok.store) (disk_of c.run_session-end.new.store) c.run_session-end.result) (to_z-of_z c.ranges.now_ms) c.run_session-end.ensures.answers))
+    (subst (λ (n : ℤ). AnswersConnect g.W.Disk g.T.Disk g.F.Disk c.args.asked n (disks_of c.args.source.journal.disk c.args.log.disk (disk_of c.in-Ok.store)) (disks_of c.run_session-end.new.source.journal.disk c.run_session-end.new.log.disk (disk_of c.run_session-end.new.store)) c.run_session-end.result) (to_z-of_z c.ranges.now_ms) c.run_session-end.ensures.answers))
 
-pub returns-in-Ok-clause-subsequent : goal.returns-in-Ok-clause-subsequent
-returns-in-Ok-clause-subsequent g c = err_as c.run_session-end.result (IsAfterOpening store.Offsets) (IsAfterOpening store.Topics) behind_topics c.run_session-end.ensures.subsequent
+pub returns-in-Ok-clause-after_opening : goal.returns-in-Ok-clause-after_opening
+returns-in-Ok-clause-after_opening g c = err_as c.run_session-end.result (IsAfterOpening store.Offsets) (IsAfterOpening store.Topics) behind_topics c.run_session-end.ensures.after_opening
 
 pub returns-in-Ok-clause-wal_read : goal.returns-in-Ok-clause-wal_read
-returns-in-Ok-clause-wal_read g c = read_stayed g.W.Disk.seen g.W.Disk.may_leave (λ s. s.journal.disk) c.run_session-end.result c.args.source c.run_session-end.new.source c.into_disk.result c.into_disk.ensures c.run_session-end.ensures.source_stays
+returns-in-Ok-clause-wal_read g c = read_stayed g.W.Disk (λ s. s.journal.disk) c.run_session-end.result c.args.source c.run_session-end.new.source c.into_disk.result c.into_disk.ensures c.run_session-end.ensures.source_stays
 
 pub returns-in-Ok-clause-topics_read : goal.returns-in-Ok-clause-topics_read
-returns-in-Ok-clause-topics_read g c = read_stayed g.T.Disk.seen g.T.Disk.may_leave (λ l. l.disk) c.run_session-end.result c.args.log c.run_session-end.new.log c.into_disk-in-Ok.result c.into_disk-in-Ok.ensures c.run_session-end.ensures.log_stays
+returns-in-Ok-clause-topics_read g c = read_stayed g.T.Disk (λ l. l.disk) c.run_session-end.result c.args.log c.run_session-end.new.log c.into_disk-in-Ok.result c.into_disk-in-Ok.ensures c.run_session-end.ensures.log_stays
 
 pub returns-in-Ok-clause-offsets_read : goal.returns-in-Ok-clause-offsets_read
 returns-in-Ok-clause-offsets_read g c =
-    read_on g.F.Disk.seen g.F.Disk.may_leave c.run_session-end.result c.args.offsets (disk_of c.in-Ok.store) c.into_disk-in-Ok-2.result c.in-Ok.ensures.keeps.same c.in-Ok.ensures.keeps.crash
-    (read_stayed g.F.Disk.seen g.F.Disk.may_leave disk_of c.run_session-end.result c.in-Ok.store c.run_session-end.new.store c.into_disk-in-Ok-2.result c.into_disk-in-Ok-2.ensures c.run_session-end.ensures.store_stays)
+    read_on g.F.Disk c.run_session-end.result c.args.offsets (disk_of c.in-Ok.store) c.into_disk-in-Ok-2.result c.in-Ok.ensures.keeps.same c.in-Ok.ensures.keeps.crash
+    (read_stayed g.F.Disk disk_of c.run_session-end.result c.in-Ok.store c.run_session-end.new.store c.into_disk-in-Ok-2.result c.into_disk-in-Ok-2.ensures c.run_session-end.ensures.store_stays)
 
 pub returns-in-Ok-clause-wal_counts : goal.returns-in-Ok-clause-wal_counts
-returns-in-Ok-clause-wal_counts g c = moved_to (CountsFaults g.W.Disk.faults store.Wal c.run_session-end.result c.args.source.journal.disk) c.run_session-end.new.source.journal.disk c.into_disk.result c.into_disk.ensures c.run_session-end.ensures.source_counts
+returns-in-Ok-clause-wal_counts g c = moved_to (CountsFaults g.W.Disk store.Wal c.run_session-end.result c.args.source.journal.disk) c.run_session-end.new.source.journal.disk c.into_disk.result c.into_disk.ensures c.run_session-end.ensures.source_counts
 
 pub returns-in-Ok-clause-topics_count : goal.returns-in-Ok-clause-topics_count
-returns-in-Ok-clause-topics_count g c = moved_to (CountsFaults g.T.Disk.faults store.Topics c.run_session-end.result c.args.log.disk) c.run_session-end.new.log.disk c.into_disk-in-Ok.result c.into_disk-in-Ok.ensures c.run_session-end.ensures.log_counts
+returns-in-Ok-clause-topics_count g c = moved_to (CountsFaults g.T.Disk store.Topics c.run_session-end.result c.args.log.disk) c.run_session-end.new.log.disk c.into_disk-in-Ok.result c.into_disk-in-Ok.ensures c.run_session-end.ensures.log_counts
 
 pub returns-in-Ok-clause-offsets_count : goal.returns-in-Ok-clause-offsets_count
 returns-in-Ok-clause-offsets_count g c =
-    counts_on g.F.Disk.faults store.Offsets c.run_session-end.result c.args.offsets (disk_of c.in-Ok.store) c.into_disk-in-Ok-2.result c.in-Ok.ensures.keeps.later
-    (moved_to (CountsFaults g.F.Disk.faults store.Offsets c.run_session-end.result (disk_of c.in-Ok.store)) (disk_of c.run_session-end.new.store) c.into_disk-in-Ok-2.result c.into_disk-in-Ok-2.ensures c.run_session-end.ensures.store_counts)
+    counts_on g.F.Disk store.Offsets c.run_session-end.result c.args.offsets (disk_of c.in-Ok.store) c.into_disk-in-Ok-2.result c.in-Ok.ensures.keeps.later
+    (moved_to (CountsFaults g.F.Disk store.Offsets c.run_session-end.result (disk_of c.in-Ok.store)) (disk_of c.run_session-end.new.store) c.into_disk-in-Ok-2.result c.into_disk-in-Ok-2.ensures c.run_session-end.ensures.store_counts)
 
 pub returns-in-Ok-clause-wal_bounded : goal.returns-in-Ok-clause-wal_bounded
 returns-in-Ok-clause-wal_bounded g c = moved_to (λ d. IsBounded (g.W.Disk.seen c.args.source.journal.disk) (g.W.Disk.seen d)) c.run_session-end.new.source.journal.disk c.into_disk.result c.into_disk.ensures c.run_session-end.ensures.source_bounded
@@ -100,5 +100,5 @@ returns-in-Ok-clause-topics_bounded g c = moved_to (λ d. IsBounded (g.T.Disk.se
 
 pub returns-in-Ok-clause-offsets_bounded : goal.returns-in-Ok-clause-offsets_bounded
 returns-in-Ok-clause-offsets_bounded g c =
-    bounded_on g.F.Disk.seen c.args.offsets (disk_of c.in-Ok.store) c.into_disk-in-Ok-2.result c.in-Ok.ensures.keeps.same
+    bounded_on g.F.Disk c.args.offsets (disk_of c.in-Ok.store) c.into_disk-in-Ok-2.result c.in-Ok.ensures.keeps.same
     (moved_to (λ d. IsBounded (g.F.Disk.seen (disk_of c.in-Ok.store)) (g.F.Disk.seen d)) (disk_of c.run_session-end.new.store) c.into_disk-in-Ok-2.result c.into_disk-in-Ok-2.ensures c.run_session-end.ensures.store_bounded)

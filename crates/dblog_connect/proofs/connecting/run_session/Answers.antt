@@ -9,7 +9,7 @@ use Rattle.dblog_init.specs.declared.error.Store.TheVariants as store
 use Rattle.dblog_connect.specs.Asked.{budget_of}
 use Rattle.dblog_connect.specs.Ends.{CountsFaults, ConnectEnd, IsSpent}
 use Rattle.dblog_connect.specs.Errors.{IsAfterOpening, IsConnectError, IsConnectRefusal}
-use Rattle.dblog_connect.specs.Steps.{AnswersConnect}
+use Rattle.dblog_connect.specs.Steps.{AnswersConnect, disks_of}
 use Rattle.dblog_connect.proofs.Configs.{asks_budget}
 use Rattle.dblog_connect.proofs.Exits.{asked_of, asks_same, halt_fails, halt_kind, log_bounded, refused_behind, refused_ends, refused_kind, refused_unfailed, refused_unhalted, residual, source_bounded, spent_of, store_bounded}
 use Rattle.dblog_connect.proofs.ErrorKinds.{counts_same}
@@ -33,10 +33,10 @@ session-requires-clause-asked g c =
 
 pub returns-in_err-config-clause-answers : goal.returns-in_err-config-clause-answers
 returns-in_err-config-clause-answers g c =
-    residual c.from_residual.result _ (λ (r : ConnectEnd). AnswersConnect g.W.Disk.seen g.W.Disk.may_leave g.T.Disk.seen g.T.Disk.may_leave g.F.Disk.seen g.F.Disk.may_leave c.args.asked c.args.now_ms c.args.source.now.journal.disk c.args.source.now.journal.disk c.args.log.now.disk c.args.log.now.disk (disk_of c.args.store.now) (disk_of c.args.store.now) r) c.from_residual.ensures.1
-    (answers_stay g.W.Disk.seen g.W.Disk.may_leave g.T.Disk.seen g.T.Disk.may_leave g.F.Disk.seen g.F.Disk.may_leave g.met.W.Disk.seen_may_be_left g.met.T.Disk.seen_may_be_left g.met.F.Disk.seen_may_be_left c.args.source.now.journal.disk c.args.source.now.journal.disk c.args.log.now.disk c.args.log.now.disk (disk_of c.args.store.now) (disk_of c.args.store.now) refl refl refl (λ i m. m) (λ i m. m) (λ i m. m)
+    residual c.from_residual.result _ (λ (r : ConnectEnd). AnswersConnect g.W.Disk g.T.Disk g.F.Disk c.args.asked c.args.now_ms (disks_of c.args.source.now.journal.disk c.args.log.now.disk (disk_of c.args.store.now)) (disks_of c.args.source.now.journal.disk c.args.log.now.disk (disk_of c.args.store.now)) r) c.from_residual.ensures.1
+    (answers_stay g.W.Disk g.T.Disk g.F.Disk g.met.W.Disk.seen_may_be_left g.met.T.Disk.seen_may_be_left g.met.F.Disk.seen_may_be_left (disks_of c.args.source.now.journal.disk c.args.log.now.disk (disk_of c.args.store.now)) (disks_of c.args.source.now.journal.disk c.args.log.now.disk (disk_of c.args.store.now)) refl refl refl (λ i m. m) (λ i m. m) (λ i m. m)
     c.args.asked c.args.now_ms _ (refused_unhalted c.args.asked _ _ c.in_err-config.ensures.refused)
-    (refused_ends g.W.Disk.seen g.W.Disk.may_leave g.T.Disk.seen g.T.Disk.may_leave g.F.Disk.seen g.F.Disk.may_leave c.args.source.now c.args.log.now c.args.store.now c.requires.source_opened c.requires.log_opened c.requires.store_opened c.args.asked _ _ c.load.ensures.offset c.in_err-config.ensures.refused))
+    (refused_ends g.W.Disk g.T.Disk g.F.Disk c.args.source.now c.args.log.now c.args.store.now c.requires.source_opened c.requires.log_opened c.requires.store_opened c.args.asked _ _ c.load.ensures.offset c.in_err-config.ensures.refused))
 
 pub returns-in_err-config-clause-spent : goal.returns-in_err-config-clause-spent
 returns-in_err-config-clause-spent g c = residual c.from_residual.result _ (λ (r : ConnectEnd). IfOk r (IsSpent (budget_of c.args.asked))) c.from_residual.ensures.1 tt
@@ -44,8 +44,8 @@ returns-in_err-config-clause-spent g c = residual c.from_residual.result _ (λ (
 pub returns-in_err-config-clause-kinds : goal.returns-in_err-config-clause-kinds
 returns-in_err-config-clause-kinds g c = residual c.from_residual.result _ (λ (r : ConnectEnd). IfErr r IsConnectError) c.from_residual.ensures.1 (refused_kind c.args.asked _ _ c.in_err-config.ensures.refused)
 
-pub returns-in_err-config-clause-subsequent : goal.returns-in_err-config-clause-subsequent
-returns-in_err-config-clause-subsequent g c = residual c.from_residual.result _ (λ (r : ConnectEnd). IfErr r (IsAfterOpening store.Offsets)) c.from_residual.ensures.1 (refused_behind c.args.asked _ _ c.in_err-config.ensures.refused)
+pub returns-in_err-config-clause-after_opening : goal.returns-in_err-config-clause-after_opening
+returns-in_err-config-clause-after_opening g c = residual c.from_residual.result _ (λ (r : ConnectEnd). IfErr r (IsAfterOpening store.Offsets)) c.from_residual.ensures.1 (refused_behind c.args.asked _ _ c.in_err-config.ensures.refused)
 
 pub returns-in_err-config-clause-source_stays : goal.returns-in_err-config-clause-source_stays
 returns-in_err-config-clause-source_stays g c = residual c.from_residual.result _ (λ (r : ConnectEnd). IfErr r (λ e. IsConnectRefusal e → c.args.source.now ≡ c.args.source.now)) c.from_residual.ensures.1 (λ refusal. refl)
@@ -58,35 +58,35 @@ returns-in_err-config-clause-store_stays g c = residual c.from_residual.result _
 
 pub returns-in_err-config-clause-source_counts : goal.returns-in_err-config-clause-source_counts
 returns-in_err-config-clause-source_counts g c =
-    residual c.from_residual.result _ (λ (r : ConnectEnd). CountsFaults g.W.Disk.faults store.Wal r c.args.source.now.journal.disk c.args.source.now.journal.disk) c.from_residual.ensures.1
-    (counts_same g.W.Disk.faults store.Wal _ c.args.source.now.journal.disk c.args.source.now.journal.disk refl (λ is. refused_unfailed store.Wal c.args.asked _ _ c.in_err-config.ensures.refused (let i = is in cc)))
+    residual c.from_residual.result _ (λ (r : ConnectEnd). CountsFaults g.W.Disk store.Wal r c.args.source.now.journal.disk c.args.source.now.journal.disk) c.from_residual.ensures.1
+    (counts_same g.W.Disk store.Wal _ c.args.source.now.journal.disk c.args.source.now.journal.disk refl (λ is. refused_unfailed store.Wal c.args.asked _ _ c.in_err-config.ensures.refused (let i = is in cc)))
 
 pub returns-in_err-config-clause-log_counts : goal.returns-in_err-config-clause-log_counts
 returns-in_err-config-clause-log_counts g c =
-    residual c.from_residual.result _ (λ (r : ConnectEnd). CountsFaults g.T.Disk.faults store.Topics r c.args.log.now.disk c.args.log.now.disk) c.from_residual.ensures.1
-    (counts_same g.T.Disk.faults store.Topics _ c.args.log.now.disk c.args.log.now.disk refl (λ is. refused_unfailed store.Topics c.args.asked _ _ c.in_err-config.ensures.refused (let i = is in cc)))
+    residual c.from_residual.result _ (λ (r : ConnectEnd). CountsFaults g.T.Disk store.Topics r c.args.log.now.disk c.args.log.now.disk) c.from_residual.ensures.1
+    (counts_same g.T.Disk store.Topics _ c.args.log.now.disk c.args.log.now.disk refl (λ is. refused_unfailed store.Topics c.args.asked _ _ c.in_err-config.ensures.refused (let i = is in cc)))
 
 pub returns-in_err-config-clause-store_counts : goal.returns-in_err-config-clause-store_counts
 returns-in_err-config-clause-store_counts g c =
-    residual c.from_residual.result _ (λ (r : ConnectEnd). CountsFaults g.F.Disk.faults store.Offsets r (disk_of c.args.store.now) (disk_of c.args.store.now)) c.from_residual.ensures.1
-    (counts_same g.F.Disk.faults store.Offsets _ (disk_of c.args.store.now) (disk_of c.args.store.now) refl (λ is. refused_unfailed store.Offsets c.args.asked _ _ c.in_err-config.ensures.refused (let i = is in cc)))
+    residual c.from_residual.result _ (λ (r : ConnectEnd). CountsFaults g.F.Disk store.Offsets r (disk_of c.args.store.now) (disk_of c.args.store.now)) c.from_residual.ensures.1
+    (counts_same g.F.Disk store.Offsets _ (disk_of c.args.store.now) (disk_of c.args.store.now) refl (λ is. refused_unfailed store.Offsets c.args.asked _ _ c.in_err-config.ensures.refused (let i = is in cc)))
 
 pub returns-in_err-config-clause-source_bounded : goal.returns-in_err-config-clause-source_bounded
-returns-in_err-config-clause-source_bounded g c = bounded_same g.W.Disk.seen g.W.Disk.may_leave c.args.source.now.journal.disk c.args.source.now.journal.disk refl
+returns-in_err-config-clause-source_bounded g c = bounded_same g.W.Disk c.args.source.now.journal.disk c.args.source.now.journal.disk refl
 
 pub returns-in_err-config-clause-log_bounded : goal.returns-in_err-config-clause-log_bounded
-returns-in_err-config-clause-log_bounded g c = bounded_same g.T.Disk.seen g.T.Disk.may_leave c.args.log.now.disk c.args.log.now.disk refl
+returns-in_err-config-clause-log_bounded g c = bounded_same g.T.Disk c.args.log.now.disk c.args.log.now.disk refl
 
 pub returns-in_err-config-clause-store_bounded : goal.returns-in_err-config-clause-store_bounded
-returns-in_err-config-clause-store_bounded g c = bounded_same g.F.Disk.seen g.F.Disk.may_leave (disk_of c.args.store.now) (disk_of c.args.store.now) refl
+returns-in_err-config-clause-store_bounded g c = bounded_same g.F.Disk (disk_of c.args.store.now) (disk_of c.args.store.now) refl
 
 -- ---- the session halted
 
 pub returns-in_err-ending-clause-answers : goal.returns-in_err-ending-clause-answers
 returns-in_err-ending-clause-answers g c =
-    residual c.from_residual-in_err-ending.result _ (λ (r : ConnectEnd). AnswersConnect g.W.Disk.seen g.W.Disk.may_leave g.T.Disk.seen g.T.Disk.may_leave g.F.Disk.seen g.F.Disk.may_leave c.args.asked c.args.now_ms c.args.source.now.journal.disk c.session.new.src.journal.disk c.args.log.now.disk c.session.new.sink.disk (disk_of c.args.store.now) (disk_of c.session.new.offsets) r) c.from_residual-in_err-ending.ensures.1
-    (answers_err g.W.Disk.seen g.W.Disk.may_leave g.T.Disk.seen g.T.Disk.may_leave g.F.Disk.seen g.F.Disk.may_leave g.met.W.Disk.seen_may_be_left g.met.T.Disk.seen_may_be_left g.met.F.Disk.seen_may_be_left c.args.source.now c.args.log.now c.args.store.now c.requires.source_opened c.requires.log_opened c.requires.store_opened c.args.asked c.in_ok-config.config c.args.now_ms c.session.new.src c.session.new.sink c.session.new.offsets c.session.new.report c.session.result
-    (renow g.W.Disk.seen g.W.Disk.may_leave g.T.Disk.seen g.T.Disk.may_leave g.F.Disk.seen g.F.Disk.may_leave c.in_ok-config.config _ c.args.now_ms c.args.source.now c.session.new.src c.args.log.now c.session.new.sink c.args.store.now c.session.new.offsets c.session.new.report c.session.result (to_z-of_z c.ranges.now_ms) (record {
+    residual c.from_residual-in_err-ending.result _ (λ (r : ConnectEnd). AnswersConnect g.W.Disk g.T.Disk g.F.Disk c.args.asked c.args.now_ms (disks_of c.args.source.now.journal.disk c.args.log.now.disk (disk_of c.args.store.now)) (disks_of c.session.new.src.journal.disk c.session.new.sink.disk (disk_of c.session.new.offsets)) r) c.from_residual-in_err-ending.ensures.1
+    (answers_err g.W.Disk g.T.Disk g.F.Disk g.met.W.Disk.seen_may_be_left g.met.T.Disk.seen_may_be_left g.met.F.Disk.seen_may_be_left c.args.source.now c.args.log.now c.args.store.now c.requires.source_opened c.requires.log_opened c.requires.store_opened c.args.asked c.in_ok-config.config c.args.now_ms c.session.new.src c.session.new.sink c.session.new.offsets c.session.new.report c.session.result
+    (renow g.W.Disk g.T.Disk g.F.Disk c.in_ok-config.config _ c.args.now_ms c.args.source.now c.session.new.src c.args.log.now c.session.new.sink c.args.store.now c.session.new.offsets c.session.new.report c.session.result (to_z-of_z c.ranges.now_ms) (record {
       faithful = λ entry is found had. c.session.ensures.faithful entry is found tt had;
       complete = λ entry is found had. c.session.ensures.complete entry is found tt had;
       held = c.session.ensures.holds;
@@ -134,8 +134,8 @@ returns-in_err-ending-clause-spent g c = residual c.from_residual-in_err-ending.
 pub returns-in_err-ending-clause-kinds : goal.returns-in_err-ending-clause-kinds
 returns-in_err-ending-clause-kinds g c = residual c.from_residual-in_err-ending.result _ (λ (r : ConnectEnd). IfErr r IsConnectError) c.from_residual-in_err-ending.ensures.1 (halt_kind _).0
 
-pub returns-in_err-ending-clause-subsequent : goal.returns-in_err-ending-clause-subsequent
-returns-in_err-ending-clause-subsequent g c = residual c.from_residual-in_err-ending.result _ (λ (r : ConnectEnd). IfErr r (IsAfterOpening store.Offsets)) c.from_residual-in_err-ending.ensures.1 (halt_kind _).1
+pub returns-in_err-ending-clause-after_opening : goal.returns-in_err-ending-clause-after_opening
+returns-in_err-ending-clause-after_opening g c = residual c.from_residual-in_err-ending.result _ (λ (r : ConnectEnd). IfErr r (IsAfterOpening store.Offsets)) c.from_residual-in_err-ending.ensures.1 (halt_kind _).1
 
 pub returns-in_err-ending-clause-source_stays : goal.returns-in_err-ending-clause-source_stays
 returns-in_err-ending-clause-source_stays g c = residual c.from_residual-in_err-ending.result _ (λ (r : ConnectEnd). IfErr r (λ e. IsConnectRefusal e → c.session.new.src ≡ c.args.source.now)) c.from_residual-in_err-ending.ensures.1 (λ refusal. absurd ((halt_kind _).2 refusal))
@@ -148,7 +148,7 @@ returns-in_err-ending-clause-store_stays g c = residual c.from_residual-in_err-e
 
 pub returns-in_err-ending-clause-source_counts : goal.returns-in_err-ending-clause-source_counts
 returns-in_err-ending-clause-source_counts g c =
-    residual c.from_residual-in_err-ending.result _ (λ (r : ConnectEnd). CountsFaults g.W.Disk.faults store.Wal r c.args.source.now.journal.disk c.session.new.src.journal.disk) c.from_residual-in_err-ending.ensures.1
+    residual c.from_residual-in_err-ending.result _ (λ (r : ConnectEnd). CountsFaults g.W.Disk store.Wal r c.args.source.now.journal.disk c.session.new.src.journal.disk) c.from_residual-in_err-ending.ensures.1
     (record {
       later = c.session.ensures.source.later;
       cause = λ is. c.session.ensures.source.cause (c.in_err-ending.was ∙ ap (λ (h : Halt). Err h) (halt_fails _ store.Wal (let i = is in cc)));
@@ -156,7 +156,7 @@ returns-in_err-ending-clause-source_counts g c =
 
 pub returns-in_err-ending-clause-log_counts : goal.returns-in_err-ending-clause-log_counts
 returns-in_err-ending-clause-log_counts g c =
-    residual c.from_residual-in_err-ending.result _ (λ (r : ConnectEnd). CountsFaults g.T.Disk.faults store.Topics r c.args.log.now.disk c.session.new.sink.disk) c.from_residual-in_err-ending.ensures.1
+    residual c.from_residual-in_err-ending.result _ (λ (r : ConnectEnd). CountsFaults g.T.Disk store.Topics r c.args.log.now.disk c.session.new.sink.disk) c.from_residual-in_err-ending.ensures.1
     (record {
       later = c.session.ensures.sink.later;
       cause = λ is. c.session.ensures.sink.cause (c.in_err-ending.was ∙ ap (λ (h : Halt). Err h) (halt_fails _ store.Topics (let i = is in cc)));
@@ -164,27 +164,27 @@ returns-in_err-ending-clause-log_counts g c =
 
 pub returns-in_err-ending-clause-store_counts : goal.returns-in_err-ending-clause-store_counts
 returns-in_err-ending-clause-store_counts g c =
-    residual c.from_residual-in_err-ending.result _ (λ (r : ConnectEnd). CountsFaults g.F.Disk.faults store.Offsets r (disk_of c.args.store.now) (disk_of c.session.new.offsets)) c.from_residual-in_err-ending.ensures.1
+    residual c.from_residual-in_err-ending.result _ (λ (r : ConnectEnd). CountsFaults g.F.Disk store.Offsets r (disk_of c.args.store.now) (disk_of c.session.new.offsets)) c.from_residual-in_err-ending.ensures.1
     (record {
       later = c.session.ensures.offsets.later;
       cause = λ is. c.session.ensures.offsets.cause (c.in_err-ending.was ∙ ap (λ (h : Halt). Err h) (halt_fails _ store.Offsets (let i = is in cc)));
     })
 
 pub returns-in_err-ending-clause-source_bounded : goal.returns-in_err-ending-clause-source_bounded
-returns-in_err-ending-clause-source_bounded g c = source_bounded g.W.Disk.seen g.W.Disk.may_leave g.T.Disk.seen g.T.Disk.may_leave g.F.Disk.seen g.F.Disk.may_leave c.args.source.now c.args.log.now c.args.store.now c.requires.source_opened c.requires.log_opened c.requires.store_opened c.session.new.src c.session.ensures.source_comes
+returns-in_err-ending-clause-source_bounded g c = source_bounded g.W.Disk g.T.Disk g.F.Disk c.args.source.now c.args.log.now c.args.store.now c.requires.source_opened c.requires.log_opened c.requires.store_opened c.session.new.src c.session.ensures.source_comes
 
 pub returns-in_err-ending-clause-log_bounded : goal.returns-in_err-ending-clause-log_bounded
-returns-in_err-ending-clause-log_bounded g c = log_bounded g.W.Disk.seen g.W.Disk.may_leave g.T.Disk.seen g.T.Disk.may_leave g.F.Disk.seen g.F.Disk.may_leave c.args.source.now c.args.log.now c.args.store.now c.requires.source_opened c.requires.log_opened c.requires.store_opened c.session.new.sink c.session.ensures.sink_comes
+returns-in_err-ending-clause-log_bounded g c = log_bounded g.W.Disk g.T.Disk g.F.Disk c.args.source.now c.args.log.now c.args.store.now c.requires.source_opened c.requires.log_opened c.requires.store_opened c.session.new.sink c.session.ensures.sink_comes
 
 pub returns-in_err-ending-clause-store_bounded : goal.returns-in_err-ending-clause-store_bounded
-returns-in_err-ending-clause-store_bounded g c = store_bounded g.W.Disk.seen g.W.Disk.may_leave g.T.Disk.seen g.T.Disk.may_leave g.F.Disk.seen g.F.Disk.may_leave c.args.source.now c.args.log.now c.args.store.now c.requires.source_opened c.requires.log_opened c.requires.store_opened c.session.new.offsets c.session.ensures.store_comes
+returns-in_err-ending-clause-store_bounded g c = store_bounded g.W.Disk g.T.Disk g.F.Disk c.args.source.now c.args.log.now c.args.store.now c.requires.source_opened c.requires.log_opened c.requires.store_opened c.session.new.offsets c.session.ensures.store_comes
 
 -- ---- it ended as it should
 
 pub returns-clause-answers : goal.returns-clause-answers
 returns-clause-answers g c =
-    answers_ok g.W.Disk.seen g.W.Disk.may_leave g.T.Disk.seen g.T.Disk.may_leave g.F.Disk.seen g.F.Disk.may_leave g.met.W.Disk.seen_may_be_left g.met.T.Disk.seen_may_be_left g.met.F.Disk.seen_may_be_left c.args.source.now c.args.log.now c.args.store.now c.requires.source_opened c.requires.log_opened c.requires.store_opened c.args.asked c.in_ok-config.config c.args.now_ms c.session.new.src c.session.new.sink c.session.new.offsets c.session.new.report c.session.result
-    (renow g.W.Disk.seen g.W.Disk.may_leave g.T.Disk.seen g.T.Disk.may_leave g.F.Disk.seen g.F.Disk.may_leave c.in_ok-config.config _ c.args.now_ms c.args.source.now c.session.new.src c.args.log.now c.session.new.sink c.args.store.now c.session.new.offsets c.session.new.report c.session.result (to_z-of_z c.ranges.now_ms) (record {
+    answers_ok g.W.Disk g.T.Disk g.F.Disk g.met.W.Disk.seen_may_be_left g.met.T.Disk.seen_may_be_left g.met.F.Disk.seen_may_be_left c.args.source.now c.args.log.now c.args.store.now c.requires.source_opened c.requires.log_opened c.requires.store_opened c.args.asked c.in_ok-config.config c.args.now_ms c.session.new.src c.session.new.sink c.session.new.offsets c.session.new.report c.session.result
+    (renow g.W.Disk g.T.Disk g.F.Disk c.in_ok-config.config _ c.args.now_ms c.args.source.now c.session.new.src c.args.log.now c.session.new.sink c.args.store.now c.session.new.offsets c.session.new.report c.session.result (to_z-of_z c.ranges.now_ms) (record {
       faithful = λ entry is found had. c.session.ensures.faithful entry is found tt had;
       complete = λ entry is found had. c.session.ensures.complete entry is found tt had;
       held = c.session.ensures.holds;
@@ -241,10 +241,10 @@ pub returns-clause-store_counts : goal.returns-clause-store_counts
 returns-clause-store_counts g c = record { later = c.session.ensures.offsets.later; cause = λ is. absurd (let i = is in cc) }
 
 pub returns-clause-source_bounded : goal.returns-clause-source_bounded
-returns-clause-source_bounded g c = source_bounded g.W.Disk.seen g.W.Disk.may_leave g.T.Disk.seen g.T.Disk.may_leave g.F.Disk.seen g.F.Disk.may_leave c.args.source.now c.args.log.now c.args.store.now c.requires.source_opened c.requires.log_opened c.requires.store_opened c.session.new.src c.session.ensures.source_comes
+returns-clause-source_bounded g c = source_bounded g.W.Disk g.T.Disk g.F.Disk c.args.source.now c.args.log.now c.args.store.now c.requires.source_opened c.requires.log_opened c.requires.store_opened c.session.new.src c.session.ensures.source_comes
 
 pub returns-clause-log_bounded : goal.returns-clause-log_bounded
-returns-clause-log_bounded g c = log_bounded g.W.Disk.seen g.W.Disk.may_leave g.T.Disk.seen g.T.Disk.may_leave g.F.Disk.seen g.F.Disk.may_leave c.args.source.now c.args.log.now c.args.store.now c.requires.source_opened c.requires.log_opened c.requires.store_opened c.session.new.sink c.session.ensures.sink_comes
+returns-clause-log_bounded g c = log_bounded g.W.Disk g.T.Disk g.F.Disk c.args.source.now c.args.log.now c.args.store.now c.requires.source_opened c.requires.log_opened c.requires.store_opened c.session.new.sink c.session.ensures.sink_comes
 
 pub returns-clause-store_bounded : goal.returns-clause-store_bounded
-returns-clause-store_bounded g c = store_bounded g.W.Disk.seen g.W.Disk.may_leave g.T.Disk.seen g.T.Disk.may_leave g.F.Disk.seen g.F.Disk.may_leave c.args.source.now c.args.log.now c.args.store.now c.requires.source_opened c.requires.log_opened c.requires.store_opened c.session.new.offsets c.session.ensures.store_comes
+returns-clause-store_bounded g c = store_bounded g.W.Disk g.T.Disk g.F.Disk c.args.source.now c.args.log.now c.args.store.now c.requires.source_opened c.requires.log_opened c.requires.store_opened c.session.new.offsets c.session.ensures.store_comes

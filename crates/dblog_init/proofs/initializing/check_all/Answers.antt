@@ -10,25 +10,25 @@ pub returns-in_err-check_empty-clause-wal : goal.returns-in_err-check_empty-clau
 returns-in_err-check_empty-clause-wal g c =
     let p = err_from_is_err_and c.from_residual.result c.from_residual.ensures.1 in
     let same : c.from_residual.result ≡ Err c.in_err-check_empty.field-0.0 = p.1 ∙ ap (λ e. Err e) p.2 in
-    subst (λ (x : InitEnd). AsksOne g.W.Disk.seen g.W.Disk.may_leave g.W.Disk.faults Wal x c.args.wal.now c.check_empty.new.disk) (sym same) c.in_err-check_empty.ensures.asks
+    subst (λ (x : InitEnd). AsksOne g.W.Disk Wal x c.args.disks.now.wal c.check_empty.new.disk) (sym same) c.in_err-check_empty.ensures.asks
 
 pub returns-in_err-check_empty-clause-topics : goal.returns-in_err-check_empty-clause-topics
 returns-in_err-check_empty-clause-topics g c =
     let p = err_from_is_err_and c.from_residual.result c.from_residual.ensures.1 in
     let same : c.from_residual.result ≡ Err c.in_err-check_empty.field-0.0 = p.1 ∙ ap (λ e. Err e) p.2 in
-    subst (λ (x : InitEnd). AsksOne g.T.Disk.seen g.T.Disk.may_leave g.T.Disk.faults Topics x c.args.topics.now c.args.topics.now) (sym same) (asks_none Topics Wal (λ is. cc) c.in_err-check_empty.field-0.0 c.in_err-check_empty.ensures.kinds g.T.Disk.seen g.T.Disk.may_leave g.T.Disk.faults c.args.topics.now)
+    subst (λ (x : InitEnd). AsksOne g.T.Disk Topics x c.args.disks.now.topics c.args.disks.now.topics) (sym same) (asks_none Topics Wal (λ is. cc) c.in_err-check_empty.field-0.0 c.in_err-check_empty.ensures.kinds g.T.Disk c.args.disks.now.topics)
 
 pub returns-in_err-check_empty-clause-offsets : goal.returns-in_err-check_empty-clause-offsets
 returns-in_err-check_empty-clause-offsets g c =
     let p = err_from_is_err_and c.from_residual.result c.from_residual.ensures.1 in
     let same : c.from_residual.result ≡ Err c.in_err-check_empty.field-0.0 = p.1 ∙ ap (λ e. Err e) p.2 in
-    subst (λ (x : InitEnd). AsksOne g.F.Disk.seen g.F.Disk.may_leave g.F.Disk.faults Offsets x c.args.offsets.now c.args.offsets.now) (sym same) (asks_none Offsets Wal (λ is. cc) c.in_err-check_empty.field-0.0 c.in_err-check_empty.ensures.kinds g.F.Disk.seen g.F.Disk.may_leave g.F.Disk.faults c.args.offsets.now)
+    subst (λ (x : InitEnd). AsksOne g.F.Disk Offsets x c.args.disks.now.offsets c.args.disks.now.offsets) (sym same) (asks_none Offsets Wal (λ is. cc) c.in_err-check_empty.field-0.0 c.in_err-check_empty.ensures.kinds g.F.Disk c.args.disks.now.offsets)
 
 pub returns-in_err-check_empty-clause-first : goal.returns-in_err-check_empty-clause-first
 returns-in_err-check_empty-clause-first g c =
     let p = err_from_is_err_and c.from_residual.result c.from_residual.ensures.1 in
     let same : c.from_residual.result ≡ Err c.in_err-check_empty.field-0.0 = p.1 ∙ ap (λ e. Err e) p.2 in
-    subst (λ (x : InitEnd). TellsFirst (g.W.Disk.seen c.args.wal.now) (g.T.Disk.seen c.args.topics.now) (g.F.Disk.seen c.args.offsets.now) x) (sym same) (first_wal g.W.Disk.seen g.W.Disk.may_leave g.W.Disk.faults g.T.Disk.seen g.T.Disk.may_leave g.T.Disk.faults g.F.Disk.seen g.F.Disk.may_leave g.F.Disk.faults c.args.wal.now c.check_empty.new.disk c.args.topics.now c.args.topics.now c.args.offsets.now c.args.offsets.now c.in_err-check_empty.field-0.0 c.in_err-check_empty.ensures.asks c.in_err-check_empty.ensures.kinds)
+    subst (λ (x : InitEnd). TellsFirst g.W.Disk g.T.Disk g.F.Disk c.args.disks.now x) (sym same) (first_wal g.W.Disk g.T.Disk g.F.Disk c.args.disks.now c.check_empty.new.disk c.args.disks.now.topics c.args.disks.now.offsets c.in_err-check_empty.field-0.0 c.in_err-check_empty.ensures.asks c.in_err-check_empty.ensures.kinds)
 
 pub returns-in_err-check_empty-clause-kinds : goal.returns-in_err-check_empty-clause-kinds
 returns-in_err-check_empty-clause-kinds g c =
@@ -40,25 +40,25 @@ pub returns-in_err-check_empty-2-clause-wal : goal.returns-in_err-check_empty-2-
 returns-in_err-check_empty-2-clause-wal g c =
     let p = err_from_is_err_and c.from_residual-in_err-check_empty-2.result c.from_residual-in_err-check_empty-2.ensures.1 in
     let same : c.from_residual-in_err-check_empty-2.result ≡ Err c.in_err-check_empty-2.field-0.0 = p.1 ∙ ap (λ e. Err e) p.2 in
-    subst (λ (x : InitEnd). AsksOne g.W.Disk.seen g.W.Disk.may_leave g.W.Disk.faults Wal x c.args.wal.now c.check_empty.new.disk) (sym same) (asks_before Wal Topics (λ is. cc) c.in_err-check_empty-2.field-0.0 c.in_err-check_empty-2.ensures.kinds g.W.Disk.seen g.W.Disk.may_leave g.W.Disk.faults c.args.wal.now c.check_empty.new.disk c.in_ok-check_empty.ensures.asks)
+    subst (λ (x : InitEnd). AsksOne g.W.Disk Wal x c.args.disks.now.wal c.check_empty.new.disk) (sym same) (asks_before Wal Topics (λ is. cc) c.in_err-check_empty-2.field-0.0 c.in_err-check_empty-2.ensures.kinds g.W.Disk c.args.disks.now.wal c.check_empty.new.disk c.in_ok-check_empty.ensures.asks)
 
 pub returns-in_err-check_empty-2-clause-topics : goal.returns-in_err-check_empty-2-clause-topics
 returns-in_err-check_empty-2-clause-topics g c =
     let p = err_from_is_err_and c.from_residual-in_err-check_empty-2.result c.from_residual-in_err-check_empty-2.ensures.1 in
     let same : c.from_residual-in_err-check_empty-2.result ≡ Err c.in_err-check_empty-2.field-0.0 = p.1 ∙ ap (λ e. Err e) p.2 in
-    subst (λ (x : InitEnd). AsksOne g.T.Disk.seen g.T.Disk.may_leave g.T.Disk.faults Topics x c.args.topics.now c.check_empty-2.new.disk) (sym same) c.in_err-check_empty-2.ensures.asks
+    subst (λ (x : InitEnd). AsksOne g.T.Disk Topics x c.args.disks.now.topics c.check_empty-2.new.disk) (sym same) c.in_err-check_empty-2.ensures.asks
 
 pub returns-in_err-check_empty-2-clause-offsets : goal.returns-in_err-check_empty-2-clause-offsets
 returns-in_err-check_empty-2-clause-offsets g c =
     let p = err_from_is_err_and c.from_residual-in_err-check_empty-2.result c.from_residual-in_err-check_empty-2.ensures.1 in
     let same : c.from_residual-in_err-check_empty-2.result ≡ Err c.in_err-check_empty-2.field-0.0 = p.1 ∙ ap (λ e. Err e) p.2 in
-    subst (λ (x : InitEnd). AsksOne g.F.Disk.seen g.F.Disk.may_leave g.F.Disk.faults Offsets x c.args.offsets.now c.args.offsets.now) (sym same) (asks_none Offsets Topics (λ is. cc) c.in_err-check_empty-2.field-0.0 c.in_err-check_empty-2.ensures.kinds g.F.Disk.seen g.F.Disk.may_leave g.F.Disk.faults c.args.offsets.now)
+    subst (λ (x : InitEnd). AsksOne g.F.Disk Offsets x c.args.disks.now.offsets c.args.disks.now.offsets) (sym same) (asks_none Offsets Topics (λ is. cc) c.in_err-check_empty-2.field-0.0 c.in_err-check_empty-2.ensures.kinds g.F.Disk c.args.disks.now.offsets)
 
 pub returns-in_err-check_empty-2-clause-first : goal.returns-in_err-check_empty-2-clause-first
 returns-in_err-check_empty-2-clause-first g c =
     let p = err_from_is_err_and c.from_residual-in_err-check_empty-2.result c.from_residual-in_err-check_empty-2.ensures.1 in
     let same : c.from_residual-in_err-check_empty-2.result ≡ Err c.in_err-check_empty-2.field-0.0 = p.1 ∙ ap (λ e. Err e) p.2 in
-    subst (λ (x : InitEnd). TellsFirst (g.W.Disk.seen c.args.wal.now) (g.T.Disk.seen c.args.topics.now) (g.F.Disk.seen c.args.offsets.now) x) (sym same) (first_topics g.W.Disk.seen g.W.Disk.may_leave g.W.Disk.faults g.T.Disk.seen g.T.Disk.may_leave g.T.Disk.faults g.F.Disk.seen g.F.Disk.may_leave g.F.Disk.faults c.args.wal.now c.check_empty.new.disk c.args.topics.now c.check_empty-2.new.disk c.args.offsets.now c.args.offsets.now c.in_err-check_empty-2.field-0.0 c.in_ok-check_empty.ensures.asks c.in_err-check_empty-2.ensures.asks c.in_err-check_empty-2.ensures.kinds)
+    subst (λ (x : InitEnd). TellsFirst g.W.Disk g.T.Disk g.F.Disk c.args.disks.now x) (sym same) (first_topics g.W.Disk g.T.Disk g.F.Disk c.args.disks.now c.check_empty.new.disk c.check_empty-2.new.disk c.args.disks.now.offsets c.in_err-check_empty-2.field-0.0 c.in_ok-check_empty.ensures.asks c.in_err-check_empty-2.ensures.asks c.in_err-check_empty-2.ensures.kinds)
 
 pub returns-in_err-check_empty-2-clause-kinds : goal.returns-in_err-check_empty-2-clause-kinds
 returns-in_err-check_empty-2-clause-kinds g c =
@@ -73,13 +73,13 @@ returns-in_err-check_empty-2-clause-topics_stay g c =
     λ is. absurd (not_holding Wal Topics (λ is. cc) c.in_err-check_empty-2.field-0.0 c.in_err-check_empty-2.ensures.kinds (let t = sym same ∙ is in cc))
 
 pub returns-clause-wal : goal.returns-clause-wal
-returns-clause-wal g c = asks_through g.W.Disk.seen g.W.Disk.may_leave g.W.Disk.faults Wal Offsets (λ is. cc) c.check_empty-3.result c.check_empty-3.ensures.kinds _ _ c.in_ok-check_empty.ensures.asks
+returns-clause-wal g c = asks_through g.W.Disk Wal Offsets (λ is. cc) c.check_empty-3.result c.check_empty-3.ensures.kinds _ _ c.in_ok-check_empty.ensures.asks
 
 pub returns-clause-topics : goal.returns-clause-topics
-returns-clause-topics g c = asks_through g.T.Disk.seen g.T.Disk.may_leave g.T.Disk.faults Topics Offsets (λ is. cc) c.check_empty-3.result c.check_empty-3.ensures.kinds _ _ c.in_ok-check_empty-2.ensures.asks
+returns-clause-topics g c = asks_through g.T.Disk Topics Offsets (λ is. cc) c.check_empty-3.result c.check_empty-3.ensures.kinds _ _ c.in_ok-check_empty-2.ensures.asks
 
 pub returns-clause-first : goal.returns-clause-first
-returns-clause-first g c = first_through g.W.Disk.seen g.W.Disk.may_leave g.W.Disk.faults g.T.Disk.seen g.T.Disk.may_leave g.T.Disk.faults g.F.Disk.seen g.F.Disk.may_leave g.F.Disk.faults _ _ _ _ _ _ c.check_empty-3.result c.in_ok-check_empty.ensures.asks c.in_ok-check_empty-2.ensures.asks c.check_empty-3.ensures.asks c.check_empty-3.ensures.kinds
+returns-clause-first g c = first_through g.W.Disk g.T.Disk g.F.Disk c.args.disks.now _ _ _ c.check_empty-3.result c.in_ok-check_empty.ensures.asks c.in_ok-check_empty-2.ensures.asks c.check_empty-3.ensures.asks c.check_empty-3.ensures.kinds
 
 pub returns-clause-kinds : goal.returns-clause-kinds
 returns-clause-kinds g c = turn_fault Offsets c.check_empty-3.result c.check_empty-3.ensures.kinds

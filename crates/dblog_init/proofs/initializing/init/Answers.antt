@@ -36,7 +36,7 @@ pub returns-in-Err-clause-wal_asked : goal.returns-in-Err-clause-wal_asked
 returns-in-Err-clause-wal_asked g c = λ unwritten. c.in-Err.ensures.wal.asked
 
 pub returns-in-Err-clause-wal_leaves : goal.returns-in-Err-clause-wal_leaves
-returns-in-Err-clause-wal_leaves g c = asked_leaves g.W.Disk.seen g.W.Disk.may_leave g.W.Disk.faults Wal _ c.args.wal _ c.in-Err.ensures.wal.asked
+returns-in-Err-clause-wal_leaves g c = asked_leaves g.W.Disk Wal _ c.args.disks.wal _ c.in-Err.ensures.wal.asked
 
 pub returns-in-Err-clause-topics_hold : goal.returns-in-Err-clause-topics_hold
 returns-in-Err-clause-topics_hold g c = λ bytes told is. c.in-Err.ensures.topics.holds bytes told is
@@ -45,7 +45,7 @@ pub returns-in-Err-clause-topics_asked : goal.returns-in-Err-clause-topics_asked
 returns-in-Err-clause-topics_asked g c = λ unwritten. c.in-Err.ensures.topics.asked
 
 pub returns-in-Err-clause-topics_leaves : goal.returns-in-Err-clause-topics_leaves
-returns-in-Err-clause-topics_leaves g c = asked_leaves g.T.Disk.seen g.T.Disk.may_leave g.T.Disk.faults Topics _ c.args.topics _ c.in-Err.ensures.topics.asked
+returns-in-Err-clause-topics_leaves g c = asked_leaves g.T.Disk Topics _ c.args.disks.topics _ c.in-Err.ensures.topics.asked
 
 pub returns-in-Err-clause-offsets_hold : goal.returns-in-Err-clause-offsets_hold
 returns-in-Err-clause-offsets_hold g c = λ bytes told is. c.in-Err.ensures.offsets.holds bytes told is
@@ -54,7 +54,7 @@ pub returns-in-Err-clause-offsets_asked : goal.returns-in-Err-clause-offsets_ask
 returns-in-Err-clause-offsets_asked g c = λ unwritten. c.in-Err.ensures.offsets.asked
 
 pub returns-in-Err-clause-offsets_leaves : goal.returns-in-Err-clause-offsets_leaves
-returns-in-Err-clause-offsets_leaves g c = asked_leaves g.F.Disk.seen g.F.Disk.may_leave g.F.Disk.faults Offsets _ c.args.offsets _ c.in-Err.ensures.offsets.asked
+returns-in-Err-clause-offsets_leaves g c = asked_leaves g.F.Disk Offsets _ c.args.disks.offsets _ c.in-Err.ensures.offsets.asked
 
 -- ---- the input couldn't be read
 
@@ -86,34 +86,34 @@ pub returns-in-Err-read_all-clause-input_failed : goal.returns-in-Err-read_all-c
 returns-in-Err-read_all-clause-input_failed g c = λ is. c.read_all.ensures.cause.cause (c.in-Err-read_all.is ∙ ap (λ x. Err x) (input_failed c.in-Err-read_all.error c.from.result c.from.ensures (let t = is in cc)))
 
 pub returns-in-Err-read_all-clause-unwritten : goal.returns-in-Err-read_all-clause-unwritten
-returns-in-Err-read_all-clause-unwritten g c = λ held. (asked_at g.W.Disk.seen g.W.Disk.may_leave g.W.Disk.faults Wal c.args.wal _ c.from.result (input_disk c.in-Err-read_all.error c.from.result c.from.ensures Wal) c.in-Ok.ensures.wal, (asked_at g.T.Disk.seen g.T.Disk.may_leave g.T.Disk.faults Topics c.args.topics _ c.from.result (input_disk c.in-Err-read_all.error c.from.result c.from.ensures Topics) c.in-Ok.ensures.topics, asked_at g.F.Disk.seen g.F.Disk.may_leave g.F.Disk.faults Offsets c.args.offsets _ c.from.result (input_disk c.in-Err-read_all.error c.from.result c.from.ensures Offsets) c.in-Ok.ensures.offsets))
+returns-in-Err-read_all-clause-unwritten g c = λ held. (asked_at g.W.Disk Wal c.args.disks.wal _ c.from.result (input_disk c.in-Err-read_all.error c.from.result c.from.ensures Wal) c.in-Ok.ensures.wal, (asked_at g.T.Disk Topics c.args.disks.topics _ c.from.result (input_disk c.in-Err-read_all.error c.from.result c.from.ensures Topics) c.in-Ok.ensures.topics, asked_at g.F.Disk Offsets c.args.disks.offsets _ c.from.result (input_disk c.in-Err-read_all.error c.from.result c.from.ensures Offsets) c.in-Ok.ensures.offsets))
 
 pub returns-in-Err-read_all-clause-wal_holds : goal.returns-in-Err-read_all-clause-wal_holds
 returns-in-Err-read_all-clause-wal_holds g c = λ bytes told is. absurd (input_holds c.in-Err-read_all.error c.from.result c.from.ensures Wal (let t = is in cc))
 
 pub returns-in-Err-read_all-clause-wal_asked : goal.returns-in-Err-read_all-clause-wal_asked
-returns-in-Err-read_all-clause-wal_asked g c = λ unwritten. asked_at g.W.Disk.seen g.W.Disk.may_leave g.W.Disk.faults Wal c.args.wal _ c.from.result (input_disk c.in-Err-read_all.error c.from.result c.from.ensures Wal) c.in-Ok.ensures.wal
+returns-in-Err-read_all-clause-wal_asked g c = λ unwritten. asked_at g.W.Disk Wal c.args.disks.wal _ c.from.result (input_disk c.in-Err-read_all.error c.from.result c.from.ensures Wal) c.in-Ok.ensures.wal
 
 pub returns-in-Err-read_all-clause-wal_leaves : goal.returns-in-Err-read_all-clause-wal_leaves
-returns-in-Err-read_all-clause-wal_leaves g c = leaves_at g.W.Disk.seen g.W.Disk.may_leave g.W.Disk.faults Wal c.args.wal _ c.from.result (input_disk c.in-Err-read_all.error c.from.result c.from.ensures Wal) c.in-Ok.ensures.wal
+returns-in-Err-read_all-clause-wal_leaves g c = leaves_at g.W.Disk Wal c.args.disks.wal _ c.from.result (input_disk c.in-Err-read_all.error c.from.result c.from.ensures Wal) c.in-Ok.ensures.wal
 
 pub returns-in-Err-read_all-clause-topics_hold : goal.returns-in-Err-read_all-clause-topics_hold
 returns-in-Err-read_all-clause-topics_hold g c = λ bytes told is. absurd (input_holds c.in-Err-read_all.error c.from.result c.from.ensures Topics (let t = is in cc))
 
 pub returns-in-Err-read_all-clause-topics_asked : goal.returns-in-Err-read_all-clause-topics_asked
-returns-in-Err-read_all-clause-topics_asked g c = λ unwritten. asked_at g.T.Disk.seen g.T.Disk.may_leave g.T.Disk.faults Topics c.args.topics _ c.from.result (input_disk c.in-Err-read_all.error c.from.result c.from.ensures Topics) c.in-Ok.ensures.topics
+returns-in-Err-read_all-clause-topics_asked g c = λ unwritten. asked_at g.T.Disk Topics c.args.disks.topics _ c.from.result (input_disk c.in-Err-read_all.error c.from.result c.from.ensures Topics) c.in-Ok.ensures.topics
 
 pub returns-in-Err-read_all-clause-topics_leaves : goal.returns-in-Err-read_all-clause-topics_leaves
-returns-in-Err-read_all-clause-topics_leaves g c = leaves_at g.T.Disk.seen g.T.Disk.may_leave g.T.Disk.faults Topics c.args.topics _ c.from.result (input_disk c.in-Err-read_all.error c.from.result c.from.ensures Topics) c.in-Ok.ensures.topics
+returns-in-Err-read_all-clause-topics_leaves g c = leaves_at g.T.Disk Topics c.args.disks.topics _ c.from.result (input_disk c.in-Err-read_all.error c.from.result c.from.ensures Topics) c.in-Ok.ensures.topics
 
 pub returns-in-Err-read_all-clause-offsets_hold : goal.returns-in-Err-read_all-clause-offsets_hold
 returns-in-Err-read_all-clause-offsets_hold g c = λ bytes told is. absurd (input_holds c.in-Err-read_all.error c.from.result c.from.ensures Offsets (let t = is in cc))
 
 pub returns-in-Err-read_all-clause-offsets_asked : goal.returns-in-Err-read_all-clause-offsets_asked
-returns-in-Err-read_all-clause-offsets_asked g c = λ unwritten. asked_at g.F.Disk.seen g.F.Disk.may_leave g.F.Disk.faults Offsets c.args.offsets _ c.from.result (input_disk c.in-Err-read_all.error c.from.result c.from.ensures Offsets) c.in-Ok.ensures.offsets
+returns-in-Err-read_all-clause-offsets_asked g c = λ unwritten. asked_at g.F.Disk Offsets c.args.disks.offsets _ c.from.result (input_disk c.in-Err-read_all.error c.from.result c.from.ensures Offsets) c.in-Ok.ensures.offsets
 
 pub returns-in-Err-read_all-clause-offsets_leaves : goal.returns-in-Err-read_all-clause-offsets_leaves
-returns-in-Err-read_all-clause-offsets_leaves g c = leaves_at g.F.Disk.seen g.F.Disk.may_leave g.F.Disk.faults Offsets c.args.offsets _ c.from.result (input_disk c.in-Err-read_all.error c.from.result c.from.ensures Offsets) c.in-Ok.ensures.offsets
+returns-in-Err-read_all-clause-offsets_leaves g c = leaves_at g.F.Disk Offsets c.args.disks.offsets _ c.from.result (input_disk c.in-Err-read_all.error c.from.result c.from.ensures Offsets) c.in-Ok.ensures.offsets
 
 -- ---- the stores
 
@@ -147,55 +147,55 @@ pub returns-in-Ok-read_all-clause-input_failed : goal.returns-in-Ok-read_all-cla
 returns-in-Ok-read_all-clause-input_failed g c = λ is. absurd (make_input c.as_slice.result.now c.make_all.result.end c.make_all.ensures.refused is)
 
 pub returns-in-Ok-read_all-clause-unwritten : goal.returns-in-Ok-read_all-clause-unwritten
-returns-in-Ok-read_all-clause-unwritten g c = λ held. absurd (some_held (none_held g.W.Disk.seen g.W.Disk.may_leave g.W.Disk.faults Wal c.args.wal _ c.in-Ok.ensures.wal) (none_held g.T.Disk.seen g.T.Disk.may_leave g.T.Disk.faults Topics c.args.topics _ c.in-Ok.ensures.topics) (none_held g.F.Disk.seen g.F.Disk.may_leave g.F.Disk.faults Offsets c.args.offsets _ c.in-Ok.ensures.offsets) held)
+returns-in-Ok-read_all-clause-unwritten g c = λ held. absurd (some_held (none_held g.W.Disk Wal c.args.disks.wal _ c.in-Ok.ensures.wal) (none_held g.T.Disk Topics c.args.disks.topics _ c.in-Ok.ensures.topics) (none_held g.F.Disk Offsets c.args.disks.offsets _ c.in-Ok.ensures.offsets) held)
 
 pub returns-in-Ok-read_all-clause-wal_made : goal.returns-in-Ok-read_all-clause-wal_made
 returns-in-Ok-read_all-clause-wal_made g c = λ bytes before told was.
     let same : c.as_slice.result.now ≡ bytes = c.as_slice.ensures.value ∙ c.items.ensures ∙ c.in-Ok-read_all.ensures.all bytes told in
-    subst (λ (l : List _). OnOk c.make_all.result.end (HasStoredBytes g.W.Disk.seen g.W.Disk.may_leave (IsFreshWal l) c.make_all.result.wal)) same
-    (made_end g.W.Disk.seen g.W.Disk.may_leave g.W.Disk.faults Wal c.args.wal _ (IsFreshWal c.as_slice.result.now) c.make_all.result.end _ c.in-Ok.ensures.wal c.make_all.ensures.wal before was)
+    subst (λ (l : List _). OnOk c.make_all.result.end (HasStoredBytes g.W.Disk (IsFreshWal l) c.make_all.result.disks.wal)) same
+    (made_end g.W.Disk Wal c.args.disks.wal _ (IsFreshWal c.as_slice.result.now) c.make_all.result.end _ c.in-Ok.ensures.wal c.make_all.ensures.wal before was)
 
 pub returns-in-Ok-read_all-clause-wal_empty : goal.returns-in-Ok-read_all-clause-wal_empty
-returns-in-Ok-read_all-clause-wal_empty g c = λ bytes told. empty_end g.W.Disk.seen g.W.Disk.may_leave g.W.Disk.faults Wal c.args.wal _ (IsFreshWal c.as_slice.result.now) c.make_all.result.end _ c.in-Ok.ensures.wal c.make_all.ensures.wal bytes told
+returns-in-Ok-read_all-clause-wal_empty g c = λ bytes told. empty_end g.W.Disk Wal c.args.disks.wal _ (IsFreshWal c.as_slice.result.now) c.make_all.result.end _ c.in-Ok.ensures.wal c.make_all.ensures.wal bytes told
 
 pub returns-in-Ok-read_all-clause-wal_holds : goal.returns-in-Ok-read_all-clause-wal_holds
 returns-in-Ok-read_all-clause-wal_holds g c = λ bytes told is. absurd (make_holds c.as_slice.result.now c.make_all.result.end Wal c.make_all.ensures.refused is)
 
 pub returns-in-Ok-read_all-clause-wal_asked : goal.returns-in-Ok-read_all-clause-wal_asked
-returns-in-Ok-read_all-clause-wal_asked g c = λ unwritten. asked_end g.W.Disk.seen g.W.Disk.may_leave g.W.Disk.faults Wal c.args.wal _ (IsFreshWal c.as_slice.result.now) c.make_all.result.end _ c.in-Ok.ensures.wal c.make_all.ensures.wal (λ un is. subst (EndsBeforeWriting Wal) is un) unwritten
+returns-in-Ok-read_all-clause-wal_asked g c = λ unwritten. asked_end g.W.Disk Wal c.args.disks.wal _ (IsFreshWal c.as_slice.result.now) c.make_all.result.end _ c.in-Ok.ensures.wal c.make_all.ensures.wal (λ un is. subst (EndsBeforeWriting Wal) is un) unwritten
 
 pub returns-in-Ok-read_all-clause-wal_leaves : goal.returns-in-Ok-read_all-clause-wal_leaves
-returns-in-Ok-read_all-clause-wal_leaves g c = leaves_end g.W.Disk.seen g.W.Disk.may_leave g.W.Disk.faults Wal c.args.wal _ (IsFreshWal c.as_slice.result.now) c.make_all.result.end _ c.in-Ok.ensures.wal c.make_all.ensures.wal
+returns-in-Ok-read_all-clause-wal_leaves g c = leaves_end g.W.Disk Wal c.args.disks.wal _ (IsFreshWal c.as_slice.result.now) c.make_all.result.end _ c.in-Ok.ensures.wal c.make_all.ensures.wal
 
 pub returns-in-Ok-read_all-clause-topics_empty : goal.returns-in-Ok-read_all-clause-topics_empty
-returns-in-Ok-read_all-clause-topics_empty g c = λ bytes told. empty_end g.T.Disk.seen g.T.Disk.may_leave g.T.Disk.faults Topics c.args.topics _ IsEmptyLog c.make_all.result.end _ c.in-Ok.ensures.topics c.make_all.ensures.topics bytes told
+returns-in-Ok-read_all-clause-topics_empty g c = λ bytes told. empty_end g.T.Disk Topics c.args.disks.topics _ IsEmptyLog c.make_all.result.end _ c.in-Ok.ensures.topics c.make_all.ensures.topics bytes told
 
 pub returns-in-Ok-read_all-clause-topics_hold : goal.returns-in-Ok-read_all-clause-topics_hold
 returns-in-Ok-read_all-clause-topics_hold g c = λ bytes told is. absurd (make_holds c.as_slice.result.now c.make_all.result.end Topics c.make_all.ensures.refused is)
 
 pub returns-in-Ok-read_all-clause-topics_made : goal.returns-in-Ok-read_all-clause-topics_made
-returns-in-Ok-read_all-clause-topics_made g c = λ before told. made_end g.T.Disk.seen g.T.Disk.may_leave g.T.Disk.faults Topics c.args.topics _ IsEmptyLog c.make_all.result.end _ c.in-Ok.ensures.topics c.make_all.ensures.topics before told
+returns-in-Ok-read_all-clause-topics_made g c = λ before told. made_end g.T.Disk Topics c.args.disks.topics _ IsEmptyLog c.make_all.result.end _ c.in-Ok.ensures.topics c.make_all.ensures.topics before told
 
 pub returns-in-Ok-read_all-clause-topics_asked : goal.returns-in-Ok-read_all-clause-topics_asked
-returns-in-Ok-read_all-clause-topics_asked g c = λ unwritten. asked_end g.T.Disk.seen g.T.Disk.may_leave g.T.Disk.faults Topics c.args.topics _ IsEmptyLog c.make_all.result.end _ c.in-Ok.ensures.topics c.make_all.ensures.topics (λ un is. subst (EndsBeforeWriting Topics) is un) unwritten
+returns-in-Ok-read_all-clause-topics_asked g c = λ unwritten. asked_end g.T.Disk Topics c.args.disks.topics _ IsEmptyLog c.make_all.result.end _ c.in-Ok.ensures.topics c.make_all.ensures.topics (λ un is. subst (EndsBeforeWriting Topics) is un) unwritten
 
 pub returns-in-Ok-read_all-clause-topics_leaves : goal.returns-in-Ok-read_all-clause-topics_leaves
-returns-in-Ok-read_all-clause-topics_leaves g c = leaves_end g.T.Disk.seen g.T.Disk.may_leave g.T.Disk.faults Topics c.args.topics _ IsEmptyLog c.make_all.result.end _ c.in-Ok.ensures.topics c.make_all.ensures.topics
+returns-in-Ok-read_all-clause-topics_leaves g c = leaves_end g.T.Disk Topics c.args.disks.topics _ IsEmptyLog c.make_all.result.end _ c.in-Ok.ensures.topics c.make_all.ensures.topics
 
 pub returns-in-Ok-read_all-clause-offsets_empty : goal.returns-in-Ok-read_all-clause-offsets_empty
-returns-in-Ok-read_all-clause-offsets_empty g c = λ bytes told. empty_end g.F.Disk.seen g.F.Disk.may_leave g.F.Disk.faults Offsets c.args.offsets _ IsEmptyStore c.make_all.result.end _ c.in-Ok.ensures.offsets c.make_all.ensures.offsets bytes told
+returns-in-Ok-read_all-clause-offsets_empty g c = λ bytes told. empty_end g.F.Disk Offsets c.args.disks.offsets _ IsEmptyStore c.make_all.result.end _ c.in-Ok.ensures.offsets c.make_all.ensures.offsets bytes told
 
 pub returns-in-Ok-read_all-clause-offsets_hold : goal.returns-in-Ok-read_all-clause-offsets_hold
 returns-in-Ok-read_all-clause-offsets_hold g c = λ bytes told is. absurd (make_holds c.as_slice.result.now c.make_all.result.end Offsets c.make_all.ensures.refused is)
 
 pub returns-in-Ok-read_all-clause-offsets_made : goal.returns-in-Ok-read_all-clause-offsets_made
-returns-in-Ok-read_all-clause-offsets_made g c = λ before told. made_end g.F.Disk.seen g.F.Disk.may_leave g.F.Disk.faults Offsets c.args.offsets _ IsEmptyStore c.make_all.result.end _ c.in-Ok.ensures.offsets c.make_all.ensures.offsets before told
+returns-in-Ok-read_all-clause-offsets_made g c = λ before told. made_end g.F.Disk Offsets c.args.disks.offsets _ IsEmptyStore c.make_all.result.end _ c.in-Ok.ensures.offsets c.make_all.ensures.offsets before told
 
 pub returns-in-Ok-read_all-clause-offsets_asked : goal.returns-in-Ok-read_all-clause-offsets_asked
-returns-in-Ok-read_all-clause-offsets_asked g c = λ unwritten. asked_end g.F.Disk.seen g.F.Disk.may_leave g.F.Disk.faults Offsets c.args.offsets _ IsEmptyStore c.make_all.result.end _ c.in-Ok.ensures.offsets c.make_all.ensures.offsets (λ un is. subst (EndsBeforeWriting Offsets) is un) unwritten
+returns-in-Ok-read_all-clause-offsets_asked g c = λ unwritten. asked_end g.F.Disk Offsets c.args.disks.offsets _ IsEmptyStore c.make_all.result.end _ c.in-Ok.ensures.offsets c.make_all.ensures.offsets (λ un is. subst (EndsBeforeWriting Offsets) is un) unwritten
 
 pub returns-in-Ok-read_all-clause-offsets_leaves : goal.returns-in-Ok-read_all-clause-offsets_leaves
-returns-in-Ok-read_all-clause-offsets_leaves g c = leaves_end g.F.Disk.seen g.F.Disk.may_leave g.F.Disk.faults Offsets c.args.offsets _ IsEmptyStore c.make_all.result.end _ c.in-Ok.ensures.offsets c.make_all.ensures.offsets
+returns-in-Ok-read_all-clause-offsets_leaves g c = leaves_end g.F.Disk Offsets c.args.disks.offsets _ IsEmptyStore c.make_all.result.end _ c.in-Ok.ensures.offsets c.make_all.ensures.offsets
 
 -- ---- the offset's disk failed
 
@@ -210,7 +210,7 @@ returns-in-Ok-read_all-clause-torn g c = λ bytes told w t is.
     let same : c.as_slice.result.now ≡ bytes = c.as_slice.ensures.value ∙ c.items.ensures ∙ c.in-Ok-read_all.ensures.all bytes told in
     let torn = c.make_all.ensures.torn (c.in-Ok.ensures.wal.asked.same ∙ w) (c.in-Ok.ensures.topics.asked.same ∙ t) is in
     inr (record {
-      wal_made = subst (λ (l : List _). HasStoredBytes g.W.Disk.seen g.W.Disk.may_leave (IsFreshWal l) c.make_all.result.wal) same torn.wal_made;
+      wal_made = subst (λ (l : List _). HasStoredBytes g.W.Disk (IsFreshWal l) c.make_all.result.disks.wal) same torn.wal_made;
       topics_made = torn.topics_made;
       offsets_torn = λ crashed may. (let before = torn.offsets_torn crashed may in (before.0, c.in-Ok.ensures.offsets.asked.crash before.0 before.1, before.2));
     })

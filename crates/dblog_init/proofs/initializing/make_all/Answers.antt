@@ -7,19 +7,19 @@ use Rattle.dblog_init.proofs.TurnLemmas.{err_with, makes_skipped, makes_through,
 use Rattle.dblog_init.proofs.initializing.make_all.Goals as goal
 
 pub returns-then-is_err-clause-topics : goal.returns-then-is_err-clause-topics
-returns-then-is_err-clause-topics g c = makes_skipped g.T.Disk.seen g.T.Disk.may_leave g.T.Disk.faults Topics IsEmptyLog c.make_wal-wal.result.1 (sym c.is_err.ensures.value ∙ c.if-is_err.true) (wal_spares c.args.workload.now Topics (λ is. cc) c.make_wal-wal.result.1 c.make_wal-wal.ensures.refused) c.args.topics
+returns-then-is_err-clause-topics g c = makes_skipped g.T.Disk Topics IsEmptyLog c.make_wal-wal.result.1 (sym c.is_err.ensures.value ∙ c.if-is_err.true) (wal_spares c.args.workload.now Topics (λ is. cc) c.make_wal-wal.result.1 c.make_wal-wal.ensures.refused) c.args.disks.topics
 
 pub returns-then-is_err-clause-offsets : goal.returns-then-is_err-clause-offsets
-returns-then-is_err-clause-offsets g c = makes_skipped g.F.Disk.seen g.F.Disk.may_leave g.F.Disk.faults Offsets IsEmptyStore c.make_wal-wal.result.1 (sym c.is_err.ensures.value ∙ c.if-is_err.true) (wal_spares c.args.workload.now Offsets (λ is. cc) c.make_wal-wal.result.1 c.make_wal-wal.ensures.refused) c.args.offsets
+returns-then-is_err-clause-offsets g c = makes_skipped g.F.Disk Offsets IsEmptyStore c.make_wal-wal.result.1 (sym c.is_err.ensures.value ∙ c.if-is_err.true) (wal_spares c.args.workload.now Offsets (λ is. cc) c.make_wal-wal.result.1 c.make_wal-wal.ensures.refused) c.args.disks.offsets
 
 pub returns-then-is_err-clause-refused : goal.returns-then-is_err-clause-refused
 returns-then-is_err-clause-refused g c = wal_end c.args.workload.now c.make_wal-wal.result.1 c.make_wal-wal.ensures.refused
 
 pub returns-then-is_err-2-clause-wal : goal.returns-then-is_err-2-clause-wal
-returns-then-is_err-2-clause-wal g c = makes_through g.W.Disk.seen g.W.Disk.may_leave g.W.Disk.faults Wal (IsFreshWal c.args.workload.now) Topics (λ is. cc) (λ no. no) c.make_wal-wal.result.1 c.make_topics-topics.result.1 (sym c.is_err.ensures.value ∙ c.if-is_err.false) c.make_topics-topics.ensures.kinds c.args.wal _ c.make_wal-wal.ensures.makes
+returns-then-is_err-2-clause-wal g c = makes_through g.W.Disk Wal (IsFreshWal c.args.workload.now) Topics (λ is. cc) (λ no. no) c.make_wal-wal.result.1 c.make_topics-topics.result.1 (sym c.is_err.ensures.value ∙ c.if-is_err.false) c.make_topics-topics.ensures.kinds c.args.disks.wal _ c.make_wal-wal.ensures.makes
 
 pub returns-then-is_err-2-clause-offsets : goal.returns-then-is_err-2-clause-offsets
-returns-then-is_err-2-clause-offsets g c = makes_skipped g.F.Disk.seen g.F.Disk.may_leave g.F.Disk.faults Offsets IsEmptyStore c.make_topics-topics.result.1 (sym c.is_err-2.ensures.value ∙ c.if-is_err-2.true) (other_spares Topics Offsets (λ is. cc) c.make_topics-topics.result.1 c.make_topics-topics.ensures.kinds) c.args.offsets
+returns-then-is_err-2-clause-offsets g c = makes_skipped g.F.Disk Offsets IsEmptyStore c.make_topics-topics.result.1 (sym c.is_err-2.ensures.value ∙ c.if-is_err-2.true) (other_spares Topics Offsets (λ is. cc) c.make_topics-topics.result.1 c.make_topics-topics.ensures.kinds) c.args.disks.offsets
 
 pub returns-then-is_err-2-clause-refused : goal.returns-then-is_err-2-clause-refused
 returns-then-is_err-2-clause-refused g c = other_end c.args.workload.now Topics c.make_topics-topics.result.1 c.make_topics-topics.ensures.kinds
@@ -28,10 +28,10 @@ pub returns-then-is_err-2-clause-workload : goal.returns-then-is_err-2-clause-wo
 returns-then-is_err-2-clause-workload g c = workload_end _ c.make_wal-wal.result.1 c.make_topics-topics.result.1 (sym c.is_err.ensures.value ∙ c.if-is_err.false) c.make_wal-wal.ensures.workload
 
 pub returns-clause-wal : goal.returns-clause-wal
-returns-clause-wal g c = makes_through g.W.Disk.seen g.W.Disk.may_leave g.W.Disk.faults Wal (IsFreshWal c.args.workload.now) Offsets (λ is. cc) (λ no. no) c.make_wal-wal.result.1 c.make_offsets-offsets.result.1 (sym c.is_err.ensures.value ∙ c.if-is_err.false) c.make_offsets-offsets.ensures.kinds c.args.wal _ c.make_wal-wal.ensures.makes
+returns-clause-wal g c = makes_through g.W.Disk Wal (IsFreshWal c.args.workload.now) Offsets (λ is. cc) (λ no. no) c.make_wal-wal.result.1 c.make_offsets-offsets.result.1 (sym c.is_err.ensures.value ∙ c.if-is_err.false) c.make_offsets-offsets.ensures.kinds c.args.disks.wal _ c.make_wal-wal.ensures.makes
 
 pub returns-clause-topics : goal.returns-clause-topics
-returns-clause-topics g c = makes_through g.T.Disk.seen g.T.Disk.may_leave g.T.Disk.faults Topics IsEmptyLog Offsets (λ is. cc) (λ no. no) c.make_topics-topics.result.1 c.make_offsets-offsets.result.1 (sym c.is_err-2.ensures.value ∙ c.if-is_err-2.false) c.make_offsets-offsets.ensures.kinds c.args.topics _ c.make_topics-topics.ensures.makes
+returns-clause-topics g c = makes_through g.T.Disk Topics IsEmptyLog Offsets (λ is. cc) (λ no. no) c.make_topics-topics.result.1 c.make_offsets-offsets.result.1 (sym c.is_err-2.ensures.value ∙ c.if-is_err-2.false) c.make_offsets-offsets.ensures.kinds c.args.disks.topics _ c.make_topics-topics.ensures.makes
 
 pub returns-clause-refused : goal.returns-clause-refused
 returns-clause-refused g c = other_end c.args.workload.now Offsets c.make_offsets-offsets.result.1 c.make_offsets-offsets.ensures.kinds

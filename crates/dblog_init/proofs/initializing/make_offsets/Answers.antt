@@ -8,11 +8,11 @@ use Rattle.dblog_init.proofs.initializing.make_offsets.Goals as goal
 
 pub returns-in-Ok-clause-makes : goal.returns-in-Ok-clause-makes
 returns-in-Ok-clause-makes g c = record {
-  made = λ told. stored_offset g.D.Disk.seen g.D.Disk.may_leave c.into_disk.result _ (c.in-Ok.ensures.made told) c.into_disk.ensures;
+  made = λ told. stored_offset g.D.Disk c.into_disk.result _ (c.in-Ok.ensures.made told) c.into_disk.ensures;
   untouched = λ no. absurd no;
   leaves =
-      subst (λ (d : g.row.D.Denot). LeavesDisk g.D.Disk.seen g.D.Disk.faults Offsets _ c.args.disk d) (sym c.into_disk.ensures)
-      (leaves_none g.D.Disk.seen g.D.Disk.faults Offsets _ c.args.disk _ c.requires c.in-Ok.ensures.makes.later (λ is. let t = is in cc) (λ no. c.in-Ok.ensures.makes.steady (λ never. never)) c.in-Ok.ensures.makes.small);
+      subst (λ (d : g.row.D.Denot). LeavesDisk g.D.Disk Offsets _ c.args.disk d) (sym c.into_disk.ensures)
+      (leaves_none g.D.Disk Offsets _ c.args.disk _ c.requires c.in-Ok.ensures.makes.later (λ is. let t = is in cc) (λ no. c.in-Ok.ensures.makes.steady (λ never. never)) c.in-Ok.ensures.makes.small);
 }
 
 pub returns-in-Err-clause-kinds : goal.returns-in-Err-clause-kinds
@@ -25,7 +25,7 @@ returns-in-Err-clause-makes g c =
       made = λ told. tt;
       untouched = λ unwritten. absurd (subst (λ (e : InitError). EndsBeforeWriting Offsets (Err e)) is unwritten);
       leaves =
-          leaves_none g.D.Disk.seen g.D.Disk.faults Offsets _ c.args.disk _ c.requires c.in-Err.ensures.makes.later (λ failed. c.in-Err.ensures.makes.cause c.in-Err.ensures.refused)
+          leaves_none g.D.Disk Offsets _ c.args.disk _ c.requires c.in-Err.ensures.makes.later (λ failed. c.in-Err.ensures.makes.cause c.in-Err.ensures.refused)
           (λ no. absurd (no (ap (λ (e : InitError). Err e) is))) c.in-Err.ensures.makes.small;
     }
 

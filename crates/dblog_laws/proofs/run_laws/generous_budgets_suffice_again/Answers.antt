@@ -2,4 +2,4 @@ use Rattle.dblog_laws.proofs.AgainLaws.{generous_budgets_suffice_again}
 use Rattle.dblog_laws.proofs.run_laws.generous_budgets_suffice_again.Goals as goal
 
 pub returns : goal.returns
-returns g c = λ wal new_wal topics new_topics offsets new_offsets. generous_budgets_suffice_again (g.W.Disk.may_leave wal) (g.T.Disk.may_leave topics) (g.F.Disk.may_leave offsets) (g.W.Disk.may_leave new_wal) (g.T.Disk.may_leave new_topics) (g.F.Disk.may_leave new_offsets)
+returns g c = λ old new. generous_budgets_suffice_again (g.W.Disk.may_leave old.wal) (g.T.Disk.may_leave old.topics) (g.F.Disk.may_leave old.offsets) (g.W.Disk.may_leave new.wal) (g.T.Disk.may_leave new.topics) (g.F.Disk.may_leave new.offsets)

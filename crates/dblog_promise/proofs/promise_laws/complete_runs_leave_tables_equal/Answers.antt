@@ -2,4 +2,4 @@ use Rattle.dblog_promise.proofs.WholeLaws.{complete_runs_leave_tables_equal}
 use Rattle.dblog_promise.proofs.promise_laws.complete_runs_leave_tables_equal.Goals as goal
 
 pub returns : goal.returns
-returns g c = complete_runs_leave_tables_equal g.D.Disk.seen g.D.Disk.may_leave
+returns g c = complete_runs_leave_tables_equal g.D.Disk

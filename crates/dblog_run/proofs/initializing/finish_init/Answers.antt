@@ -1,4 +1,5 @@
 use Rattle.std.proofs.Common.{refl, sym, subst}
+use Rattle.dbl_lines.specs.declared.status.Status.TheVariants.{Done}
 use Rattle.dblog_init.specs.Answers.{InitEnd}
 use Rattle.dblog_run.specs.Inits.{FinishesInit}
 use Rattle.dblog_run.proofs.initializing.finish_init.Goals as goal
@@ -6,7 +7,7 @@ use Rattle.dblog_run.proofs.initializing.finish_init.Goals as goal
 pub returns-in-Ok-clause-finishes : goal.returns-in-Ok-clause-finishes
 returns-in-Ok-clause-finishes g c =
     let before = g.O.Output.written c.args.output.now in
-    subst (λ (end : InitEnd). FinishesInit end 0 before before) (sym c.in-Ok.is) (refl, refl)
+    subst (λ (end : InitEnd). FinishesInit end Done before before) (sym c.in-Ok.is) (refl, refl)
 
 pub returns-in-Err-clause-finishes : goal.returns-in-Err-clause-finishes
 returns-in-Err-clause-finishes g c =

@@ -7,7 +7,7 @@ use Rattle.dblog_run.proofs.initializing.run_init.Goals as goal
 pub returns-clause-told : goal.returns-clause-told
 returns-clause-told g c = λ given input wal topics offsets.
     let begun = c.init-begun.result in
-    init_run given (FaultCounted (g.T.Disk.faults c.args.topics) (g.T.Disk.faults begun.topics)) (FaultCounted (g.F.Disk.faults c.args.offsets) (g.F.Disk.faults begun.offsets)) _ _ _ _ c.finish_init.result _ _ begun.end
+    init_run given (FaultCounted (g.T.Disk.faults c.args.disks.topics) (g.T.Disk.faults begun.disks.topics)) (FaultCounted (g.F.Disk.faults c.args.disks.offsets) (g.F.Disk.faults begun.disks.offsets)) _ _ _ _ c.finish_init.result _ _ begun.end
     c.init-begun.ensures.input_failed c.init-begun.ensures.wal_leaves.cause c.init-begun.ensures.topics_leaves.cause c.init-begun.ensures.offsets_leaves.cause
     (c.init-begun.ensures.told given input wal topics offsets) c.finish_init.ensures.finishes
 
@@ -33,16 +33,16 @@ returns-clause-offsets_made g c = λ before told. made_end c.init-begun.result.e
 pub returns-clause-full_stay : goal.returns-clause-full_stay
 returns-clause-full_stay g c = λ held.
     let stay = c.init-begun.ensures.unwritten held in
-    (untouched g.W.Disk.seen g.W.Disk.may_leave g.W.Disk.faults Wal _ _ _ stay.0, (untouched g.T.Disk.seen g.T.Disk.may_leave g.T.Disk.faults Topics _ _ _ stay.1.0, untouched g.F.Disk.seen g.F.Disk.may_leave g.F.Disk.faults Offsets _ _ _ stay.1.1))
+    (untouched g.W.Disk Wal _ _ _ stay.0, (untouched g.T.Disk Topics _ _ _ stay.1.0, untouched g.F.Disk Offsets _ _ _ stay.1.1))
 
 pub returns-clause-wal_left : goal.returns-clause-wal_left
-returns-clause-wal_left g c = init_left c.init-begun.result.end c.finish_init.result _ _ c.finish_init.ensures.finishes g.W.Disk.seen g.W.Disk.may_leave g.W.Disk.faults Wal _ _ c.init-begun.ensures.wal_asked c.init-begun.ensures.wal_leaves
+returns-clause-wal_left g c = init_left c.init-begun.result.end c.finish_init.result _ _ c.finish_init.ensures.finishes g.W.Disk Wal _ _ c.init-begun.ensures.wal_asked c.init-begun.ensures.wal_leaves
 
 pub returns-clause-topics_left : goal.returns-clause-topics_left
-returns-clause-topics_left g c = init_left c.init-begun.result.end c.finish_init.result _ _ c.finish_init.ensures.finishes g.T.Disk.seen g.T.Disk.may_leave g.T.Disk.faults Topics _ _ c.init-begun.ensures.topics_asked c.init-begun.ensures.topics_leaves
+returns-clause-topics_left g c = init_left c.init-begun.result.end c.finish_init.result _ _ c.finish_init.ensures.finishes g.T.Disk Topics _ _ c.init-begun.ensures.topics_asked c.init-begun.ensures.topics_leaves
 
 pub returns-clause-offsets_left : goal.returns-clause-offsets_left
-returns-clause-offsets_left g c = init_left c.init-begun.result.end c.finish_init.result _ _ c.finish_init.ensures.finishes g.F.Disk.seen g.F.Disk.may_leave g.F.Disk.faults Offsets _ _ c.init-begun.ensures.offsets_asked c.init-begun.ensures.offsets_leaves
+returns-clause-offsets_left g c = init_left c.init-begun.result.end c.finish_init.result _ _ c.finish_init.ensures.finishes g.F.Disk Offsets _ _ c.init-begun.ensures.offsets_asked c.init-begun.ensures.offsets_leaves
 
 pub returns-clause-input_failed : goal.returns-clause-input_failed
 returns-clause-input_failed g c = λ is. c.init-begun.ensures.input_failed (input_end c.init-begun.result.end c.finish_init.result _ _ c.finish_init.ensures.finishes is)

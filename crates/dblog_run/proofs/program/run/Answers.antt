@@ -7,7 +7,7 @@ use Rattle.dblog_capture.specs.Connect.Promise.Headline.{GuaranteesAfterCrash}
 use Rattle.dblog_run.specs.Inits.{FailsSource}
 use Rattle.dblog_init.specs.declared.error.InitError.TheVariants as init
 use Rattle.dbl_gen.specs.Workload.{workload}
-use Rattle.dblog_capture.specs.Runs.{RunsSession}
+use Rattle.dblog_capture.specs.Runs.{RunsSessionOn}
 use Rattle.dblog_capture.specs.Generated.{EndsGenerated}
 use Rattle.dblog_capture.proofs.Fresh.{made_kept}
 use Rattle.dblog_run.specs.Sessions.{IsCompleteRun, asked_by, asks_by}
@@ -24,6 +24,7 @@ use Rattle.dblog_run.proofs.SessionLemmas.{memory_session}
 use Rattle.dblog_run.proofs.StoreRunLemmas.{opened_by}
 use Rattle.dblog_run.proofs.StatusLemmas.{memory_no_offsets, memory_no_topics, memory_no_wal, no_offsets, no_topics, offsets_whole, refused_unread, told_offsets, topics_whole, unused_offsets, topics_fail, offsets_fail, unused_topics, usage_no_offsets, usage_no_topics, usage_no_wal, wal_fails}
 use Rattle.dblog_run.proofs.program.run.Goals as goal
+use Rattle.dbl_lines.specs.declared.status.Status.TheVariants.{Done}
 use Rattle.dbl_lines.proofs.SayLemmas.{cut_other}
 
 -- ---- a command was spelled
@@ -37,16 +38,16 @@ returns-in-Ok-clause-told g c = λ given none tell.
     let left = c.run_command.result in
     let k = c.in-Ok.command in
     let spells = c.in-Ok.ensures.spelled in
-    let topics : Type 0 = FaultCounted (g.T.Disk.faults c.args.topics) (g.T.Disk.faults left.topics) in
-    let offsets : Type 0 = FaultCounted (g.F.Disk.faults c.args.offsets) (g.F.Disk.faults left.offsets) in
-    let wal = g.W.Disk.faults c.args.wal in
-    let now_wal = g.W.Disk.faults left.wal in
+    let topics : Type 0 = FaultCounted (g.T.Disk.faults c.args.disks.topics) (g.T.Disk.faults left.disks.topics) in
+    let offsets : Type 0 = FaultCounted (g.F.Disk.faults c.args.disks.offsets) (g.F.Disk.faults left.disks.offsets) in
+    let wal = g.W.Disk.faults c.args.disks.wal in
+    let now_wal = g.W.Disk.faults left.disks.wal in
     let few : Store → Type 0 = OfDisk ((uses_topics k ≡ true) × topics) ((uses_offsets k ≡ true) × offsets) in
     let failed : Store → Type 0 = OfDisk (SpellSome c.args.words.now.items uses_topics × topics) (SpellSome c.args.words.now.items uses_offsets × offsets) in
-    let fails : Type 0 = ((reads k ≡ true) × FailsReading was later left.status before after) ⊎ ((makes k ≡ true) × FailsSource wal now_wal left.status before after) in
-    spelled_or_fails _ c.args.now_ms given failed was later wal now_wal left.status before after k spells
-    (wider_or_fails k c.args.now_ms given few failed left.status before after fails (opened_by _ _ _ _ topics offsets (λ opens. (k, spells, opens)) (λ opens. (k, spells, opens)))
-    (subst (λ (m : ℤ). RunsCommand k m given few left.status before after ⊎ fails) (to_z-of_z c.ranges.now_ms) (c.run_command.ensures.told given (none k spells) (tell k spells))))
+    let fails : Type 0 = ((reads k ≡ true) × FailsReading was later left.end before after) ⊎ ((makes k ≡ true) × FailsSource wal now_wal left.end before after) in
+    spelled_or_fails _ c.args.now_ms given failed was later wal now_wal left.end before after k spells
+    (wider_or_fails k c.args.now_ms given few failed left.end before after fails (opened_by _ _ _ _ topics offsets (λ opens. (k, spells, opens)) (λ opens. (k, spells, opens)))
+    (subst (λ (m : ℤ). RunsCommand k m given few left.end before after ⊎ fails) (to_z-of_z c.ranges.now_ms) (c.run_command.ensures.told given (none k spells) (tell k spells))))
 
 pub returns-in-Ok-clause-alone : goal.returns-in-Ok-clause-alone
 returns-in-Ok-clause-alone g c = λ command answer spells alone.
@@ -54,20 +55,20 @@ returns-in-Ok-clause-alone g c = λ command answer spells alone.
 
 pub returns-in-Ok-clause-whole : goal.returns-in-Ok-clause-whole
 returns-in-Ok-clause-whole g c = λ bytes command told spells within tells.
-    c.run_command.ensures.whole bytes told within (as_spelled _ (λ (k : Command). ReportsInputStatus k c.run_command.result.status) command c.in-Ok.command spells c.in-Ok.ensures.spelled tells)
+    c.run_command.ensures.whole bytes told within (as_spelled _ (λ (k : Command). ReportsInputStatus k c.run_command.result.end) command c.in-Ok.command spells c.in-Ok.ensures.spelled tells)
 
 pub returns-in-Ok-clause-status : goal.returns-in-Ok-clause-status
 returns-in-Ok-clause-status g c = λ command spells.
-    as_spelled _ (λ (k : Command). IsStatusOf k c.run_command.result.status) c.in-Ok.command command c.in-Ok.ensures.spelled spells c.run_command.ensures.known
+    as_spelled _ (λ (k : Command). IsStatusOf k c.run_command.result.end) c.in-Ok.command command c.in-Ok.ensures.spelled spells c.run_command.ensures.known
 
 pub returns-in-Ok-clause-wal_failed : goal.returns-in-Ok-clause-wal_failed
 returns-in-Ok-clause-wal_failed g c = λ is.
-    wal_fails c.in-Ok.command c.run_command.result.status _ _ c.run_command.ensures.known (λ init. (c.run_command.ensures.wal_left init).cause)
+    wal_fails c.in-Ok.command c.run_command.result.end _ _ c.run_command.ensures.known (λ init. (c.run_command.ensures.wal_left init).cause)
     (λ asked asks. (c.run_command.ensures.connected asked asks).wal_failed) (λ number rows groups same. (c.run_command.ensures.generated number rows groups same).wal_failed) is
 
 pub returns-in-Ok-clause-refused_unread : goal.returns-in-Ok-clause-refused_unread
 returns-in-Ok-clause-refused_unread g c = λ is.
-    refused_unread _ c.in-Ok.command c.run_command.result.status c.run_command.ensures.known c.run_command.ensures.unread c.run_command.ensures.refused_unread is
+    refused_unread _ c.in-Ok.command c.run_command.result.end c.run_command.ensures.known c.run_command.ensures.unread c.run_command.ensures.refused_unread is
 
 pub returns-in-Ok-clause-unopened : goal.returns-in-Ok-clause-unopened
 returns-in-Ok-clause-unopened g c = λ command bytes spells opens told none.
@@ -76,15 +77,15 @@ returns-in-Ok-clause-unopened g c = λ command bytes spells opens told none.
 pub returns-in-Ok-clause-topics_read : goal.returns-in-Ok-clause-topics_read
 returns-in-Ok-clause-topics_read g c = λ none.
     let other = none c.in-Ok.command c.in-Ok.ensures.spelled in
-    read_or_not g.T.Disk.seen g.T.Disk.may_leave g.T.Disk.faults (opens_topics c.in-Ok.command) _ _ _ _
-    (λ shut. no_topics c.in-Ok.command c.run_command.result.status c.run_command.ensures.known (unused_topics c.in-Ok.command other shut))
+    read_or_not g.T.Disk (opens_topics c.in-Ok.command) _ _ _ _
+    (λ shut. no_topics c.in-Ok.command c.run_command.result.end c.run_command.ensures.known (unused_topics c.in-Ok.command other shut))
     (λ shut. c.run_command.ensures.topics_stay (unused_topics c.in-Ok.command other shut)) c.run_command.ensures.topics_read
 
 pub returns-in-Ok-clause-offsets_read : goal.returns-in-Ok-clause-offsets_read
 returns-in-Ok-clause-offsets_read g c = λ none.
     let other = none c.in-Ok.command c.in-Ok.ensures.spelled in
-    read_or_not g.F.Disk.seen g.F.Disk.may_leave g.F.Disk.faults (opens_offsets c.in-Ok.command) _ _ _ _
-    (λ shut. no_offsets c.in-Ok.command c.run_command.result.status c.run_command.ensures.known (unused_offsets c.in-Ok.command other shut))
+    read_or_not g.F.Disk (opens_offsets c.in-Ok.command) _ _ _ _
+    (λ shut. no_offsets c.in-Ok.command c.run_command.result.end c.run_command.ensures.known (unused_offsets c.in-Ok.command other shut))
     (λ shut. c.run_command.ensures.offsets_stay (unused_offsets c.in-Ok.command other shut)) c.run_command.ensures.offsets_read
 
 -- ---- none was
@@ -102,10 +103,10 @@ pub returns-in-Err-Usage-clause-wal_failed : goal.returns-in-Err-Usage-clause-wa
 returns-in-Err-Usage-clause-wal_failed g c = λ is. absurd (usage_no_wal c.say.result _ _ c.say.ensures.says is)
 
 pub returns-in-Err-Usage-clause-topics_read : goal.returns-in-Err-Usage-clause-topics_read
-returns-in-Err-Usage-clause-topics_read g c = λ none. not_read g.T.Disk.seen g.T.Disk.may_leave g.T.Disk.faults _ _ _ _ (usage_no_topics c.say.result _ _ c.say.ensures.says) refl
+returns-in-Err-Usage-clause-topics_read g c = λ none. not_read g.T.Disk _ _ _ _ (usage_no_topics c.say.result _ _ c.say.ensures.says) refl
 
 pub returns-in-Err-Usage-clause-offsets_read : goal.returns-in-Err-Usage-clause-offsets_read
-returns-in-Err-Usage-clause-offsets_read g c = λ none. not_read g.F.Disk.seen g.F.Disk.may_leave g.F.Disk.faults _ _ _ _ (usage_no_offsets c.say.result _ _ c.say.ensures.says) refl
+returns-in-Err-Usage-clause-offsets_read g c = λ none. not_read g.F.Disk _ _ _ _ (usage_no_offsets c.say.result _ _ c.say.ensures.says) refl
 
 -- ---- memory ran out
 
@@ -125,10 +126,10 @@ pub returns-in-Err-Memory-clause-wal_failed : goal.returns-in-Err-Memory-clause-
 returns-in-Err-Memory-clause-wal_failed g c = λ is. absurd (memory_no_wal c.say-in-Err-Memory.result _ _ c.say-in-Err-Memory.ensures.says is)
 
 pub returns-in-Err-Memory-clause-topics_read : goal.returns-in-Err-Memory-clause-topics_read
-returns-in-Err-Memory-clause-topics_read g c = λ none. not_read g.T.Disk.seen g.T.Disk.may_leave g.T.Disk.faults _ _ _ _ (memory_no_topics c.say-in-Err-Memory.result _ _ c.say-in-Err-Memory.ensures.says) refl
+returns-in-Err-Memory-clause-topics_read g c = λ none. not_read g.T.Disk _ _ _ _ (memory_no_topics c.say-in-Err-Memory.result _ _ c.say-in-Err-Memory.ensures.says) refl
 
 pub returns-in-Err-Memory-clause-offsets_read : goal.returns-in-Err-Memory-clause-offsets_read
-returns-in-Err-Memory-clause-offsets_read g c = λ none. not_read g.F.Disk.seen g.F.Disk.may_leave g.F.Disk.faults _ _ _ _ (memory_no_offsets c.say-in-Err-Memory.result _ _ c.say-in-Err-Memory.ensures.says) refl
+returns-in-Err-Memory-clause-offsets_read g c = λ none. not_read g.F.Disk _ _ _ _ (memory_no_offsets c.say-in-Err-Memory.result _ _ c.say-in-Err-Memory.ensures.says) refl
 
 -- ---- disks that were opened
 
@@ -139,7 +140,7 @@ returns-in-Ok-clause-topics_synced g c = λ command spells opens opened.
 pub returns-in-Ok-clause-offsets_synced : goal.returns-in-Ok-clause-offsets_synced
 returns-in-Ok-clause-offsets_synced g c = λ command spells opens opened.
     c.run_command.ensures.offsets_synced (as_spelled _ (λ (k : Command). opens_offsets k ≡ true) command c.in-Ok.command spells c.in-Ok.ensures.spelled opens)
-    (as_spelled _ (λ (k : Command). HasOpenedOffsets k c.run_command.result.status) command c.in-Ok.command spells c.in-Ok.ensures.spelled opened)
+    (as_spelled _ (λ (k : Command). HasOpenedOffsets k c.run_command.result.end) command c.in-Ok.command spells c.in-Ok.ensures.spelled opened)
 
 pub returns-in-Err-Usage-clause-topics_synced : goal.returns-in-Err-Usage-clause-topics_synced
 returns-in-Err-Usage-clause-topics_synced g c = λ command spells. absurd (c.in-Err-Usage.ensures.usage (ap Err c.in-Err-Usage.field-0-is) command spells)
@@ -180,7 +181,7 @@ returns-in-Ok-clause-offsets_left g c = λ spells. c.run_command.ensures.offsets
 pub returns-in-Ok-clause-full_stay : goal.returns-in-Ok-clause-full_stay
 returns-in-Ok-clause-full_stay g c = λ some.
     let left = c.run_command.result in
-    full_by g.W.Disk.seen g.W.Disk.may_leave g.W.Disk.faults g.T.Disk.seen g.T.Disk.may_leave g.T.Disk.faults g.F.Disk.seen g.F.Disk.may_leave g.F.Disk.faults c.args.wal left.wal c.args.topics left.topics c.args.offsets left.offsets c.in-Ok.command
+    full_by g.W.Disk g.T.Disk g.F.Disk c.args.disks left.disks c.in-Ok.command
     c.run_command.ensures.full_stay (λ number rows groups same. (_, (c.run_command.ensures.generated number rows groups same).full))
     (as_spelled _ (λ (k : Command). makes k ≡ true) some.0 c.in-Ok.command some.1 c.in-Ok.ensures.spelled some.2)
 
@@ -200,8 +201,7 @@ returns-in-Ok-clause-generated_kept g c = λ number rows groups spells made wal 
 pub returns-in-Ok-clause-generating : goal.returns-in-Ok-clause-generating
 returns-in-Ok-clause-generating g c = λ number rows groups spells.
     let left = c.run_command.result in
-    subst (λ (m : ℤ). EndsGenerated g.W.Disk.seen g.W.Disk.may_leave g.T.Disk.seen g.T.Disk.may_leave g.F.Disk.seen g.F.Disk.may_leave (workload number rows groups) m c.args.wal left.wal c.args.topics left.topics
-    c.args.offsets left.offsets left.status (g.O.Output.written c.args.output.now) (g.O.Output.written c.run_command.new.output)) (to_z-of_z c.ranges.now_ms)
+    subst (λ (m : ℤ). EndsGenerated g.W.Disk g.T.Disk g.F.Disk (workload number rows groups) m c.args.disks left.disks left.end (g.O.Output.written c.args.output.now) (g.O.Output.written c.run_command.new.output)) (to_z-of_z c.ranges.now_ms)
     (c.run_command.ensures.generated number rows groups (one_command _ c.in-Ok.command (command.Gen number rows groups true) c.in-Ok.ensures.spelled spells)).ends
 
 pub returns-in-Ok-clause-wal_short : goal.returns-in-Ok-clause-wal_short
@@ -243,11 +243,11 @@ returns-in-Err-Usage-clause-offsets_short g c = λ some. absurd (c.in-Err-Usage.
 -- memory ran out before a disk was touched
 pub returns-in-Err-Memory-clause-generated : goal.returns-in-Err-Memory-clause-generated
 returns-in-Err-Memory-clause-generated g c = λ number rows groups spells made.
-    absurd (unmade g.W.Disk.seen g.W.Disk.may_leave g.T.Disk.seen g.T.Disk.may_leave g.F.Disk.seen g.F.Disk.may_leave c.args.wal c.args.topics c.args.offsets (g.met.F.Disk.seen_may_be_left c.args.offsets) made)
+    absurd (unmade g.W.Disk g.T.Disk g.F.Disk c.args.disks (g.met.F.Disk.seen_may_be_left c.args.disks.offsets) made)
 
 pub returns-in-Err-Memory-clause-generated_kept : goal.returns-in-Err-Memory-clause-generated_kept
 returns-in-Err-Memory-clause-generated_kept g c = λ number rows groups spells made.
-    absurd (unmade g.W.Disk.seen g.W.Disk.may_leave g.T.Disk.seen g.T.Disk.may_leave g.F.Disk.seen g.F.Disk.may_leave c.args.wal c.args.topics c.args.offsets (g.met.F.Disk.seen_may_be_left c.args.offsets) made)
+    absurd (unmade g.W.Disk g.T.Disk g.F.Disk c.args.disks (g.met.F.Disk.seen_may_be_left c.args.disks.offsets) made)
 
 pub returns-in-Err-Memory-clause-generating : goal.returns-in-Err-Memory-clause-generating
 returns-in-Err-Memory-clause-generating g c = λ number rows groups spells.
@@ -264,24 +264,24 @@ returns-in-Err-Memory-clause-generating g c = λ number rows groups spells.
     })
 
 pub returns-in-Err-Memory-clause-wal_short : goal.returns-in-Err-Memory-clause-wal_short
-returns-in-Err-Memory-clause-wal_short g c = λ some. same_short (g.W.Disk.seen c.args.wal)
+returns-in-Err-Memory-clause-wal_short g c = λ some. same_short (g.W.Disk.seen c.args.disks.wal)
 
 pub returns-in-Err-Memory-clause-topics_short : goal.returns-in-Err-Memory-clause-topics_short
-returns-in-Err-Memory-clause-topics_short g c = λ some. same_short (g.T.Disk.seen c.args.topics)
+returns-in-Err-Memory-clause-topics_short g c = λ some. same_short (g.T.Disk.seen c.args.disks.topics)
 
 pub returns-in-Err-Memory-clause-offsets_short : goal.returns-in-Err-Memory-clause-offsets_short
-returns-in-Err-Memory-clause-offsets_short g c = λ some. same_short (g.F.Disk.seen c.args.offsets)
+returns-in-Err-Memory-clause-offsets_short g c = λ some. same_short (g.F.Disk.seen c.args.disks.offsets)
 
 -- ---- failed disks
 
 pub returns-in-Ok-clause-topics_failed : goal.returns-in-Ok-clause-topics_failed
 returns-in-Ok-clause-topics_failed g c = λ is.
-    topics_fail _ c.in-Ok.command c.run_command.result.status c.run_command.ensures.known (λ init. (c.run_command.ensures.topics_left init).cause) (λ opens. (c.run_command.ensures.topics_read opens).cause)
+    topics_fail _ c.in-Ok.command c.run_command.result.end c.run_command.ensures.known (λ init. (c.run_command.ensures.topics_left init).cause) (λ opens. (c.run_command.ensures.topics_read opens).cause)
     (λ asked asks. (c.run_command.ensures.connected asked asks).topics_failed) (λ number rows groups same. (c.run_command.ensures.generated number rows groups same).topics_failed) is
 
 pub returns-in-Ok-clause-offsets_failed : goal.returns-in-Ok-clause-offsets_failed
 returns-in-Ok-clause-offsets_failed g c = λ is.
-    offsets_fail _ c.in-Ok.command c.run_command.result.status c.run_command.ensures.known (λ init. (c.run_command.ensures.offsets_left init).cause) (λ opens. (c.run_command.ensures.offsets_read opens).cause)
+    offsets_fail _ c.in-Ok.command c.run_command.result.end c.run_command.ensures.known (λ init. (c.run_command.ensures.offsets_left init).cause) (λ opens. (c.run_command.ensures.offsets_read opens).cause)
     (λ asked asks. (c.run_command.ensures.connected asked asks).offsets_failed) (λ number rows groups same. (c.run_command.ensures.generated number rows groups same).offsets_failed) is
 
 pub returns-in-Err-Usage-clause-topics_failed : goal.returns-in-Err-Usage-clause-topics_failed
@@ -301,7 +301,7 @@ returns-in-Err-Memory-clause-offsets_failed g c = λ is. absurd (memory_no_offse
 pub returns-in-Ok-clause-made : goal.returns-in-Ok-clause-made
 returns-in-Ok-clause-made g c = λ bytes w t f spells left wal topics offsets done.
     let init = one_command _ c.in-Ok.command command.Init c.in-Ok.ensures.spelled spells in
-    made_kept g.W.Disk.seen g.W.Disk.may_leave g.T.Disk.seen g.T.Disk.may_leave g.F.Disk.seen g.F.Disk.may_leave bytes c.run_command.result.wal c.run_command.result.topics c.run_command.result.offsets
+    made_kept g.W.Disk g.T.Disk g.F.Disk bytes c.run_command.result.disks
     (c.run_command.ensures.wal_made bytes w init left wal done) (c.run_command.ensures.topics_made t init topics done) (c.run_command.ensures.offsets_made f init offsets done)
 
 -- kept disks stay so
@@ -311,9 +311,9 @@ returns-in-Ok-clause-kept g c =
     let left = c.run_command.result in
     let told = c.run_command.ensures in
     let k = c.in-Ok.command in
-    run_kept g.W.Disk.seen g.W.Disk.may_leave g.T.Disk.seen g.T.Disk.may_leave g.F.Disk.seen g.F.Disk.may_leave g.T.Disk.faults g.F.Disk.faults c.args.wal left.wal c.args.topics left.topics c.args.offsets left.offsets k left.status (λ asked is. (told.connected asked is).kept)
-    (run_stays g.W.Disk.seen g.W.Disk.may_leave g.T.Disk.seen g.T.Disk.may_leave g.F.Disk.seen g.F.Disk.may_leave g.T.Disk.faults g.F.Disk.faults c.args.wal left.wal c.args.topics left.topics c.args.offsets left.offsets k left.status
-    (g.met.W.Disk.seen_may_be_left c.args.wal) (g.met.T.Disk.seen_may_be_left c.args.topics) (g.met.F.Disk.seen_may_be_left c.args.offsets) (full_by g.W.Disk.seen g.W.Disk.may_leave g.W.Disk.faults g.T.Disk.seen g.T.Disk.may_leave g.T.Disk.faults g.F.Disk.seen g.F.Disk.may_leave g.F.Disk.faults c.args.wal left.wal c.args.topics left.topics c.args.offsets left.offsets k
+    run_kept g.W.Disk g.T.Disk g.F.Disk c.args.disks left.disks k left.end (λ asked is. (told.connected asked is).kept)
+    (run_stays g.W.Disk g.T.Disk g.F.Disk c.args.disks left.disks k left.end
+    (g.met.W.Disk.seen_may_be_left c.args.disks.wal) (g.met.T.Disk.seen_may_be_left c.args.disks.topics) (g.met.F.Disk.seen_may_be_left c.args.disks.offsets) (full_by g.W.Disk g.T.Disk g.F.Disk c.args.disks left.disks k
     told.full_stay (λ number rows groups same. (_, (told.generated number rows groups same).full))) told.wal_stays told.topics_stay told.offsets_stay told.topics_read told.offsets_read)
 
 pub returns-in-Ok-clause-headline : goal.returns-in-Ok-clause-headline
@@ -321,10 +321,10 @@ returns-in-Ok-clause-headline g c = λ command spells kept w t f may_w may_t may
     let left = c.run_command.result in
     let told = c.run_command.ensures in
     let k = c.in-Ok.command in
-    as_spelled _ (λ (d : Command). GuaranteesAfterCrash (IsCompleteRun d left.status) (asks_by d) (g.W.Disk.may_leave c.args.wal) (g.T.Disk.may_leave c.args.topics) (g.F.Disk.may_leave c.args.offsets) w t f) k command c.in-Ok.ensures.spelled spells
-    (run_promised g.W.Disk.seen g.W.Disk.may_leave g.T.Disk.seen g.T.Disk.may_leave g.F.Disk.seen g.F.Disk.may_leave g.T.Disk.faults g.F.Disk.faults c.args.wal left.wal c.args.topics left.topics c.args.offsets left.offsets k left.status (λ asked is. (told.connected asked is).headline)
-    (run_stays g.W.Disk.seen g.W.Disk.may_leave g.T.Disk.seen g.T.Disk.may_leave g.F.Disk.seen g.F.Disk.may_leave g.T.Disk.faults g.F.Disk.faults c.args.wal left.wal c.args.topics left.topics c.args.offsets left.offsets k left.status
-    (g.met.W.Disk.seen_may_be_left c.args.wal) (g.met.T.Disk.seen_may_be_left c.args.topics) (g.met.F.Disk.seen_may_be_left c.args.offsets) (full_by g.W.Disk.seen g.W.Disk.may_leave g.W.Disk.faults g.T.Disk.seen g.T.Disk.may_leave g.T.Disk.faults g.F.Disk.seen g.F.Disk.may_leave g.F.Disk.faults c.args.wal left.wal c.args.topics left.topics c.args.offsets left.offsets k
+    as_spelled _ (λ (d : Command). GuaranteesAfterCrash (IsCompleteRun d left.end) (asks_by d) (g.W.Disk.may_leave c.args.disks.wal) (g.T.Disk.may_leave c.args.disks.topics) (g.F.Disk.may_leave c.args.disks.offsets) w t f) k command c.in-Ok.ensures.spelled spells
+    (run_promised g.W.Disk g.T.Disk g.F.Disk c.args.disks left.disks k left.end (λ asked is. (told.connected asked is).headline)
+    (run_stays g.W.Disk g.T.Disk g.F.Disk c.args.disks left.disks k left.end
+    (g.met.W.Disk.seen_may_be_left c.args.disks.wal) (g.met.T.Disk.seen_may_be_left c.args.disks.topics) (g.met.F.Disk.seen_may_be_left c.args.disks.offsets) (full_by g.W.Disk g.T.Disk g.F.Disk c.args.disks left.disks k
     told.full_stay (λ number rows groups same. (_, (told.generated number rows groups same).full))) told.wal_stays told.topics_stay told.offsets_stay told.topics_read told.offsets_read)
     kept w t f may_w may_t may_f)
 
@@ -332,22 +332,21 @@ pub returns-in-Ok-clause-session : goal.returns-in-Ok-clause-session
 returns-in-Ok-clause-session g c = λ command asked spells is.
     let left = c.run_command.result in
     let mine = as_spelled _ (λ (d : Command). asked_by d ≡ Some asked) command c.in-Ok.command spells c.in-Ok.ensures.spelled is in
-    subst (λ (m : ℤ). RunsSession asked m (g.W.Disk.seen c.args.wal) (g.T.Disk.seen c.args.topics) (g.F.Disk.seen c.args.offsets) (g.W.Disk.may_leave c.args.wal) (g.T.Disk.may_leave c.args.topics) (g.F.Disk.may_leave c.args.offsets)
-    (g.W.Disk.may_leave left.wal) (g.T.Disk.may_leave left.topics) (g.F.Disk.may_leave left.offsets) left.status (g.O.Output.written c.args.output.now) (g.O.Output.written c.run_command.new.output))
+    subst (λ (m : ℤ). RunsSessionOn g.W.Disk g.T.Disk g.F.Disk asked m c.args.disks left.disks left.end (g.O.Output.written c.args.output.now) (g.O.Output.written c.run_command.new.output))
     (to_z-of_z c.ranges.now_ms) (c.run_command.ensures.connected asked mine).runs
 
 pub returns-in-Ok-clause-wal_bounded : goal.returns-in-Ok-clause-wal_bounded
 returns-in-Ok-clause-wal_bounded g c = λ none.
-    wal_bounded g.W.Disk.seen g.W.Disk.may_leave g.W.Disk.faults c.in-Ok.command c.run_command.result.status _ _ (none c.in-Ok.command c.in-Ok.ensures.spelled) (λ asked is. (c.run_command.ensures.connected asked is).wal_bounded) c.run_command.ensures.wal_stays
+    wal_bounded g.W.Disk c.in-Ok.command c.run_command.result.end _ _ (none c.in-Ok.command c.in-Ok.ensures.spelled) (λ asked is. (c.run_command.ensures.connected asked is).wal_bounded) c.run_command.ensures.wal_stays
 
 pub returns-in-Ok-clause-topics_bounded : goal.returns-in-Ok-clause-topics_bounded
 returns-in-Ok-clause-topics_bounded g c = λ none.
-    topics_bounded g.T.Disk.seen g.T.Disk.may_leave g.T.Disk.faults c.in-Ok.command c.run_command.result.status _ _ (none c.in-Ok.command c.in-Ok.ensures.spelled) (λ asked is. (c.run_command.ensures.connected asked is).topics_bounded)
+    topics_bounded g.T.Disk c.in-Ok.command c.run_command.result.end _ _ (none c.in-Ok.command c.in-Ok.ensures.spelled) (λ asked is. (c.run_command.ensures.connected asked is).topics_bounded)
     c.run_command.ensures.topics_read c.run_command.ensures.topics_stay
 
 pub returns-in-Ok-clause-offsets_bounded : goal.returns-in-Ok-clause-offsets_bounded
 returns-in-Ok-clause-offsets_bounded g c = λ none.
-    offsets_bounded g.F.Disk.seen g.F.Disk.may_leave g.F.Disk.faults c.in-Ok.command c.run_command.result.status _ _ (none c.in-Ok.command c.in-Ok.ensures.spelled) (λ asked is. (c.run_command.ensures.connected asked is).offsets_bounded)
+    offsets_bounded g.F.Disk c.in-Ok.command c.run_command.result.end _ _ (none c.in-Ok.command c.in-Ok.ensures.spelled) (λ asked is. (c.run_command.ensures.connected asked is).offsets_bounded)
     c.run_command.ensures.offsets_read c.run_command.ensures.offsets_stay
 
 pub returns-in-Err-Usage-clause-wal_bounded : goal.returns-in-Err-Usage-clause-wal_bounded
@@ -379,12 +378,12 @@ returns-in-Err-Usage-clause-made g c = λ bytes w t f spells. absurd (c.in-Err-U
 
 pub returns-in-Err-Memory-clause-headline : goal.returns-in-Err-Memory-clause-headline
 returns-in-Err-Memory-clause-headline g c = λ command spells.
-    before_promised g.W.Disk.seen g.W.Disk.may_leave g.T.Disk.seen g.T.Disk.may_leave g.F.Disk.seen g.F.Disk.may_leave c.args.wal c.args.topics c.args.offsets (IsCompleteRun command c.say-in-Err-Memory.result) (asks_by command)
-    (λ complete. cut_other 0 c.say-in-Err-Memory.result (λ e. cc, λ e. cc) (cut_short c.say-in-Err-Memory.result _ _ c.say-in-Err-Memory.ensures.says) complete.1)
+    before_promised g.W.Disk g.T.Disk g.F.Disk c.args.disks (IsCompleteRun command c.say-in-Err-Memory.result) (asks_by command)
+    (λ complete. cut_other Done c.say-in-Err-Memory.result (λ e. cc, λ e. cc) (cut_short c.say-in-Err-Memory.result _ _ c.say-in-Err-Memory.ensures.says) complete.1)
 
 pub returns-in-Err-Memory-clause-session : goal.returns-in-Err-Memory-clause-session
 returns-in-Err-Memory-clause-session g c = λ command asked spells is. memory_session asked c.args.now_ms _ _ _ _ _ _ c.say-in-Err-Memory.result _ _ c.say-in-Err-Memory.ensures.says
 
 pub returns-in-Err-Memory-clause-made : goal.returns-in-Err-Memory-clause-made
 returns-in-Err-Memory-clause-made g c = λ bytes w t f spells left wal topics offsets done.
-    absurd (cut_other 0 c.say-in-Err-Memory.result (λ e. cc, λ e. cc) (cut_short c.say-in-Err-Memory.result _ _ c.say-in-Err-Memory.ensures.says) done)
+    absurd (cut_other Done c.say-in-Err-Memory.result (λ e. cc, λ e. cc) (cut_short c.say-in-Err-Memory.result _ _ c.say-in-Err-Memory.ensures.says) done)

@@ -34,9 +34,9 @@ returns-in-Apply-clause-told g c = λ given none told.
     let here = c.in-Apply in
     let is = here.is ∙ ap (λ l. command.Apply l here.placeholder) here.lines-test in
     let left = c.run_apply.result in
-    let topics : Type 0 = FaultCounted (g.T.Disk.faults c.args.topics) (g.T.Disk.faults left.topics) in
-    let offsets : Type 0 = FaultCounted (g.F.Disk.faults c.args.offsets) (g.F.Disk.faults left.offsets) in
-    inl (stores_command c.args.command (command.Apply false here.placeholder) c.args.now_ms.now given (AnswersApply given.topics given.offsets) (OfDisk topics offsets) (OfDisk ((uses_topics c.args.command ≡ true) × topics) ((uses_offsets c.args.command ≡ true) × offsets)) left.status _ _ is (both_opened _ _ topics offsets (ap uses_topics is) (ap uses_offsets is)) (λ answer means. means) (λ answer means. means)
+    let topics : Type 0 = FaultCounted (g.T.Disk.faults c.args.disks.topics) (g.T.Disk.faults left.disks.topics) in
+    let offsets : Type 0 = FaultCounted (g.F.Disk.faults c.args.disks.offsets) (g.F.Disk.faults left.disks.offsets) in
+    inl (stores_command c.args.command (command.Apply false here.placeholder) c.args.now_ms.now given (AnswersApply given.topics given.offsets) (OfDisk topics offsets) (OfDisk ((uses_topics c.args.command ≡ true) × topics) ((uses_offsets c.args.command ≡ true) × offsets)) left.end _ _ is (both_opened _ _ topics offsets (ap uses_topics is) (ap uses_offsets is)) (λ answer means. means) (λ answer means. means)
     (c.run_apply.ensures.told given.topics given.offsets (told.topics_are (ap uses_topics is)) (rows_offsets c.args.command given.topics _ (told.offsets_are (ap uses_offsets is)))))
 
 pub returns-else-is_run-clause-told : goal.returns-else-is_run-clause-told
@@ -49,9 +49,9 @@ pub returns-in-Init-clause-told : goal.returns-in-Init-clause-told
 returns-in-Init-clause-told g c = λ given none told.
     let here = c.in-Init in
     let left = c.run_init.result in
-    let topics : Type 0 = FaultCounted (g.T.Disk.faults c.args.topics) (g.T.Disk.faults left.topics) in
-    let offsets : Type 0 = FaultCounted (g.F.Disk.faults c.args.offsets) (g.F.Disk.faults left.offsets) in
-    init_or_fails c.args.command c.args.now_ms.now given topics offsets _ _ _ _ left.status _ _ here.is
+    let topics : Type 0 = FaultCounted (g.T.Disk.faults c.args.disks.topics) (g.T.Disk.faults left.disks.topics) in
+    let offsets : Type 0 = FaultCounted (g.F.Disk.faults c.args.disks.offsets) (g.F.Disk.faults left.disks.offsets) in
+    init_or_fails c.args.command c.args.now_ms.now given topics offsets _ _ _ _ left.end _ _ here.is
     (c.run_init.ensures.told (given_init given) (told.input_is (ap reads here.is)) (told.wal_is (ap makes here.is)) (told.topics_are (ap uses_topics here.is))
     (offset_alone c.args.command given.topics _ (ap opens_topics here.is) (told.offsets_are (ap uses_offsets here.is))))
 
@@ -59,18 +59,18 @@ pub returns-in-Topics-clause-told : goal.returns-in-Topics-clause-told
 returns-in-Topics-clause-told g c = λ given none told.
     let here = c.in-Topics in
     let left = c.run_topics.result in
-    let topics : Type 0 = FaultCounted (g.T.Disk.faults c.args.topics) (g.T.Disk.faults left.topics) in
-    let offsets : Type 0 = FaultCounted (g.F.Disk.faults c.args.offsets) (g.F.Disk.faults left.offsets) in
-    inl (stores_command c.args.command command.Topics c.args.now_ms.now given (AnswersTopics given.topics) (OfDisk topics ⊥) (OfDisk ((uses_topics c.args.command ≡ true) × topics) ((uses_offsets c.args.command ≡ true) × offsets)) left.status _ _ here.is (only_topics _ _ topics offsets (ap uses_topics here.is)) (λ answer means. means) (λ answer means. means)
+    let topics : Type 0 = FaultCounted (g.T.Disk.faults c.args.disks.topics) (g.T.Disk.faults left.disks.topics) in
+    let offsets : Type 0 = FaultCounted (g.F.Disk.faults c.args.disks.offsets) (g.F.Disk.faults left.disks.offsets) in
+    inl (stores_command c.args.command command.Topics c.args.now_ms.now given (AnswersTopics given.topics) (OfDisk topics ⊥) (OfDisk ((uses_topics c.args.command ≡ true) × topics) ((uses_offsets c.args.command ≡ true) × offsets)) left.end _ _ here.is (only_topics _ _ topics offsets (ap uses_topics here.is)) (λ answer means. means) (λ answer means. means)
     (c.run_topics.ensures.told given.topics (told.topics_are (ap uses_topics here.is))))
 
 pub returns-in-Offsets-clause-told : goal.returns-in-Offsets-clause-told
 returns-in-Offsets-clause-told g c = λ given none told.
     let here = c.in-Offsets in
     let left = c.run_offsets.result in
-    let topics : Type 0 = FaultCounted (g.T.Disk.faults c.args.topics) (g.T.Disk.faults left.topics) in
-    let offsets : Type 0 = FaultCounted (g.F.Disk.faults c.args.offsets) (g.F.Disk.faults left.offsets) in
-    inl (stores_command c.args.command command.Offsets c.args.now_ms.now given (AnswersOffsets given.offsets) (OfDisk ⊥ offsets) (OfDisk ((uses_topics c.args.command ≡ true) × topics) ((uses_offsets c.args.command ≡ true) × offsets)) left.status _ _ here.is (only_offsets _ _ topics offsets (ap uses_offsets here.is)) (λ answer means. means) (λ answer means. means)
+    let topics : Type 0 = FaultCounted (g.T.Disk.faults c.args.disks.topics) (g.T.Disk.faults left.disks.topics) in
+    let offsets : Type 0 = FaultCounted (g.F.Disk.faults c.args.disks.offsets) (g.F.Disk.faults left.disks.offsets) in
+    inl (stores_command c.args.command command.Offsets c.args.now_ms.now given (AnswersOffsets given.offsets) (OfDisk ⊥ offsets) (OfDisk ((uses_topics c.args.command ≡ true) × topics) ((uses_offsets c.args.command ≡ true) × offsets)) left.end _ _ here.is (only_offsets _ _ topics offsets (ap uses_offsets here.is)) (λ answer means. means) (λ answer means. means)
     (c.run_offsets.ensures.told given.offsets (offset_alone c.args.command given.topics _ (ap opens_topics here.is) (told.offsets_are (ap uses_offsets here.is)))))
 
 -- of a session nothing is told here
@@ -87,7 +87,7 @@ returns-then-is_run-clause-told g c = λ given none told. absurd (switched (sym 
 
 pub returns-then-is_run-clause-known : goal.returns-then-is_run-clause-known
 returns-then-is_run-clause-known g c =
-    subst (λ (k : Command). IsStatusOf k c.run_generated.result.status) (sym (generating c.in-Gen.is c.if-is_run.true)) c.run_generated.ensures.known
+    subst (λ (k : Command). IsStatusOf k c.run_generated.result.end) (sym (generating c.in-Gen.is c.if-is_run.true)) c.run_generated.ensures.known
 
 pub returns-then-is_run-clause-wal_stays : goal.returns-then-is_run-clause-wal_stays
 returns-then-is_run-clause-wal_stays g c = λ none. absurd (switched (sym (ap writes (generating c.in-Gen.is c.if-is_run.true)) ∙ none))
@@ -102,8 +102,8 @@ pub returns-then-is_run-clause-generated : goal.returns-then-is_run-clause-gener
 returns-then-is_run-clause-generated g c = λ number rows groups is.
     let left = c.run_generated.result in
     let same = one_generated (sym (generating c.in-Gen.is c.if-is_run.true) ∙ is) in
-    subst (λ (script : List ℕ). RunsGenerated g.W.Disk.seen g.W.Disk.may_leave g.W.Disk.faults g.T.Disk.seen g.T.Disk.may_leave g.T.Disk.faults g.F.Disk.seen g.F.Disk.may_leave g.F.Disk.faults script c.args.now_ms.now
-    c.args.wal left.wal c.args.topics left.topics c.args.offsets left.offsets left.status (g.O.Output.written c.args.output.now) (g.O.Output.written c.run_generated.new.output)) same c.run_generated.ensures.generated
+    subst (λ (script : List ℕ). RunsGenerated g.W.Disk g.T.Disk g.F.Disk script c.args.now_ms.now
+    c.args.disks left.disks left.end (g.O.Output.written c.args.output.now) (g.O.Output.written c.run_generated.new.output)) same c.run_generated.ensures.generated
 
 -- the others make none
 pub returns-in-Replay-clause-generated : goal.returns-in-Replay-clause-generated
@@ -142,16 +142,16 @@ pub returns-in-Capture-clause-connected : goal.returns-in-Capture-clause-connect
 returns-in-Capture-clause-connected g c = λ asked is.
     let left = c.run_session.result in
     let here = c.in-Capture in
-    subst (λ (a : Asked). RunsConnected g.W.Disk.seen g.W.Disk.may_leave g.W.Disk.faults g.T.Disk.seen g.T.Disk.may_leave g.T.Disk.faults g.F.Disk.seen g.F.Disk.may_leave g.F.Disk.faults a c.args.now_ms.now
-    c.args.wal left.wal c.args.topics left.topics c.args.offsets left.offsets left.status (g.O.Output.written c.args.output.now) (g.O.Output.written c.run_session.new.output))
+    subst (λ (a : Asked). RunsConnected g.W.Disk g.T.Disk g.F.Disk a c.args.now_ms.now
+    c.args.disks left.disks left.end (g.O.Output.written c.args.output.now) (g.O.Output.written c.run_session.new.output))
     (one_asked c.args.command (First here.options) asked (ap asked_by here.is) is) c.run_session.ensures.connected
 
 pub returns-in-Resume-clause-connected : goal.returns-in-Resume-clause-connected
 returns-in-Resume-clause-connected g c = λ asked is.
     let left = c.run_session-in-Resume.result in
     let here = c.in-Resume in
-    subst (λ (a : Asked). RunsConnected g.W.Disk.seen g.W.Disk.may_leave g.W.Disk.faults g.T.Disk.seen g.T.Disk.may_leave g.T.Disk.faults g.F.Disk.seen g.F.Disk.may_leave g.F.Disk.faults a c.args.now_ms.now
-    c.args.wal left.wal c.args.topics left.topics c.args.offsets left.offsets left.status (g.O.Output.written c.args.output.now) (g.O.Output.written c.run_session-in-Resume.new.output))
+    subst (λ (a : Asked). RunsConnected g.W.Disk g.T.Disk g.F.Disk a c.args.now_ms.now
+    c.args.disks left.disks left.end (g.O.Output.written c.args.output.now) (g.O.Output.written c.run_session-in-Resume.new.output))
     (one_asked c.args.command (Again here.chunk here.every here.messages) asked (ap asked_by here.is) is) c.run_session-in-Resume.ensures.connected
 
 -- the others ask for none
@@ -182,10 +182,10 @@ returns-in-Offsets-clause-connected g c = λ asked is. absurd (unasked c.args.co
 -- ---- disks that were opened
 
 pub returns-in-Offsets-clause-offsets_synced : goal.returns-in-Offsets-clause-offsets_synced
-returns-in-Offsets-clause-offsets_synced g c = λ opens opened. c.run_offsets.ensures.offsets_synced (told_offsets c.args.command c.run_offsets.result.status opened)
+returns-in-Offsets-clause-offsets_synced g c = λ opens opened. c.run_offsets.ensures.offsets_synced (told_offsets c.args.command c.run_offsets.result.end opened)
 
 pub returns-in-Apply-clause-offsets_synced : goal.returns-in-Apply-clause-offsets_synced
 returns-in-Apply-clause-offsets_synced g c = λ opens opened.
     let here = c.in-Apply in
     let is = here.is ∙ ap (λ l. command.Apply l here.placeholder) here.lines-test in
-    c.run_apply.ensures.offsets_synced (told_rows c.args.command c.run_apply.result.status (ap opens_topics is) opened)
+    c.run_apply.ensures.offsets_synced (told_rows c.args.command c.run_apply.result.end (ap opens_topics is) opened)

@@ -1,4 +1,5 @@
 use Rattle.std.proofs.Common.{◌∙◌, Err, inl, inr, refl, sym, ap, subst}
+use Rattle.dbl_lines.specs.declared.status.Status.TheVariants.{Done}
 use Rattle.dblog_stores.specs.Ends.{CommandEnd}
 use Rattle.dblog_run.specs.Disks.{Finishes}
 use Rattle.dblog_run.proofs.stores.finish.Goals as goal
@@ -6,7 +7,7 @@ use Rattle.dblog_run.proofs.stores.finish.Goals as goal
 pub returns-in-Ok-clause-finishes : goal.returns-in-Ok-clause-finishes
 returns-in-Ok-clause-finishes g c =
     let before = g.O.Output.written c.args.output.now in
-    subst (λ (end : CommandEnd). Finishes end 0 before before) (sym c.in-Ok.is) (refl, refl)
+    subst (λ (end : CommandEnd). Finishes end Done before before) (sym c.in-Ok.is) (refl, refl)
 
 pub returns-in-Err-clause-finishes : goal.returns-in-Err-clause-finishes
 returns-in-Err-clause-finishes g c =

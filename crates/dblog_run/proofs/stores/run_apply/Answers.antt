@@ -8,18 +8,18 @@ use Rattle.dblog_run.proofs.stores.run_apply.Goals as goal
 pub returns-clause-told : goal.returns-clause-told
 returns-clause-told g c = λ t f told other.
     let applied = c.apply-applied.result in
-    apply_run t f (FaultCounted (g.T.Disk.faults c.args.topics) (g.T.Disk.faults applied.topics)) (FaultCounted (g.F.Disk.faults c.args.offsets) (g.F.Disk.faults applied.offsets)) applied.end c.finish.result _ _ _ c.apply-applied.ensures.keeps_topics.cause c.apply-applied.ensures.keeps_offsets.cause (elim other [ inl none ↦ c.apply-applied.ensures.no_log t f told none | inr is ↦ c.apply-applied.ensures.told t f told is ]) c.finish.ensures.finishes
+    apply_run t f (FaultCounted (g.T.Disk.faults c.args.disks.topics) (g.T.Disk.faults applied.topics)) (FaultCounted (g.F.Disk.faults c.args.disks.offsets) (g.F.Disk.faults applied.offsets)) applied.end c.finish.result _ _ _ c.apply-applied.ensures.keeps_topics.cause c.apply-applied.ensures.keeps_offsets.cause (elim other [ inl none ↦ c.apply-applied.ensures.no_log t f told none | inr is ↦ c.apply-applied.ensures.told t f told is ]) c.finish.ensures.finishes
 
 pub returns-clause-known : goal.returns-clause-known
 returns-clause-known g c = rows_status c.apply-applied.result.end c.finish.result _ _ c.finish.ensures.finishes
 
 pub returns-clause-topics_read : goal.returns-clause-topics_read
 returns-clause-topics_read g c =
-    only_read g.T.Disk.seen g.T.Disk.may_leave g.T.Disk.faults _ _ _ _ _ (eight_fails c.apply-applied.result.end c.finish.result _ _ c.finish.ensures.finishes) (fails_eight c.apply-applied.result.end c.finish.result _ _ c.finish.ensures.finishes) c.apply-applied.ensures.keeps_topics
+    only_read g.T.Disk _ _ _ _ _ (eight_fails c.apply-applied.result.end c.finish.result _ _ c.finish.ensures.finishes) (fails_eight c.apply-applied.result.end c.finish.result _ _ c.finish.ensures.finishes) c.apply-applied.ensures.keeps_topics
 
 pub returns-clause-offsets_read : goal.returns-clause-offsets_read
 returns-clause-offsets_read g c =
-    only_read g.F.Disk.seen g.F.Disk.may_leave g.F.Disk.faults _ _ _ _ _ (nine_fails c.apply-applied.result.end c.finish.result _ _ c.finish.ensures.finishes) (fails_nine c.apply-applied.result.end c.finish.result _ _ c.finish.ensures.finishes) c.apply-applied.ensures.keeps_offsets
+    only_read g.F.Disk _ _ _ _ _ (nine_fails c.apply-applied.result.end c.finish.result _ _ c.finish.ensures.finishes) (fails_nine c.apply-applied.result.end c.finish.result _ _ c.finish.ensures.finishes) c.apply-applied.ensures.keeps_offsets
 
 pub returns-clause-unopened : goal.returns-clause-unopened
 returns-clause-unopened g c = c.apply-applied.ensures.unopened

@@ -7,14 +7,14 @@ use Rattle.dblog_run.proofs.stores.run_offsets.Goals as goal
 pub returns-clause-told : goal.returns-clause-told
 returns-clause-told g c = λ bytes told.
     let ended = c.print_offset-ended.result in
-    offsets_run bytes (FaultCounted (g.F.Disk.faults c.args.offsets) (g.F.Disk.faults ended.disk)) ended.end c.finish.result _ _ _ c.print_offset-ended.ensures.kinds c.print_offset-ended.ensures.keeps.cause (c.print_offset-ended.ensures.told bytes told) c.finish.ensures.finishes
+    offsets_run bytes (FaultCounted (g.F.Disk.faults c.args.disks.offsets) (g.F.Disk.faults ended.disk)) ended.end c.finish.result _ _ _ c.print_offset-ended.ensures.kinds c.print_offset-ended.ensures.keeps.cause (c.print_offset-ended.ensures.told bytes told) c.finish.ensures.finishes
 
 pub returns-clause-known : goal.returns-clause-known
 returns-clause-known g c = offsets_known c.print_offset-ended.result.end c.finish.result _ _ c.print_offset-ended.ensures.kinds c.finish.ensures.finishes
 
 pub returns-clause-offsets_read : goal.returns-clause-offsets_read
 returns-clause-offsets_read g c =
-    only_read g.F.Disk.seen g.F.Disk.may_leave g.F.Disk.faults _ _ _ _ _ (nine_fails c.print_offset-ended.result.end c.finish.result _ _ c.finish.ensures.finishes) (fails_nine c.print_offset-ended.result.end c.finish.result _ _ c.finish.ensures.finishes) c.print_offset-ended.ensures.keeps
+    only_read g.F.Disk _ _ _ _ _ (nine_fails c.print_offset-ended.result.end c.finish.result _ _ c.finish.ensures.finishes) (fails_nine c.print_offset-ended.result.end c.finish.result _ _ c.finish.ensures.finishes) c.print_offset-ended.ensures.keeps
 
 pub returns-clause-not_input : goal.returns-clause-not_input
 returns-clause-not_input g c = offsets_no_input c.finish.result (offsets_known c.print_offset-ended.result.end c.finish.result _ _ c.print_offset-ended.ensures.kinds c.finish.ensures.finishes)

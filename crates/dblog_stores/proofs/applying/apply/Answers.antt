@@ -61,15 +61,15 @@ returns-in-Err-clause-offsets_stable g c = λ opened. absurd (not_yet_opened c.i
 
 pub returns-in-Ok-open_offsets-clause-topics_stable : goal.returns-in-Ok-open_offsets-clause-topics_stable
 returns-in-Ok-open_offsets-clause-topics_stable g c = λ other.
-    subst (λ d. IsSynced g.T.Disk.seen g.T.Disk.may_leave c.args.topics d) (sym c.into_disk.ensures) (synced_then g.T.Disk.seen g.T.Disk.may_leave g.T.Disk.faults _ _ _ _ c.in-Ok.ensures.stable c.print_consumer-end.ensures.keeps)
+    subst (λ d. IsSynced g.T.Disk c.args.topics d) (sym c.into_disk.ensures) (synced_then g.T.Disk _ _ _ _ c.in-Ok.ensures.stable c.print_consumer-end.ensures.keeps)
 
 pub returns-in-Ok-open_offsets-clause-offsets_stable : goal.returns-in-Ok-open_offsets-clause-offsets_stable
 returns-in-Ok-open_offsets-clause-offsets_stable g c = λ opened.
-    subst (λ d. IsSynced g.F.Disk.seen g.F.Disk.may_leave c.args.offsets d) (sym c.into_disk-in-Ok-open_offsets.ensures) c.in-Ok-open_offsets.ensures.stable
+    subst (λ d. IsSynced g.F.Disk c.args.offsets d) (sym c.into_disk-in-Ok-open_offsets.ensures) c.in-Ok-open_offsets.ensures.stable
 
 pub returns-in-Err-open_offsets-clause-topics_stable : goal.returns-in-Err-open_offsets-clause-topics_stable
 returns-in-Err-open_offsets-clause-topics_stable g c = λ other.
-    subst (λ d. IsSynced g.T.Disk.seen g.T.Disk.may_leave c.args.topics d) (sym c.into_disk-in-Err-open_offsets.ensures) c.in-Ok.ensures.stable
+    subst (λ d. IsSynced g.T.Disk c.args.topics d) (sym c.into_disk-in-Err-open_offsets.ensures) c.in-Ok.ensures.stable
 
 pub returns-in-Err-open_offsets-clause-offsets_stable : goal.returns-in-Err-open_offsets-clause-offsets_stable
 returns-in-Err-open_offsets-clause-offsets_stable g c = λ opened. c.in-Err-open_offsets.ensures.stable (opened_running c.in-Err-open_offsets.field-0.error opened)

@@ -9,14 +9,14 @@ pub returns-in-Err-clause-told : goal.returns-in-Err-clause-told
 returns-in-Err-clause-told g c groups held = inl tt
 
 pub returns-in-Err-clause-keeps : goal.returns-in-Err-clause-keeps
-returns-in-Err-clause-keeps g c = keeps_itself g.D.Disk.seen g.D.Disk.may_leave g.D.Disk.faults _ c.args.log.now.disk (λ e. cc)
+returns-in-Err-clause-keeps g c = keeps_itself g.D.Disk _ c.args.log.now.disk (λ e. cc)
 
 pub returns-in-Err-empty_consumer-clause-told : goal.returns-in-Err-empty_consumer-clause-told
 returns-in-Err-empty_consumer-clause-told g c groups held = inl (wanting_outside c.in-Err-empty_consumer.error c.in-Err-empty_consumer.ensures.memory)
 
 pub returns-in-Err-empty_consumer-clause-keeps : goal.returns-in-Err-empty_consumer-clause-keeps
 returns-in-Err-empty_consumer-clause-keeps g c =
-    keeps_itself g.D.Disk.seen g.D.Disk.may_leave g.D.Disk.faults _ c.args.log.now.disk (λ e. wanting_running c.in-Err-empty_consumer.error c.in-Err-empty_consumer.ensures.memory (err_one c.in-Err-empty_consumer.error _ e))
+    keeps_itself g.D.Disk _ c.args.log.now.disk (λ e. wanting_running c.in-Err-empty_consumer.error c.in-Err-empty_consumer.ensures.memory (err_one c.in-Err-empty_consumer.error _ e))
 
 pub returns-in-Err-empty_consumer-clause-kinds : goal.returns-in-Err-empty_consumer-clause-kinds
 returns-in-Err-empty_consumer-clause-kinds g c = wanting_kind c.in-Err-empty_consumer.error c.in-Err-empty_consumer.ensures.memory
@@ -27,7 +27,7 @@ returns-in-Ok-take_groups-clause-told g c groups held =
 
 pub returns-in-Ok-take_groups-clause-keeps : goal.returns-in-Ok-take_groups-clause-keeps
 returns-in-Ok-take_groups-clause-keeps g c =
-    keeps_never g.D.Disk.seen g.D.Disk.may_leave g.D.Disk.faults _ _ _ (λ e. cc) (keeps_ok g.D.Disk.seen g.D.Disk.may_leave g.D.Disk.faults _ _ _ (λ e. cc) c.in-Ok-take_groups.ensures.keeps)
+    keeps_never g.D.Disk _ _ _ (λ e. cc) (keeps_ok g.D.Disk _ _ _ (λ e. cc) c.in-Ok-take_groups.ensures.keeps)
 
 pub returns-in-Err-clause-a_store : goal.returns-in-Err-clause-a_store
 returns-in-Err-clause-a_store g c = memory_behind _ refl

@@ -11,7 +11,7 @@ abbrev pub invariant-each : goal.invariant-each
 invariant-each g l = record {
   live : l.log.live ≡ l.fn.log.live;
   count : count_of l.log ≡ count_of l.fn.log;
-  keeps : Keeps g.D.Disk.seen g.D.Disk.may_leave g.D.Disk.faults ⊥ l.fn.log.disk l.log.disk;
-  holds : (groups : List (List Record)) → HoldsGroups g.D.Disk.seen g.D.Disk.may_leave l.fn.log groups → HoldsGroups g.D.Disk.seen g.D.Disk.may_leave l.log groups;
-  consumes : (groups : List (List Record)) → HoldsGroups g.D.Disk.seen g.D.Disk.may_leave l.fn.log groups → IsConsuming (placeholder_of l.fn.held) groups l.number l.held;
+  keeps : Keeps g.D.Disk ⊥ l.fn.log.disk l.log.disk;
+  holds : (groups : List (List Record)) → HoldsGroups g.D.Disk l.fn.log groups → HoldsGroups g.D.Disk l.log groups;
+  consumes : (groups : List (List Record)) → HoldsGroups g.D.Disk l.fn.log groups → IsConsuming (placeholder_of l.fn.held) groups l.number l.held;
 }

@@ -7,5 +7,5 @@ returns g c log store groups offset held holds = (
   holds.lists.bytes,
   held.lists.told,
   holds.lists.told,
-  record { log = log_of g.T.Disk.seen g.T.Disk.may_leave log groups held; store = record { entries = holds.entries; journal = holds.lists.spelled; each = holds.each; last = holds.last } },
+  record { log = log_of g.T.Disk log groups held; store = record { entries = holds.entries; journal = holds.lists.spelled; each = holds.each; last = holds.last } },
 )

@@ -14,7 +14,7 @@ returns-in-Ok-clause-keeps g c = c.in-Ok.ensures.keeps
 pub returns-in-Err-clause-keeps : goal.returns-in-Err-clause-keeps
 returns-in-Err-clause-keeps g c =
     let k = c.in-Err.ensures.keeps in
-    keeps_failed g.D.Disk.seen g.D.Disk.may_leave g.D.Disk.faults _ c.args.disk c.in-Err.field-0.disk k.same k.crash k.later (λ f. k.cause (topic_failed c.in-Err.field-0.error c.from.result c.from.ensures f))
+    keeps_failed g.D.Disk _ c.args.disk c.in-Err.field-0.disk k.same k.crash k.later (λ f. k.cause (topic_failed c.in-Err.field-0.error c.from.result c.from.ensures f))
     (λ n. k.steady (λ e. n (topic_tells c.in-Err.field-0.error c.from.result c.from.ensures e)))
 
 pub returns-in-Err-clause-stable : goal.returns-in-Err-clause-stable

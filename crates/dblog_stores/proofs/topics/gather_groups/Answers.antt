@@ -3,7 +3,7 @@ use Rattle.dbl_journal.specs.Stored.{OnDisk, count_of}
 use Rattle.dbl_lines.proofs.PutLemmas.{putting_begins, putting_more, putting_ends, putting_fails, putting_starves}
 use Rattle.dbl_topic.proofs.HeldLaws.{counted_held}
 use Rattle.dblog_stores.specs.Answers.{topic_lines}
-use Rattle.dblog_stores.specs.declared.error.RunError.TheVariants.{Failed}
+use Rattle.dblog_stores.specs.declared.error.CommandError.TheVariants.{Failed}
 use Rattle.dblog_stores.specs.declared.error.Store.TheVariants.{Topics}
 use Rattle.dblog_stores.proofs.ErrorLaws.{no_output, print_failed, print_fails_none, print_kind, print_kind_of}
 use Rattle.dblog_stores.proofs.Kept.{err_one, failed_with, keeps_itself, keeps_never, keeps_ok, keeps_retold, keeps_then}
@@ -14,7 +14,7 @@ pub each-init : goal.each-init
 each-init g c = record {
   live = refl;
   count = refl;
-  keeps = keeps_itself g.D.Disk.seen g.D.Disk.may_leave g.D.Disk.faults ⊥ c.args.log.now.disk (λ f. f);
+  keeps = keeps_itself g.D.Disk ⊥ c.args.log.now.disk (λ f. f);
   holds = λ groups held. held;
   puts = λ groups held. putting_begins (topic_lines groups) c.args.lines.now (g.O.Output.written c.args.output.now);
   later = omega arith;
@@ -24,7 +24,7 @@ pub each-preserved : goal.each-preserved
 each-preserved g c = record {
   live = ap (λ (j : OnDisk _). j.live) c.in-Ok.ensures.same ∙ c.each.invariant.live;
   count = ap count_of c.in-Ok.ensures.same ∙ c.each.invariant.count;
-  keeps = keeps_then g.D.Disk.seen g.D.Disk.may_leave g.D.Disk.faults ⊥ _ _ _ c.each.invariant.keeps (keeps_ok g.D.Disk.seen g.D.Disk.may_leave g.D.Disk.faults _ _ _ (λ e. cc) c.in-Ok.ensures.keeps);
+  keeps = keeps_then g.D.Disk ⊥ _ _ _ c.each.invariant.keeps (keeps_ok g.D.Disk _ _ _ (λ e. cc) c.in-Ok.ensures.keeps);
   holds = λ groups held. c.in-Ok.ensures.holds groups (c.each.invariant.holds groups held);
   puts = λ groups held.
       let found = c.in-Ok.ensures.found groups (c.each.invariant.holds groups held) in
@@ -37,7 +37,7 @@ returns-in-Err-clause-told g c groups held start begun =
     outside_cuts (topic_lines groups) c.in-Err.error _ _ (c.in-Err.ensures.cut groups (c.each.invariant.holds groups held)) (putting_starves _ _ _ _ _ _ (c.each.invariant.puts groups held) start [] begun)
 
 pub returns-in-Err-clause-keeps : goal.returns-in-Err-clause-keeps
-returns-in-Err-clause-keeps g c = keeps_then g.D.Disk.seen g.D.Disk.may_leave g.D.Disk.faults _ _ _ _ c.each.invariant.keeps (keeps_retold g.D.Disk.seen g.D.Disk.may_leave g.D.Disk.faults (Failed Topics) c.in-Err.error _ _ c.in-Err.ensures.keeps)
+returns-in-Err-clause-keeps g c = keeps_then g.D.Disk _ _ _ _ c.each.invariant.keeps (keeps_retold g.D.Disk (Failed Topics) c.in-Err.error _ _ c.in-Err.ensures.keeps)
 
 pub returns-in-Err-clause-kinds : goal.returns-in-Err-clause-kinds
 returns-in-Err-clause-kinds g c = inr c.in-Err.ensures.kinds
@@ -53,9 +53,9 @@ returns-in-Err-put_records-clause-told g c groups held start begun =
 
 pub returns-in-Err-put_records-clause-keeps : goal.returns-in-Err-put_records-clause-keeps
 returns-in-Err-put_records-clause-keeps g c =
-    keeps_then g.D.Disk.seen g.D.Disk.may_leave g.D.Disk.faults _ _ _ _ c.each.invariant.keeps
-    (keeps_never g.D.Disk.seen g.D.Disk.may_leave g.D.Disk.faults _ _ _ (λ e. print_fails_none Topics c.from.result (print_kind c.in-Err-put_records.error c.from.result c.from.ensures) (err_one c.from.result _ e))
-    (keeps_ok g.D.Disk.seen g.D.Disk.may_leave g.D.Disk.faults _ _ _ (λ e. cc) c.in-Ok.ensures.keeps))
+    keeps_then g.D.Disk _ _ _ _ c.each.invariant.keeps
+    (keeps_never g.D.Disk _ _ _ (λ e. print_fails_none Topics c.from.result (print_kind c.in-Err-put_records.error c.from.result c.from.ensures) (err_one c.from.result _ e))
+    (keeps_ok g.D.Disk _ _ _ (λ e. cc) c.in-Ok.ensures.keeps))
 
 pub returns-in-Err-put_records-clause-kinds : goal.returns-in-Err-put_records-clause-kinds
 returns-in-Err-put_records-clause-kinds g c = print_kind_of Topics c.from.result (print_kind c.in-Err-put_records.error c.from.result c.from.ensures)
@@ -65,8 +65,8 @@ returns-in-Err-put_records-clause-output g c = record { later = omega (arith, c.
 
 pub returns-clause-told : goal.returns-clause-told
 returns-clause-told g c groups held start begun =
-    let counted = counted_held g.D.Disk.seen g.D.Disk.may_leave c.args.log.now groups held in
+    let counted = counted_held g.D.Disk c.args.log.now groups held in
     putting_ends _ _ _ _ _ _ (c.each.invariant.puts groups held) (last_lines groups c.each.number (omega (arith, c.each-test.false, c.groups-number-end.ensures, counted))) start [] begun
 
 pub returns-clause-keeps : goal.returns-clause-keeps
-returns-clause-keeps g c = keeps_never g.D.Disk.seen g.D.Disk.may_leave g.D.Disk.faults _ _ _ (λ e. cc) c.each.invariant.keeps
+returns-clause-keeps g c = keeps_never g.D.Disk _ _ _ (λ e. cc) c.each.invariant.keeps

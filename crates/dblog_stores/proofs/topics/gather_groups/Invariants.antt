@@ -11,9 +11,9 @@ abbrev pub invariant-each : goal.invariant-each
 invariant-each g l = record {
   live : l.log.live ≡ l.fn.log.live;
   count : count_of l.log ≡ count_of l.fn.log;
-  keeps : Keeps g.D.Disk.seen g.D.Disk.may_leave g.D.Disk.faults ⊥ l.fn.log.disk l.log.disk;
-  holds : (groups : List (List Record)) → HoldsGroups g.D.Disk.seen g.D.Disk.may_leave l.fn.log groups → HoldsGroups g.D.Disk.seen g.D.Disk.may_leave l.log groups;
-  puts : (groups : List (List Record)) → HoldsGroups g.D.Disk.seen g.D.Disk.may_leave l.fn.log groups
+  keeps : Keeps g.D.Disk ⊥ l.fn.log.disk l.log.disk;
+  holds : (groups : List (List Record)) → HoldsGroups g.D.Disk l.fn.log groups → HoldsGroups g.D.Disk l.log groups;
+  puts : (groups : List (List Record)) → HoldsGroups g.D.Disk l.fn.log groups
       → IsPutting (topic_lines groups) (topic_lines (drop l.number groups)) l.fn.lines l.lines (g.O.Output.written l.fn.output) (g.O.Output.written l.output);
   later : g.O.Output.faults l.fn.output ≤ g.O.Output.faults l.output;
 }

@@ -1,7 +1,7 @@
 use Rattle.std.proofs.Common.{ap, subst, sym, inr, arith}
 use Rattle.dblog_stores.specs.Answers.{topic_lines}
 use Rattle.dblog_stores.specs.Ends.{IsSynced}
-use Rattle.dblog_stores.specs.declared.error.RunError.TheVariants.{Failed}
+use Rattle.dblog_stores.specs.declared.error.CommandError.TheVariants.{Failed}
 use Rattle.dblog_stores.specs.declared.error.Store.TheVariants.{Topics}
 use Rattle.dblog_stores.proofs.Answering.{no_topics_run, topics_run}
 use Rattle.dblog_stores.proofs.ErrorLaws.{no_output}
@@ -18,7 +18,7 @@ pub returns-in-Err-clause-told : goal.returns-in-Err-clause-told
 returns-in-Err-clause-told g c bytes told = no_topics_run bytes c.in-Err.field-0.error _ (c.in-Err.ensures.refused bytes told)
 
 pub returns-in-Err-clause-keeps : goal.returns-in-Err-clause-keeps
-returns-in-Err-clause-keeps g c = keeps_told g.D.Disk.seen g.D.Disk.may_leave g.D.Disk.faults (Failed Topics) c.in-Err.field-0.error _ _ c.in-Err.ensures.keeps
+returns-in-Err-clause-keeps g c = keeps_told g.D.Disk (Failed Topics) c.in-Err.field-0.error _ _ c.in-Err.ensures.keeps
 
 pub returns-in-Err-clause-kinds : goal.returns-in-Err-clause-kinds
 returns-in-Err-clause-kinds g c = inr c.in-Err.ensures.kinds
@@ -28,7 +28,7 @@ returns-in-Err-clause-output g c = record { later = omega arith; cause = λ e. a
 
 pub returns-in-Ok-clause-stable : goal.returns-in-Ok-clause-stable
 returns-in-Ok-clause-stable g c = λ other.
-    subst (λ d. IsSynced g.D.Disk.seen g.D.Disk.may_leave c.args.disk d) (sym c.into_disk.ensures) (synced_then g.D.Disk.seen g.D.Disk.may_leave g.D.Disk.faults _ _ _ _ c.in-Ok.ensures.stable c.put_groups-end.ensures.keeps)
+    subst (λ d. IsSynced g.D.Disk c.args.disk d) (sym c.into_disk.ensures) (synced_then g.D.Disk _ _ _ _ c.in-Ok.ensures.stable c.put_groups-end.ensures.keeps)
 
 pub returns-in-Err-clause-stable : goal.returns-in-Err-clause-stable
 returns-in-Err-clause-stable g c = λ other. c.in-Err.ensures.stable (λ e. other (ap failed_with e))

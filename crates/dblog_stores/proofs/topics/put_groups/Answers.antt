@@ -9,7 +9,7 @@ pub returns-in-Err-clause-told : goal.returns-in-Err-clause-told
 returns-in-Err-clause-told g c groups held = none_written (topic_lines groups) _ _ refl
 
 pub returns-in-Err-clause-keeps : goal.returns-in-Err-clause-keeps
-returns-in-Err-clause-keeps g c = keeps_itself g.D.Disk.seen g.D.Disk.may_leave g.D.Disk.faults _ c.args.log.now.disk (λ e. cc)
+returns-in-Err-clause-keeps g c = keeps_itself g.D.Disk _ c.args.log.now.disk (λ e. cc)
 
 pub returns-in-Ok-finish-clause-told : goal.returns-in-Ok-finish-clause-told
 returns-in-Ok-finish-clause-told g c groups held =

@@ -10,10 +10,10 @@ returns g c =
     let adds = c.answer_confirm.ensures.added in
     let kept = kept_reader c.args.self.now c.answer_confirm.new.self (λ x. AnswersNothing c.args.self.now c.answer_confirm.new.self x) c.answer_confirm.result adds.reader adds.answers (λ x says. says.reader) in
     record {
-      confirmed = leads_held g.D.Disk.seen g.D.Disk.may_leave c.args.self.now c.answer_confirm.new.self _ _ (λ x. AnswersNothing c.args.self.now c.answer_confirm.new.self x) (λ x. IsConfirmed c.args.upto) c.answer_confirm.result adds.released adds.answers (λ x says wal of_old done s stands. lead_confirm g.D.Disk.seen g.D.Disk.may_leave c.args.self.now c.answer_confirm.new.self wal of_old _ c.args.upto s stands done says.reader.place);
-      left = left_confirm g.D.Disk.seen g.D.Disk.may_leave c.args.self.now c.answer_confirm.new.self _ c.args.upto adds.first;
-      some = some_held g.D.Disk.seen g.D.Disk.may_leave c.args.self.now c.answer_confirm.new.self g.met.D.Disk.seen_may_be_left adds.come _ _ adds.first;
-      unconfirmed = λ is. left_held g.D.Disk.seen g.D.Disk.may_leave c.args.self.now c.answer_confirm.new.self _ (c.answer_confirm.ensures.starved is);
+      confirmed = leads_held g.D.Disk c.args.self.now c.answer_confirm.new.self _ _ (λ x. AnswersNothing c.args.self.now c.answer_confirm.new.self x) (λ x. IsConfirmed c.args.upto) c.answer_confirm.result adds.released adds.answers (λ x says wal of_old done s stands. lead_confirm g.D.Disk c.args.self.now c.answer_confirm.new.self wal of_old _ c.args.upto s stands done says.reader.place);
+      left = left_confirm g.D.Disk c.args.self.now c.answer_confirm.new.self _ c.args.upto adds.first;
+      some = some_held g.D.Disk c.args.self.now c.answer_confirm.new.self g.met.D.Disk.seen_may_be_left adds.come _ _ adds.first;
+      unconfirmed = λ is. left_held g.D.Disk c.args.self.now c.answer_confirm.new.self _ (c.answer_confirm.ensures.starved is);
       told = told_of c.answer_confirm.result Done;
       taken = tt;
       reading = same_reader c.args.self.now c.answer_confirm.new.self kept;
@@ -21,7 +21,7 @@ returns g c =
       live = adds.live;
       dead = adds.dead;
       honest = λ u. u;
-      comes = comes_held g.D.Disk.seen g.D.Disk.may_leave c.args.self.now c.answer_confirm.new.self _ _ c.answer_confirm.result c.requires adds.come adds.first adds.released adds.dead;
+      comes = comes_held g.D.Disk c.args.self.now c.answer_confirm.new.self _ _ c.answer_confirm.result c.requires adds.come adds.first adds.released adds.dead;
       cause = record { later = adds.later; cause = adds.failed };
       group = adds.group;
       released = adds.released;

@@ -11,9 +11,9 @@ returns g c =
     let adds = c.answer_head.ensures in
     let kept = kept_reader c.args.self.now c.answer_head.new.self (λ x. AnswersHead c.args.self.now c.answer_head.new.self x) c.answer_head.result adds.reader adds.answers (λ x says. says.reader) in
     record {
-      headed = leads_held g.D.Disk.seen g.D.Disk.may_leave c.args.self.now c.answer_head.new.self _ _ (λ x. AnswersHead c.args.self.now c.answer_head.new.self x) IsHeaded c.answer_head.result adds.released adds.answers (λ x says wal of_old done s stands. lead_head g.D.Disk.seen g.D.Disk.may_leave c.args.self.now c.answer_head.new.self wal of_old _ s stands done x says);
-      left = left_held g.D.Disk.seen g.D.Disk.may_leave c.args.self.now c.answer_head.new.self _ adds.first;
-      some = some_held g.D.Disk.seen g.D.Disk.may_leave c.args.self.now c.answer_head.new.self g.met.D.Disk.seen_may_be_left adds.come _ _ adds.first;
+      headed = leads_held g.D.Disk c.args.self.now c.answer_head.new.self _ _ (λ x. AnswersHead c.args.self.now c.answer_head.new.self x) IsHeaded c.answer_head.result adds.released adds.answers (λ x says wal of_old done s stands. lead_head g.D.Disk c.args.self.now c.answer_head.new.self wal of_old _ s stands done x says);
+      left = left_held g.D.Disk c.args.self.now c.answer_head.new.self _ adds.first;
+      some = some_held g.D.Disk c.args.self.now c.answer_head.new.self g.met.D.Disk.seen_may_be_left adds.come _ _ adds.first;
       last = IfOk-weaker c.answer_head.result _ _ (λ x says. says.is) adds.answers;
       told = tells_of c.answer_head.result Head;
       taken = tt;
@@ -22,7 +22,7 @@ returns g c =
       live = adds.live;
       dead = adds.dead;
       honest = λ u. u;
-      comes = comes_held g.D.Disk.seen g.D.Disk.may_leave c.args.self.now c.answer_head.new.self _ _ c.answer_head.result c.requires adds.come adds.first adds.released adds.dead;
+      comes = comes_held g.D.Disk c.args.self.now c.answer_head.new.self _ _ c.answer_head.result c.requires adds.come adds.first adds.released adds.dead;
       cause = record { later = adds.later; cause = adds.failed };
       group = adds.group;
       released = adds.released;

@@ -10,10 +10,10 @@ returns g c =
     let adds = c.answer_mark.ensures.added in
     let kept = kept_reader c.args.self.now c.answer_mark.new.self (λ x. AnswersNothing c.args.self.now c.answer_mark.new.self x) c.answer_mark.result adds.reader adds.answers (λ x says. says.reader) in
     record {
-      marked = leads_held g.D.Disk.seen g.D.Disk.may_leave c.args.self.now c.answer_mark.new.self _ _ (λ x. AnswersNothing c.args.self.now c.answer_mark.new.self x) (λ x. IsMarked c.args.value.now) c.answer_mark.result adds.released adds.answers (λ x says wal of_old done s stands. lead_mark g.D.Disk.seen g.D.Disk.may_leave c.args.self.now c.answer_mark.new.self wal of_old _ c.args.value.now s stands done says.reader.place);
-      left = left_mark g.D.Disk.seen g.D.Disk.may_leave c.args.self.now c.answer_mark.new.self _ c.args.value.now adds.first;
-      some = some_held g.D.Disk.seen g.D.Disk.may_leave c.args.self.now c.answer_mark.new.self g.met.D.Disk.seen_may_be_left adds.come _ _ adds.first;
-      unmarked = λ is. left_held g.D.Disk.seen g.D.Disk.may_leave c.args.self.now c.answer_mark.new.self _ (c.answer_mark.ensures.starved is);
+      marked = leads_held g.D.Disk c.args.self.now c.answer_mark.new.self _ _ (λ x. AnswersNothing c.args.self.now c.answer_mark.new.self x) (λ x. IsMarked c.args.value.now) c.answer_mark.result adds.released adds.answers (λ x says wal of_old done s stands. lead_mark g.D.Disk c.args.self.now c.answer_mark.new.self wal of_old _ c.args.value.now s stands done says.reader.place);
+      left = left_mark g.D.Disk c.args.self.now c.answer_mark.new.self _ c.args.value.now adds.first;
+      some = some_held g.D.Disk c.args.self.now c.answer_mark.new.self g.met.D.Disk.seen_may_be_left adds.come _ _ adds.first;
+      unmarked = λ is. left_held g.D.Disk c.args.self.now c.answer_mark.new.self _ (c.answer_mark.ensures.starved is);
       told = told_of c.answer_mark.result Done;
       taken = tt;
       reading = same_reader c.args.self.now c.answer_mark.new.self kept;
@@ -21,7 +21,7 @@ returns g c =
       live = adds.live;
       dead = adds.dead;
       honest = λ u. u;
-      comes = comes_held g.D.Disk.seen g.D.Disk.may_leave c.args.self.now c.answer_mark.new.self _ _ c.answer_mark.result c.requires.live adds.come adds.first adds.released adds.dead;
+      comes = comes_held g.D.Disk c.args.self.now c.answer_mark.new.self _ _ c.answer_mark.result c.requires.live adds.come adds.first adds.released adds.dead;
       cause = record { later = adds.later; cause = adds.failed };
       group = adds.group;
       released = adds.released;

@@ -8,9 +8,9 @@ pub returns : goal.returns
 returns g c =
     let adds = c.answer_read.ensures in
     record {
-      took = read_took g.D.Disk.seen g.D.Disk.may_leave g.D.Disk.faults c.args.self.now c.answer_read.new.self c.answer_read.result adds c.requires.reading;
-      left = read_left g.D.Disk.seen g.D.Disk.may_leave g.D.Disk.faults c.args.self.now c.answer_read.new.self c.answer_read.result adds c.requires.reading;
-      some = read_some g.D.Disk.seen g.D.Disk.may_leave g.D.Disk.faults c.args.self.now c.answer_read.new.self c.answer_read.result adds c.requires.reading g.met.D.Disk.seen_may_be_left;
+      took = read_took g.D.Disk c.args.self.now c.answer_read.new.self c.answer_read.result adds c.requires.reading;
+      left = read_left g.D.Disk c.args.self.now c.answer_read.new.self c.answer_read.result adds c.requires.reading;
+      some = read_some g.D.Disk c.args.self.now c.answer_read.new.self c.answer_read.result adds c.requires.reading g.met.D.Disk.seen_may_be_left;
       told = tells_of c.answer_read.result Read;
       taken = read_taken c.answer_read.result;
       untaken = on_err (IsTakenBy [] None None) c.answer_read.result tt;
@@ -20,10 +20,10 @@ returns g c =
       live = adds.live;
       dead = adds.dead;
       honest = λ u. u;
-      comes = read_comes g.D.Disk.seen g.D.Disk.may_leave g.D.Disk.faults c.args.self.now c.answer_read.new.self c.answer_read.result adds c.requires.reading c.requires.live;
+      comes = read_comes g.D.Disk c.args.self.now c.answer_read.new.self c.answer_read.result adds c.requires.reading c.requires.live;
       cause = record { later = adds.later; cause = adds.failed };
-      released = read_released g.D.Disk.seen g.D.Disk.may_leave g.D.Disk.faults c.args.self.now c.answer_read.new.self c.answer_read.result adds c.requires.reading;
+      released = read_released g.D.Disk c.args.self.now c.answer_read.new.self c.answer_read.result adds c.requires.reading;
       first = adds.first;
       all = adds.all;
-      end = read_ended g.D.Disk.seen g.D.Disk.may_leave g.D.Disk.faults c.args.self.now c.answer_read.new.self c.answer_read.result adds c.requires.reading;
+      end = read_ended g.D.Disk c.args.self.now c.answer_read.new.self c.answer_read.result adds c.requires.reading;
     }

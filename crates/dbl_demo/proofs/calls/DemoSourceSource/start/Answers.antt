@@ -12,10 +12,10 @@ pub returns : goal.returns
 returns g c =
     let adds = c.answer_start.ensures in
     record {
-      started = leads_held g.D.Disk.seen g.D.Disk.may_leave c.args.self.now c.answer_start.new.self _ _ (λ x. AnswersStart c.args.after c.args.self.now c.answer_start.new.self x) (Starts c.args.after) c.answer_start.result adds.released adds.answers (λ x says wal of_old done s stands. lead_start g.D.Disk.seen g.D.Disk.may_leave c.args.self.now c.answer_start.new.self wal of_old _ s stands done c.args.after x says);
+      started = leads_held g.D.Disk c.args.self.now c.answer_start.new.self _ _ (λ x. AnswersStart c.args.after c.args.self.now c.answer_start.new.self x) (Starts c.args.after) c.answer_start.result adds.released adds.answers (λ x says wal of_old done s stands. lead_start g.D.Disk c.args.self.now c.answer_start.new.self wal of_old _ s stands done c.args.after x says);
       gone = IfOk-weaker c.answer_start.result _ _ (λ x says. says.is) adds.answers;
-      left = left_held g.D.Disk.seen g.D.Disk.may_leave c.args.self.now c.answer_start.new.self _ adds.first;
-      some = some_held g.D.Disk.seen g.D.Disk.may_leave c.args.self.now c.answer_start.new.self g.met.D.Disk.seen_may_be_left adds.come _ _ adds.first;
+      left = left_held g.D.Disk c.args.self.now c.answer_start.new.self _ adds.first;
+      some = some_held g.D.Disk c.args.self.now c.answer_start.new.self g.met.D.Disk.seen_may_be_left adds.come _ _ adds.first;
       told = tells_of c.answer_start.result Began;
       taken = on_ok (IsTakenAnew None None) c.answer_start.result tt;
       untaken = on_err (IsTakenBy [] None None) c.answer_start.result tt;
@@ -26,7 +26,7 @@ returns g c =
       live = adds.live;
       dead = adds.dead;
       honest = λ u. u;
-      comes = comes_held g.D.Disk.seen g.D.Disk.may_leave c.args.self.now c.answer_start.new.self _ _ c.answer_start.result c.requires adds.come adds.first adds.released adds.dead;
+      comes = comes_held g.D.Disk c.args.self.now c.answer_start.new.self _ _ c.answer_start.result c.requires adds.come adds.first adds.released adds.dead;
       cause = record { later = adds.later; cause = adds.failed };
       group = adds.group;
       released = adds.released;

@@ -20,7 +20,7 @@ run_to_tick-requires-clause-live g c =
 -- the source can't be used while the call runs
 pub invariant_of-self : goal.invariant_of-self
 invariant_of-self g c = record {
-  subsequent = c.self.invariant.subsequent;
+  has_run = c.self.invariant.has_run;
   usable = λ live. cc;
   few = c.self.invariant.few;
   there = c.self.invariant.there;
@@ -31,19 +31,19 @@ invariant_of-self g c = record {
 pub returns-in_err-run_to_tick-clause-added : goal.returns-in_err-run_to_tick-clause-added
 returns-in_err-run_to_tick-clause-added g c =
     let p = err_from_is_err_and c.from_residual.result c.from_residual.ensures.1 in
-    fails_from g.D.Disk.seen g.D.Disk.may_leave g.D.Disk.faults c.self.view_is c.run_to_tick.new.self c.run_to_tick.ensures.same c.run_to_tick.ensures.crash c.run_to_tick.ensures.comes c.run_to_tick.ensures.cause.later next_end (λ s. mark_entries c.args.value.now (next_end s)) AnswersNothing c.from_residual.result p.0 p.1 (omega arith) (λ is. c.run_to_tick.ensures.cause.cause (c.in_err-run_to_tick.was ∙ ap Err (sym p.2 ∙ is)))
+    fails_from g.D.Disk c.self.view_is c.run_to_tick.new.self c.run_to_tick.ensures.same c.run_to_tick.ensures.crash c.run_to_tick.ensures.comes c.run_to_tick.ensures.cause.later next_end (λ s. mark_entries c.args.value.now (next_end s)) AnswersNothing c.from_residual.result p.0 p.1 (omega arith) (λ is. c.run_to_tick.ensures.cause.cause (c.in_err-run_to_tick.was ∙ ap Err (sym p.2 ∙ is)))
 
 pub returns-in_err-run_to_tick-clause-starved : goal.returns-in_err-run_to_tick-clause-starved
-returns-in_err-run_to_tick-clause-starved g c = λ is. first_from g.D.Disk.seen g.D.Disk.may_leave g.D.Disk.faults c.self.view_is c.run_to_tick.new.self c.run_to_tick.ensures.crash
+returns-in_err-run_to_tick-clause-starved g c = λ is. first_from g.D.Disk c.self.view_is c.run_to_tick.new.self c.run_to_tick.ensures.crash
 
 -- memory ran out for the mark's entry
 pub returns-in_err-entry-clause-added : goal.returns-in_err-entry-clause-added
 returns-in_err-entry-clause-added g c =
     let p = err_from_is_err_and c.from_residual-in_err-entry.result c.from_residual-in_err-entry.ensures.1 in
-    fails_from g.D.Disk.seen g.D.Disk.may_leave g.D.Disk.faults c.self.view_is c.run_to_tick.new.self c.run_to_tick.ensures.same c.run_to_tick.ensures.crash c.run_to_tick.ensures.comes c.run_to_tick.ensures.cause.later next_end (λ s. mark_entries c.args.value.now (next_end s)) AnswersNothing c.from_residual-in_err-entry.result p.0 p.1 (omega arith) (λ is. absurd (let wrong : Memory ≡ Failed = sym p.2 ∙ is in cc))
+    fails_from g.D.Disk c.self.view_is c.run_to_tick.new.self c.run_to_tick.ensures.same c.run_to_tick.ensures.crash c.run_to_tick.ensures.comes c.run_to_tick.ensures.cause.later next_end (λ s. mark_entries c.args.value.now (next_end s)) AnswersNothing c.from_residual-in_err-entry.result p.0 p.1 (omega arith) (λ is. absurd (let wrong : Memory ≡ Failed = sym p.2 ∙ is in cc))
 
 pub returns-in_err-entry-clause-starved : goal.returns-in_err-entry-clause-starved
-returns-in_err-entry-clause-starved g c = λ is. first_from g.D.Disk.seen g.D.Disk.may_leave g.D.Disk.faults c.self.view_is c.run_to_tick.new.self c.run_to_tick.ensures.crash
+returns-in_err-entry-clause-starved g c = λ is. first_from g.D.Disk c.self.view_is c.run_to_tick.new.self c.run_to_tick.ensures.crash
 
 pub log_mark-requires-clause-live : goal.log_mark-requires-clause-live
 log_mark-requires-clause-live g c =
@@ -60,20 +60,20 @@ returns-in_err-log_mark-clause-added g c =
     let p = err_from_is_err_and c.from_residual-in_err-log_mark.result c.from_residual-in_err-log_mark.ensures.1 in
     let log = c.log_mark.ensures in
     let spells = spelled c.run_to_tick.new.self c.self-2.inside.done _ (drop 4 c.in_ok-entry.entry.items) c.args.value.now (ap (λ (d : Demo _). d.done) c.self-2.view_is) c.in_ok-run_to_tick.ensures.end c.in_ok-entry.ensures.entry in
-    mark_fails g.D.Disk.seen g.D.Disk.may_leave g.D.Disk.faults c.self.view_is c.run_to_tick.new.self c.run_to_tick.ensures.same c.in_ok-run_to_tick.ensures.ran c.in_ok-run_to_tick.ensures.end c.run_to_tick.ensures.comes c.run_to_tick.ensures.cause.later log.small c.log_mark.new.self log.comes log.cause.later (drop 4 c.in_ok-entry.entry.items) log.left c.args.value.now spells log.same
+    mark_fails g.D.Disk c.self.view_is c.run_to_tick.new.self c.run_to_tick.ensures.same c.in_ok-run_to_tick.ensures.ran c.in_ok-run_to_tick.ensures.end c.run_to_tick.ensures.comes c.run_to_tick.ensures.cause.later log.small c.log_mark.new.self log.comes log.cause.later (drop 4 c.in_ok-entry.entry.items) log.left c.args.value.now spells log.same
     c.from_residual-in_err-log_mark.result p.0 p.1 (λ is. log.cause.cause (c.in_err-log_mark.was ∙ ap Err (sym p.2 ∙ is)))
 
 pub returns-in_err-log_mark-clause-starved : goal.returns-in_err-log_mark-clause-starved
 returns-in_err-log_mark-clause-starved g c = λ is.
     let p = err_from_is_err_and c.from_residual-in_err-log_mark.result c.from_residual-in_err-log_mark.ensures.1 in
     let same : ◌≡◌ {A = SourceError} p.0 Memory = (let both = sym p.1 ∙ is in cc) in
-    starved_from g.D.Disk.seen g.D.Disk.may_leave g.D.Disk.faults c.self.view_is c.run_to_tick.new.self c.log_mark.new.self c.in_ok-run_to_tick.ensures.ran (λ forms lists. c.log_mark.ensures.kept forms lists (c.in_err-log_mark.was ∙ ap Err (sym p.2 ∙ same)))
+    starved_from g.D.Disk c.self.view_is c.run_to_tick.new.self c.log_mark.new.self c.in_ok-run_to_tick.ensures.ran (λ forms lists. c.log_mark.ensures.kept forms lists (c.in_err-log_mark.was ∙ ap Err (sym p.2 ∙ same)))
 
 -- it was
 pub returns-clause-added : goal.returns-clause-added
 returns-clause-added g c =
     let log = c.log_mark.ensures in
     let spells = spelled c.run_to_tick.new.self c.self-2.inside.done _ (drop 4 c.in_ok-entry.entry.items) c.args.value.now (ap (λ (d : Demo _). d.done) c.self-2.view_is) c.in_ok-run_to_tick.ensures.end c.in_ok-entry.ensures.entry in
-    subst (λ (d : Demo _). RunsStepsAndWrites g.D.Disk.seen g.D.Disk.may_leave g.D.Disk.faults (next_end c.args.self.now) (mark_entries c.args.value.now (next_end c.args.self.now)) (AnswersNothing c.args.self.now) c.args.self.now (answering d) (Ok tt)) (sym c.self-3.view_is)
-    (mark_answers g.D.Disk.seen g.D.Disk.may_leave g.D.Disk.faults c.self.view_is c.run_to_tick.new.self c.run_to_tick.ensures.same c.in_ok-run_to_tick.ensures.ran c.in_ok-run_to_tick.ensures.end c.run_to_tick.ensures.comes c.run_to_tick.ensures.cause.later log.small c.log_mark.new.self log.comes log.cause.later (drop 4 c.in_ok-entry.entry.items) log.left c.args.value.now spells log.same
+    subst (λ (d : Demo _). RunsStepsAndWrites g.D.Disk (next_end c.args.self.now) (mark_entries c.args.value.now (next_end c.args.self.now)) (AnswersNothing c.args.self.now) c.args.self.now (answering d) (Ok tt)) (sym c.self-3.view_is)
+    (mark_answers g.D.Disk c.self.view_is c.run_to_tick.new.self c.run_to_tick.ensures.same c.in_ok-run_to_tick.ensures.ran c.in_ok-run_to_tick.ensures.end c.run_to_tick.ensures.comes c.run_to_tick.ensures.cause.later log.small c.log_mark.new.self log.comes log.cause.later (drop 4 c.in_ok-entry.entry.items) log.left c.args.value.now spells log.same
     c.in_ok-log_mark.ensures.commits c.in_ok-log_mark.ensures.added)

@@ -21,33 +21,33 @@ returns-in_err-append-clause-left g c = λ forms lists.
     let journal = ap (λ (s : Demo _). s.journal) c.self.view_is in
     let done = ap (λ (s : Demo _). s.done) c.self.view_is in
     let spells = spells_at (drop 4 c.in_ok-entry.entry.items) c.self.inside.done c.args.self.now.done c.as_slice.result.now c.args.messages done (c.as_slice.ensures.value ∙ c.items.ensures) c.in_ok-entry.ensures.entry in
-    let here = subst (λ (j : OnDisk _). Lists g.D.Disk.seen g.D.Disk.may_leave j forms) (sym journal) lists in
-    entry_left g.D.Disk.seen g.D.Disk.may_leave c.append.new.journal forms (drop 4 c.in_ok-entry.entry.items) (Commits c.args.self.now.done c.args.messages) spells (c.append.ensures.left forms here)
+    let here = subst (λ (j : OnDisk _). Lists g.D.Disk j forms) (sym journal) lists in
+    entry_left g.D.Disk c.append.new.journal forms (drop 4 c.in_ok-entry.entry.items) (Commits c.args.self.now.done c.args.messages) spells (c.append.ensures.left forms here)
 
 pub returns-in_err-append-clause-comes : goal.returns-in_err-append-clause-comes
 returns-in_err-append-clause-comes g c =
-    comes_at g.D.Disk.seen g.D.Disk.may_leave c.self.inside.journal c.args.self.now.journal c.append.new.journal (ap (λ (s : Demo _). s.journal) c.self.view_is) c.append.ensures.comes
+    comes_at g.D.Disk c.self.inside.journal c.args.self.now.journal c.append.new.journal (ap (λ (s : Demo _). s.journal) c.self.view_is) c.append.ensures.comes
 
 pub returns-in_err-push-clause-left : goal.returns-in_err-push-clause-left
 returns-in_err-push-clause-left g c = λ forms lists.
     let journal = ap (λ (s : Demo _). s.journal) c.self.view_is in
     let done = ap (λ (s : Demo _). s.done) c.self.view_is in
     let spells = spells_at (drop 4 c.in_ok-entry.entry.items) c.self.inside.done c.args.self.now.done c.as_slice.result.now c.args.messages done (c.as_slice.ensures.value ∙ c.items.ensures) c.in_ok-entry.ensures.entry in
-    let here = subst (λ (j : OnDisk _). Lists g.D.Disk.seen g.D.Disk.may_leave j forms) (sym journal) lists in
-    entry_left g.D.Disk.seen g.D.Disk.may_leave c.append.new.journal forms (drop 4 c.in_ok-entry.entry.items) (Commits c.args.self.now.done c.args.messages) spells (c.append.ensures.left forms here)
+    let here = subst (λ (j : OnDisk _). Lists g.D.Disk j forms) (sym journal) lists in
+    entry_left g.D.Disk c.append.new.journal forms (drop 4 c.in_ok-entry.entry.items) (Commits c.args.self.now.done c.args.messages) spells (c.append.ensures.left forms here)
 
 pub returns-in_err-push-clause-comes : goal.returns-in_err-push-clause-comes
 returns-in_err-push-clause-comes g c =
-    comes_at g.D.Disk.seen g.D.Disk.may_leave c.self.inside.journal c.args.self.now.journal c.append.new.journal (ap (λ (s : Demo _). s.journal) c.self.view_is) c.append.ensures.comes
+    comes_at g.D.Disk c.self.inside.journal c.args.self.now.journal c.append.new.journal (ap (λ (s : Demo _). s.journal) c.self.view_is) c.append.ensures.comes
 
 pub returns-clause-left : goal.returns-clause-left
 returns-clause-left g c = λ forms lists.
     let journal = ap (λ (s : Demo _). s.journal) c.self.view_is in
     let done = ap (λ (s : Demo _). s.done) c.self.view_is in
     let spells = spells_at (drop 4 c.in_ok-entry.entry.items) c.self.inside.done c.args.self.now.done c.as_slice.result.now c.args.messages done (c.as_slice.ensures.value ∙ c.items.ensures) c.in_ok-entry.ensures.entry in
-    let here = subst (λ (j : OnDisk _). Lists g.D.Disk.seen g.D.Disk.may_leave j forms) (sym journal) lists in
-    entry_left g.D.Disk.seen g.D.Disk.may_leave c.append.new.journal forms (drop 4 c.in_ok-entry.entry.items) (Commits c.args.self.now.done c.args.messages) spells (c.append.ensures.left forms here)
+    let here = subst (λ (j : OnDisk _). Lists g.D.Disk j forms) (sym journal) lists in
+    entry_left g.D.Disk c.append.new.journal forms (drop 4 c.in_ok-entry.entry.items) (Commits c.args.self.now.done c.args.messages) spells (c.append.ensures.left forms here)
 
 pub returns-clause-comes : goal.returns-clause-comes
 returns-clause-comes g c =
-    comes_at g.D.Disk.seen g.D.Disk.may_leave c.self.inside.journal c.args.self.now.journal c.append.new.journal (ap (λ (s : Demo _). s.journal) c.self.view_is) c.append.ensures.comes
+    comes_at g.D.Disk c.self.inside.journal c.args.self.now.journal c.append.new.journal (ap (λ (s : Demo _). s.journal) c.self.view_is) c.append.ensures.comes

@@ -6,16 +6,16 @@ use Rattle.dbl_demo.proofs.source.DemoSource.log_confirm.Goals as goal
 
 pub returns-in_err-append-clause-left : goal.returns-in_err-append-clause-left
 returns-in_err-append-clause-left g c = λ forms lists.
-    c.append.ensures.left forms (subst (λ (j : OnDisk _). Lists g.D.Disk.seen g.D.Disk.may_leave j forms) (sym (ap (λ (d : Demo _). d.journal) c.self.view_is)) lists)
+    c.append.ensures.left forms (subst (λ (j : OnDisk _). Lists g.D.Disk j forms) (sym (ap (λ (d : Demo _). d.journal) c.self.view_is)) lists)
 
 pub returns-in_err-append-clause-comes : goal.returns-in_err-append-clause-comes
 returns-in_err-append-clause-comes g c =
-    comes_at g.D.Disk.seen g.D.Disk.may_leave c.self.inside.journal c.args.self.now.journal c.append.new.journal (ap (λ (d : Demo _). d.journal) c.self.view_is) c.append.ensures.comes
+    comes_at g.D.Disk c.self.inside.journal c.args.self.now.journal c.append.new.journal (ap (λ (d : Demo _). d.journal) c.self.view_is) c.append.ensures.comes
 
 pub returns-clause-left : goal.returns-clause-left
 returns-clause-left g c = λ forms lists.
-    c.append.ensures.left forms (subst (λ (j : OnDisk _). Lists g.D.Disk.seen g.D.Disk.may_leave j forms) (sym (ap (λ (d : Demo _). d.journal) c.self.view_is)) lists)
+    c.append.ensures.left forms (subst (λ (j : OnDisk _). Lists g.D.Disk j forms) (sym (ap (λ (d : Demo _). d.journal) c.self.view_is)) lists)
 
 pub returns-clause-comes : goal.returns-clause-comes
 returns-clause-comes g c =
-    comes_at g.D.Disk.seen g.D.Disk.may_leave c.self.inside.journal c.args.self.now.journal c.append.new.journal (ap (λ (d : Demo _). d.journal) c.self.view_is) c.append.ensures.comes
+    comes_at g.D.Disk c.self.inside.journal c.args.self.now.journal c.append.new.journal (ap (λ (d : Demo _). d.journal) c.self.view_is) c.append.ensures.comes

@@ -14,7 +14,7 @@ pub returns-in-Err-clause-failed : goal.returns-in-Err-clause-failed
 returns-in-Err-clause-failed g c = λ failed. absurd (prepare_spares c.args.workload.now c.in-Err.error c.in-Err.ensures.refused failed)
 
 pub returns-in-Err-clause-small : goal.returns-in-Err-clause-small
-returns-in-Err-clause-small g c = λ bytes told is. empty_small g.D.Disk.seen c.args.disk bytes told is
+returns-in-Err-clause-small g c = λ bytes told is. empty_small g.D.Disk c.args.disk bytes told is
 
 pub returns-in-Err-clause-steady : goal.returns-in-Err-clause-steady
 returns-in-Err-clause-steady g c = λ no bytes told. refl
@@ -28,7 +28,7 @@ pub returns-in-Err-first_numbers-clause-failed : goal.returns-in-Err-first_numbe
 returns-in-Err-first_numbers-clause-failed g c = λ failed. absurd (prepare_spares c.args.workload.now c.in-Err-first_numbers.error (inl c.in-Err-first_numbers.ensures.memory) failed)
 
 pub returns-in-Err-first_numbers-clause-small : goal.returns-in-Err-first_numbers-clause-small
-returns-in-Err-first_numbers-clause-small g c = λ bytes told is. empty_small g.D.Disk.seen c.args.disk bytes told is
+returns-in-Err-first_numbers-clause-small g c = λ bytes told is. empty_small g.D.Disk c.args.disk bytes told is
 
 pub returns-in-Err-first_numbers-clause-steady : goal.returns-in-Err-first_numbers-clause-steady
 returns-in-Err-first_numbers-clause-steady g c = λ no bytes told. refl

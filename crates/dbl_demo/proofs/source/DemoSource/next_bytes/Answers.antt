@@ -1,7 +1,7 @@
 use Rattle.std.proofs.Common.{◌≡◌, ◌∙◌, ◌+◌, ℕ, Option, None, Some, List, length, ap, sym, subst, arith}
 use Rattle.std.specs.Prelude.{slice_get, is_some, IfOk}
 use Rattle.dbl_base.specs.declared.seq.Seq.{Seq}
-use Rattle.dbl_source_log.specs.declared.place.Place.{Place}
+use Rattle.dbl_source_log.specs.declared.reader_position.ReaderPosition.{ReaderPosition}
 use Rattle.dbl_source_log.specs.Sent.{index_of}
 use Rattle.dbl_journal.specs.Growth.{HasCome}
 use Rattle.dbl_journal.specs.Stored.{OnDisk}
@@ -17,15 +17,15 @@ number_at xs ys i j number same at is = cc
 -- no commit stands there
 pub returns-in_default-copied-clause-read : goal.returns-in_default-copied-clause-read
 returns-in_default-copied-clause-read g c = λ wal place running at.
-    let same : c.in-Some.place ≡ place = (let both : ◌≡◌ {A = Option Place} (Some c.in-Some.place) (Some place) = sym c.in-Some.is ∙ ap (λ (d : Demo _). d.place) c.self.view_is ∙ at in cc) in
+    let same : c.in-Some.place ≡ place = (let both : ◌≡◌ {A = Option ReaderPosition} (Some c.in-Some.place) (Some place) = sym c.in-Some.is ∙ ap (λ (d : Demo _). d.place) c.self.view_is ∙ at in cc) in
     let commits : length c.deref.result.now ≡ length c.args.self.now.commits = ap (λ (l : List ℕ). length l) c.deref.ensures.value ∙ ap (λ (d : Demo _). length d.commits) c.self.view_is in
     let past = number_none c.deref.result.now _ c.get.result c.get.ensures.lookup (sym c.copied.ensures ∙ c.in_default-copied.is) in
-    read_nothing g.D.Disk.seen g.D.Disk.may_leave c.args.self.now wal place running at (omega (arith, past, commits, c.commits_upto.ensures.value, ap index_of same))
+    read_nothing g.D.Disk c.args.self.now wal place running at (omega (arith, past, commits, c.commits_upto.ensures.value, ap index_of same))
 
 -- what is no commit isn't read of a wal
 pub returns-in-Some-2-clause-read : goal.returns-in-Some-2-clause-read
 returns-in-Some-2-clause-read g c = λ wal place running at.
-    let same : c.in-Some.place ≡ place = (let both : ◌≡◌ {A = Option Place} (Some c.in-Some.place) (Some place) = sym c.in-Some.is ∙ ap (λ (d : Demo _). d.place) c.self.view_is ∙ at in cc) in
+    let same : c.in-Some.place ≡ place = (let both : ◌≡◌ {A = Option ReaderPosition} (Some c.in-Some.place) (Some place) = sym c.in-Some.is ∙ ap (λ (d : Demo _). d.place) c.self.view_is ∙ at in cc) in
     let index : c.commits_upto.result + c.in-Some.place.commits ≡ index_of place = omega (arith, c.commits_upto.ensures.value, ap index_of same) in
     let number = number_at c.deref.result.now c.args.self.now.commits (c.commits_upto.result + c.in-Some.place.commits) (index_of place) c.in-Some-copied.number (c.deref.ensures.value ∙ ap (λ (d : Demo _). d.commits) c.self.view_is) index
     (number_some c.deref.result.now (c.commits_upto.result + c.in-Some.place.commits) c.in-Some-copied.number c.get.result c.get.ensures.lookup (sym c.copied.ensures ∙ c.in-Some-copied.is)) in
@@ -34,20 +34,20 @@ returns-in-Some-2-clause-read g c = λ wal place running at.
 
 pub returns-clause-read : goal.returns-clause-read
 returns-clause-read g c = λ wal place running at.
-    let same : c.in-Some.place ≡ place = (let both : ◌≡◌ {A = Option Place} (Some c.in-Some.place) (Some place) = sym c.in-Some.is ∙ ap (λ (d : Demo _). d.place) c.self.view_is ∙ at in cc) in
+    let same : c.in-Some.place ≡ place = (let both : ◌≡◌ {A = Option ReaderPosition} (Some c.in-Some.place) (Some place) = sym c.in-Some.is ∙ ap (λ (d : Demo _). d.place) c.self.view_is ∙ at in cc) in
     let index : c.commits_upto.result + c.in-Some.place.commits ≡ index_of place = omega (arith, c.commits_upto.ensures.value, ap index_of same) in
     let number = number_at c.deref.result.now c.args.self.now.commits (c.commits_upto.result + c.in-Some.place.commits) (index_of place) c.in-Some-copied.number (c.deref.ensures.value ∙ ap (λ (d : Demo _). d.commits) c.self.view_is) index
     (number_some c.deref.result.now (c.commits_upto.result + c.in-Some.place.commits) c.in-Some-copied.number c.get.result c.get.ensures.lookup (sym c.copied.ensures ∙ c.in-Some-copied.is)) in
     let held = c.in_ok-other.ensures.held wal place running at number in
-    let there = ap (λ (d : Demo _). d.place) c.cache_commit.ensures.same ∙ at ∙ ap (λ (p : Place). Some p) (sym same) in
-    subst (λ (p : Place). IfOk c.step_on.result (ReadsNext g.D.Disk.seen g.D.Disk.may_leave wal p c.step_on.new.self)) same
+    let there = ap (λ (d : Demo _). d.place) c.cache_commit.ensures.same ∙ at ∙ ap (λ (p : ReaderPosition). Some p) (sym same) in
+    subst (λ (p : ReaderPosition). IfOk c.step_on.result (ReadsNext g.D.Disk wal p c.step_on.new.self)) same
     (c.step_on.ensures.read wal held.1 there (held.2 ∙ ap (slice_get (logged_in wal.entries)) (sym index)) (c.in_ok-other.ensures.some c.in_default-2.is))
 
 pub returns-clause-reading : goal.returns-clause-reading
 returns-clause-reading g c =
-    let reads = ap (λ (p : Option Place). is_some p) (sym (ap (λ (d : Demo _). d.place) c.self.view_is) ∙ c.in-Some.is) in
+    let reads = ap (λ (p : Option ReaderPosition). is_some p) (sym (ap (λ (d : Demo _). d.place) c.self.view_is) ∙ c.in-Some.is) in
     c.step_on.ensures.reading (ap (λ (d : Demo _). is_some d.place) c.cache_commit.ensures.same ∙ reads) ∙ sym reads
 
 pub returns-clause-comes : goal.returns-clause-comes
 returns-clause-comes g c = λ gate most come.
-    subst (λ (j : OnDisk _). HasCome g.D.Disk.seen g.D.Disk.may_leave gate most j) (sym (ap (λ (d : Demo _). d.journal) c.step_on.ensures.same)) (c.cache_commit.ensures.comes gate most come)
+    subst (λ (j : OnDisk _). HasCome g.D.Disk gate most j) (sym (ap (λ (d : Demo _). d.journal) c.step_on.ensures.same)) (c.cache_commit.ensures.comes gate most come)

@@ -9,12 +9,12 @@ use Rattle.dbl_demo.proofs.source.DemoSource.open.Goals as goal
 pub returns-in-Ok-clause-opened : goal.returns-in-Ok-clause-opened
 returns-in-Ok-clause-opened g c = λ bytes told.
     let opened = c.in-Ok.ensures.opened bytes told in
-    IfOk-weaker c.open_journal.result _ _ (λ source found. wal_of_bytes g.D.Disk.seen g.D.Disk.may_leave bytes opened.0 opened.1 _ found) (c.open_journal.ensures.opened opened.0 opened.2)
+    IfOk-weaker c.open_journal.result _ _ (λ source found. wal_of_bytes g.D.Disk bytes opened.0 opened.1 _ found) (c.open_journal.ensures.opened opened.0 opened.2)
 
 pub returns-in-Ok-clause-bad : goal.returns-in-Ok-clause-bad
 returns-in-Ok-clause-bad g c = λ bytes index told.
     let opened = c.in-Ok.ensures.opened bytes told in
-    IfErr-weaker c.open_journal.result _ _ (λ refused bad is. bad_of_bytes g.D.Disk.seen g.D.Disk.may_leave bytes opened.0 opened.1 index (bad is)) (c.open_journal.ensures.bad opened.0 index opened.2)
+    IfErr-weaker c.open_journal.result _ _ (λ refused bad is. bad_of_bytes g.D.Disk bytes opened.0 opened.1 index (bad is)) (c.open_journal.ensures.bad opened.0 index opened.2)
 
 pub returns-in-Ok-clause-not_a_journal : goal.returns-in-Ok-clause-not_a_journal
 returns-in-Ok-clause-not_a_journal g c = λ bytes at told.

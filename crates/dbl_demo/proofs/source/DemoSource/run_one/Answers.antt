@@ -6,36 +6,36 @@ use Rattle.dbl_demo.proofs.source.DemoSource.run_one.Goals as goal
 
 -- memory ran out
 pub returns-in_err-committed-clause-crash : goal.returns-in_err-committed-clause-crash
-returns-in_err-committed-clause-crash g c = λ wal running. one_alone g.D.Disk.seen g.D.Disk.may_leave c.self.view_is c.requires.left wal running
+returns-in_err-committed-clause-crash g c = λ wal running. one_alone g.D.Disk c.self.view_is c.requires.left wal running
 
 -- its commit was being appended
 pub returns-in_err-log_commit-clause-crash : goal.returns-in_err-log_commit-clause-crash
-returns-in_err-log_commit-clause-crash g c = λ wal running. one_left g.D.Disk.seen g.D.Disk.may_leave c.self.view_is c.requires.left c.as_slice.result.now c.as_slice.ensures.value c.run_next.new.store c.in_ok-committed.committed c.in_ok-committed.ensures.ran wal running c.in-Some.messages c.in-Some.is c.log_commit.ensures.entry c.log_commit.ensures.small c.log_commit.new.self c.log_commit.ensures.left
+returns-in_err-log_commit-clause-crash g c = λ wal running. one_left g.D.Disk c.self.view_is c.requires.left c.as_slice.result.now c.as_slice.ensures.value c.run_next.new.store c.in_ok-committed.committed c.in_ok-committed.ensures.ran wal running c.in-Some.messages c.in-Some.is c.log_commit.ensures.entry c.log_commit.ensures.small c.log_commit.new.self c.log_commit.ensures.left
 
 pub returns-in_err-log_commit-clause-comes : goal.returns-in_err-log_commit-clause-comes
 returns-in_err-log_commit-clause-comes g c =
-    comes_at g.D.Disk.seen g.D.Disk.may_leave c.self.inside.journal c.args.self.now.journal c.log_commit.new.self.journal (ap (λ (s : Demo _). s.journal) c.self.view_is) c.log_commit.ensures.comes
+    comes_at g.D.Disk c.self.inside.journal c.args.self.now.journal c.log_commit.new.self.journal (ap (λ (s : Demo _). s.journal) c.self.view_is) c.log_commit.ensures.comes
 
 -- it was appended
 pub returns-in_ok-log_commit-clause-ran : goal.returns-in_ok-log_commit-clause-ran
-returns-in_ok-log_commit-clause-ran g c = λ wal running. one_logged g.D.Disk.seen g.D.Disk.may_leave c.self.view_is c.requires.left c.as_slice.result.now c.as_slice.ensures.value c.run_next.new.store c.in_ok-committed.committed c.in_ok-committed.ensures.ran wal running c.in-Some.messages c.in-Some.is c.log_commit.ensures.entry c.log_commit.ensures.small c.log_commit.new.self c.in_ok-log_commit.ensures.logged c.log_commit.ensures.same c.log_commit.ensures.stays
+returns-in_ok-log_commit-clause-ran g c = λ wal running. one_logged g.D.Disk c.self.view_is c.requires.left c.as_slice.result.now c.as_slice.ensures.value c.run_next.new.store c.in_ok-committed.committed c.in_ok-committed.ensures.ran wal running c.in-Some.messages c.in-Some.is c.log_commit.ensures.entry c.log_commit.ensures.small c.log_commit.new.self c.in_ok-log_commit.ensures.logged c.log_commit.ensures.same c.log_commit.ensures.stays
 
 pub returns-in_ok-log_commit-clause-crash : goal.returns-in_ok-log_commit-clause-crash
-returns-in_ok-log_commit-clause-crash g c = λ wal running. one_left g.D.Disk.seen g.D.Disk.may_leave c.self.view_is c.requires.left c.as_slice.result.now c.as_slice.ensures.value c.run_next.new.store c.in_ok-committed.committed c.in_ok-committed.ensures.ran wal running c.in-Some.messages c.in-Some.is c.log_commit.ensures.entry c.log_commit.ensures.small c.log_commit.new.self c.log_commit.ensures.left
+returns-in_ok-log_commit-clause-crash g c = λ wal running. one_left g.D.Disk c.self.view_is c.requires.left c.as_slice.result.now c.as_slice.ensures.value c.run_next.new.store c.in_ok-committed.committed c.in_ok-committed.ensures.ran wal running c.in-Some.messages c.in-Some.is c.log_commit.ensures.entry c.log_commit.ensures.small c.log_commit.new.self c.log_commit.ensures.left
 
 pub returns-in_ok-log_commit-clause-comes : goal.returns-in_ok-log_commit-clause-comes
 returns-in_ok-log_commit-clause-comes g c =
-    comes_at g.D.Disk.seen g.D.Disk.may_leave c.self.inside.journal c.args.self.now.journal c.log_commit.new.self.journal (ap (λ (s : Demo _). s.journal) c.self.view_is) c.log_commit.ensures.comes
+    comes_at g.D.Disk c.self.inside.journal c.args.self.now.journal c.log_commit.new.self.journal (ap (λ (s : Demo _). s.journal) c.self.view_is) c.log_commit.ensures.comes
 
 pub returns-in_ok-log_commit-clause-ends : goal.returns-in_ok-log_commit-clause-ends
-returns-in_ok-log_commit-clause-ends g c = λ step there. one_ends g.D.Disk.seen g.D.Disk.may_leave c.self.view_is c.requires.left c.is_tick-ends.result c.index.result.now step c.index.ensures c.is_tick-ends.ensures there
+returns-in_ok-log_commit-clause-ends g c = λ step there. one_ends g.D.Disk c.self.view_is c.requires.left c.is_tick-ends.result c.index.result.now step c.index.ensures c.is_tick-ends.ensures there
 
 -- it committed nothing
 pub returns-in_default-clause-ran : goal.returns-in_default-clause-ran
-returns-in_default-clause-ran g c = λ wal running. one_silent g.D.Disk.seen g.D.Disk.may_leave c.self.view_is c.requires.left c.as_slice.result.now c.as_slice.ensures.value c.run_next.new.store c.in_ok-committed.committed c.in_ok-committed.ensures.ran wal running c.in_default.is
+returns-in_default-clause-ran g c = λ wal running. one_silent g.D.Disk c.self.view_is c.requires.left c.as_slice.result.now c.as_slice.ensures.value c.run_next.new.store c.in_ok-committed.committed c.in_ok-committed.ensures.ran wal running c.in_default.is
 
 pub returns-in_default-clause-crash : goal.returns-in_default-clause-crash
-returns-in_default-clause-crash g c = λ wal running. one_alone g.D.Disk.seen g.D.Disk.may_leave c.self.view_is c.requires.left wal running
+returns-in_default-clause-crash g c = λ wal running. one_alone g.D.Disk c.self.view_is c.requires.left wal running
 
 pub returns-in_default-clause-ends : goal.returns-in_default-clause-ends
-returns-in_default-clause-ends g c = λ step there. one_ends g.D.Disk.seen g.D.Disk.may_leave c.self.view_is c.requires.left c.is_tick-ends.result c.index.result.now step c.index.ensures c.is_tick-ends.ensures there
+returns-in_default-clause-ends g c = λ step there. one_ends g.D.Disk c.self.view_is c.requires.left c.is_tick-ends.result c.index.result.now step c.index.ensures c.is_tick-ends.ensures there

@@ -18,4 +18,4 @@ returns-then-next-gt-MOST_COMMITS-clause-read g c = λ wal running at held some.
     let here = subst (λ (tables : List LogTable). Describes c.self.inside.described (told_at tables (logged_in wal.entries) c.args.place)) (sym (c.deref.ensures.value ∙ ap (λ (d : Demo _). d.tables) c.self.view_is))
     (subst (λ (described : BTreeSet ℕ). Describes described (told_at c.args.self.now.tables (logged_in wal.entries) c.args.place)) (sym (ap (λ (d : Demo _). d.described) c.self.view_is)) recalled) in
     let next = c.in-Ok.ensures (logged_in wal.entries) number there (running.reader.placed c.args.place at) here in
-    absurd (omega (arith, place_near g.D.Disk.seen g.D.Disk.may_leave c.args.self.now wal c.args.place running at c.in-Ok.next.place next.placed, c.if-next-gt-MOST_COMMITS.true))
+    absurd (omega (arith, place_near g.D.Disk c.args.self.now wal c.args.place running at c.in-Ok.next.place next.placed, c.if-next-gt-MOST_COMMITS.true))

@@ -28,7 +28,7 @@ returns-clause-fits c = subst (λ (o : Option (List Message)). IfSome o FitAnEnt
 
 pub returns-clause-goes : goal.returns-clause-goes
 returns-clause-goes c = record {
-  subsequent = c.requires.subsequent;
+  has_run = c.requires.has_run;
   rows = subst (λ (o : Option (List Message)). IfSome o FitAnEntry) (sym c.take.ensures.after) tt;
   named = c.requires.named;
 }

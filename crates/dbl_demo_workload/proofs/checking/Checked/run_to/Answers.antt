@@ -6,8 +6,8 @@ use Rattle.dbl_demo_workload.proofs.checking.Checked.run_to.Goals as goal
 pub loop-number-init : goal.loop-number-init
 loop-number-init c = run_begins c.args.self.now c.requires
 
-pub run_next-requires-clause-subsequent : goal.run_next-requires-clause-subsequent
-run_next-requires-clause-subsequent c = behind_here c.args.self.now c.loop-number.self c.loop-number.number c.loop-number.invariant c.as_slice-steps.result.now c.as_slice-steps.ensures.value
+pub run_next-requires-clause-has_run : goal.run_next-requires-clause-has_run
+run_next-requires-clause-has_run c = behind_here c.args.self.now c.loop-number.self c.loop-number.number c.loop-number.invariant c.as_slice-steps.result.now c.as_slice-steps.ensures.value
 
 pub run_next-requires-clause-left : goal.run_next-requires-clause-left
 run_next-requires-clause-left c =
@@ -23,9 +23,9 @@ loop-number-preserved c =
     let are = c.as_slice-steps.ensures.value in
     let store = c.run_next.new.store in
     let committed = c.in_ok-committed.committed in
-    let subsequent = behind_at old now number run steps are (number + 1) store c.in_ok-committed.ensures.subsequent in
+    let has_run = behind_at old now number run steps are (number + 1) store c.in_ok-committed.ensures.has_run in
     let next = runs_next old now number run steps are committed store c.in_ok-committed.ensures.ran in
-    run_goes old now number run committed store subsequent next (none_when committed (sym c.is_some.ensures ∙ c.if-is_some.false))
+    run_goes old now number run committed store has_run next (none_when committed (sym c.is_some.ensures ∙ c.if-is_some.false))
 
 -- too few, or too many
 pub returns-then-last-self-clause-runs : goal.returns-then-last-self-clause-runs
@@ -64,10 +64,10 @@ returns-then-is_last-clause-runs c =
     let are = c.as_slice-steps.ensures.value in
     let store = c.run_next.new.store in
     let committed = c.in_ok-committed.committed in
-    let subsequent = behind_at old now number run steps are (number + 1) store c.in_ok-committed.ensures.subsequent in
+    let has_run = behind_at old now number run steps are (number + 1) store c.in_ok-committed.ensures.has_run in
     let next = runs_next old now number run steps are committed store c.in_ok-committed.ensures.ran in
     let whole : c.args.steps ≤ length old.prepared.steps.items = omega arith in
-    run_last old now number run committed store subsequent next c.args.steps (sym c.if-is_last.true) (within_here old now number run steps are c.args.steps whole)
+    run_last old now number run committed store has_run next c.args.steps (sym c.if-is_last.true) (within_here old now number run steps are c.args.steps whole)
 
 pub returns-then-is_last-clause-fits : goal.returns-then-is_last-clause-fits
 returns-then-is_last-clause-fits c = c.in_ok-committed.ensures.fits
@@ -82,9 +82,9 @@ returns-then-is_last-clause-same c =
     let are = c.as_slice-steps.ensures.value in
     let store = c.run_next.new.store in
     let committed = c.in_ok-committed.committed in
-    let subsequent = behind_at old now number run steps are (number + 1) store c.in_ok-committed.ensures.subsequent in
+    let has_run = behind_at old now number run steps are (number + 1) store c.in_ok-committed.ensures.has_run in
     let next = runs_next old now number run steps are committed store c.in_ok-committed.ensures.ran in
-    alone_on old now number run committed store subsequent next
+    alone_on old now number run committed store has_run next
 
 pub returns-then-is_last-clause-goes : goal.returns-then-is_last-clause-goes
 returns-then-is_last-clause-goes c =
@@ -96,9 +96,9 @@ returns-then-is_last-clause-goes c =
     let are = c.as_slice-steps.ensures.value in
     let store = c.run_next.new.store in
     let committed = c.in_ok-committed.committed in
-    let subsequent = behind_at old now number run steps are (number + 1) store c.in_ok-committed.ensures.subsequent in
+    let has_run = behind_at old now number run steps are (number + 1) store c.in_ok-committed.ensures.has_run in
     let next = runs_next old now number run steps are committed store c.in_ok-committed.ensures.ran in
-    goes_on old now number run committed store subsequent next
+    goes_on old now number run committed store has_run next
 
 -- an earlier one commits
 pub returns-then-is_some-clause-runs : goal.returns-then-is_some-clause-runs
@@ -111,11 +111,11 @@ returns-then-is_some-clause-runs c =
     let are = c.as_slice-steps.ensures.value in
     let store = c.run_next.new.store in
     let committed = c.in_ok-committed.committed in
-    let subsequent = behind_at old now number run steps are (number + 1) store c.in_ok-committed.ensures.subsequent in
+    let has_run = behind_at old now number run steps are (number + 1) store c.in_ok-committed.ensures.has_run in
     let next = runs_next old now number run steps are committed store c.in_ok-committed.ensures.ran in
     let some = some_when committed (sym c.is_some.ensures ∙ c.if-is_some.true) in
     let earlier : number + 1 < c.args.steps = omega arith in
-    run_bad old now number run committed store subsequent next c.args.steps some.0 earlier some.1
+    run_bad old now number run committed store has_run next c.args.steps some.0 earlier some.1
 
 pub returns-then-is_some-clause-same : goal.returns-then-is_some-clause-same
 returns-then-is_some-clause-same c =
@@ -127,9 +127,9 @@ returns-then-is_some-clause-same c =
     let are = c.as_slice-steps.ensures.value in
     let store = c.run_next.new.store in
     let committed = c.in_ok-committed.committed in
-    let subsequent = behind_at old now number run steps are (number + 1) store c.in_ok-committed.ensures.subsequent in
+    let has_run = behind_at old now number run steps are (number + 1) store c.in_ok-committed.ensures.has_run in
     let next = runs_next old now number run steps are committed store c.in_ok-committed.ensures.ran in
-    alone_on old now number run committed store subsequent next
+    alone_on old now number run committed store has_run next
 
 pub returns-then-is_some-clause-goes : goal.returns-then-is_some-clause-goes
 returns-then-is_some-clause-goes c =
@@ -141,9 +141,9 @@ returns-then-is_some-clause-goes c =
     let are = c.as_slice-steps.ensures.value in
     let store = c.run_next.new.store in
     let committed = c.in_ok-committed.committed in
-    let subsequent = behind_at old now number run steps are (number + 1) store c.in_ok-committed.ensures.subsequent in
+    let has_run = behind_at old now number run steps are (number + 1) store c.in_ok-committed.ensures.has_run in
     let next = runs_next old now number run steps are committed store c.in_ok-committed.ensures.ran in
-    goes_on old now number run committed store subsequent next
+    goes_on old now number run committed store has_run next
 
 -- no step was left
 pub returns-clause-runs : goal.returns-clause-runs

@@ -54,5 +54,5 @@ returns-clause-checks c =
 
 pub returns-clause-parts : goal.returns-clause-parts
 returns-clause-parts c =
-    parts_more c.args.number c.args.self.now (record c.next_commit.new.self { commits = c.push.new.self }) c.requires (record { subsequent = c.next_commit.ensures.goes.subsequent; rows = c.next_commit.ensures.goes.rows; named = c.next_commit.ensures.goes.named })
+    parts_more c.args.number c.args.self.now (record c.next_commit.new.self { commits = c.push.new.self }) c.requires (record { has_run = c.next_commit.ensures.goes.has_run; rows = c.next_commit.ensures.goes.rows; named = c.next_commit.ensures.goes.named })
     (c.in_ok-push.ensures.items ∙ ap (λ (l : List ℕ). l ++ c.args.number ∷ []) c.next_commit.ensures.same)

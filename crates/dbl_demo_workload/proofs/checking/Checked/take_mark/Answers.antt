@@ -39,5 +39,5 @@ returns-clause-takes c =
 
 pub returns-clause-parts : goal.returns-clause-parts
 returns-clause-parts c =
-    parts_more c.args.number c.args.self.now (record c.run_to.new.self { commits = c.push.new.self }) c.requires (record { subsequent = c.run_to.ensures.goes.subsequent; rows = c.run_to.ensures.goes.rows; named = c.run_to.ensures.goes.named })
+    parts_more c.args.number c.args.self.now (record c.run_to.new.self { commits = c.push.new.self }) c.requires (record { has_run = c.run_to.ensures.goes.has_run; rows = c.run_to.ensures.goes.rows; named = c.run_to.ensures.goes.named })
     (c.in_ok-push.ensures.items ∙ ap (λ (x : Checked). x.commits.items ++ c.args.number ∷ []) c.run_to.ensures.same)

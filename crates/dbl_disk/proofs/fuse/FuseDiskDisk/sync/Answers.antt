@@ -5,5 +5,5 @@ use Rattle.dbl_disk.proofs.fuse.FuseDiskDisk.sync.Goals as goal
 
 pub returns-clause-called : goal.returns-clause-called
 returns-clause-called g c count is =
-    let began = ap (λ (f : Fused _). fuse_calls g.D.Disk.calls f) c.self.view_is ∙ is in
+    let began = ap (λ (f : Fused _). fuse_calls g.D.Disk f) c.self.view_is ∙ is in
     one_passed _ _ c.self.inside.refused _ c.in_ok-take_call.ensures.counted c.sync.ensures.called count began

@@ -12,5 +12,5 @@ returns-in_err-take_call-clause-torn g c old told =
 
 pub returns-clause-called : goal.returns-clause-called
 returns-clause-called g c count is =
-    let began = ap (λ (f : Fused _). fuse_calls g.D.Disk.calls f) c.self.view_is ∙ is in
+    let began = ap (λ (f : Fused _). fuse_calls g.D.Disk f) c.self.view_is ∙ is in
     one_passed _ _ c.self.inside.refused _ c.in_ok-take_call.ensures.counted c.write_at.ensures.called count began

@@ -1,5 +1,6 @@
-use Rattle.std.proofs.Common.{◌≡◌, ◌≤◌, ◌+◌, IsTrue, ℕ, ◌-◌, ◌∙◌, List, Option, length, false, true, drop, refl, sym, ap, subst, arith, inl, Err}
+use Rattle.std.proofs.Common.{◌≡◌, ◌≤◌, ◌+◌, IsTrue, ℕ, ◌-◌, ◌∙◌, List, length, false, true, drop, refl, sym, ap, subst, arith, inl, Err}
 use Rattle.std.proofs.lemmas.List.{length-drop, length_push}
+use Rattle.dbl_disk.specs.Model.{DiskModel}
 use Rattle.dbl_journal.specs.Form.{IsEntry}
 use Rattle.dbl_journal.specs.Stored.{Lists, OnDisk}
 use Rattle.dbl_journal.proofs.Appends.{places-add, size-push}
@@ -9,8 +10,8 @@ use Rattle.dbl_journal.specs.declared.error.JournalError.{JournalError}
 use Rattle.dbl_journal.proofs.journal.Journal.append_built.Goals as goal
 
 -- a journal with the same parts
-lists_at : {D : Type 0} {seen : D → Option (List ℕ)} {may_leave : D → List ℕ → Type 0} {parts whole : OnDisk D} {entries : List (List ℕ)} → parts ≡ whole → Lists seen may_leave whole entries → Lists seen may_leave parts entries
-lists_at {seen = seen} {may_leave = may_leave} {entries = entries} same lists = subst (λ (j : OnDisk _). Lists seen may_leave j entries) (sym same) lists
+lists_at : {D : Type 0} {model : DiskModel D} {parts whole : OnDisk D} {entries : List (List ℕ)} → parts ≡ whole → Lists model whole entries → Lists model parts entries
+lists_at {model = model} {entries = entries} same lists = subst (λ (j : OnDisk _). Lists model j entries) (sym same) lists
 
 pub returns-in_err-set_commit_byte-clause-left : goal.returns-in_err-set_commit_byte-clause-left
 returns-in_err-set_commit_byte-clause-left g c entries lists =
@@ -87,7 +88,7 @@ pub returns-in_err-write_entry-clause-comes : goal.returns-in_err-write_entry-cl
 returns-in_err-write_entry-clause-comes g c =
     let entry : List ℕ = drop 4 c.args.bytes.items in
     let short : IsEntry entry = omega (arith, length-drop 4 c.args.bytes.items) in
-    comes_by_append g.D.Disk.seen g.D.Disk.may_leave g.met.D.Disk.seen_may_be_left c.args.self.now _ entry short c.requires.live
+    comes_by_append g.D.Disk g.met.D.Disk.seen_may_be_left c.args.self.now _ entry short c.requires.live
     (λ entries lists (now : false ≡ true). cc)
     (λ entries lists crashed may.
     let held = lists_at c.self.view_is lists in
@@ -100,7 +101,7 @@ pub returns-in_err-set_commit_byte-clause-comes : goal.returns-in_err-set_commit
 returns-in_err-set_commit_byte-clause-comes g c =
     let entry : List ℕ = drop 4 c.args.bytes.items in
     let short : IsEntry entry = omega (arith, length-drop 4 c.args.bytes.items) in
-    comes_by_append g.D.Disk.seen g.D.Disk.may_leave g.met.D.Disk.seen_may_be_left c.args.self.now _ entry short c.requires.live
+    comes_by_append g.D.Disk g.met.D.Disk.seen_may_be_left c.args.self.now _ entry short c.requires.live
     (λ entries lists (now : false ≡ true). cc)
     (returns-in_err-set_commit_byte-clause-left g c)
     (returns-in_err-set_commit_byte-clause-grows g c)
@@ -110,7 +111,7 @@ pub returns-clause-comes : goal.returns-clause-comes
 returns-clause-comes g c =
     let entry : List ℕ = drop 4 c.args.bytes.items in
     let short : IsEntry entry = omega (arith, length-drop 4 c.args.bytes.items) in
-    comes_by_append g.D.Disk.seen g.D.Disk.may_leave g.met.D.Disk.seen_may_be_left c.args.self.now _ entry short c.requires.live
+    comes_by_append g.D.Disk g.met.D.Disk.seen_may_be_left c.args.self.now _ entry short c.requires.live
     (λ entries lists now. returns-clause-added g c entries lists)
     (returns-clause-left g c)
     (returns-clause-grows g c)

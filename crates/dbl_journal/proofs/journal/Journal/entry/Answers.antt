@@ -8,7 +8,7 @@ use Rattle.dbl_journal.proofs.journal.Journal.entry.Goals as goal
 
 pub returns-clause-found : goal.returns-clause-found
 returns-clause-found g c entries lists =
-    let held = subst (λ (j : OnDisk _). Lists g.D.Disk.seen g.D.Disk.may_leave j entries) (sym c.self.view_is) lists in
+    let held = subst (λ (j : OnDisk _). Lists g.D.Disk j entries) (sym c.self.view_is) lists in
     let place : Extent = c.index-place.result.now in
     let below : c.args.number < length entries = omega (arith, c.requires.within, ap length lists.places, length-places entries 8) in
     let place_is : get_or (places_from 8 entries) c.args.number place ≡ place = sym (ap (λ (l : List Extent). get_or l c.args.number place) held.places) ∙ sym c.index-place.ensures in

@@ -30,12 +30,12 @@ returns-in-Err-read_last-clause-stable g c bytes told failed =
 
 pub returns-in-Err-clause-keeps : goal.returns-in-Err-clause-keeps
 returns-in-Err-clause-keeps g c =
-    keeps_told_as g.D.Disk.seen g.D.Disk.may_leave g.D.Disk.faults (c.in-Err.field-0.error ≡ journal.Failed) (c.from.result ≡ error.Failed) _ _ (λ is. failed_of c.in-Err.field-0.error c.from.result c.from.ensures is)
+    keeps_told_as g.D.Disk (c.in-Err.field-0.error ≡ journal.Failed) (c.from.result ≡ error.Failed) _ _ (λ is. failed_of c.in-Err.field-0.error c.from.result c.from.ensures is)
     (λ is. c.from.ensures ∙ ap as_offset_error is) c.in-Err.ensures.keeps
 
 pub returns-in-Ok-read_last-clause-keeps : goal.returns-in-Ok-read_last-clause-keeps
 returns-in-Ok-read_last-clause-keeps g c =
-    keeps_on g.D.Disk.seen g.D.Disk.may_leave g.D.Disk.faults ⊥ _ _ _ c.in-Ok.ensures.keeps
+    keeps_on g.D.Disk ⊥ _ _ _ c.in-Ok.ensures.keeps
     (record {
       same = c.read_last.ensures.seen;
       crash = λ crashed may. (c.read_last.ensures.crash crashed).0 may;
@@ -46,8 +46,8 @@ returns-in-Ok-read_last-clause-keeps g c =
 
 pub returns-in-Err-read_last-clause-keeps : goal.returns-in-Err-read_last-clause-keeps
 returns-in-Err-read_last-clause-keeps g c =
-    subst (λ (d : g.row.D.Denot). Keeps g.D.Disk.seen g.D.Disk.may_leave g.D.Disk.faults (c.in-Err-read_last.error ≡ error.Failed) c.args.disk d) (sym c.into_disk.ensures)
-    (keeps_on g.D.Disk.seen g.D.Disk.may_leave g.D.Disk.faults (c.in-Err-read_last.error ≡ error.Failed) _ _ _ c.in-Ok.ensures.keeps
+    subst (λ (d : g.row.D.Denot). Keeps g.D.Disk (c.in-Err-read_last.error ≡ error.Failed) c.args.disk d) (sym c.into_disk.ensures)
+    (keeps_on g.D.Disk (c.in-Err-read_last.error ≡ error.Failed) _ _ _ c.in-Ok.ensures.keeps
     (record {
       same = c.read_last.ensures.seen;
       crash = λ crashed may. (c.read_last.ensures.crash crashed).0 may;

@@ -22,13 +22,13 @@ encode-requires-clause-long g c = same_long c.args.offset.infos c.args.offset.cu
 
 pub returns-in_err-append_built-clause-left : goal.returns-in_err-append_built-clause-left
 returns-in_err-append_built-clause-left g c old holds =
-    let held = subst (λ (s : StoreOn _). HoldsOffset g.D.Disk.seen g.D.Disk.may_leave s old) (sym c.self.view_is) holds in
+    let held = subst (λ (s : StoreOn _). HoldsOffset g.D.Disk s old) (sym c.self.view_is) holds in
     let spells : EncodesOffset (drop 4 c.in_ok-bytes.bytes.items) c.args.offset = record { asked = c.requires.offset; fits = c.measure-count.ensures.fits (omega (arith, c.if-count.false)); spelled = c.in_ok-bytes.ensures.entry } in
-    leaves g.D.Disk.may_leave c.append_built.new.self.disk held.entries (drop 4 c.in_ok-bytes.bytes.items) old c.args.offset held.each held.last spells (c.append_built.ensures.left held.entries held.lists)
+    leaves g.D.Disk c.append_built.new.self.disk held.entries (drop 4 c.in_ok-bytes.bytes.items) old c.args.offset held.each held.last spells (c.append_built.ensures.left held.entries held.lists)
 
 pub returns-in_err-append_built-clause-grows : goal.returns-in_err-append_built-clause-grows
 returns-in_err-append_built-clause-grows g c old before after holds told_before told_after =
-    let held = subst (λ (s : StoreOn _). HoldsOffset g.D.Disk.seen g.D.Disk.may_leave s old) (sym c.self.view_is) holds in
+    let held = subst (λ (s : StoreOn _). HoldsOffset g.D.Disk s old) (sym c.self.view_is) holds in
     let told = ap (λ (s : StoreOn _). g.D.Disk.seen s.journal.disk) c.self.view_is ∙ told_before in
     roomy held.entries (drop 4 c.in_ok-bytes.bytes.items) (offset_bytes_form c.args.offset) c.args.self.now.journal.gate (length before) (length after) (sym (ap (λ (s : StoreOn _). s.journal.gate) c.self.view_is) ∙ held.lists.gate) c.in_ok-bytes.ensures.entry (c.append_built.ensures.grows held.entries before after held.lists told told_after)
 
@@ -42,7 +42,7 @@ returns-in_err-append_built-clause-too_long g c len =
 
 pub returns-clause-stored : goal.returns-clause-stored
 returns-clause-stored g c old holds =
-    let held = subst (λ (s : StoreOn _). HoldsOffset g.D.Disk.seen g.D.Disk.may_leave s old) (sym c.self.view_is) holds in
+    let held = subst (λ (s : StoreOn _). HoldsOffset g.D.Disk s old) (sym c.self.view_is) holds in
     let spells : EncodesOffset (drop 4 c.in_ok-bytes.bytes.items) c.args.offset = record { asked = c.requires.offset; fits = c.measure-count.ensures.fits (omega (arith, c.if-count.false)); spelled = c.in_ok-bytes.ensures.entry } in
     record {
       entries = held.entries ++ drop 4 c.in_ok-bytes.bytes.items ∷ [];
@@ -54,23 +54,23 @@ returns-clause-stored g c old holds =
 
 pub returns-clause-left : goal.returns-clause-left
 returns-clause-left g c old holds =
-    let held = subst (λ (s : StoreOn _). HoldsOffset g.D.Disk.seen g.D.Disk.may_leave s old) (sym c.self.view_is) holds in
+    let held = subst (λ (s : StoreOn _). HoldsOffset g.D.Disk s old) (sym c.self.view_is) holds in
     let spells : EncodesOffset (drop 4 c.in_ok-bytes.bytes.items) c.args.offset = record { asked = c.requires.offset; fits = c.measure-count.ensures.fits (omega (arith, c.if-count.false)); spelled = c.in_ok-bytes.ensures.entry } in
-    leaves g.D.Disk.may_leave c.append_built.new.self.disk held.entries (drop 4 c.in_ok-bytes.bytes.items) old c.args.offset held.each held.last spells (c.append_built.ensures.left held.entries held.lists)
+    leaves g.D.Disk c.append_built.new.self.disk held.entries (drop 4 c.in_ok-bytes.bytes.items) old c.args.offset held.each held.last spells (c.append_built.ensures.left held.entries held.lists)
 
 pub returns-clause-grows : goal.returns-clause-grows
 returns-clause-grows g c old before after holds told_before told_after =
-    let held = subst (λ (s : StoreOn _). HoldsOffset g.D.Disk.seen g.D.Disk.may_leave s old) (sym c.self.view_is) holds in
+    let held = subst (λ (s : StoreOn _). HoldsOffset g.D.Disk s old) (sym c.self.view_is) holds in
     let told = ap (λ (s : StoreOn _). g.D.Disk.seen s.journal.disk) c.self.view_is ∙ told_before in
     roomy held.entries (drop 4 c.in_ok-bytes.bytes.items) (offset_bytes_form c.args.offset) c.args.self.now.journal.gate (length before) (length after) (sym (ap (λ (s : StoreOn _). s.journal.gate) c.self.view_is) ∙ held.lists.gate) c.in_ok-bytes.ensures.entry (c.append_built.ensures.grows held.entries before after held.lists told told_after)
 
 pub returns-in_err-append_built-clause-comes : goal.returns-in_err-append_built-clause-comes
 returns-in_err-append_built-clause-comes g c =
-    comes_at g.D.Disk.seen g.D.Disk.may_leave c.self.inside.journal c.args.self.now.journal c.append_built.new.self (ap (λ (s : StoreOn _). s.journal) c.self.view_is) c.append_built.ensures.comes
+    comes_at g.D.Disk c.self.inside.journal c.args.self.now.journal c.append_built.new.self (ap (λ (s : StoreOn _). s.journal) c.self.view_is) c.append_built.ensures.comes
 
 pub returns-clause-comes : goal.returns-clause-comes
 returns-clause-comes g c =
-    comes_at g.D.Disk.seen g.D.Disk.may_leave c.self.inside.journal c.args.self.now.journal c.append_built.new.self (ap (λ (s : StoreOn _). s.journal) c.self.view_is) c.append_built.ensures.comes
+    comes_at g.D.Disk c.self.inside.journal c.args.self.now.journal c.append_built.new.self (ap (λ (s : StoreOn _). s.journal) c.self.view_is) c.append_built.ensures.comes
 
 pub returns-in_err-append_built-clause-puts : goal.returns-in_err-append_built-clause-puts
 returns-in_err-append_built-clause-puts g c =

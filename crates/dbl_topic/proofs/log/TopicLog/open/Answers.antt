@@ -20,12 +20,12 @@ returns-in-Ok-clause-bad g c bytes told =
 pub returns-in-Ok-clause-keeps : goal.returns-in-Ok-clause-keeps
 returns-in-Ok-clause-keeps g c =
     MatchResult-weaker c.check_log.result c.check_log.ensures.keeps
-    (λ log k. keeps_on g.D.Disk.seen g.D.Disk.may_leave g.D.Disk.faults ⊥ _ _ _ c.in-Ok.ensures.keeps k)
-    (λ refused k. keeps_on g.D.Disk.seen g.D.Disk.may_leave g.D.Disk.faults (refused.error ≡ Journal journal.Failed) _ _ _ c.in-Ok.ensures.keeps k)
+    (λ log k. keeps_on g.D.Disk ⊥ _ _ _ c.in-Ok.ensures.keeps k)
+    (λ refused k. keeps_on g.D.Disk (refused.error ≡ Journal journal.Failed) _ _ _ c.in-Ok.ensures.keeps k)
 
 pub returns-in-Err-clause-keeps : goal.returns-in-Err-clause-keeps
 returns-in-Err-clause-keeps g c =
-    keeps_told_as g.D.Disk.seen g.D.Disk.may_leave g.D.Disk.faults (c.in-Err.field-0.error ≡ journal.Failed) (c.from.result ≡ Journal journal.Failed) _ _ (λ is. failed_of c.in-Err.field-0.error c.from.result c.from.ensures is)
+    keeps_told_as g.D.Disk (c.in-Err.field-0.error ≡ journal.Failed) (c.from.result ≡ Journal journal.Failed) _ _ (λ is. failed_of c.in-Err.field-0.error c.from.result c.from.ensures is)
     (λ is. c.from.ensures ∙ ap topic_fault is) c.in-Err.ensures.keeps
 
 pub returns-in-Ok-clause-stable : goal.returns-in-Ok-clause-stable

@@ -19,61 +19,61 @@ use Rattle.dbl_topic.specs.declared.error.SinkError.TheVariants as sink
 use Rattle.dbl_topic.proofs.log.TopicLogSink.put.Goals as goal
 
 pub returns-then-len-gt-GROUP_LIMIT-clause-left : goal.returns-then-len-gt-GROUP_LIMIT-clause-left
-returns-then-len-gt-GROUP_LIMIT-clause-left g c groups left held may = inl (only_held g.D.Disk.seen g.D.Disk.may_leave c.args.self.now groups left held may)
+returns-then-len-gt-GROUP_LIMIT-clause-left g c groups left held may = inl (only_held g.D.Disk c.args.self.now groups left held may)
 
 pub returns-in_err-bytes-clause-left : goal.returns-in_err-bytes-clause-left
-returns-in_err-bytes-clause-left g c groups left held may = inl (only_held g.D.Disk.seen g.D.Disk.may_leave c.args.self.now groups left held may)
+returns-in_err-bytes-clause-left g c groups left held may = inl (only_held g.D.Disk c.args.self.now groups left held may)
 
 pub returns-in_err-append_built-clause-left : goal.returns-in_err-append_built-clause-left
 returns-in_err-append_built-clause-left g c groups left holds may =
-    let held = subst (λ (log : OnDisk _). HoldsGroups g.D.Disk.seen g.D.Disk.may_leave log groups) (sym c.self.view_is) holds in
-    let leaves : LeavesGroups g.D.Disk.may_leave c.append_built.new.self.disk (IsLeftByWhole groups c.args.group.now.items) = leaves_put g.D.Disk.seen g.D.Disk.may_leave c.append_built.new.self.disk held.entries groups (drop 4 c.in_ok-bytes.bytes.items) c.args.group.now.items held.are c.in_ok-bytes.ensures.entry (c.in_err-append_built.ensures.left held.entries held.lists) in
-    left_by_put g.D.Disk.may_leave c.append_built.new.self.disk groups c.args.group.now.items left c.requires.handful.some leaves may
+    let held = subst (λ (log : OnDisk _). HoldsGroups g.D.Disk log groups) (sym c.self.view_is) holds in
+    let leaves : LeavesGroups g.D.Disk c.append_built.new.self.disk (IsLeftByWhole groups c.args.group.now.items) = leaves_put g.D.Disk c.append_built.new.self.disk held.entries groups (drop 4 c.in_ok-bytes.bytes.items) c.args.group.now.items held.are c.in_ok-bytes.ensures.entry (c.in_err-append_built.ensures.left held.entries held.lists) in
+    left_by_put g.D.Disk c.append_built.new.self.disk groups c.args.group.now.items left c.requires.handful.some leaves may
 
 pub returns-in_err-append_built-clause-whole : goal.returns-in_err-append_built-clause-whole
 returns-in_err-append_built-clause-whole g c groups holds =
-    let held = subst (λ (log : OnDisk _). HoldsGroups g.D.Disk.seen g.D.Disk.may_leave log groups) (sym c.self.view_is) holds in
-    let leaves : LeavesGroups g.D.Disk.may_leave c.append_built.new.self.disk (IsLeftByWhole groups c.args.group.now.items) = leaves_put g.D.Disk.seen g.D.Disk.may_leave c.append_built.new.self.disk held.entries groups (drop 4 c.in_ok-bytes.bytes.items) c.args.group.now.items held.are c.in_ok-bytes.ensures.entry (c.in_err-append_built.ensures.left held.entries held.lists) in
-    leaves_any g.D.Disk.may_leave c.append_built.new.self.disk groups c.args.group.now.items leaves
+    let held = subst (λ (log : OnDisk _). HoldsGroups g.D.Disk log groups) (sym c.self.view_is) holds in
+    let leaves : LeavesGroups g.D.Disk c.append_built.new.self.disk (IsLeftByWhole groups c.args.group.now.items) = leaves_put g.D.Disk c.append_built.new.self.disk held.entries groups (drop 4 c.in_ok-bytes.bytes.items) c.args.group.now.items held.are c.in_ok-bytes.ensures.entry (c.in_err-append_built.ensures.left held.entries held.lists) in
+    leaves_any g.D.Disk c.append_built.new.self.disk groups c.args.group.now.items leaves
 
 pub returns-in_err-append_built-clause-one_of : goal.returns-in_err-append_built-clause-one_of
 returns-in_err-append_built-clause-one_of g c groups holds =
-    let held = subst (λ (log : OnDisk _). HoldsGroups g.D.Disk.seen g.D.Disk.may_leave log groups) (sym c.self.view_is) holds in
-    let leaves : LeavesGroups g.D.Disk.may_leave c.append_built.new.self.disk (IsLeftByWhole groups c.args.group.now.items) = leaves_put g.D.Disk.seen g.D.Disk.may_leave c.append_built.new.self.disk held.entries groups (drop 4 c.in_ok-bytes.bytes.items) c.args.group.now.items held.are c.in_ok-bytes.ensures.entry (c.in_err-append_built.ensures.left held.entries held.lists) in
+    let held = subst (λ (log : OnDisk _). HoldsGroups g.D.Disk log groups) (sym c.self.view_is) holds in
+    let leaves : LeavesGroups g.D.Disk c.append_built.new.self.disk (IsLeftByWhole groups c.args.group.now.items) = leaves_put g.D.Disk c.append_built.new.self.disk held.entries groups (drop 4 c.in_ok-bytes.bytes.items) c.args.group.now.items held.are c.in_ok-bytes.ensures.entry (c.in_err-append_built.ensures.left held.entries held.lists) in
     leaves
 
 pub returns-clause-left : goal.returns-clause-left
 returns-clause-left g c groups left holds may =
-    let held = subst (λ (log : OnDisk _). HoldsGroups g.D.Disk.seen g.D.Disk.may_leave log groups) (sym c.self.view_is) holds in
-    let leaves : LeavesGroups g.D.Disk.may_leave c.append_built.new.self.disk (IsLeftByWhole groups c.args.group.now.items) = leaves_put g.D.Disk.seen g.D.Disk.may_leave c.append_built.new.self.disk held.entries groups (drop 4 c.in_ok-bytes.bytes.items) c.args.group.now.items held.are c.in_ok-bytes.ensures.entry (c.in_ok-append_built.ensures.left held.entries held.lists) in
-    left_by_put g.D.Disk.may_leave c.append_built.new.self.disk groups c.args.group.now.items left c.requires.handful.some leaves may
+    let held = subst (λ (log : OnDisk _). HoldsGroups g.D.Disk log groups) (sym c.self.view_is) holds in
+    let leaves : LeavesGroups g.D.Disk c.append_built.new.self.disk (IsLeftByWhole groups c.args.group.now.items) = leaves_put g.D.Disk c.append_built.new.self.disk held.entries groups (drop 4 c.in_ok-bytes.bytes.items) c.args.group.now.items held.are c.in_ok-bytes.ensures.entry (c.in_ok-append_built.ensures.left held.entries held.lists) in
+    left_by_put g.D.Disk c.append_built.new.self.disk groups c.args.group.now.items left c.requires.handful.some leaves may
 
 pub returns-clause-whole : goal.returns-clause-whole
 returns-clause-whole g c groups holds =
-    let held = subst (λ (log : OnDisk _). HoldsGroups g.D.Disk.seen g.D.Disk.may_leave log groups) (sym c.self.view_is) holds in
-    let leaves : LeavesGroups g.D.Disk.may_leave c.append_built.new.self.disk (IsLeftByWhole groups c.args.group.now.items) = leaves_put g.D.Disk.seen g.D.Disk.may_leave c.append_built.new.self.disk held.entries groups (drop 4 c.in_ok-bytes.bytes.items) c.args.group.now.items held.are c.in_ok-bytes.ensures.entry (c.in_ok-append_built.ensures.left held.entries held.lists) in
-    leaves_any g.D.Disk.may_leave c.append_built.new.self.disk groups c.args.group.now.items leaves
+    let held = subst (λ (log : OnDisk _). HoldsGroups g.D.Disk log groups) (sym c.self.view_is) holds in
+    let leaves : LeavesGroups g.D.Disk c.append_built.new.self.disk (IsLeftByWhole groups c.args.group.now.items) = leaves_put g.D.Disk c.append_built.new.self.disk held.entries groups (drop 4 c.in_ok-bytes.bytes.items) c.args.group.now.items held.are c.in_ok-bytes.ensures.entry (c.in_ok-append_built.ensures.left held.entries held.lists) in
+    leaves_any g.D.Disk c.append_built.new.self.disk groups c.args.group.now.items leaves
 
 pub returns-clause-one_of : goal.returns-clause-one_of
 returns-clause-one_of g c groups holds =
-    let held = subst (λ (log : OnDisk _). HoldsGroups g.D.Disk.seen g.D.Disk.may_leave log groups) (sym c.self.view_is) holds in
-    let leaves : LeavesGroups g.D.Disk.may_leave c.append_built.new.self.disk (IsLeftByWhole groups c.args.group.now.items) = leaves_put g.D.Disk.seen g.D.Disk.may_leave c.append_built.new.self.disk held.entries groups (drop 4 c.in_ok-bytes.bytes.items) c.args.group.now.items held.are c.in_ok-bytes.ensures.entry (c.in_ok-append_built.ensures.left held.entries held.lists) in
+    let held = subst (λ (log : OnDisk _). HoldsGroups g.D.Disk log groups) (sym c.self.view_is) holds in
+    let leaves : LeavesGroups g.D.Disk c.append_built.new.self.disk (IsLeftByWhole groups c.args.group.now.items) = leaves_put g.D.Disk c.append_built.new.self.disk held.entries groups (drop 4 c.in_ok-bytes.bytes.items) c.args.group.now.items held.are c.in_ok-bytes.ensures.entry (c.in_ok-append_built.ensures.left held.entries held.lists) in
     leaves
 
 pub returns-clause-added : goal.returns-clause-added
 returns-clause-added g c groups holds =
-    let held = subst (λ (log : OnDisk _). HoldsGroups g.D.Disk.seen g.D.Disk.may_leave log groups) (sym c.self.view_is) holds in
+    let held = subst (λ (log : OnDisk _). HoldsGroups g.D.Disk log groups) (sym c.self.view_is) holds in
     record { entries = _; lists = c.in_ok-append_built.ensures.added held.entries held.lists; are = entries-push held.entries groups (drop 4 c.in_ok-bytes.bytes.items) c.args.group.now.items held.are c.in_ok-bytes.ensures.entry }
 
 pub returns-in_err-append_built-clause-grows : goal.returns-in_err-append_built-clause-grows
 returns-in_err-append_built-clause-grows g c groups old new holds told_old told_new =
-    let held = subst (λ (log : OnDisk _). HoldsGroups g.D.Disk.seen g.D.Disk.may_leave log groups) (sym c.self.view_is) holds in
+    let held = subst (λ (log : OnDisk _). HoldsGroups g.D.Disk log groups) (sym c.self.view_is) holds in
     let told = ap (λ (log : OnDisk _). g.D.Disk.seen log.disk) c.self.view_is ∙ told_old in
     subst (λ (n : ℕ). length new ≤ max (length old) n) (size_of held.entries groups (drop 4 c.in_ok-bytes.bytes.items) c.args.group.now.items held.are c.in_ok-bytes.ensures.entry) (c.in_err-append_built.ensures.grows held.entries old new held.lists told told_new)
 
 pub returns-clause-grows : goal.returns-clause-grows
 returns-clause-grows g c groups old new holds told_old told_new =
-    let held = subst (λ (log : OnDisk _). HoldsGroups g.D.Disk.seen g.D.Disk.may_leave log groups) (sym c.self.view_is) holds in
+    let held = subst (λ (log : OnDisk _). HoldsGroups g.D.Disk log groups) (sym c.self.view_is) holds in
     let told = ap (λ (log : OnDisk _). g.D.Disk.seen log.disk) c.self.view_is ∙ told_old in
     subst (λ (n : ℕ). length new ≤ max (length old) n) (size_of held.entries groups (drop 4 c.in_ok-bytes.bytes.items) c.args.group.now.items held.are c.in_ok-bytes.ensures.entry) (c.in_ok-append_built.ensures.grows held.entries old new held.lists told told_new)
 
@@ -100,22 +100,22 @@ pub returns-in_err-append_built-clause-too_long : goal.returns-in_err-append_bui
 returns-in_err-append_built-clause-too_long g c len is = (returns-in_err-append_built-clause-exactly g c len).0 is
 
 pub returns-then-len-gt-GROUP_LIMIT-clause-some : goal.returns-then-len-gt-GROUP_LIMIT-clause-some
-returns-then-len-gt-GROUP_LIMIT-clause-some g c groups held = (groups, may_leave_held g.D.Disk.seen g.D.Disk.may_leave g.met.D.Disk.seen_may_be_left c.args.self.now groups held)
+returns-then-len-gt-GROUP_LIMIT-clause-some g c groups held = (groups, may_leave_held g.D.Disk g.met.D.Disk.seen_may_be_left c.args.self.now groups held)
 
 pub returns-in_err-bytes-clause-some : goal.returns-in_err-bytes-clause-some
-returns-in_err-bytes-clause-some g c groups held = (groups, may_leave_held g.D.Disk.seen g.D.Disk.may_leave g.met.D.Disk.seen_may_be_left c.args.self.now groups held)
+returns-in_err-bytes-clause-some g c groups held = (groups, may_leave_held g.D.Disk g.met.D.Disk.seen_may_be_left c.args.self.now groups held)
 
 pub returns-in_err-append_built-clause-some : goal.returns-in_err-append_built-clause-some
 returns-in_err-append_built-clause-some g c groups holds =
-    let held = subst (λ (log : OnDisk _). HoldsGroups g.D.Disk.seen g.D.Disk.may_leave log groups) (sym c.self.view_is) holds in
+    let held = subst (λ (log : OnDisk _). HoldsGroups g.D.Disk log groups) (sym c.self.view_is) holds in
     let told = c.append_built.ensures.puts.told held.lists.bytes held.lists.told in
-    some_left g.D.Disk.seen g.D.Disk.may_leave g.met.D.Disk.seen_may_be_left c.append_built.new.self.disk told.0 told.1 (IsLeftByWhole groups c.args.group.now.items) (returns-in_err-append_built-clause-one_of g c groups holds)
+    some_left g.D.Disk g.met.D.Disk.seen_may_be_left c.append_built.new.self.disk told.0 told.1 (IsLeftByWhole groups c.args.group.now.items) (returns-in_err-append_built-clause-one_of g c groups holds)
 
 pub returns-clause-some : goal.returns-clause-some
 returns-clause-some g c groups holds =
-    let held = subst (λ (log : OnDisk _). HoldsGroups g.D.Disk.seen g.D.Disk.may_leave log groups) (sym c.self.view_is) holds in
+    let held = subst (λ (log : OnDisk _). HoldsGroups g.D.Disk log groups) (sym c.self.view_is) holds in
     let told = c.append_built.ensures.puts.told held.lists.bytes held.lists.told in
-    some_left g.D.Disk.seen g.D.Disk.may_leave g.met.D.Disk.seen_may_be_left c.append_built.new.self.disk told.0 told.1 (IsLeftByWhole groups c.args.group.now.items) (returns-clause-one_of g c groups holds)
+    some_left g.D.Disk g.met.D.Disk.seen_may_be_left c.append_built.new.self.disk told.0 told.1 (IsLeftByWhole groups c.args.group.now.items) (returns-clause-one_of g c groups holds)
 
 abbrev failure : JournalError → Result (Unit {0}) JournalError
 failure e = Err e
@@ -131,14 +131,14 @@ returns-in_err-bytes-clause-comes g c = record { journal = λ gate most has. has
 
 pub returns-in_err-append_built-clause-comes : goal.returns-in_err-append_built-clause-comes
 returns-in_err-append_built-clause-comes g c = record {
-  journal = comes_at g.D.Disk.seen g.D.Disk.may_leave c.self.inside.journal c.args.self.now c.append_built.new.self c.self.view_is c.append_built.ensures.comes;
+  journal = comes_at g.D.Disk c.self.inside.journal c.args.self.now c.append_built.new.self c.self.view_is c.append_built.ensures.comes;
   groups = λ kept.
       let held = kept.holds c.requires.live in
-      let inside = subst (λ (log : OnDisk _). HoldsGroups g.D.Disk.seen g.D.Disk.may_leave log held.0) (sym c.self.view_is) held.1 in
+      let inside = subst (λ (log : OnDisk _). HoldsGroups g.D.Disk log held.0) (sym c.self.view_is) held.1 in
       record {
         holds = λ live. (
           held.0,
-          still_there (λ (log : OnDisk _). HoldsGroups g.D.Disk.seen g.D.Disk.may_leave log held.0) c.in_err-append_built.field-0.0 c.self.inside.journal c.append_built.new.self
+          still_there (λ (log : OnDisk _). HoldsGroups g.D.Disk log held.0) c.in_err-append_built.field-0.0 c.self.inside.journal c.append_built.new.self
               (λ is. c.in_err-append_built.ensures.puts.dead (ap (λ (e : JournalError). Err e) is)) (λ not. c.in_err-append_built.ensures.unchanged (λ is. not (failure_is _ _ is))) live inside,
         );
         leaves = returns-in_err-append_built-clause-whole g c held.0 held.1;
@@ -147,7 +147,7 @@ returns-in_err-append_built-clause-comes g c = record {
 
 pub returns-clause-comes : goal.returns-clause-comes
 returns-clause-comes g c = record {
-  journal = comes_at g.D.Disk.seen g.D.Disk.may_leave c.self.inside.journal c.args.self.now c.append_built.new.self c.self.view_is c.append_built.ensures.comes;
+  journal = comes_at g.D.Disk c.self.inside.journal c.args.self.now c.append_built.new.self c.self.view_is c.append_built.ensures.comes;
   groups = λ kept.
       let held = kept.holds c.requires.live in
       record { holds = λ live. (_, returns-clause-added g c held.0 held.1); leaves = returns-clause-whole g c held.0 held.1 };

@@ -5,9 +5,9 @@ use Rattle.dblog_replay.specs.Log.{log_start}
 use Rattle.dblog_replay.proofs.replay.Replayer.add.Goals as goal
 
 pub returns-in_ok-learn_in-in-Ok-clause-added : goal.returns-in_ok-learn_in-in-Ok-clause-added
-returns-in_ok-learn_in-in-Ok-clause-added c = λ options infos ms subsequent none. record {
-  stands = c.in-Ok.ensures.whole infos log_start ms subsequent.stands none;
-  keys = subsequent.keys;
-  identity = ap (λ (w : Captured). w.identity) c.in_ok-learn_in-in-Ok.ensures.learnt ∙ subsequent.identity;
-  writes = ap (λ (w : Captured). w.infos) c.in_ok-learn_in-in-Ok.ensures.learnt ∙ ap₂ (λ (is : List TableInfo) (i : TableInfo). is ++ i ∷ []) subsequent.writes c.in_ok-copied.ensures;
+returns-in_ok-learn_in-in-Ok-clause-added c = λ options infos ms replayed none. record {
+  stands = c.in-Ok.ensures.whole infos log_start ms replayed.stands none;
+  keys = replayed.keys;
+  identity = ap (λ (w : Captured). w.identity) c.in_ok-learn_in-in-Ok.ensures.learnt ∙ replayed.identity;
+  writes = ap (λ (w : Captured). w.infos) c.in_ok-learn_in-in-Ok.ensures.learnt ∙ ap₂ (λ (is : List TableInfo) (i : TableInfo). is ++ i ∷ []) replayed.writes c.in_ok-copied.ensures;
 }

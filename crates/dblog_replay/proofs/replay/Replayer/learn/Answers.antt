@@ -7,7 +7,7 @@ use Rattle.dblog_replay.proofs.replay.Replayer.learn.Goals as goal
 pub returns-then-not-is_new : goal.returns-then-not-is_new
 returns-then-not-is_new c = λ options ms oid identity follows.
     learn_known options ms c.args.self.now oid identity c.args.namespace.now c.args.name.now _ _ c.args.columns.now.items _ c.is_new.result follows
-    c.schema_of-schema.ensures c.as_str-name.ensures.value (c.infos-infos.ensures follows.infos log_start ms _ follows.subsequent.stands) c.is_new.ensures c.if-not-is_new.true
+    c.schema_of-schema.ensures c.as_str-name.ensures.value (c.infos-infos.ensures follows.infos log_start ms _ follows.replayed.stands) c.is_new.ensures c.if-not-is_new.true
 
 pub returns-in_err-info : goal.returns-in_err-info
 returns-in_err-info c = λ options ms oid identity follows. (
@@ -16,13 +16,13 @@ returns-in_err-info c = λ options ms oid identity follows. (
     let told = given_entry options ms c.args.self.now follows _ _ c.args.columns.now.items c.in_ok-entry.entry c.items.ensures c.in_ok-entry.ensures in
     rw (p.1, p.2)
     (learn_fails options ms c.args.self.now oid identity c.args.namespace.now c.args.name.now _ _ c.args.columns.now.items c.infos-infos.result.now.items c.is_new.result follows
-    c.schema_of-schema.ensures c.as_str-name.ensures.value (c.infos-infos.ensures follows.infos log_start ms _ follows.subsequent.stands) c.is_new.ensures
+    c.schema_of-schema.ensures c.as_str-name.ensures.value (c.infos-infos.ensures follows.infos log_start ms _ follows.replayed.stands) c.is_new.ensures
     c.in_ok-entry.entry c.len.result c.in_err-info.field-0.0 c.if-not-is_new.false told counted c.in_err-info.ensures.fault))
 
 pub returns : goal.returns
 returns c = λ options ms oid identity follows.
     let counted : c.len.result ≡ length c.infos-infos.result.now.items = omega (arith, c.len.ensures, c.infos-infos.result.now.ok) in
-    let same = c.infos-infos.ensures follows.infos log_start ms _ follows.subsequent.stands in
+    let same = c.infos-infos.ensures follows.infos log_start ms _ follows.replayed.stands in
     let told = given_entry options ms c.args.self.now follows _ _ c.args.columns.now.items c.in_ok-entry.entry c.items.ensures c.in_ok-entry.ensures in
     let none = learn_none options ms c.args.self.now oid identity c.args.namespace.now c.args.name.now _ _ c.args.columns.now.items c.infos-infos.result.now.items c.is_new.result follows
     c.schema_of-schema.ensures c.as_str-name.ensures.value same c.is_new.ensures
@@ -30,4 +30,4 @@ returns c = λ options ms oid identity follows.
     learn_more options ms c.args.self.now oid identity c.args.namespace.now c.args.name.now _ _ c.args.columns.now.items c.infos-infos.result.now.items c.is_new.result follows
     c.schema_of-schema.ensures c.as_str-name.ensures.value same c.is_new.ensures
     c.in_ok-entry.entry c.len.result c.in_ok-info.info c.add.new.self c.if-not-is_new.false told counted c.in_ok-info.ensures.info c.in_ok-info.ensures.fault
-    (c.in_ok-add.ensures.added options follows.infos ms follows.subsequent none)
+    (c.in_ok-add.ensures.added options follows.infos ms follows.replayed none)

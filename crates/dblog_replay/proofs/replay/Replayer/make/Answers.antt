@@ -7,7 +7,7 @@ use Rattle.dblog_replay.proofs.replay.Replayer.make.Goals as goal
 pub returns : goal.returns
 returns c = record {
   infos = [];
-  subsequent = record {
+  replayed = record {
     stands = subst (λ (i : List TableInfo). Stands i log_start [] [] c.make-2.result) c.new-2.ensures.items (c.make-2.ensures []);
     identity = c.in-Ok.ensures.identity;
     keys = refl;

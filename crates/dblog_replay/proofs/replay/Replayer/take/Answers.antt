@@ -15,4 +15,4 @@ returns-in_err-prepare c = λ options ms follows count. (
 pub returns : goal.returns
 returns c = λ options ms follows count.
     let ready = c.in_ok-prepare.ensures options ms follows in
-    put_takes options ms c.args.bytes.now c.in_ok-message.message c.prepare.new.self c.append.new.self c.append.result ready c.in_ok-message.ensures.spelled follows.fields (c.append.ensures options ready.infos ms ready.subsequent count)
+    put_takes options ms c.args.bytes.now c.in_ok-message.message c.prepare.new.self c.append.new.self c.append.result ready c.in_ok-message.ensures.spelled follows.fields (c.append.ensures options ready.infos ms ready.replayed count)

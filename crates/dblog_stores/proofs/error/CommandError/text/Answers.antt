@@ -1,7 +1,7 @@
 use Rattle.std.proofs.Common.{◌≡◌, ◌∙◌, ℕ, List, [], ◌∷◌, ◌++◌, ap, sym, append_assoc, codes, decimal}
 use Rattle.std.proofs.lemmas.Result.{IfOk-weaker}
 use Rattle.dblog_stores.specs.Errors.{error_line, store_name}
-use Rattle.dblog_stores.proofs.error.RunError.text.Goals as goal
+use Rattle.dblog_stores.proofs.error.CommandError.text.Goals as goal
 
 regroup : (a b c d e : List ℕ) → a ++ (b ++ (c ++ (d ++ e))) ≡ (((a ++ b) ++ c) ++ d) ++ e
 regroup a b c d e = sym (simp append_assoc)

@@ -1,7 +1,7 @@
 use Rattle.std.proofs.Common.{◌∙◌, ◌++◌, ◌∷◌, [], ap, sym, append_assoc, codes, decimal}
 use Rattle.std.proofs.lemmas.Result.{IfOk-weaker}
 use Rattle.dbl_lines.specs.Faults.{fault_line}
-use Rattle.dbl_lines.proofs.halt.Halt.text.Goals as goal
+use Rattle.dbl_lines.proofs.run_error.RunError.text.Goals as goal
 
 pub returns-in-BadLine : goal.returns-in-BadLine
 returns-in-BadLine c =

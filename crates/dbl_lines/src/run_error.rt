@@ -3,11 +3,12 @@ ghost use Rattle.std.specs.String.{string_bytes};
 ghost use Rattle.dbl_base.specs.Lines.{lines_text};
 ghost use Rattle.dbl_lines.specs.Faults.{status_of, fault_line};
 
+use crate::status::Status;
 use std::alloc::{AllocError, Global};
 
 /// Why a run ends with a line of its own instead of records.
 #[derive(Clone, Copy, Debug, PartialEq, Eq)]
-pub enum Halt {
+pub enum RunError {
     Usage,
     InputFailed,
     Memory,
@@ -16,17 +17,17 @@ pub enum Halt {
     InputTooLong,
 }
 
-impl Halt {
-    /// The program's exit status.
-    pub fn status(self) -> u8
+impl RunError {
+    /// The status of a run that ends with this error.
+    pub fn status(self) -> Status
         ensures { result ≡ status_of self }
     {
         match self {
-            Halt::Usage => 2,
-            Halt::InputFailed => 10,
-            Halt::Memory => 12,
-            Halt::BadLine { number: _ } => 13,
-            Halt::InputTooLong => 13,
+            RunError::Usage => Status::InvalidArguments,
+            RunError::InputFailed => Status::StdinFailed,
+            RunError::Memory => Status::OutOfMemory,
+            RunError::BadLine { number: _ } => Status::InvalidInput,
+            RunError::InputTooLong => Status::InvalidInput,
         }
     }
 
@@ -35,25 +36,25 @@ impl Halt {
         ensures { IfOk result (λ s. string_bytes s ≡ lines_text (fault_line self ∷ [])) }
     {
         let line = match self {
-            Halt::Usage => "dblog: usage\n",
-            Halt::InputFailed => "dblog: input failed\n",
-            Halt::Memory => "dblog: out of memory\n",
-            Halt::BadLine { number } => return format!(in alloc;
+            RunError::Usage => "dblog: usage\n",
+            RunError::InputFailed => "dblog: input failed\n",
+            RunError::Memory => "dblog: out of memory\n",
+            RunError::BadLine { number } => return format!(in alloc;
                 "dblog: line {number}: bad line\n"
             ),
-            Halt::InputTooLong => "dblog: input too long\n",
+            RunError::InputTooLong => "dblog: input too long\n",
         };
         String::from_str(alloc, line)
     }
 }
 
-impl From<AllocError> for Halt {
+impl From<AllocError> for RunError {
     ghost use Rattle.std.specs.Prelude.{◌≡◌};
-    ghost use Rattle.dbl_lines.specs.declared.halt.Halt.TheVariants.{Memory};
+    ghost use Rattle.dbl_lines.specs.declared.run_error.RunError.TheVariants.{Memory};
 
     ghost from_gives = { λ _ e. e ≡ Memory };
 
-    fn from(_error: AllocError) -> Halt {
-        Halt::Memory
+    fn from(_error: AllocError) -> RunError {
+        RunError::Memory
     }
 }

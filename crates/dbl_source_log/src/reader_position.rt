@@ -2,7 +2,7 @@ use dbl_base::Lsn;
 
 /// The position of a reader of a log.
 #[derive(Clone, Copy, Debug, PartialEq, Eq)]
-pub struct Place {
+pub struct ReaderPosition {
     /// The LSN after which reading began.
     pub after: Lsn,
     /// The number of whole commits read since. The next one is being read, or will be.

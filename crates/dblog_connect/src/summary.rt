@@ -1,0 +1,8 @@
+use dbl_capture::{Ending, Report};
+
+/// How a session ended normally, and its report.
+#[derive(Clone, Copy, Debug, PartialEq, Eq)]
+pub struct Summary {
+    pub ending: Ending,
+    pub report: Report,
+}

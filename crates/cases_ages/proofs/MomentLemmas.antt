@@ -76,7 +76,7 @@ module _ (infos : List TableInfo) (changes : List Change) (ordinal : ℕ) where
 -- ---- the moment of a place
 
 module _ (infos : List TableInfo) (commits : List Commit) (place : Place) where
-  -- behind the first i commits the moment counted is this, as far as 64 bits tell
+  -- after the first i commits the moment counted is this, as far as 64 bits tell
   abbrev pub IsAlong : ℕ → ℕ → Type 0
   IsAlong i moment = (moment < 2 ^ 64) × (min (place_moment infos commits place) (2 ^ 64 - 1) ≡ min (moment + place_moment infos (drop i commits) place) (2 ^ 64 - 1))
 
@@ -93,7 +93,7 @@ module _ (infos : List TableInfo) (commits : List Commit) (place : Place) where
       ∙ (ap (λ (x : Bool). if x then length (changes_of c) + place_moment infos (drop (i + 1) commits) place else (if c.lsn.0 == place.0 then changes_through infos (changes_of c) place.1 else 0)) low
       ∙ ap (λ (x : Bool). if b then length (changes_of c) + place_moment infos (drop (i + 1) commits) place else (if x then changes_through infos (changes_of c) place.1 else 0)) same)
 
-  -- a commit behind the place
+  -- a commit after the place
   pub along_past : (i moment : ℕ) (c : Commit) → i < length commits → c ≡ get_or commits i c → place.0 < c.lsn.0 → IsAlong i moment → moment ≡ min (place_moment infos commits place) (2 ^ 64 - 1)
   along_past i moment c lt is past so_far =
       let none : place_moment infos (drop i commits) place ≡ 0 = there i c false false lt is (not_lower c.lsn.0 place.0 (omega (arith, past))) (not_equal c.lsn.0 place.0 (λ e. omega (arith, e, past))) in

@@ -1,7 +1,7 @@
 //! What cases over a log are made of: items parted by ` | `, each a kind and its fields parted by slashes.
 //!
 //! - `t/public.users/id:23 name:25/id`: a captured table, its columns with the OIDs of their types, and its key's columns.
-//! - `after/100`: the position that the log begins behind, else 0.
+//! - `after/100`: the position that the log begins after, else 0.
 //!
 //! The messages of a log are told in `messages`.
 

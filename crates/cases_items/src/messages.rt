@@ -1,7 +1,7 @@
 //! The messages of a log, each an item of one capital letter and its fields.
 //!
-//! - `B/256/7/5`: a Begin with its LSN, transaction and time. `C/256/296`: a Commit with its LSN and the one behind it.
-//! - `R/1/public/users/d/id:23:1 name:25:0`: a Relation with its identity, each column's type and flags (`:m` behind them for a
+//! - `B/256/7/5`: a Begin with its LSN, transaction and time. `C/256/296`: a Commit with its LSN and the one after it.
+//! - `R/1/public/users/d/id:23:1 name:25:0`: a Relation with its identity, each column's type and flags (`:m` after them for a
 //!   type modifier). `I/1/1 Ann`: an Insert. `U/1/K/1 ~/2 Ann`: an Update (`U/1/-//2 Ann` with no old row). `D/1/O/1 Ann`: a
 //!   Delete. `T/1 2`: a Truncate. `O`, `Y` and `M`: an Origin, a Type and a Logical.
 //!

@@ -9,7 +9,7 @@ use dbl_value::{Val, json};
 use std::alloc::Global;
 use std::fmt::Write;
 
-// A cell behind a space: null is `~`.
+// A cell after a space: null is `~`.
 fn val(alloc: Global, shown: &mut String, val: &Val) -> Result<()> {
     words::add(shown, " ")?;
     match val {
@@ -24,7 +24,7 @@ fn show_json(alloc: Global, shown: &mut String, val: &Val) -> Result<()> {
     words::add(shown, json(alloc, val)?.as_str())
 }
 
-/// Cells, each behind a space: null is `~`.
+/// Cells, each after a space: null is `~`.
 pub fn row(alloc: Global, shown: &mut String, cells: &Seq<Val>) -> Result<()> {
     for cell in cells.items() {
         val(alloc, shown, cell)?;

@@ -7,7 +7,7 @@ use serde_json::Value;
 use std::alloc::Global;
 use std::fmt::{Debug, Display, Write};
 
-/// What stands before the first mark, and what stands behind it.
+/// What stands before the first mark, and what is after it.
 pub fn split<'a>(text: &'a str, mark: &'a str) -> (&'a str, &'a str) {
     match text.split_once(mark) {
         Some(parts) => parts,

@@ -37,9 +37,11 @@ impl FaultPlan {
     /// Counts a call, and a fault if that call is planned to fail.
     pub fn call(&mut self) -> Result<(), Failed>
         ensures planned { IsErr result ↔ Contains self.old.planned (incremented self.old.calls) }
-        ensures ok { OnOk result (self.new ≡ record self.old { calls = incremented self.old.calls }) }
+        ensures ok { OnOk result
+            (self.new ≡ record self.old { calls = incremented self.old.calls }) }
         ensures err { OnErr result (self.new
-            ≡ record self.old { calls = incremented self.old.calls; faults = incremented self.old.faults }) }
+            ≡ record self.old
+            { calls = incremented self.old.calls; faults = incremented self.old.faults }) }
         ensures later { self.old.faults ≤ self.new.faults }
     {
         self.calls = self.calls.saturating_add(1);

@@ -1,6 +1,7 @@
-ghost use Rattle.std.specs.Prelude.{◌≡◌, ◌≢◌, ℕ, ◌+◌, ◌<◌, ◌≤◌, ◌++◌, List, [], length, take, drop, Option, Some, Ok};
-ghost use Rattle.std.specs.Prelude.{Err, IfOk, OnOk, OnErr, IsErr};
-ghost use Rattle.dbl_base.specs.Streams.{FailsOnlyIfCounted, MovesToStart, incremented, input_limit};
+ghost use Rattle.std.specs.Prelude.{◌≡◌, ◌≢◌, ℕ, ◌+◌, ◌<◌, ◌≤◌, ◌++◌, List, [], length, take};
+ghost use Rattle.std.specs.Prelude.{drop, Option, Some, Ok, Err, IfOk, OnOk, OnErr, IsErr};
+ghost use Rattle.dbl_base.specs.Streams.{FailsOnlyIfCounted, MovesToStart};
+ghost use Rattle.dbl_base.specs.Streams.{incremented, input_limit};
 
 use crate::{Bytes, Failed};
 use std::alloc::{AllocError, AllocFailed, Global};

@@ -1,5 +1,5 @@
-ghost use Rattle.std.specs.Prelude.{◌≡◌, ◌<◌, ◌≤◌, ◌++◌, ◌↔◌, ℕ, List, [], Some, Ok, length, drop, take, min, IsErr};
-ghost use Rattle.std.specs.Prelude.{OnOk, OnErr, IfOk, Contains};
+ghost use Rattle.std.specs.Prelude.{◌≡◌, ◌<◌, ◌≤◌, ◌++◌, ◌↔◌, ℕ, List, [], Some, Ok, length};
+ghost use Rattle.std.specs.Prelude.{drop, take, min, IsErr, OnOk, OnErr, IfOk, Contains};
 ghost use Rattle.dbl_base.specs.Streams.{FailsOnlyIfCounted, MovesToStart, incremented};
 ghost use Rattle.dbl_base.specs.Memory.{new_plan};
 
@@ -54,7 +54,8 @@ impl Input for MemInput {
             result ≡ Ok 0 → bytes ≡ [] }
         ensures kept { (bytes : List ℕ) → Some self.old.left ≡ Some bytes →
             OnErr result (Some self.new.left ≡ Some bytes) }
-        ensures cause { FailsOnlyIfCounted (IsErr result) self.old.plan.faults self.new.plan.faults }
+        ensures cause { FailsOnlyIfCounted (IsErr result)
+            self.old.plan.faults self.new.plan.faults }
         ensures steady { (bytes : List ℕ) → Some self.old.left ≡ Some bytes →
             OnOk result (self.new.plan.faults ≡ self.old.plan.faults) }
         ensures once { (bytes : List ℕ) → Some self.old.left ≡ Some bytes →
@@ -124,7 +125,8 @@ impl Output for MemOutput {
             OnOk result (Some self.new.written ≡ Some (bytes ++ piece.now)) }
         ensures prefix { (bytes : List ℕ) → Some self.old.written ≡ Some bytes →
             OnErr result ((n : ℕ) × (Some self.new.written ≡ Some (bytes ++ take n piece.now))) }
-        ensures cause { FailsOnlyIfCounted (IsErr result) self.old.plan.faults self.new.plan.faults }
+        ensures cause { FailsOnlyIfCounted (IsErr result)
+            self.old.plan.faults self.new.plan.faults }
 
         ensures planned { Contains self.old.plan.planned (incremented self.old.plan.calls) →
             IsErr result }

@@ -1,4 +1,5 @@
-ghost use Rattle.std.specs.Prelude.{◌≡◌, ℕ, ◌++◌, List, length, take, Option, Some, OnOk, OnErr, IsErr};
+ghost use Rattle.std.specs.Prelude.{◌≡◌, ℕ, ◌++◌, List, length, take};
+ghost use Rattle.std.specs.Prelude.{Option, Some, OnOk, OnErr, IsErr};
 ghost use Rattle.dbl_base.specs.Streams.{FailsOnlyIfCounted};
 
 use crate::Failed;

@@ -1,35 +1,45 @@
 //! The session of a connector.
 
-ghost use Rattle.std.specs.Prelude.{◌≡◌, ◌≢◌, ◌⊎◌, ◌<◌, ◌≤◌, List, Option, Some, None, Bool, [], IfErr, IfOk, IsTrue, OnErr, OnOk, true};
+ghost use Rattle.std.specs.Prelude.{◌≡◌, ◌≢◌, ◌⊎◌, ◌<◌, ◌≤◌, List, Option, Some, None};
+ghost use Rattle.std.specs.Prelude.{Bool, [], IfErr, IfOk, IsTrue, OnErr, OnOk, true};
 ghost use Rattle.dbl_base.specs.Streams.{FailsOnlyIfCounted};
 ghost use Rattle.dbl_record.specs.declared.record.Record.{Record as SpecRecord};
 ghost use Rattle.dbl_model_table.specs.Configs.{IsGoodConfig};
 ghost use Rattle.dbl_source.specs.SourceModel.Calls.{Moved};
 ghost use Rattle.dbl_source.specs.SourceModel.Leaves.{Leaves, LeavesSome};
-ghost use Rattle.dbl_source.specs.SourceModel.Standings.{MovesTo, CrashState, SourceState, HasState};
+ghost use Rattle.dbl_source.specs.SourceModel.Standings.{MovesTo, CrashState};
+ghost use Rattle.dbl_source.specs.SourceModel.Standings.{SourceState, HasState};
 ghost use Rattle.dbl_source.specs.SourceModel.Trace.{Head, IsTakenBy, LastAnswerIs, Trace};
 ghost use Rattle.dbl_offset.specs.declared.offset.Offset.{Offset as SpecOffset};
 ghost use Rattle.dbl_offset.specs.Offsets.{IsOffset};
 ghost use Rattle.dbl_offset.specs.Stores.{ExtendsOffsets, IsLive, disk_of};
-ghost use Rattle.dbl_capture_work.specs.CaptureModel.Entries.{SessionStart as SpecEntry, HadOwnTables, IsKeptAfter, WasFaithful};
+ghost use Rattle.dbl_capture_work.specs.CaptureModel.Entries.{SessionStart as SpecEntry};
+ghost use Rattle.dbl_capture_work.specs.CaptureModel.Entries.{HadOwnTables};
+ghost use Rattle.dbl_capture_work.specs.CaptureModel.Entries.{IsKeptAfter, WasFaithful};
 ghost use Rattle.dbl_capture_work.specs.Begins.{IsAbsentHalt, IsExhausted, IsOffsetFor, MayRest};
 ghost use Rattle.dbl_capture_work.specs.Works.{BeginsWithOffset};
 ghost use Rattle.dbl_capture_laws.specs.Closed.{HasClosedRead};
-ghost use Rattle.dbl_capture_laws.specs.Ends.{AreAllDone, IsAtPosition, LeavesComplete, CacheMatchesDisk};
-ghost use Rattle.dbl_capture_laws.specs.Found.{BeganAt, BeginsAt, Found, HasStored, IsOfConfig, IsEntryOf, IsFirstAtHead};
-ghost use Rattle.dbl_capture_laws.specs.Found.{IsFirstStored, IsFound, session_start_at, position_of};
-ghost use Rattle.dbl_capture_laws.specs.Sessions.{AddsFewOrNoMarks, InSession, LeavesBy, LeavesGoing};
+ghost use Rattle.dbl_capture_laws.specs.Ends.{AreAllDone, IsAtPosition};
+ghost use Rattle.dbl_capture_laws.specs.Ends.{LeavesComplete, CacheMatchesDisk};
+ghost use Rattle.dbl_capture_laws.specs.Found.{BeganAt, BeginsAt, Found, HasStored, IsOfConfig};
+ghost use Rattle.dbl_capture_laws.specs.Found.{IsEntryOf, IsFirstAtHead, IsFirstStored};
+ghost use Rattle.dbl_capture_laws.specs.Found.{IsFound, session_start_at, position_of};
+ghost use Rattle.dbl_capture_laws.specs.Sessions.{AddsFewOrNoMarks, InSession};
+ghost use Rattle.dbl_capture_laws.specs.Sessions.{LeavesBy, LeavesGoing};
 ghost use Rattle.dbl_capture_laws.specs.Gained.{Gains, ReportsGroups};
 ghost use Rattle.dbl_capture_laws.specs.Halted.{IsHalt};
-ghost use Rattle.dbl_capture_laws.specs.Musts.{CapturesAll, MustExhaust, MustHalt, MustHaltStood, MustHaltTold};
+ghost use Rattle.dbl_capture_laws.specs.Musts.{CapturesAll, MustExhaust, MustHalt};
+ghost use Rattle.dbl_capture_laws.specs.Musts.{MustHaltStood, MustHaltTold};
 ghost use Rattle.dbl_capture_laws.specs.Tallied.{IsTallied, IsTalliedAfter};
-ghost use Rattle.dbl_capture_laws.specs.Reported.{HasReadMessages, HasSettled, HasStoodAfter, IsFollowed, StoodAtLast};
+ghost use Rattle.dbl_capture_laws.specs.Reported.{HasReadMessages, HasSettled};
+ghost use Rattle.dbl_capture_laws.specs.Reported.{HasStoodAfter, IsFollowed, StoodAtLast};
 ghost use Rattle.dbl_source.specs.SourceModel.Growth.{marks_in};
 ghost use Rattle.dbl_capture_laws.specs.Nevers.{IsFaithfulHalt, IsHonestHalt};
 ghost use Rattle.dbl_capture_laws.specs.Sources.{IsUnderWay};
 ghost use Rattle.dbl_capture_laws.specs.Caused.{AsksUnread, Halts, IsNotGone};
 ghost use Rattle.dbl_capture_laws.specs.Awaited.{Awaits, HasPositionInLog, IsWithinLog};
-ghost use Rattle.dbl_capture_laws.specs.HasState.{IsGoneBelow, IsHaltStanding, IsNotOffsetTooLong, IsShortOr};
+ghost use Rattle.dbl_capture_laws.specs.HasState.{IsGoneBelow, IsHaltStanding};
+ghost use Rattle.dbl_capture_laws.specs.HasState.{IsNotOffsetTooLong, IsShortOr};
 ghost use Rattle.dbl_capture_laws.specs.Captured.{CapturesOrHalts, MustHaltAbsent};
 ghost use Rattle.dbl_capture_laws.specs.Underway.{IsBeginHalt};
 ghost use Rattle.dbl_capture_laws.specs.Written.{AddsAtMost, EndsExactly, marks_more};
@@ -71,7 +81,8 @@ fn offset_of<S: Source, D: Disk>(
     ensures live { OnOk result (IsTrue (S.is_live src.new)) }
     ensures honest { S.honest src.new → S.honest src.old }
     ensures comes { S.comes_of src.old src.new }
-    ensures cause { FailsOnlyIfCounted (result ≡ Err Halt.Source) (S.faults src.old) (S.faults src.new) }
+    ensures cause { FailsOnlyIfCounted (result ≡ Err Halt.Source)
+        (S.faults src.old) (S.faults src.new) }
     ensures others { (result ≢ Err Halt.Sink) × (result ≢ Err Halt.Offsets) }
     ensures never { (value at : _) → result ≢ Err (Halt.WatermarkMissing value at) }
     ensures stood { MovesTo S.stands src.old src.new result (λ offset. Moved) }
@@ -134,7 +145,8 @@ fn begin_session<S: Source, K: Sink, D: Disk>(
     ensures honest { S.honest src.new → S.honest src.old }
     ensures source_comes { S.comes_of src.old src.new }
     ensures store_comes { ExtendsOffsets D.Disk store.old store.new }
-    ensures source { FailsOnlyIfCounted (result ≡ Err Halt.Source) (S.faults src.old) (S.faults src.new) }
+    ensures source { FailsOnlyIfCounted (result ≡ Err Halt.Source)
+        (S.faults src.old) (S.faults src.new) }
     ensures sink { result ≢ Err Halt.Sink }
     ensures never { (value at : _) → result ≢ Err (Halt.WatermarkMissing value at) }
     ensures rests { Leaves S.stands S.may_leave src.old src.new MayRest }
@@ -229,7 +241,8 @@ fn open_session<S: Source, K: Sink, D: Disk>(
     ensures honest { S.honest src.new → S.honest src.old }
     ensures source_comes { S.comes_of src.old src.new }
     ensures store_comes { ExtendsOffsets D.Disk store.old store.new }
-    ensures source { FailsOnlyIfCounted (result ≡ Err Halt.Source) (S.faults src.old) (S.faults src.new) }
+    ensures source { FailsOnlyIfCounted (result ≡ Err Halt.Source)
+        (S.faults src.old) (S.faults src.new) }
     ensures sink { result ≢ Err Halt.Sink }
     ensures never { (value at : _) → result ≢ Err (Halt.WatermarkMissing value at) }
     ensures offsets { FailsOnlyIfCounted (result ≡ Err Halt.Offsets)
@@ -320,7 +333,8 @@ pub fn session<S: Source, K: Sink, D: Disk>(
     // Over a conforming source with the stored tables: at most how many watermarks are added, by
     // the source's state and the stored offset.
     ensures marks { (s : SourceState) → S.stands src.old s → S.honest src.new →
-        HadOwnTables (session_start_at config.now now_ms s offsets.old.offset) → (left : CrashState) →
+        HadOwnTables (session_start_at config.now now_ms s offsets.old.offset) →
+        (left : CrashState) →
         S.may_leave src.new left →
         AddsFewOrNoMarks (session_start_at config.now now_ms s offsets.old.offset) left }
 
@@ -447,8 +461,10 @@ pub fn session<S: Source, K: Sink, D: Disk>(
     // rose.
     ensures missed { (value at : _) → result ≡ Err (Halt.WatermarkMissing value at) →
         IsTrue (S.has_ended src.new) }
-    ensures source { FailsOnlyIfCounted (result ≡ Err Halt.Source) (S.faults src.old) (S.faults src.new) }
-    ensures sink { FailsOnlyIfCounted (result ≡ Err Halt.Sink) (K.faults sink.old) (K.faults sink.new) }
+    ensures source { FailsOnlyIfCounted (result ≡ Err Halt.Source)
+        (S.faults src.old) (S.faults src.new) }
+    ensures sink { FailsOnlyIfCounted (result ≡ Err Halt.Sink)
+        (K.faults sink.old) (K.faults sink.new) }
     ensures offsets { FailsOnlyIfCounted (result ≡ Err Halt.Offsets)
         (D.faults (disk_of offsets.old)) (D.faults (disk_of offsets.new)) }
 

@@ -1,14 +1,15 @@
 //! The next message of a session.
 
-ghost use Rattle.std.specs.Prelude.{◌≡◌, ◌≢◌, ◌⊎◌, ◌^◌, ◌<◌, ◌≤◌, List, Option, None, Ok, Some, Bool, false, true};
-ghost use Rattle.std.specs.Prelude.{IfErr, IfOk, IsTrue, OnErr, OnOk};
+ghost use Rattle.std.specs.Prelude.{◌≡◌, ◌≢◌, ◌⊎◌, ◌^◌, ◌<◌, ◌≤◌, List, Option, None, Ok, Some};
+ghost use Rattle.std.specs.Prelude.{Bool, false, true, IfErr, IfOk, IsTrue, OnErr, OnOk};
 ghost use Rattle.dbl_base.specs.Streams.{FailsOnlyIfCounted};
 ghost use Rattle.dbl_record.specs.declared.record.Record.{Record as SpecRecord};
 ghost use Rattle.dbl_model_history.specs.Ranges.{IsMomentInRange};
 ghost use Rattle.dbl_source.specs.SourceModel.Standings.{CrashState, SourceState};
 ghost use Rattle.dbl_source.specs.SourceModel.Trace.{Read, LastAnswerIs, Trace};
 ghost use Rattle.dbl_capture_work.specs.Follow.declared.window.Window.TheVariants as windows;
-ghost use Rattle.dbl_capture_work.specs.CaptureModel.Entries.{SessionStart as SpecEntry, WasFaithful};
+ghost use Rattle.dbl_capture_work.specs.CaptureModel.Entries.{SessionStart as SpecEntry};
+ghost use Rattle.dbl_capture_work.specs.CaptureModel.Entries.{WasFaithful};
 ghost use Rattle.dbl_capture_work.specs.Works.{HasReadyWork};
 ghost use Rattle.dbl_capture_laws.specs.Sessions.{InSession, LeavesBy};
 ghost use Rattle.dbl_capture_laws.specs.Turns.{HasReadAllAt, IsCountedNext, IsDue, IsNextOf};
@@ -86,8 +87,10 @@ pub(crate) fn read_and_deliver<S: Source, K: Sink, D: Disk>(
     ensures honest { S.honest src.new → S.honest src.old }
     ensures source_comes { S.comes_of src.old src.new }
     ensures sink_comes { K.comes_of sink.old sink.new }
-    ensures source { FailsOnlyIfCounted (result ≡ Err Halt.Source) (S.faults src.old) (S.faults src.new) }
-    ensures sink { FailsOnlyIfCounted (result ≡ Err Halt.Sink) (K.faults sink.old) (K.faults sink.new) }
+    ensures source { FailsOnlyIfCounted (result ≡ Err Halt.Source)
+        (S.faults src.old) (S.faults src.new) }
+    ensures sink { FailsOnlyIfCounted (result ≡ Err Halt.Sink)
+        (K.faults sink.old) (K.faults sink.new) }
     ensures offsets { result ≢ Err Halt.Offsets }
     ensures never { (value at : _) → result ≢ Err (Halt.WatermarkMissing value at) }
     ensures reads { IfErr result IsNotGone }
@@ -106,8 +109,8 @@ pub(crate) fn read_and_deliver<S: Source, K: Sink, D: Disk>(
     ensures quiet { OnOk result (IsQuiet (S.told src.new)) }
 
     // The sink's contents, and what is left of them.
-    ensures putting { (groups : List (List SpecRecord)) (at : Option SourceState) (found : Option Trace)
-        (b : Beginning) →
+    ensures putting { (groups : List (List SpecRecord)) (at : Option SourceState)
+        (found : Option Trace) (b : Beginning) →
         IsPutting S.stands K.holds groups at found b store.now.offset work.old report.old src.old
         (S.told src.old) sink.old →
         IfOk result (PutsOn S.stands K.holds groups at found b store.now.offset work.new report.new

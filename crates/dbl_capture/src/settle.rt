@@ -1,13 +1,15 @@
 //! Stores the offset and then confirms it, also when everything was read.
 
-ghost use Rattle.std.specs.Prelude.{◌≡◌, ◌≢◌, List, Option, Bool, IfErr, IsTrue, OnErr, OnOk, is_ok, true};
+ghost use Rattle.std.specs.Prelude.{◌≡◌, ◌≢◌, List, Option, Bool, IfErr};
+ghost use Rattle.std.specs.Prelude.{IsTrue, OnErr, OnOk, is_ok, true};
 ghost use Rattle.dbl_base.specs.Streams.{FailsOnlyIfCounted};
 ghost use Rattle.dbl_record.specs.declared.record.Record.{Record as SpecRecord};
 ghost use Rattle.dbl_source.specs.SourceModel.Standings.{CrashState, SourceState};
 ghost use Rattle.dbl_source.specs.SourceModel.Trace.{Read, LastAnswerIs, Trace};
 ghost use Rattle.dbl_offset.specs.Stores.{ExtendsOffsets, IsLive, disk_of};
 ghost use Rattle.dbl_capture_work.specs.Follow.declared.window.Window.TheVariants as windows;
-ghost use Rattle.dbl_capture_work.specs.CaptureModel.Entries.{SessionStart as SpecEntry, WasFaithful};
+ghost use Rattle.dbl_capture_work.specs.CaptureModel.Entries.{SessionStart as SpecEntry};
+ghost use Rattle.dbl_capture_work.specs.CaptureModel.Entries.{WasFaithful};
 ghost use Rattle.dbl_capture_work.specs.Works.{HasReadyWork};
 ghost use Rattle.dbl_capture_laws.specs.Ends.{IsReportAt, CacheMatchesDisk};
 ghost use Rattle.dbl_capture_laws.specs.Sessions.{InSession, LeavesBy};
@@ -68,7 +70,8 @@ pub(crate) fn store_and_confirm<S: Source, K: Sink, D: Disk>(
     ensures honest { S.honest src.new → S.honest src.old }
     ensures source_comes { S.comes_of src.old src.new }
     ensures store_comes { ExtendsOffsets D.Disk store.old store.new }
-    ensures source { FailsOnlyIfCounted (result ≡ Err Halt.Source) (S.faults src.old) (S.faults src.new) }
+    ensures source { FailsOnlyIfCounted (result ≡ Err Halt.Source)
+        (S.faults src.old) (S.faults src.new) }
     ensures sink { result ≢ Err Halt.Sink }
     ensures never { (value at : _) → result ≢ Err (Halt.WatermarkMissing value at) }
     ensures reads { IfErr result IsNotGone }
@@ -89,8 +92,8 @@ pub(crate) fn store_and_confirm<S: Source, K: Sink, D: Disk>(
     ensures quiet { OnOk result (IsQuiet (S.told src.new)) }
 
     // The sink's contents, and what is left of them.
-    ensures putting { (groups : List (List SpecRecord)) (at : Option SourceState) (found : Option Trace)
-        (b : Beginning) →
+    ensures putting { (groups : List (List SpecRecord)) (at : Option SourceState)
+        (found : Option Trace) (b : Beginning) →
         HasPutCommit S.stands K.holds groups at found b store.old.offset work.old report.old src.old
         (S.told src.old) sink.now →
         OnOk result (IsPutting S.stands K.holds groups at found b store.new.offset work.new
@@ -160,7 +163,8 @@ pub(crate) fn finish_complete<S: Source, K: Sink, D: Disk>(
     ensures honest { S.honest src.new → S.honest src.old }
     ensures source_comes { S.comes_of src.old src.new }
     ensures store_comes { ExtendsOffsets D.Disk store.old store.new }
-    ensures source { FailsOnlyIfCounted (result ≡ Err Halt.Source) (S.faults src.old) (S.faults src.new) }
+    ensures source { FailsOnlyIfCounted (result ≡ Err Halt.Source)
+        (S.faults src.old) (S.faults src.new) }
     ensures sink { result ≢ Err Halt.Sink }
     ensures reads { IfErr result IsNotGone }
     ensures offsets { FailsOnlyIfCounted (result ≡ Err Halt.Offsets)
@@ -180,8 +184,8 @@ pub(crate) fn finish_complete<S: Source, K: Sink, D: Disk>(
     ensures quiet { OnOk result (IsQuiet (S.told src.new)) }
 
     // The sink's contents, and what is left of them.
-    ensures putting { (groups : List (List SpecRecord)) (at : Option SourceState) (found : Option Trace)
-        (b : Beginning) →
+    ensures putting { (groups : List (List SpecRecord)) (at : Option SourceState)
+        (found : Option Trace) (b : Beginning) →
         IsPutting S.stands K.holds groups at found b store.old.offset work.old report.old src.old
         (S.told src.old) sink.now →
         OnOk result (IsPutting S.stands K.holds groups at found b store.new.offset work.new

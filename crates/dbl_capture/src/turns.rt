@@ -1,7 +1,7 @@
 //! The loop of a session, which reads one message after the other.
 
-ghost use Rattle.std.specs.Prelude.{◌≡◌, ◌≢◌, ◌+◌, ◌^◌, ◌≤◌, ◌<◌, false, true, List, Option, Some, None, Ok, Bool};
-ghost use Rattle.std.specs.Prelude.{IfErr, IfOk, IsTrue, MatchBool, OnErr, OnOk, ℕ};
+ghost use Rattle.std.specs.Prelude.{◌≡◌, ◌≢◌, ◌+◌, ◌^◌, ◌≤◌, ◌<◌, false, true, List, Option, Some};
+ghost use Rattle.std.specs.Prelude.{None, Ok, Bool, IfErr, IfOk, IsTrue, MatchBool, OnErr, OnOk, ℕ};
 ghost use Rattle.dbl_base.specs.Streams.{FailsOnlyIfCounted};
 ghost use Rattle.dbl_record.specs.declared.record.Record.{Record as SpecRecord};
 ghost use Rattle.dbl_model_history.specs.Ranges.{IsMomentInRange};
@@ -10,10 +10,12 @@ ghost use Rattle.dbl_source.specs.SourceModel.Trace.{Trace};
 ghost use Rattle.dbl_offset.specs.declared.offset.Offset.{Offset as SpecOffset};
 ghost use Rattle.dbl_offset.specs.Stores.{ExtendsOffsets, IsLive, disk_of};
 ghost use Rattle.dbl_capture_work.specs.Follow.declared.window.Window.TheVariants as windows;
-ghost use Rattle.dbl_capture_work.specs.CaptureModel.Entries.{SessionStart as SpecEntry, WasFaithful};
+ghost use Rattle.dbl_capture_work.specs.CaptureModel.Entries.{SessionStart as SpecEntry};
+ghost use Rattle.dbl_capture_work.specs.CaptureModel.Entries.{WasFaithful};
 ghost use Rattle.dbl_capture_work.specs.declared.report.Report.{Report as SpecReport};
 ghost use Rattle.dbl_capture_work.specs.Works.{HasReadyWork, next_offset_of};
-ghost use Rattle.dbl_capture_laws.specs.Ends.{AreAllDone, HasNoneNext, HasOwnStored, IsArmedNext, IsAtPosition, IsTableToRead, CacheMatchesDisk};
+ghost use Rattle.dbl_capture_laws.specs.Ends.{AreAllDone, HasNoneNext, HasOwnStored, IsArmedNext};
+ghost use Rattle.dbl_capture_laws.specs.Ends.{IsAtPosition, IsTableToRead, CacheMatchesDisk};
 ghost use Rattle.dbl_capture_laws.specs.Sessions.{InSession, LeavesBy};
 ghost use Rattle.dbl_capture_laws.specs.Turns.{IsSettledWhole};
 ghost use Rattle.dbl_capture_laws.specs.Carried.{Beginning};
@@ -73,7 +75,8 @@ fn open_next_window<S: Source, K: Sink, D: Disk>(
     ensures live { OnOk result (IsTrue (S.is_live src.new)) }
     ensures honest { S.honest src.new → S.honest src.old }
     ensures comes { S.comes_of src.old src.new }
-    ensures cause { FailsOnlyIfCounted (result ≡ Err Halt.Source) (S.faults src.old) (S.faults src.new) }
+    ensures cause { FailsOnlyIfCounted (result ≡ Err Halt.Source)
+        (S.faults src.old) (S.faults src.new) }
     ensures others { (result ≢ Err Halt.Sink) × (result ≢ Err Halt.Offsets) }
     ensures never { (value at : _) → result ≢ Err (Halt.WatermarkMissing value at) }
     ensures reads { IfErr result IsNotGone }
@@ -88,8 +91,8 @@ fn open_next_window<S: Source, K: Sink, D: Disk>(
         IfErr result (Halts S.stands at found b.config b.now b.held store.now.offset report
         src.new (S.told src.new)) }
     ensures quiet { IsQuiet (S.told src.old) → OnOk result (IsQuiet (S.told src.new)) }
-    ensures putting { (groups : List (List SpecRecord)) (at : Option SourceState) (found : Option Trace)
-        (b : Beginning) (report : SpecReport) →
+    ensures putting { (groups : List (List SpecRecord)) (at : Option SourceState)
+        (found : Option Trace) (b : Beginning) (report : SpecReport) →
         IsPutting S.stands K.holds groups at found b store.now.offset work.old report src.old
         (S.told src.old) sink.now →
         OnOk result (IsPutting S.stands K.holds groups at found b store.now.offset work.new report
@@ -193,8 +196,10 @@ fn process_message<S: Source, K: Sink, D: Disk>(
     ensures source_comes { S.comes_of src.old src.new }
     ensures sink_comes { K.comes_of sink.old sink.new }
     ensures store_comes { ExtendsOffsets D.Disk store.old store.new }
-    ensures source { FailsOnlyIfCounted (result ≡ Err Halt.Source) (S.faults src.old) (S.faults src.new) }
-    ensures sink { FailsOnlyIfCounted (result ≡ Err Halt.Sink) (K.faults sink.old) (K.faults sink.new) }
+    ensures source { FailsOnlyIfCounted (result ≡ Err Halt.Source)
+        (S.faults src.old) (S.faults src.new) }
+    ensures sink { FailsOnlyIfCounted (result ≡ Err Halt.Sink)
+        (K.faults sink.old) (K.faults sink.new) }
     ensures offsets { FailsOnlyIfCounted (result ≡ Err Halt.Offsets)
         (D.faults (disk_of store.old)) (D.faults (disk_of store.new)) }
 
@@ -217,8 +222,8 @@ fn process_message<S: Source, K: Sink, D: Disk>(
     ensures quiet { OnOk result (IsQuiet (S.told src.new)) }
 
     // The sink's contents, and what is left of them.
-    ensures putting { (groups : List (List SpecRecord)) (at : Option SourceState) (found : Option Trace)
-        (b : Beginning) →
+    ensures putting { (groups : List (List SpecRecord)) (at : Option SourceState)
+        (found : Option Trace) (b : Beginning) →
         IsPutting S.stands K.holds groups at found b store.old.offset work.old report.old src.old
         (S.told src.old) sink.old →
         OnOk result (IsPutting S.stands K.holds groups at found b store.new.offset work.new
@@ -240,8 +245,8 @@ fn process_message<S: Source, K: Sink, D: Disk>(
         (S.told src.old) → (s : SourceState) → at ≡ Some s → S.honest src.new →
         Awaits S.stands work.old src.old → IfOk result (λ ended.
         ended ≡ false → Awaits S.stands work.new src.new) }
-    ensures most { (tell : Bool) (entry : SpecEntry) (at : Option SourceState) (found : Option Trace)
-        (b : Beginning) → InSession tell S.stands K.holds D.Disk entry
+    ensures most { (tell : Bool) (entry : SpecEntry) (at : Option SourceState)
+        (found : Option Trace) (b : Beginning) → InSession tell S.stands K.holds D.Disk entry
         work.old src.old sink.old store.old →
         IsUnderWay S.stands at found b store.old.offset work.old report.old src.old
         (S.told src.old) → S.honest src.new → OnErr result ((left : CrashState) →
@@ -334,8 +339,10 @@ pub(crate) fn process_messages<S: Source, K: Sink, D: Disk>(
     ensures source_comes { S.comes_of src.old src.new }
     ensures sink_comes { K.comes_of sink.old sink.new }
     ensures store_comes { ExtendsOffsets D.Disk store.old store.new }
-    ensures source { FailsOnlyIfCounted (result ≡ Err Halt.Source) (S.faults src.old) (S.faults src.new) }
-    ensures sink { FailsOnlyIfCounted (result ≡ Err Halt.Sink) (K.faults sink.old) (K.faults sink.new) }
+    ensures source { FailsOnlyIfCounted (result ≡ Err Halt.Source)
+        (S.faults src.old) (S.faults src.new) }
+    ensures sink { FailsOnlyIfCounted (result ≡ Err Halt.Sink)
+        (K.faults sink.old) (K.faults sink.new) }
     ensures offsets { FailsOnlyIfCounted (result ≡ Err Halt.Offsets)
         (D.faults (disk_of store.old)) (D.faults (disk_of store.new)) }
 
@@ -353,8 +360,8 @@ pub(crate) fn process_messages<S: Source, K: Sink, D: Disk>(
     ensures quiet { OnOk result (IsQuiet (S.told src.new)) }
 
     // The sink's contents, and what is left of them.
-    ensures putting { (groups : List (List SpecRecord)) (at : Option SourceState) (found : Option Trace)
-        (b : Beginning) →
+    ensures putting { (groups : List (List SpecRecord)) (at : Option SourceState)
+        (found : Option Trace) (b : Beginning) →
         IsPutting S.stands K.holds groups at found b store.old.offset work.old report.old src.old
         (S.told src.old) sink.old →
         OnOk result (IsPutting S.stands K.holds groups at found b store.new.offset work.new
@@ -371,8 +378,8 @@ pub(crate) fn process_messages<S: Source, K: Sink, D: Disk>(
         IsUnderWay S.stands at found b store.old.offset work.old report.old src.old
         (S.told src.old) → (s : SourceState) → at ≡ Some s → S.honest src.new →
         IfErr result (IsHonestHalt entry (S.stands src.new)) }
-    ensures most { (tell : Bool) (entry : SpecEntry) (at : Option SourceState) (found : Option Trace)
-        (b : Beginning) → InSession tell S.stands K.holds D.Disk entry
+    ensures most { (tell : Bool) (entry : SpecEntry) (at : Option SourceState)
+        (found : Option Trace) (b : Beginning) → InSession tell S.stands K.holds D.Disk entry
         work.old src.old sink.old store.old →
         IsUnderWay S.stands at found b store.old.offset work.old report.old src.old
         (S.told src.old) → S.honest src.new → OnErr result ((left : CrashState) →

@@ -1,6 +1,7 @@
 //! Windows of a session: rows that are read between two watermarks.
 
-ghost use Rattle.std.specs.Prelude.{◌≡◌, ◌≢◌, ◌+◌, ◌^◌, ◌<◌, List, Option, Bool, IfErr, IsTrue, OnErr, OnOk, ℕ};
+ghost use Rattle.std.specs.Prelude.{◌≡◌, ◌≢◌, ◌+◌, ◌^◌, ◌<◌, List, Option};
+ghost use Rattle.std.specs.Prelude.{Bool, IfErr, IsTrue, OnErr, OnOk, ℕ};
 ghost use Rattle.dbl_base.specs.Streams.{FailsOnlyIfCounted};
 ghost use Rattle.dbl_record.specs.declared.record.Record.{Record as SpecRecord};
 ghost use Rattle.dbl_source.specs.SourceModel.Standings.{CrashState, SourceState};
@@ -53,7 +54,8 @@ pub(crate) fn arm<S: Source, K: Sink, D: Disk>(
     ensures live { OnOk result (IsTrue (S.is_live src.new)) }
     ensures honest { S.honest src.new → S.honest src.old }
     ensures comes { S.comes_of src.old src.new }
-    ensures cause { FailsOnlyIfCounted (result ≡ Err Halt.Source) (S.faults src.old) (S.faults src.new) }
+    ensures cause { FailsOnlyIfCounted (result ≡ Err Halt.Source)
+        (S.faults src.old) (S.faults src.new) }
     ensures others { (result ≢ Err Halt.Sink) × (result ≢ Err Halt.Offsets) }
     ensures never { (value at : _) → result ≢ Err (Halt.WatermarkMissing value at) }
     ensures reads { IfErr result IsNotGone }
@@ -68,8 +70,8 @@ pub(crate) fn arm<S: Source, K: Sink, D: Disk>(
         IfErr result (Halts S.stands at found b.config b.now b.held store.now.offset report
         src.new (S.told src.new)) }
     ensures quiet { OnOk result (IsQuiet (S.told src.new)) }
-    ensures putting { (groups : List (List SpecRecord)) (at : Option SourceState) (found : Option Trace)
-        (b : Beginning) (report : SpecReport) →
+    ensures putting { (groups : List (List SpecRecord)) (at : Option SourceState)
+        (found : Option Trace) (b : Beginning) (report : SpecReport) →
         IsPutting S.stands K.holds groups at found b store.now.offset work.old report src.old
         (S.told src.old) sink.now →
         OnOk result (IsPutting S.stands K.holds groups at found b store.now.offset work.new report

@@ -1,4 +1,4 @@
--- What a source's last answer asks for comes.
+-- What a source's last answer requires comes.
 use Rattle.std.proofs.Common.{◌≡◌, ◌∙◌, ◌⊎◌, inl, inr, ◌+◌, ◌≤◌, ℕ, Option, Some, None, Result, Err, List, [], ◌∷◌, length, refl, sym, ap, ap₂, subst, arith}
 use Rattle.std.specs.Prelude.{Contains, slice_get}
 use Rattle.dbl_base.specs.declared.lsn.Lsn.{Lsn}
@@ -241,7 +241,7 @@ module _ (config : Config) (held stored : Option Offset) (report : Report) (t : 
     gone = λ first s answer. absurd (never_stored config held stored held refl same s);
   }
 
-  -- what was described is at fault
+  -- what was described is invalid
   described : held ≡ None → stored ≡ held → (name : TableName) → Contains config.tables name → IsModelFault name (Some t) h → MustHalt config held stored report t (Err h)
   described none_held same name has fault = record {
     message = no_fault;

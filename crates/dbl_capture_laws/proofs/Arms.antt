@@ -1,4 +1,4 @@
--- A session that reads a window: what it keeps behind it, and what it may leave on the way.
+-- A session that reads a window: what it keeps after it, and what it may leave on the way.
 use Rattle.std.proofs.Common.{◌≡◌, ◌∙◌, inl, inr, ◌+◌, ◌≤◌, ◌<◌, ◌^◌, ℕ, zero, suc, true, false, Option, Some, None, List, [], ◌∷◌, length, refl, sym, ap, ap₂, subst, arith, IsTrue, Bool}
 use Rattle.std.specs.Prelude.{not, slice_get}
 use Rattle.std.specs.List.{AllByRecursion, position}
@@ -68,9 +68,9 @@ own_chunk work table chunk p first few = record {
   few = subst (λ (n : ℕ). length chunk.rows ≤ n) (ap (λ (q : Plan). q.limit) p.is) few;
 }
 
--- ---- marks
+-- ---- watermarks
 
--- the marks of a window of the session's are its own
+-- the watermarks of a window of the session's are its own
 bodies_marked : (greatest : ℕ) (plan : Plan) (more : List RawCommit) → plan.incarnation ≤ greatest → plan.number < 2 ^ 64 → AllByRecursion (λ commit. IsBodyOf plan commit.body) more → AllByRecursion (λ commit. IsMarkedBy greatest commit.body) more
 bodies_marked greatest plan more le small all = all_weaker (λ (c : RawCommit). IsBodyOf plan c.body) (λ (c : RawCommit). IsMarkedBy greatest c.body) more (λ c is. by c.body is) all
   where
@@ -142,7 +142,7 @@ module _ {S K D : Type 0} {tell : Bool} {stands : S → SourceState → Type 0} 
           few = (few_marks_are_written entry s.stage left.history may.more (some_chunk s) may.grown (own_few plan may.more may.count may.marks)).1 (absent_of none) (not_all s.stage.following.cursors plan.table p.cursor cursor_at still_unread) s.going.reading;
         })
 
-    -- wherever it ends on the way
+    -- where it ends on the way
     pub arm_left : (may_source : S → CrashState → Type 0) (may_sink : K → List (List Record) → Type 0) (src2 : S) → work.follower.window ≡ Absent → ((left : CrashState) → may_source src2 left → MayHaveMarks (own_marks plan) (state_at_stage s.stage) left)
         → ((left : CrashState) → may_source src2 left → IsFitHistory left.history) → (IsTrue tell → (groups : List (List Record)) → may_sink sink groups → groups ≡ s.stage.groups) → (left : CrashState) × may_source src2 left → (IsTrue tell → (groups : List (List Record)) × may_sink sink groups)
         → LeavesBy tell may_source may_sink model entry src2 sink store

@@ -1,4 +1,4 @@
--- What was answered last asks for no other halt, at each of a session's calls.
+-- What was answered last requires no other error, at each of a session's calls.
 use Rattle.std.proofs.Common.{◌≡◌, ◌∙◌, ◌⊎◌, inl, inr, ◌≤◌, ℕ, Option, Some, None, Result, Ok, Err, List, [], ◌∷◌, length, refl, sym, ap, subst}
 use Rattle.std.specs.Prelude.{Contains, OnOk}
 use Rattle.dbl_base.specs.declared.lsn.Lsn.{Lsn}
@@ -48,7 +48,7 @@ read_rows read rows is = cc
 read_gone : (read : Option (List ℕ)) (first : Lsn) → Read read ≡ Began (Gone first) → ⊥
 read_gone read first is = cc
 
--- a mark or a confirm
+-- a watermark or a confirm
 pub done_quiet : (told : Option Trace) → LastAnswerIs told Done → IsQuiet told
 done_quiet told done t is = (λ rows answer. done_rows rows (sym (done t is) ∙ answer), λ first answer. done_gone first (sym (done t is) ∙ answer))
 

@@ -1,4 +1,4 @@
--- What a session waits for stands in the log of an honest source, and is read there.
+-- What a session waits for stands in the log of a conforming source, and is read there.
 use Rattle.std.proofs.Common.{◌≡◌, ◌∙◌, inl, inr, ◌+◌, ◌≤◌, ◌<◌, ℕ, zero, suc, Bool, true, false, Option, Some, None, List, [], ◌∷◌, ◌++◌, length, map, bytes_eq, refl, sym, ap, ap₂, subst, arith, append_assoc, append-nil, length-append}
 use Rattle.std.specs.Prelude.{nat_lt, cond, if◌then◌else◌, option_map, slice_get, take}
 use Rattle.std.specs.List.{AllByRecursion}
@@ -55,7 +55,7 @@ use Rattle.dbl_capture_laws.proofs.Uncaptured.{uncaptured_accepted}
 abbrev MarkList : Type 0
 MarkList = List (Option (List ℕ))
 
--- ---- lists of marks
+-- ---- lists of watermarks
 
 has_on : (v : List ℕ) (xs ys : MarkList) → HasMark v xs → HasMark v (xs ++ ys)
 has_on v [] ys has = absurd has
@@ -119,7 +119,7 @@ awaited_step infos (Open chunk) new (Mark value) later to is = subst (AreAwaited
     by false other (inl is) = absurd (not_text value (high_text chunk.plan) is other)
     by false other (inr has) = has
 
--- ---- marks that messages state, whatever is captured
+-- ---- watermarks that messages state, for every list of captured tables
 
 mark_body : (o : Option (List ℕ)) (changes : List Change) → watermark_in (body_of o changes) ≡ o
 mark_body None changes = refl
@@ -140,7 +140,7 @@ uncaptured_marks infos (m ∷ ms) =
     ∙ (ap₂ (λ (a b : MarkList). a ++ b) (uncaptured_marks infos ms) (ended_marks infos m ms)
     ∙ sym (map_append mark_of (commits_of [] ms) (list_of (ended_commit [] m ms))))
 
--- ---- marks of a history
+-- ---- watermarks of a history
 
 marks_longer : (after : Lsn) (xs ys : List RawCommit) → watermarks_since after (xs ++ ys) ≡ watermarks_since after xs ++ watermarks_since after ys
 marks_longer after xs ys =
@@ -151,7 +151,7 @@ marks_grown : (after : Lsn) (read later : MarkList) (old new more : List RawComm
 marks_grown after read later old new more is parted =
     ap (watermarks_since after) is ∙ (marks_longer after old more ∙ (ap (λ (l : MarkList). l ++ watermarks_since after more) parted ∙ append_assoc read later (watermarks_since after more)))
 
--- a mark that is written behind the LSN is one of them
+-- a watermark that is written after the LSN is one of them
 mark_here : (after : Lsn) (c : RawCommit) (cs : List RawCommit) (value : List ℕ) → nat_lt after.0 c.lsn.0 ≡ true → c.body ≡ raw.Mark value → HasMark value (watermarks_since after (c ∷ cs))
 mark_here after c cs value lt is =
     subst (λ (b : Bool). HasMark value (marks_at (cond b (c ∷ commits_after after cs) (commits_after after cs)))) (sym lt)
@@ -175,7 +175,7 @@ within_grown lsn old new more is w = record {
   not_below = w.not_below;
 }
 
--- A mark was written.
+-- A watermark was written.
 record IsWritten (after : Lsn) (value : List ℕ) (read later : MarkList) (new : History) : Type 0 where
   more : MarkList
   parted : watermarks_since after new.commits ≡ read ++ (later ++ more)

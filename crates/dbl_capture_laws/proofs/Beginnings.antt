@@ -44,7 +44,7 @@ use Rattle.dbl_capture_laws.proofs.Keeping.{held_left, left_weaker}
 no_less : (a b c : ℕ) → a < b → b ≤ c → a ≤ c
 no_less a b c lt le = omega (arith, lt, le)
 
--- it isn't before what it stands behind
+-- it isn't before what it is after
 head_ge : (lsn : Lsn) (cs : List RawCommit) → AreRising lsn.0 (map (λ (c : RawCommit). c.lsn.0) cs) → lsn.0 ≤ (head_after lsn cs).0
 head_ge lsn [] rise = le_refl lsn.0
 head_ge lsn (c ∷ cs) rise = no_less lsn.0 c.lsn.0 (head_after c.lsn cs).0 rise.0 (head_ge c.lsn cs rise.1)
@@ -182,7 +182,7 @@ begins_first entry config first s t asked none history rise moved infos head is 
 
 -- ---- what may be left
 
--- where others alone have committed, no mark was added
+-- where only others have committed, no watermark was added
 pub few_unread : (entry : SessionStart) (left : CrashState) → Grows entry.history left.history → AddsFewOrNoMarks entry left
 few_unread entry left g = inl (no_mark_more entry.history left.history g)
 
@@ -203,7 +203,7 @@ module _ {S K D : Type 0} (tell : Bool) (may_source : S → CrashState → Type 
     some_sink = some_sink;
   }
 
-  -- behind it, or in it
+  -- after it, or in it
   module _ (history : History) (first : Offset) (infos : AreInfosOf history first.infos) (began : BeganWith entry history first) (before : Grows entry.history history) (since : (left : CrashState) → may_source src left → Grows history left.history) where
     either_follows : (faithful : WasFaithful entry) (left : CrashState) → may_source src left → (offset : Option Offset) → (offset ≡ entry.offset) ⊎ (offset ≡ Some first) → FollowsSession entry left entry.groups offset
     either_follows faithful left is offset (inl old) =
@@ -226,7 +226,7 @@ module _ {S K D : Type 0} (tell : Bool) (may_source : S → CrashState → Type 
 
 module _ {S K D : Type 0} {tell : Bool} {stands : S → SourceState → Type 0} {holds : K → List (List Record) → Type 0} {model : DiskModel D} {entry : SessionStart} {first : Offset} {src : S} {sink : K} {store : StoreOn D}
     (b : BeganAt tell stands holds model entry first src sink store) where
-  -- reading has begun behind the first offset's LSN
+  -- reading has begun after the first offset's LSN
   pub begun_session : (fit_entry : IsFitHistory entry.history) (src2 : S) (t : SourceState) (work : SessionState) → stands src2 t → IsBegun first.lsn b.standing t → IsFitHistory t.history → 1 ≤ entry.config.every → first.incarnation < 2 ^ 64
       → works.BeginsWithOffset first entry.now entry.config.chunk entry.config.every work → InSession tell stands holds model entry work src2 sink store
   begun_session fit_entry src2 t work is begun fit some small made =

@@ -50,7 +50,7 @@ module _ (config : Config) (history : History) where
   pub captures_by : (old new : Option Offset) → (old ≡ None → Captured) → CapturesAll config old new history
   captures_by old new all none stored = all none
 
-  -- ---- where it has to halt
+  -- ---- where it has to stop with an error
 
   can_be : (name : TableName) → Captured → Contains config.tables name → CanBeCaptured history name
   can_be name all has = All-contains (CanBeCaptured history) config.tables name (All-from_recursion (CanBeCaptured history) config.tables all) has

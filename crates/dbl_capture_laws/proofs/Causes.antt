@@ -1,4 +1,4 @@
--- Why a session halts: by the rows of a window, by the messages that it has read, and by what it is to store.
+-- Why a session stops with an error: by the rows of a window, by the messages that it has read, and by what it is to store.
 use Rattle.std.proofs.Common.{◌≡◌, ◌∙◌, inl, inr, ◌+◌, ℕ, ℤ, suc, Option, Some, None, List, [], ◌∷◌, length, refl, sym, ap, ap₂, subst, arith}
 use Rattle.std.specs.Prelude.{not}
 use Rattle.std.specs.List.{position}
@@ -66,7 +66,7 @@ stood_of config now old new report t (halt.Clash table column) kind is = is
 stood_of config now old new report t (halt.RecordTooLong len) kind is = is
 stood_of config now old new report t h kind is = absurd kind
 
--- ---- why it halts
+-- ---- why it stops with an error
 
 one_more : (n m k : ℕ) → n ≡ m → k ≡ m + 1 → suc n ≡ k
 one_more n m k one two = omega (arith, one, two)
@@ -125,7 +125,7 @@ sources_stood_at_halts config now held first stored work before report s t m byt
     many : length (m ∷ subsequent.messages) ≡ report.messages
     many = one_more (length subsequent.messages) before.messages report.messages subsequent.many messages
 
--- ---- a mark that is missed
+-- ---- a watermark that is missed
 
 module _ (config : Config) (now : ℤ) (held : Option Offset) (first stored : Offset) (work : SessionState) (report : Report) (o : IsOfFirst config now held first stored work) (b : IsBetweenMessages work stored report.chunks)
     (ms : List Message) (is : IsWork first.lsn ms work) (opened : IsOpenedBy work.follower.window (commits_of work.offset.infos ms)) where

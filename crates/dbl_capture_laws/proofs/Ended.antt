@@ -1,4 +1,4 @@
--- What a session tells where it halts or ends, by the messages that it has taken.
+-- What a session tells where it stops with an error or ends, by the messages that it has taken.
 use Rattle.std.proofs.Common.{◌≡◌, ◌∙◌, ◌⊎◌, inl, inr, ◌+◌, ◌≤◌, ℕ, ℤ, suc, Option, Some, None, Result, Ok, Err, List, [], ◌∷◌, length, refl, sym, ap, ap₂, subst, arith}
 use Rattle.dbl_base.specs.declared.lsn.Lsn.{Lsn}
 use Rattle.dbl_pgmsg.specs.declared.messages.Message.{Message}
@@ -44,7 +44,7 @@ same_spelled (x ∷ read) (m ∷ ms) [] one two = absurd two
 same_spelled (x ∷ read) (m ∷ ms) (n ∷ ns) one two =
     ap₂ (λ (a : Message) (l : List Message). a ∷ l) (one_message x m n one.0 two.0) (same_spelled read ms ns one.1 two.1)
 
--- and reading began behind one LSN
+-- and reading began after one LSN
 same_behind : (held : Option Offset) (o : Offset) (i j : List TableInfo) (a c : Lsn) → BeginsAfter held (Some o) i a → BeginsAfter held (Some o) j c → a ≡ c
 same_behind None o i j a c one two = one.1 ∙ sym two.1
 same_behind (Some old) o i j a c one two = one.1 ∙ sym two.1
@@ -56,7 +56,7 @@ module _ (b : Beginning) (o : Offset) (work : SessionState) (of : IsOfFirst b.co
   began : BeginsAfter b.held (Some o) o.infos b.first.lsn
   began = behind_stored b.config b.now b.held b.first o work of
 
-  -- what these messages ask for is asked of each reading that is told
+  -- what these messages require is required of each reading that is told
   pub told_one : (report : Report) (t : Trace) (read : List (List ℕ)) (ms : List Message) (result : Result Ending Halt) → t.read ≡ read → AreSpelled read ms
       → MustHaltBy b.now o (reading_at b.first.lsn ms) result → MustHaltTold b.config b.now b.held (Some o) report t result
   told_one report t read ms result is spelled must reading was =
@@ -73,7 +73,7 @@ module _ (b : Beginning) (o : Offset) (work : SessionState) (of : IsOfFirst b.co
           ap₂ (λ (a : Lsn) (l : List Message). reading_at a l)
           (same_behind b.held o o.infos was.stored.offset.infos b.first.lsn reading.after began was.begins_after) messages_one
 
-  -- and of the one behind which a source stands
+  -- and of the one after which a source stands
   pub stood_one : (report : Report) (t : SourceState) (ms : List Message) (result : Result Ending Halt) → StandsAt b ms t
       → MustHaltBy b.now o (reading_at b.first.lsn ms) result → MustHaltStood b.config b.now b.held (Some o) report t result
   stood_one report t ms result at must reading was =
@@ -117,7 +117,7 @@ stands_behind b ms stored work report t is at = record {
 abbrev stood_at : Beginning → List Message → SourceState → SourceState
 stood_at b ms t = record { history = t.history; confirmed = t.confirmed; reading = Some (reading_at b.first.lsn ms) }
 
--- ---- it halts between two messages
+-- ---- it stops with an error between two messages
 
 plus_none : (n m : ℕ) → n ≡ m → n ≡ m + 0
 plus_none n m is = omega (arith, is)
@@ -177,7 +177,7 @@ pub halts_between_are_stood : HaltsBetweenAreStood
 halts_between_are_stood b ms stored later work before report s t h is stands none messages commits kept =
     between_stood b ms stored later work before report h is none messages commits kept s t stands
 
--- ---- it halts at the newest message
+-- ---- it stops with an error at the newest message
 
 one_within : 1 ≤ 1
 one_within = omega arith
@@ -207,7 +207,7 @@ module _ (b : Beginning) (ms : List Message) (stored : Option Offset) (work : Se
   left : IsLeftOut h 1
   left = cause_left report.messages b.first.lsn ms bytes work h cause
 
-  -- what the message asks for comes
+  -- what the message requires comes
   newest : (m : Message) → Spells bytes m → MustHaltBy b.now is.offset (reading_at b.first.lsn (m ∷ ms)) (Err h)
   newest m spells = by cause
     where
@@ -262,7 +262,7 @@ halts_at_messages_are_stood b ms stored work before report s t m bytes h is spel
     subst (λ (x : Option Offset). HasHaltedStood b.config b.now b.held x report s t h) (sym is.stored_is)
     (at_stood b ms stored work before report bytes h is cause messages commits s t m spells stands)
 
--- ---- it halts before it reads
+-- ---- it stops with an error before it reads
 
 none_within : 0 ≤ 1
 none_within = omega arith
@@ -328,7 +328,7 @@ halts_unread_are_stood config now held stored told report s t h is messages comm
   must = λ reading was. none_asked now was.stored.offset reading (Err h) (none_long reading.messages (was.many ∙ messages));
 }
 
--- ---- it ends as it should
+-- ---- it ends normally
 
 pub ends_are_told : EndsAreTold
 ends_are_told b ms work report found told ending is a = (

@@ -53,7 +53,7 @@ no_less n = omega arith
 one_more : (a b c : ℕ) → a ≤ b → c ≡ suc b → suc a ≤ c
 one_more a b c le is = omega (arith, le, is)
 
--- a key behind the first one is another
+-- a key after the first one is another
 other_key : (entry : Key × Row) (left : List (Key × Row)) (key : Key) (cells : List Val) → AreInKeyOrder (entry ∷ left) → row_in left key ≡ Some cells → same_key entry.0 key ≡ false
 unfolding IsStrictlySortedBy
 other_key entry left key cells order is = by (same_key entry.0 key) refl

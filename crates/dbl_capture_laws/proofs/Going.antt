@@ -1,4 +1,4 @@
--- A log that is gone: a session that reads never halts for one.
+-- A log that is gone: a session that reads never stops with an error for one.
 use Rattle.std.proofs.Common.{◌≡◌, ◌∙◌, ◌⊎◌, inl, inr, ◌≤◌, ◌<◌, ℕ, Option, Some, None, List, refl, sym, ap, subst, arith}
 use Rattle.dbl_base.specs.declared.lsn.Lsn.{Lsn}
 use Rattle.dbl_pgmsg.specs.declared.messages.Message.{Message}
@@ -87,7 +87,7 @@ begin_reads config old told h (inr (inr (inr (inl exhausted)))) = exhausted_read
 begin_reads config old told h (inr (inr (inr (inr (inl model))))) = fault_reads model.1.0 model.1.2.entry h model.1.2.is
 begin_reads config old told h (inr (inr (inr (inr (inr long))))) = subst IsNotGone (sym long.3.is) tt
 
--- where nothing behind the offset was confirmed, its log isn't gone
+-- where nothing after the offset was confirmed, its log isn't gone
 zero_le : (n m : ℕ) → n ≡ 0 → n ≤ m
 zero_le n m is = omega (arith, is)
 

@@ -179,11 +179,11 @@ module _ (config : Config) (now : ℤ) (held : Option Offset) (first stored : Of
           ends = ap (λ (l : List TableInfo). ended_commit l m ms) (sym infos_stored) ∙ ends;
         }
 
-        -- a mark has no changes
+        -- a watermark has no changes
         no_changes : (value : List ℕ) → commit.body ≡ Mark value → changes_of commit ≡ []
         no_changes value body = ap (λ (x : Body). elim x [ Changes changes ↦ changes | Mark v ↦ [] ]) body
 
-        -- a mark that closes an open window
+        -- a watermark that closes an open window
         module _ (value : List ℕ) (chunk : Chunk) (waits : work.follower.window ≡ Open chunk) (text : bytes_eq value (high_text chunk.plan) ≡ true) where
           own : IsOwnChunk work.offset.incarnation work.number work.offset.infos work.follower.cursors work.chunk chunk
           own = subst (λ (w : Window). IsOwnWaiting work.offset.incarnation work.number work.offset.infos work.follower.cursors work.chunk w) waits is.own
@@ -198,7 +198,7 @@ module _ (config : Config) (now : ℤ) (held : Option Offset) (first stored : Of
             few = subst (λ (n : ℕ). length chunk.rows ≤ n) o.most own.few;
           }
 
-        -- ---- clashes
+        -- ---- values equal to the placeholder
 
         no_clash : (h : Halt) (value : List ℕ) → commit.body ≡ Mark value → IsClashIn (clash_of work.follower.identity work.follower.infos commit) h → ⊥
         no_clash h value body clash = subst (λ (l : List Change). IsClashIn (first_found (notice_clash work.follower.identity.placeholder) (flat_map (notices work.follower.infos) l)) h) (no_changes value body) clash

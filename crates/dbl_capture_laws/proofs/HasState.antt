@@ -1,4 +1,4 @@
--- The cause of a session's halt, at each of its calls, by the messages behind which its source stands.
+-- The cause of a session's halt, at each of its calls, by the messages after which its source stands.
 use Rattle.std.proofs.Common.{◌≡◌, ◌∙◌, ◌⊎◌, inl, inr, ◌+◌, ℕ, ℤ, Option, Some, None, List, ◌∷◌, refl, sym, ap, subst}
 use Rattle.std.specs.Prelude.{Contains}
 use Rattle.dbl_base.specs.declared.lsn.Lsn.{Lsn}
@@ -44,7 +44,7 @@ module _ (config : Config) (now : ℤ) (held stored : Option Offset) (report : R
   abbrev Causes : Halt → Type 0
   Causes h = IsHaltStanding config now held stored report stands h
 
-  -- by what it stands for
+  -- by what it represents
   pub stands_so : (t : SourceState) → stands t → (h : Halt) → IsHaltOfStood config now held stored report t h → Causes h
   stands_so t is (halt.Txn number error) cause = (t, is, cause)
   stands_so t is (halt.Clash table column) cause = (t, is, cause)
@@ -140,7 +140,7 @@ module _ (b : Beginning) (ms : List Message) (stored : Option Offset) (work : Se
       (sources_stood_at_halts b.config b.now b.held b.first r.is.offset work before report (stood_before b ms t) t m bytes h r.is.of
       (subst (IsBetweenMessages work r.is.offset) (sym windows) (between before r)) (stands_behind b ms stored work before (stood_before b ms t) r.is refl) at counted spells cause)
 
-  -- the newest message, which is at fault
+  -- the newest message, which is invalid
   pub message_stood : (before : Report) (m : Message) (bytes : List ℕ) (h : Halt) → IsResting b ms stored work before → StandsAt b (m ∷ ms) t → Spells bytes m
       → (h ≡ halt.Memory) ⊎ (IsMessageHalt (before.messages + 1) bytes h ⊎ IsTxnHalt (before.messages + 1) b.first.lsn ms bytes work h)
       → IsHaltOfStood b.config b.now b.held stored (record before { messages = before.messages + 1 }) t h
@@ -159,7 +159,7 @@ module _ (b : Beginning) (ms : List Message) (stored : Option Offset) (work : Se
   commit_stood before report m bytes next commit h r at spells w counted windows (inr (inr either)) =
       newest_stood before report m bytes h r at spells counted windows (inr (next, commit, w, either))
 
-  -- a mark that it waits for
+  -- a watermark that it waits for
   pub missed_stood : (report : Report) (value : List ℕ) → IsResting b ms stored work report → StandsAt b ms t → awaited work.follower.window ≡ Some value
       → IsHaltOfStood b.config b.now b.held stored report t (halt.WatermarkMissing value work.offset.lsn)
   missed_stood report value r at waits =

@@ -1,4 +1,4 @@
--- What an honest source never does to a session.
+-- What a conforming source never does to a session.
 use Rattle.std.proofs.Common.{◌≡◌, Option, None, List, [], ◌∷◌, map, refl, subst}
 use Rattle.std.specs.Prelude.{IsSomeAnd}
 use Rattle.std.specs.List.{AllByRecursion}

@@ -45,7 +45,7 @@ pub either_answer : {T E : Type 0} (r : Result T E) (P Q : Type 0) → OnOk r P 
 either_answer (Ok x) P Q p q f = f p
 either_answer (Err e) P Q p q f = q
 
--- what holds whatever was answered
+-- what is true for every answer
 pub on_ok : {T E : Type 0} (r : Result T E) (P : Type 0) → P → OnOk r P
 on_ok (Ok x) P p = p
 on_ok (Err e) P p = tt
@@ -95,7 +95,7 @@ either_lsn : (a b : Lsn) (n : ℕ) → (a ≡ b) ⊎ (a.0 ≡ n) → (a.0 ≡ b.
 either_lsn a b n (inl is) = inl (ap (λ (l : Lsn). l.0) is)
 either_lsn a b n (inr is) = inr is
 
--- and a position that isn't behind the stored offset may be confirmed
+-- and a position that isn't after the stored offset may be confirmed
 pub left_confirm : (stage : Stage) (left : CrashState) (upto : Lsn) → MayFollowConfirm upto (state_at_stage stage) left → IsFitHistory left.history → stage.confirmed.0 ≤ stage.stored.lsn.0 → upto.0 ≤ stage.stored.lsn.0 → MayBeLeft stage left
 left_confirm stage left upto may fit le up = record {
   more = may.grows.others;
@@ -239,7 +239,7 @@ module _ {S K D : Type 0} {tell : Bool} {stands : S → SourceState → Type 0} 
   pub confirmed_low : WasFaithful entry → s.stage.confirmed.0 ≤ s.stage.stored.lsn.0
   confirmed_low faithful = (s.going.kept (stood_of entry faithful) faithful).stored_is.confirmed_to
 
-  -- what stands for the source is what may be left of it
+  -- what represents the source is what may be left of it
   pub rests_left : (may_source : S → CrashState → Type 0) (honest : Type 0) → ((t : SourceState) (l : CrashState) → stands src t → may_source src l → l ≡ left_of t) → honest → (honest → (l : CrashState) → may_source src l → IsFitHistory l.history)
       → WasFaithful entry → (left : CrashState) → may_source src left → MayBeLeft s.stage left
   rests_left may_source honest only is_honest fit faithful left is =
@@ -261,7 +261,7 @@ module _ {S K D : Type 0} {tell : Bool} {stands : S → SourceState → Type 0} 
   pub capturing : IsCapturing entry s.stage.first.infos
   capturing = captures_of entry.offset s.going.reading.began
 
-  -- few marks were added where none was since
+  -- few watermarks were added where none was since
   pub few_at : (left : CrashState) (more : List RawCommit) → 1 ≤ entry.config.chunk → HasGrown s.stage.history left.history more → length (marks_in more) ≡ 0 → AddsFewOrNoMarks entry left
   few_at left more some grown none =
       inr (record { infos = s.stage.first.infos; captured = capturing; few = (few_marks_are_written entry s.stage left.history more some grown (none_le (length (marks_in more)) none)).0 none s.going.reading })

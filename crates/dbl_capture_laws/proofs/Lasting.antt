@@ -1,4 +1,4 @@
--- How many marks are left wherever a session ends.
+-- How many watermarks are left where a session ends.
 use Rattle.std.proofs.Common.{◌≡◌, ◌∙◌, ◌+◌, ℕ, Option, Some, None, List, Result, Ok, Err, sym, ap, subst, ◌≤◌, ◌<◌, ◌^◌, ◌-◌, ◌*◌, min, inl, inr, length, take, arith, false}
 use Rattle.std.specs.Prelude.{OnErr, OnOk, is_some}
 use Rattle.dbl_capture_work.specs.SourceModel.Standings.{CrashState, SourceState, left_of}
@@ -20,12 +20,12 @@ use Rattle.dbl_capture_work.specs.Groups.{chunks_of}
 use Rattle.dbl_capture_work.specs.Takes.{ReportsStep}
 use Rattle.dbl_capture_laws.proofs.StepMarks.{others_add_no_marks}
 
--- ---- wherever it ends
+-- ---- where it ends
 
 pub same_most : (n : ℕ) → n ≤ n
 same_most n = omega arith
 
--- a report counts no fewer windows behind a commit that wasn't put whole
+-- a report counts no fewer windows after a commit that wasn't put whole
 more_counted : (n k a : ℕ) → n ≤ 2 ^ 64 - 1 → a ≡ min (n + k) (2 ^ 64 - 1) → n ≤ a
 more_counted n k a small is = omega (arith, small, is)
 
@@ -53,7 +53,7 @@ pub rest_unmarked : (s : SourceState) (left : CrashState) → MayRest s left →
 rest_unmarked s left (inl same) = ap (λ (l : CrashState). marks_in l.history.commits) same
 rest_unmarked s left (inr may) = others_add_no_marks s.history left.history may.grows
 
--- no mark, or few where an offset is stored
+-- no watermark, or few where an offset is stored
 few_more : (a e c : ℕ) → a ≡ e → a ≤ e + 2 * (c + 1)
 few_more a e c is = omega (arith, is)
 
@@ -64,12 +64,12 @@ none_most (Some offset) chunks old new same = few_more (length (marks_in new.com
 pub stored_most : (first : Offset) (stored : Option Offset) (chunks : ℕ) (old new : History) → HasOwnStored first stored → AddsNoMore chunks old new → AddsAtMost stored chunks old new
 stored_most first stored chunks old new own few = subst (λ (o : Option Offset). AddsAtMost o chunks old new) (sym own.is) few
 
--- it ends, or it halts
+-- it ends, or it stops with an error
 pub either_most : {T : Type 0} (r : Result T Halt) (A B C : Type 0) {D : Type 0} → OnOk r A → OnOk r B → OnErr r D → (A → B → C) → (D → C) → C
 either_most (Ok x) A B C a b d one two = one a b
 either_most (Err h) A B C a b d one two = two d
 
--- so it is of whatever is left where it halts
+-- so it is of all that is left where it stops with an error
 pub leaves_most : {T S : Type 0} (r : Result T Halt) (may_leave : S → CrashState → Type 0) (src : S) (chunks : ℕ) (old : History) → ((left : CrashState) → may_leave src left → AddsNoMore chunks old left.history)
     → OnErr r ((left : CrashState) → may_leave src left → AddsNoMore chunks old left.history)
 leaves_most (Ok x) may_leave src chunks old f = tt

@@ -1,4 +1,4 @@
--- How many marks a session has written where it ends as it should.
+-- How many watermarks a session has written where it ends normally.
 use Rattle.std.proofs.Common.{◌≡◌, ◌∙◌, ◌+◌, ℕ, Bool, Option, Some, None, List, Result, Ok, Err, refl, sym, ap, subst}
 use Rattle.std.specs.Prelude.{IfOk, OnOk, not}
 use Rattle.std.specs.List.{position}
@@ -44,7 +44,7 @@ exactly_by (Ok Complete) A B N W P a b n w budget complete = complete a b n (w r
 exactly_by (Ok Budget) A B N W P a b n w budget complete = budget a b n
 exactly_by (Err h) A B N W P a b n w budget complete = tt
 
--- ---- marks
+-- ---- watermarks
 
 module _ {S K D : Type 0} {tell : Bool} {stands : S → SourceState → Type 0} {holds : K → List (List Record) → Type 0} {model : DiskModel D} {entry : SessionStart} {work : SessionState} {src : S} {sink : K} {store : StoreOn D}
     (t : InSession tell stands holds model entry work src sink store) where

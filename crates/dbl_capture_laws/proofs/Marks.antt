@@ -1,4 +1,4 @@
--- The marks of a window that may be left are its own ones, and at most two.
+-- The watermarks of a window that may be left are its own ones, and at most two.
 use Rattle.std.proofs.Common.{◌≡◌, ◌⊎◌, inl, inr, ◌≤◌, ℕ, zero, suc, List, [], ◌∷◌, ◌++◌, length, take, refl, sym, subst, arith}
 use Rattle.std.specs.List.{AllByRecursion}
 use Rattle.dbl_capture_work.specs.ModelHistory.History.{RawBody, RawCommit}
@@ -7,7 +7,7 @@ use Rattle.dbl_capture_work.specs.SourceModel.Growth.{mark_in_body, marks_in}
 use Rattle.dbl_capture_work.specs.Window.Plans.{Plan, high_text, low_text}
 use Rattle.dbl_capture_work.specs.Windowed.{own_marks}
 
--- the mark of another is none, and of the window's own there are two
+-- the watermark of another is none, and of the window's own there are two
 abbrev pub IsBodyOf : Plan → RawBody → Type 0
 IsBodyOf plan (Changes changes) = Unit {0}
 IsBodyOf plan (Mark value) = (value ≡ low_text plan) ⊎ (value ≡ high_text plan)

@@ -1,4 +1,4 @@
--- A commit that is followed opens a window at its low mark alone, and moves no cursor but that of the window that it closes.
+-- A commit that is followed opens a window only at its low watermark, and moves no cursor but that of the window that it closes.
 use Rattle.std.proofs.Common.{◌≡◌, ◌∙◌, ℕ, zero, suc, Bool, true, false, Option, Some, None, List, [], ◌∷◌, ◌++◌, refl, sym, ap, subst, append_assoc}
 use Rattle.std.specs.Prelude.{◌≢◌, if◌then◌else◌, not, bytes_eq, slice_get, slice_set}
 use Rattle.std.specs.List.{AllByRecursion, position}
@@ -19,9 +19,9 @@ use Rattle.dbl_capture_work.specs.Works.{IsOwnChunk, IsOwnWaiting}
 use Rattle.dbl_capture_laws.specs.Halted.{IsOpenAmong, MovesOne}
 use Rattle.dbl_capture_laws.specs.Underway.{IsOpenedBy, IsOrderedWindow, StepsMoveOneCursor, StepsOpenWindows}
 
--- ---- windows open at their low marks
+-- ---- windows open at their low watermarks
 
--- what was read behind the low mark isn't the high one
+-- what was read after the low watermark isn't the high one
 all_more : (P : Commit → Type 0) (xs : List Commit) (x : Commit) → AllByRecursion P xs → P x → AllByRecursion P (xs ++ x ∷ [])
 all_more P [] x all is = (is, tt)
 all_more P (y ∷ xs) x all is = (all.0, all_more P xs x all.1 is)

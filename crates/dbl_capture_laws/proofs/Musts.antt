@@ -1,4 +1,4 @@
--- Where a session has to halt: what it has taken has no fault, and what it has followed could be sent.
+-- Where a session has to stop with an error: what it has taken has no fault, and what it has followed could be sent.
 use Rattle.std.proofs.Common.{◌≡◌, ◌∙◌, ◌⊎◌, inl, inr, ◌≤◌, ◌<◌, ◌^◌, ℕ, ℤ, Option, Some, None, Result, Err, List, [], ◌∷◌, ◌++◌, length, refl, sym, ap, ap₂, subst, arith}
 use Rattle.std.specs.List.{AllByRecursion}
 use Rattle.dbl_pgmsg.specs.declared.messages.Message.{Message}
@@ -124,7 +124,7 @@ module _ (config : Config) (now : ℤ) (held : Option Offset) (first stored : Of
         ap (λ (l : List TableInfo). ended_commit l one ms) infos
         ∙ ap₂ (λ (x : Message) (l : List Message). ended_commit stored.infos x l) (one_message bytes one m other_spells spells ∙ same_head m other ms earlier newest) (same_tail m other ms earlier newest)
 
-    -- a part of a transaction at fault
+    -- a part of an invalid transaction
     txn_asked : Cause → (n : ℕ) (error : TxnError) → IsTxnFault stored.infos (record { after = first.lsn; messages = m ∷ ms }) n error → HaltsWith (halt.Txn n error) (Err h)
     txn_asked (inl memory) n error f = inr (ap (λ (x : Halt). Err x) memory)
     txn_asked (inr (inl (inl txn))) n error f =
@@ -154,7 +154,7 @@ module _ (config : Config) (now : ℤ) (held : Option Offset) (first stored : Of
           ∙ (own_records work.follower commit changes work.now_ms body
           ∙ (ap₂ (λ (i : Identity) (l : List TableInfo). envelopes i l commit work.now_ms) (is.identity ∙ identity) (is.infos ∙ infos) ∙ ap (λ (k : ℤ). envelopes stored.identity stored.infos commit k) o.time)))
 
-      -- that has a clash
+      -- that has a value equal to the placeholder
       clash_asked : Cause → (c : Clash) → clash_of stored.identity stored.infos commit ≡ Some c → HaltsWith (halt.Clash c.table c.column) (Err h)
       clash_asked (inl memory) c found = inr (ap (λ (x : Halt). Err x) memory)
       clash_asked (inr (inl (inl txn))) c found = absurd (no_fault txn)

@@ -1,4 +1,4 @@
--- What never makes a session over an honest source halt, at each place where it may.
+-- What never makes a session over a conforming source stop with an error, at each place where it may.
 use Rattle.std.proofs.Common.{◌≡◌, ◌+◌, arith, suc, ap, ◌∙◌, ◌⊎◌, inl, inr, ℕ, Option, Some, None, List, ◌∷◌, length, refl, sym, ap₂, subst}
 use Rattle.dbl_base.specs.declared.lsn.Lsn.{Lsn}
 use Rattle.dbl_pgmsg.specs.declared.messages.Message.{Message}
@@ -126,7 +126,7 @@ module _ (entry : SessionStart) (stands : SourceState → Type 0) where
 abbrev pub reading_at : Lsn → List Message → Reading
 reading_at after ms = record { after = after; messages = ms }
 
--- a source that stands behind these messages has read as many as are counted
+-- a source that is after these messages has read as many as are counted
 module _ {S : Type 0} (stands : S → SourceState → Type 0) (one : (src : S) (s t : SourceState) → stands src s → stands src t → s ≡ t) where
   pub many_at : (at : Option SourceState) (found : Option Trace) (b : Beginning) (stored : Option Offset) (work : SessionState) (report : Report) (src : S) (told : Option Trace) (s : SourceState) (after : Lsn) (ms : List Message)
       → IsUnderWay stands at found b stored work report src told → at ≡ Some s → (t : SourceState) → stands src t → t.reading ≡ Some (record { after = after; messages = ms }) → length ms ≡ report.messages
@@ -139,7 +139,7 @@ module _ {S : Type 0} (stands : S → SourceState → Type 0) (one : (src : S) (
 pub one_longer : (n m : ℕ) → n ≡ m → suc n ≡ m + 1
 one_longer n m is = omega (arith, is)
 
--- it stands behind one message more
+-- it is after one message more
 pub took_at : (s t : SourceState) (m : Message) (after : Lsn) (ms : List Message) → HasReadOneMore m s t → s.reading ≡ Some (reading_at after ms) → t.reading ≡ Some (reading_at after (m ∷ ms))
 took_at s t m after ms took was =
     let same : took.before ≡ reading_at after ms = first_some took.before (reading_at after ms) (sym took.was ∙ was) in

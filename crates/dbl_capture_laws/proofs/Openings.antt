@@ -1,4 +1,4 @@
--- A session that begins: what may be left wherever it ends before it reads, by what it found.
+-- A session that begins: what may be left where it ends before it reads, by what it found.
 use Rattle.std.proofs.Common.{◌≡◌, ◌∙◌, ◌⊎◌, inl, inr, ℤ, Bool, IsTrue, true, false, Some, List, refl, sym, ap, subst}
 use Rattle.dbl_record.specs.declared.record.Record.{Record}
 use Rattle.dbl_model_table.specs.declared.config.Config.{Config}
@@ -52,7 +52,7 @@ module _ {S K D : Type 0} {tell : Bool} {stands : S → SourceState → Type 0} 
         t.history first b.infos b.began (subst (λ (h : History). Grows h t.history) f.history b.moved.grows)
         (λ left is_left. subst (λ (l : CrashState). Grows t.history l.history) (sym (only left is_left)) (grows_none t.history rise)) store2 leaves
 
-  -- behind it
+  -- after it
   pub began_at : (src2 : S) (store2 : StoreOn D) (t : SourceState) (first : Offset) → stands src2 t → BeginsAt entry first f.standing t → (IsTrue tell → HoldsOffset model store2 (Some first)) → BeganAt tell stands holds model entry first src2 sink store2
   began_at src2 store2 t first is b held = record {
     standing = t;

@@ -1,4 +1,5 @@
--- What makes a session halt over an honest source and faithful stores: clashes, records and offsets of the source's history.
+-- What makes a session stop with an error over a conforming source and faithful stores: values equal to the placeholder, records and offsets
+-- of the source's history.
 use Rattle.std.proofs.Common.{◌≡◌, ◌∙◌, ◌⊎◌, inl, inr, ◌+◌, ◌≤◌, ℕ, ℤ, zero, suc, Option, Some, None, List, [], ◌∷◌, ◌++◌, length, drop, take, refl, sym, ap, ap₂, subst, arith, append_assoc, length-append}
 use Rattle.std.specs.Prelude.{IsSome, not, slice_get}
 use Rattle.std.specs.List.{AllByRecursion, position}
@@ -74,7 +75,7 @@ use Rattle.dbl_capture_laws.specs.Carried.{Beginning}
 use Rattle.dbl_capture_laws.proofs.Halting.{incarnation_stored}
 use Rattle.dbl_capture_laws.specs.Owned.{ClashesAreOwn, EndsNext, FirstLongOffsetsAreOwn, FirstOffsetsAreLong, IsOverFaithful, LongOffsetsAreOwn, LongRecordsAreOwn, read_with}
 
--- ---- moments of marks
+-- ---- moments of watermarks
 
 -- a commit without changes leaves the moment
 no_moment : (cs : List Commit) (place : ℕ) (c : Commit) → slice_get cs place ≡ Some c → changes_of c ≡ [] → length (all_changes (take (suc place) cs)) ≡ length (all_changes (take place cs))
@@ -143,7 +144,7 @@ module _ (entry : SessionStart) (stage : Stage) (b : Beginning) (ms : List Messa
   abbrev before : List Commit
   before = (o.going.placed (stood_of entry o.faithful)).parts.old ++ read_at stage
 
-  -- it stands in the history, behind those that were read
+  -- it stands in the history, after those that were read
   parted : (rest : List Commit) × (commits_at stage ≡ before ++ commit ∷ rest)
   parted =
       let some = e.right.1 (e.clean, o.going.reading.accepted) in
@@ -197,7 +198,7 @@ module _ (entry : SessionStart) (stage : Stage) (b : Beginning) (ms : List Messa
     raw_is : raw_at.0.body ≡ raw.Mark (mark_text stage.first.incarnation stage.number High)
     raw_is = raw_mark stage.first.infos raw_at.0.body (high_text chunk.plan) (sym (ap (λ (c : Commit). c.body) raw_at.2) ∙ body_is) ∙ ap (λ (l : List ℕ). raw.Mark l) (text_own High)
 
-    -- it is the window's high mark
+    -- it is the window's high watermark
     same_place : length before ≡ w.high
     same_place =
         k.own_marks.once (length before) w.high stage.number High raw_at.0 w.marked.high_is.commit k.small raw_at.1 w.marked.high_is.stands raw_is
@@ -208,7 +209,7 @@ module _ (entry : SessionStart) (stage : Stage) (b : Beginning) (ms : List Messa
         selected_given stage.first.infos stage.history (w.low + 1) w.high w.selected chunk w.marked.rows w.plan w.through w.done
         (subst (λ (n : ℕ). AreLeft stage.first.infos w.selected.plan.table w.selected.rows (between stage.first.infos stage.history (w.low + 1) n) chunk.rows) same_place w.left)
 
-    -- its rows stand behind the bound, up to where it was read: changes leave no others than were selected
+    -- its rows are after the bound, up to where it was read: changes leave no others than were selected
     within_own : AllByRecursion (λ (row : Key × Row). IsAbove waits.cursor.last row.0 × IsUpTo chunk.through row.0) chunk.rows
     within_own = each_row (λ key cells. IsAbove waits.cursor.last key × IsUpTo chunk.through key) chunk.rows ordered (λ key cells there. elim (some_case (row_in given.selected key)) [
       | inl none ↦ (
@@ -222,7 +223,7 @@ module _ (entry : SessionStart) (stage : Stage) (b : Beginning) (ms : List Messa
           )
     ])
 
-    -- the mark has no changes
+    -- the watermark has no changes
     behind_it : moment_after_first (commits_at stage) w.high ≡ moment_after_first (commits_at stage) (length before + 1)
     behind_it =
         ap (moment_after_first (commits_at stage)) (sym same_place)
@@ -291,7 +292,7 @@ module _ (entry : SessionStart) (stage : Stage) (b : Beginning) (ms : List Messa
         first_open : position (λ (c : Cursor). not c.done) stage.following.cursors ≡ Some chunk.plan.table
         first_open = ap (λ (f : Following). position (λ (c : Cursor). not c.done) f.cursors) (sym o.work_is.follower_is) ∙ own_chunk.table
 
-  -- ---- clashes
+  -- ---- values equal to the placeholder
 
   clash_own : (h : Halt) (closed : Option Chunk) → closing stage.following.window (mark_of commit) ≡ closed → IsClashIn (clash_in stage.following closed commit) h → IsOwnClash entry o.rests.is.offset later stage.history (read_with stage m) h
   clash_own h None is found = record {

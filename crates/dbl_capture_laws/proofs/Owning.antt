@@ -1,4 +1,4 @@
--- Where a session over an honest source and faithful stores halts, that it is of the source's history: at each place where it may.
+-- Where a session over a conforming source and faithful stores stops with an error, that it is of the source's history: at each place where it may.
 use Rattle.std.proofs.Common.{◌≡◌, ◌∙◌, ◌⊎◌, inl, inr, ℕ, true, Option, Some, None, List, ◌∷◌, map, refl, sym, ap, subst}
 use Rattle.std.specs.Prelude.{Contains, IfSome}
 use Rattle.dbl_base.specs.declared.lsn.Lsn.{Lsn}

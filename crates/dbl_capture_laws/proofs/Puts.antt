@@ -163,7 +163,7 @@ module _ (after : Lsn) (ms : List Message) (bytes : List ℕ) (commit : Commit) 
     sends : AreSent (making_at old) after.0 (commits_of old.offset.infos (w.message ∷ ms)) (records ++ items)
     sends = (commits_are_sent after ms w.message commit old records is ends rises clear listed gained).0
 
-    -- some first ones are cut behind all others
+    -- some first ones are cut after all others
     first_cut : (n : ℕ) (groups : List (List Record)) → (groups ++ cut records) ++ cut (take n items) ≡ groups ++ cut (take (length records + n) (records ++ items))
     first_cut n groups = (commits_are_sent after ms w.message commit old records is ends rises clear listed gained).1 n groups
 
@@ -239,7 +239,7 @@ abbrev tail_of : List (List Record) → List (List Record)
 tail_of [] = []
 tail_of (x ∷ xs) = xs
 
--- nothing is behind a list to which nothing was added
+-- nothing is after a list to which nothing was added
 pub none_behind : (xs ys : List (List Record)) → xs ++ ys ≡ xs → ys ≡ []
 none_behind [] ys is = is
 none_behind (x ∷ xs) ys is = none_behind xs ys (ap tail_of is)

@@ -21,7 +21,7 @@ use Rattle.dbl_capture_laws.specs.Followed.{EndsStandAtLast, HaltsAtMessages, Ha
 
 -- ---- what was told
 
--- who tells goes on telling, and more was read behind what was
+-- who tells goes on telling, and more was read after what was
 pub taken_more : (more read : List (List ℕ)) (old mid new : Option Trace) → IsTakenBy read old mid → IsTakenBy more mid new → (both : List (List ℕ)) → both ≡ more ++ read → IsTakenBy both old new
 taken_more more read None None None one two both is = tt
 taken_more more read None None (Some n) one two both is = absurd two
@@ -35,7 +35,7 @@ taken_more more read (Some o) (Some m) (Some n) one two both is =
     together [] ys zs = refl
     together (x ∷ xs) ys zs = ap (λ (l : List (List ℕ)). x ∷ l) (together xs ys zs)
 
--- the bytes that a source tells are those that were read since it began anew
+-- the bytes that a source tells are those that were read since it began again
 pub read_is : (read : List (List ℕ)) (found old new : Option Trace) (t : Trace) → new ≡ Some t → IsTakenAnew found old → IsTakenBy read old new → t.read ≡ read
 read_is read found None None t is anew taken = cc
 read_is read found None (Some n) t is anew taken = absurd taken
@@ -106,7 +106,7 @@ sources_stand_after after end before report work next s t m b reading one is = r
   followed = counts_now b.messages m before report work next one b.followed;
 }
 
--- ---- where it halts
+-- ---- where it stops with an error
 
 pub halts_between : HaltsBetween
 halts_between after end start old new before report work h t taken none messages commits = record {

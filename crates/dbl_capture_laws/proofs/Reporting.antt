@@ -55,13 +55,13 @@ at_same (Some offset) before after same at = same ∙ at
 at_next : (stored : Option Offset) (work : SessionState) (before after : Report) → stored ≡ Some (next_offset_of work) → after ≡ record before { position = work.offset.lsn.0 } → IsAtPosition stored after
 at_next stored work before after is report = subst (λ (o : Option Offset). IsAtPosition o after) (sym is) (ap (λ (r : Report). r.position) report)
 
--- behind a store it has the stored LSN
+-- after a store it has the stored LSN
 pub at_stored : (ok : Bool) (held stored : Option Offset) (work : SessionState) (before after : Report) → IsReportAt ok held stored work before after → IsAtPosition held before → IsAtPosition stored after
 at_stored true held stored work before after is at = at_next stored work before after is.0 is.1
 at_stored false held stored work before after (inl rest) at = at_same stored before after (ap (λ (r : Report). r.position) rest.1) (subst (λ (o : Option Offset). IsAtPosition o before) (sym rest.0) at)
 at_stored false held stored work before after (inr put) at = at_next stored work before after put.0 put.1
 
--- behind an error it may have none
+-- after an error it may have none
 pub report_err : {T : Type 0} (r : Result T Halt) (h : Halt) (held stored : Option Offset) (work : SessionState) (before after : Report) → r ≡ Err h
     → ((stored ≡ held) × (after ≡ before)) ⊎ ((stored ≡ Some (next_offset_of work)) × (after ≡ record before { position = work.offset.lsn.0 })) → IsReportAt (is_ok r) held stored work before after
 report_err r h held stored work before after is either = subst (λ (x : Result _ Halt). IsReportAt (is_ok x) held stored work before after) (sym is) either

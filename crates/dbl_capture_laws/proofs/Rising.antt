@@ -1,4 +1,4 @@
--- The LSN of a commit that messages state stands behind those before it.
+-- The LSN of a commit that messages state is after those before it.
 use Rattle.std.proofs.Common.{◌≡◌, ◌<◌, ℕ, Bool, true, false, Option, Some, None, List, [], ◌∷◌, refl, sym, ap, subst, arith}
 use Rattle.std.specs.Prelude.{◌==◌, if◌then◌else◌, nat_lt, is_some, option_map}
 use Rattle.std.proofs.lemmas.Bool.Decides.{nat_tests}
@@ -24,7 +24,7 @@ in_order false low high is = cc
 less : (a b : ℕ) → nat_lt a b ≡ true → a < b
 less a b is = grind (arith, nat_tests)
 
--- the open transaction's LSN is behind that of the last one
+-- the open transaction's LSN is after that of the last one
 begun_after : (infos : List TableInfo) (after : Lsn) (ms : List Message) (begun : Begun) → AreWithoutFault infos after ms → begin_of ms ≡ Some begun → (last_lsn after ms).0 < begun.lsn.0
 begun_after infos after [] begun accepted is = cc
 begun_after infos after (says.Begin lsn time xid ∷ ms) begun accepted is =
@@ -56,7 +56,7 @@ accepted_rise infos after ms (says.Commit flags lsn end_lsn time) commit accepte
         (equal begun.lsn.0 lsn.0 (one_lsn (begun.lsn.0 == lsn.0) begun.lsn lsn clean)) (sym (ap (λ (c : Commit). c.lsn.0) one))
 accepted_rise infos after ms m commit accepted is = cc
 
--- ---- the last LSN behind one message more
+-- ---- the last LSN after one message more
 
 no_first : (a b : Option TxnError) → first_of a b ≡ None → a ≡ None
 no_first None b is = refl

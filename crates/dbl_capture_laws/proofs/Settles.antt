@@ -26,7 +26,7 @@ use Rattle.dbl_capture_laws.specs.Turns.{HasReadAllAt, IsSettled, IsSettledWhole
 use Rattle.dbl_capture_work.specs.Works.{next_offset_of}
 use Rattle.dbl_capture_laws.proofs.Keeping.{held_left, left_weaker, left_others, left_confirm, settled_work, source_ends, store_ends, stored_on, confirmed_low, rests_left, few_at, few_rest, some_chunk}
 
--- commits of others have no mark
+-- commits of others have no watermark
 others_none : (commits : List RawCommit) → AreOthers commits → length (marks_in commits) ≡ 0
 others_none [] others = refl
 others_none (c ∷ commits) others = by c.body others.0 (others_none commits others.1)
@@ -41,7 +41,7 @@ module _ {S K D : Type 0} {tell : Bool} {stands : S → SourceState → Type 0} 
   pub next_is : next_offset_of work ≡ next_offset s.stage
   next_is = ap₂ (λ (o : Offset) (f : Following). record o { cursors = f.cursors }) s.work_is.offset_is s.work_is.follower_is
 
-  -- few marks were added where others alone have committed since
+  -- few watermarks were added where only others have committed since
   pub few_followed : (left : CrashState) → Grows s.stage.history left.history → AddsFewOrNoMarks entry left
   few_followed left g = few_at s left g.others (some_chunk s) (record { tables = g.tables; commits = g.commits }) (others_none g.others g.are_others)
 
@@ -54,7 +54,7 @@ module _ {S K D : Type 0} {tell : Bool} {stands : S → SourceState → Type 0} 
       source_ends s may_source may_sink src2 (λ faithful left is. left_others s.stage left (may left is) (fit left is) (confirmed_low s faithful)) only
       (λ left is. few_followed left (may left is).grows) some_source some_sink
 
-  -- of a confirm, of a position that isn't behind the stored offset
+  -- of a confirm, of a position that isn't after the stored offset
   pub confirm_fails : (may_source : S → CrashState → Type 0) (may_sink : K → List (List Record) → Type 0) (src2 : S) (upto : Lsn) → upto.0 ≤ s.stage.stored.lsn.0 → ((left : CrashState) → may_source src2 left → MayFollowConfirm upto (state_at_stage s.stage) left)
       → ((left : CrashState) → may_source src2 left → IsFitHistory left.history) → (IsTrue tell → (groups : List (List Record)) → may_sink sink groups → groups ≡ s.stage.groups) → (left : CrashState) × may_source src2 left → (IsTrue tell → (groups : List (List Record)) × may_sink sink groups)
       → LeavesBy tell may_source may_sink model entry src2 sink store
@@ -79,7 +79,7 @@ module _ {S K D : Type 0} {tell : Bool} {stands : S → SourceState → Type 0} 
       (λ left is. few_rest s left (only (state_at_stage s.stage) left s.source_is is) (some_chunk s))
       (left_of (state_at_stage s.stage), may (state_at_stage s.stage) s.source_is) some_sink
 
--- ---- behind a store that was answered
+-- ---- after a store that was answered
 
 -- the position that is confirmed is the stored offset's
 pub stored_lsn : (work : SessionState) (stage : Stage) → work.offset ≡ record stage.first { lsn = stage.lsn; end_lsn = stage.end_lsn } → (next_offset_of work).lsn.0 ≡ stage.lsn.0
@@ -105,7 +105,7 @@ module _ {S K D : Type 0} {tell : Bool} {stands : S → SourceState → Type 0} 
   pub stored_session : (store2 : StoreOn D) → (IsTrue tell → HoldsOffset model store2 (Some (next_offset_of work))) → InSession tell stands holds model entry rested_work src sink store2
   stored_session store2 held = stored_on s rested_work store2 refl (held_next store2 held)
 
-  -- the confirm behind the store fails
+  -- the confirm after the store fails
   pub settle_fails : (may_source : S → CrashState → Type 0) (may_sink : K → List (List Record) → Type 0) (src2 : S) (store2 : StoreOn D) → (IsTrue tell → HoldsOffset model store2 (Some (next_offset_of work)))
       → ((left : CrashState) → may_source src2 left → MayFollowConfirm (next_offset_of work).lsn (state_at_stage s.stage) left) → ((left : CrashState) → may_source src2 left → IsFitHistory left.history)
       → (IsTrue tell → (groups : List (List Record)) → may_sink sink groups → groups ≡ s.stage.groups) → (left : CrashState) × may_source src2 left → (IsTrue tell → (groups : List (List Record)) × may_sink sink groups)

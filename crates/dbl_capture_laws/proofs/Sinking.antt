@@ -1,4 +1,4 @@
--- What the sink has where a session goes on, and what is left of it where it halts.
+-- What the sink has where a session goes on, and what is left of it where it stops with an error.
 use Rattle.std.proofs.Common.{◌≡◌, ◌∙◌, ◌⊎◌, inl, inr, ◌+◌, ◌<◌, ◌^◌, ℕ, ℤ, Bool, true, false, Option, Some, None, List, [], ◌∷◌, ◌++◌, Result, Ok, Err, length, refl, sym, ap, subst, append-nil, arith}
 use Rattle.std.specs.Prelude.{IfErr, OnOk, is_some}
 use Rattle.dbl_pgmsg.specs.declared.messages.Message.{Message}

@@ -54,12 +54,12 @@ pub begun_told : (told : Option Trace) → IsTakenBy [] told told
 begun_told None = tt
 begun_told (Some t) = refl
 
--- ---- what it stands for
+-- ---- what it represents
 
 abbrev pub reading_of : Lsn → List Message → Reading
 reading_of after ms = record { after = after; messages = ms }
 
--- behind one message more
+-- after one message more
 pub took_on : (b : Beginning) (ms : List Message) (m : Message) (s t : SourceState) → StandsAt b ms s → HasReadOneMore m s t → StandsAt b (m ∷ ms) t
 took_on b ms m s t stands took =
     let same : took.before ≡ reading_of b.first.lsn ms = first_some took.before (reading_of b.first.lsn ms) (sym took.was ∙ stands) in
@@ -195,7 +195,7 @@ module _ {S : Type 0} (stands : S → SourceState → Type 0) (at : Option Sourc
         record { standing = was.standing; is = was.is; holds = was.holds.0 };
   }
 
-  -- ---- it halts
+  -- ---- it stops with an error
 
   pub halts_between : (b : Beginning) (stored later : Option Offset) (work : SessionState) (before report : Report) (src src2 : S) (told told2 : Option Trace) (h : Halt) → HasCommitted stands at found b stored work before src told
       → IsTakenBy [] told told2 → ((s t : SourceState) → stands src s → stands src2 t → t.reading ≡ s.reading) → IsLeftOut h 0 → report.messages ≡ before.messages → report.commits ≡ before.commits

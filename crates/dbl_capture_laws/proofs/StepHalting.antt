@@ -78,7 +78,7 @@ module _ (b : Beginning) (ms : List Message) (stored : Option Offset) (work : Se
       held_as before new r.is report h
       (messages_halt b.config b.now b.held b.first r.is.offset work before report found a.begun old new bytes h r.is.of (record { cursors = r.same; windows = subst (AreClosed work) (sym same) r.is.windows }) a.begun_unread (has_taken b ms stored work before found old r.is a) one counted (inr (next, commit, w, either)))
 
-  -- for a mark that it waits for
+  -- for a watermark that it waits for
   pub missed_caused : (report : Report) (found told : Option Trace) (value : List ℕ) → IsResting b ms stored work report → HasReadSinceStart found told ms → awaited work.follower.window ≡ Some value → LastAnswerIs told (Read None)
       → IsHalt b.config b.now b.held stored report told (halt.WatermarkMissing value work.offset.lsn)
   missed_caused report found told value r a waits answer =

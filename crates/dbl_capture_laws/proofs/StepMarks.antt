@@ -1,4 +1,4 @@
--- How many marks may be left.
+-- How many watermarks may be left.
 use Rattle.std.proofs.Common.{◌≡◌, ◌∙◌, ◌+◌, ◌*◌, ◌≤◌, ℕ, Some, None, List, [], ◌∷◌, ◌++◌, length, refl, sym, ap, subst, arith, append-nil}
 use Rattle.std.specs.Prelude.{not}
 use Rattle.std.specs.List.{position}
@@ -20,7 +20,7 @@ use Rattle.dbl_capture_laws.specs.Written.{AreClosed, EndsExactly, marks_more}
 use Rattle.dbl_capture_laws.proofs.Written.{few_marks_are_left, marks_append, marks_are_exact}
 use Rattle.dbl_capture_laws.specs.Marks.{EndsLeaveExactMarks, OthersAddNoMarks, OthersLeaveFewMarks, WindowsLeaveFewMarks}
 
--- others' commits have no mark
+-- others' commits have no watermark
 no_marks : (commits : List RawCommit) → AreOthers commits → marks_in commits ≡ []
 no_marks [] others = refl
 no_marks (c ∷ commits) others = by c.body others.0 (no_marks commits others.1)

@@ -1,4 +1,4 @@
--- Messages that are taken, and commits that are followed: what a session has in hand then, whatever its source tells.
+-- Messages that are taken, and commits that are followed: what a session knows then, for every trace of its source.
 use Rattle.std.proofs.Common.{◌≡◌, ◌∙◌, ◌≤◌, ◌<◌, ◌+◌, ℕ, Bool, true, false, Option, Some, None, List, [], ◌∷◌, ◌++◌, length, refl, sym, ap, subst, arith, append-nil}
 use Rattle.std.specs.Prelude.{if◌then◌else◌, bytes_eq}
 use Rattle.std.specs.List.{AllByRecursion}
@@ -113,7 +113,7 @@ module _ (after : Lsn) (ms : List Message) (work : SessionState) (is : IsWork af
     -- it ends one
     module _ (commit : Commit) (ends : ended_commit work.offset.infos m ms ≡ Some commit) (new : Following) (steps : Steps work.follower commit new) (no_clash : clash_by work.follower commit ≡ None)
         (short : AreShort (records_by work.follower commit work.now_ms)) (listed : HasSnapshotRecords commit (record work { assembler = a })) where
-      -- a commit of changes closes no window, so that its clash and its records are its own
+      -- a commit of changes closes no window, so that its value equal to the placeholder and its records are its own
       sendable : Sendable commit
       sendable = by commit.body refl
         where

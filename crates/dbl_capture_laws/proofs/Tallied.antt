@@ -1,4 +1,4 @@
--- Which commits a report counts where a session halts or ends, by what the sink has gained.
+-- Which commits a report counts where a session stops with an error or ends, by what the sink has gained.
 use Rattle.std.proofs.Common.{◌≡◌, ◌∙◌, ◌⊎◌, inl, inr, ◌+◌, ◌<◌, ◌≤◌, ℕ, suc, Option, Some, List, [], ◌∷◌, ◌++◌, Result, Err, length, take, refl, sym, ap, subst, arith, append_assoc, append-nil, le_refl}
 use Rattle.std.specs.Prelude.{is_some}
 use Rattle.std.specs.List.{AllZip}

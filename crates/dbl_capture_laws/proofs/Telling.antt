@@ -1,4 +1,4 @@
--- What a session's report tells where it goes on, and where it halts.
+-- What a session's report tells where it goes on, and where it stops with an error.
 use Rattle.std.proofs.Common.{◌≡◌, ◌∙◌, ◌⊎◌, inl, inr, ◌+◌, ◌≤◌, ◌^◌, ℕ, ℤ, Bool, true, false, Option, Some, None, List, [], Result, Ok, Err, refl, sym, ap, subst, arith}
 use Rattle.std.specs.Prelude.{Contains, IfErr, IfSome, IsErrAnd, OnOk}
 use Rattle.dbl_base.specs.declared.lsn.Lsn.{Lsn}
@@ -37,7 +37,7 @@ use Rattle.dbl_capture_laws.proofs.Reporting.{HasStepped, step_counts}
 
 -- ---- results
 
--- what two clauses of an answer come to, of which one is said of each standing
+-- what two clauses of an answer amount to, of which one is said of each standing
 pub ok_both : {T E : Type 0} (r : Result T E) (A C : Type 0) (P : SourceState → Type 0) (B : SourceState → Type 0) → OnOk r A → ((s : SourceState) → P s → OnOk r (B s)) → (A → ((s : SourceState) → P s → B s) → C) → OnOk r C
 ok_both (Ok x) A C P B a b f = f a b
 ok_both (Err e) A C P B a b f = tt
@@ -166,7 +166,7 @@ start_opens config old new told after h stored same says (inr (inr gone)) =
       last_answer = (says after gone.first gone.is).1;
     }))
 
--- where the greatest incarnation is stored it halts for that
+-- where the greatest incarnation is stored it stops with an error for that
 abbrev Exhausts : Result (Option Offset) Halt → Option Offset → Type 0
 Exhausts r old = IfSome old (λ stored. 2 ^ 63 ≤ stored.incarnation → r ≡ Err (halt.Exhausted stored.incarnation))
 
@@ -180,7 +180,7 @@ again_exhausted r q old e h says was same is = residual_on r q e h (exhausted_as
 pub not_exhausted : (r : Result (Option Offset) Halt) (o : Option Offset) (old : Option Offset) (h : Halt) → Exhausts r old → r ≡ Ok o → IsExhausted old h → ⊥
 not_exhausted r o old h says was is = not_both r o h (exhausted_as r old h says is) was
 
--- what was told behind a call that read nothing, and behind a start
+-- what was told after a call that read nothing, and after a start
 pub anew_on : (a b c : Option Trace) → IsTakenBy [] a b → IsTakenAnew b c → IsTakenAnew a c
 anew_on None None c one two = two
 anew_on None (Some y) c one two = absurd one
@@ -229,7 +229,7 @@ module _ (names : List TableName) (history : History) where
   start_absent after h (inr (inl failed)) = subst (IsAbsentHalt names history) (sym failed) tt
   start_absent after h (inr (inr gone)) = subst (IsAbsentHalt names history) (sym gone.is) tt
 
-  -- behind the first store no table is the cause
+  -- after the first store no table is the cause
   pub caused_absent : (config : Config) (now : ℤ) (old new : Option Offset) (report : Report) (told : Option Trace) (offset : Offset) (h : Halt) → new ≡ Some offset → IsHalt config now old new report told h → IsAbsentHalt names history h
   caused_absent config now old new report told offset (halt.Model error) is cause = let wrong : None ≡ Some offset = sym cause.1 ∙ is in cc
   caused_absent config now old new report told offset (halt.UnknownTable table) is cause = let wrong : None ≡ Some offset = sym cause.1 ∙ is in cc

@@ -1,4 +1,4 @@
--- What messages state where nothing is captured: no fault that they don't have otherwise, and the same marks.
+-- What messages state where nothing is captured: no fault that they don't have otherwise, and the same watermarks.
 use Rattle.std.proofs.Common.{◌≡◌, ◌∙◌, ℕ, List, [], ◌∷◌, ◌++◌, refl, sym, ap, ap₂, subst}
 use Rattle.std.specs.Prelude.{Bool, true, false, not, ◌&&◌, ◌||◌, if◌then◌else◌, Option, Some, None, is_some, Result, Ok, Err}
 use Rattle.std.specs.List.{list_any}
@@ -42,7 +42,7 @@ row_none : (o : Option Relation) (oid : ℕ) (mark : Option (List ℕ)) (change 
 row_none None oid mark change = refl
 row_none (Some r) oid mark change = row_none_by mark r change (is_watermark r.name)
 
--- and it is at fault only where it is so otherwise
+-- and it is invalid only if it is so otherwise
 row_clean_by : (infos : List TableInfo) (mark : Option (List ℕ)) (changed : Bool) (r : Relation) (change : RowChange) (t : Bool)
     → err_of (row_stated infos mark changed r change (if t then Watermark else captured_at (number_of infos r.name))) ≡ None
     → err_of (row_stated [] mark false r change (if t then Watermark else Passed)) ≡ None

@@ -1,4 +1,4 @@
--- Each window whose high mark was read was closed: what a window waits for wasn't read yet, and no mark of the next one is written before it.
+-- Each window whose high watermark was read was closed: what a window waits for wasn't read yet, and no watermark of the next one is written before it.
 use Rattle.std.proofs.Common.{◌≡◌, ◌≢◌, ◌∙◌, ◌+◌, ◌≤◌, ◌<◌, ◌^◌, ℕ, Bool, Option, Some, List, ◌++◌, length, take, refl, sym, ap, ap₂, subst, arith, length-append}
 use Rattle.std.specs.Prelude.{slice_get}
 use Rattle.std.specs.List.{AllByRecursion}
@@ -68,7 +68,7 @@ module _ (entry : SessionStart) (stage : Stage) (faithful : WasFaithful entry) (
   abbrev text : List ℕ
   text = mark_text stage.first.incarnation number High
 
-  -- a commit that was read, as its high mark
+  -- a commit that was read, as its high watermark
   module _ (n : ℕ) (commit : Commit) (is : slice_get (read_at stage) n ≡ Some commit) (high : commit.body ≡ Mark text) (small : number < 2 ^ 64) where
     at_place : slice_get (commits_at stage) (length old + n) ≡ Some commit
     at_place =
@@ -84,7 +84,7 @@ module _ (entry : SessionStart) (stage : Stage) (faithful : WasFaithful entry) (
     read_lt : length old + n < later_count placed.parts
     read_lt = under (length old) (length (read_at stage)) n (later_count placed.parts) (slice_get-lt (read_at stage) n commit is) (length-append old (read_at stage))
 
-    -- no such mark stands behind those that were read
+    -- no such watermark is after those that were read
     not_later : (place : ℕ) → IsMarkAt stage.history text place → later_count placed.parts ≤ place → ⊥
     not_later place mark le =
         not_behind (length old + n) place (later_count placed.parts)

@@ -1,4 +1,4 @@
--- Why a session halts before it reads.
+-- Why a session stops with an error before it reads.
 use Rattle.std.proofs.Common.{◌≡◌, ◌∙◌, inl, inr, ℤ, Option, Some, None, refl, sym, subst}
 use Rattle.std.specs.Prelude.{Contains}
 use Rattle.dbl_model_table.specs.declared.config.Config.{Config}

@@ -1,4 +1,4 @@
--- How many windows a report counts, and how many marks a session has written beside them.
+-- How many windows a report counts, and how many watermarks a session has written beside them.
 use Rattle.std.proofs.Common.{◌≡◌, ◌∙◌, ◌+◌, ◌-◌, ◌*◌, ◌≤◌, ◌<◌, ◌^◌, ℕ, ℤ, zero, suc, min, Bool, true, false, cond, ◌&&◌, Option, Some, None, List, [], ◌∷◌, ◌++◌, length, filter, map, refl, sym, ap, subst, arith, length-append, append_assoc}
 use Rattle.std.specs.Prelude.{if◌then◌else◌, not, nat_lt, is_some, slice_get, bytes_eq, flat_map, option_map, unwrap_or}
 use Rattle.std.specs.List.{AllByRecursion, AllZip, list_all, position, prefix_len}
@@ -51,7 +51,7 @@ read_windows_wait old new table chunks absent armed closed =
 
 -- ---- a commit that is followed
 
--- a window's rows aren't the last of their commit, and the progress behind them is
+-- a window's rows aren't the last of their commit, and the progress after them is
 rows_not_last : (identity : Identity) (info : TableInfo) (commit : Commit) (now : ℤ) (ordinal : ℕ) (rows : List (Key × Row)) → lasts (read_records identity info commit now ordinal rows) ≡ 0
 rows_not_last identity info commit now ordinal [] = refl
 rows_not_last identity info commit now ordinal (entry ∷ rows) = rows_not_last identity info commit now (ordinal + 1) rows
@@ -67,7 +67,7 @@ one_last identity info rows through done commit now =
     lasts_snoc (read_records identity info commit now 0 rows) (progress_record identity info commit (length rows) through done) refl
     ∙ ap (λ (n : ℕ). n + 1) (rows_not_last identity info commit now 0 rows)
 
--- a mark has no changes, so that it has no records but those of the window that it closes
+-- a watermark has no changes, so that it has no records but those of the window that it closes
 no_changes : (commit : Commit) (value : List ℕ) → commit.body ≡ Mark value → changes_of commit ≡ []
 no_changes commit value body = ap (λ (b : Body). elim b [ Changes changes ↦ changes | Mark value ↦ [] ]) body
 
@@ -169,7 +169,7 @@ pub marks_append : (xs ys : List RawCommit) → marks_in (xs ++ ys) ≡ marks_in
 marks_append [] ys = refl
 marks_append (x ∷ xs) ys = ap (λ (l : List (List ℕ)). mark_in_body x.body ++ l) (marks_append xs ys) ∙ sym (append_assoc (mark_in_body x.body) (marks_in xs) (marks_in ys))
 
--- the marks of a history that went on
+-- the watermarks of a history that went on
 pub grown_marks : (old new : History) (more : List RawCommit) → HasGrown old new more → length (marks_in new.commits) ≡ length (marks_in old.commits) + length (marks_in more)
 grown_marks old new more g = ap (λ (l : List RawCommit). length (marks_in l)) g.commits ∙ (ap length (marks_append old.commits more) ∙ length-append (marks_in old.commits) (marks_in more))
 
@@ -181,7 +181,7 @@ few_marks_are_left entry stage history more chunks windows grown room reading =
     few (length (marks_in history.commits)) (length (marks_in stage.history.commits)) (length (marks_in entry.history.commits)) stage.number chunks (waiting stage.following.window) (length (marks_in more))
     (grown_marks stage.history history more grown) reading.counted.marks windows room
 
--- ---- where it ends as it should
+-- ---- where it ends normally
 
 short : (n m : ℕ) → nat_lt n m ≡ false → m ≤ n
 short n m is = grind (arith, nat_tests)
@@ -220,7 +220,7 @@ one_not (c ∷ cursors) (suc k) cursor at is = by c.done (one_not cursors k curs
     by true rest = rest
     by false rest = refl
 
--- two marks where a window waits, and none where none does, as no table is left
+-- two watermarks where a window waits, and none where none does, as no table is left
 open_marks : (infos : List TableInfo) (limit : ℕ) (history : History) (cursors : List Cursor) (window : Window) → IsWaiting infos limit history cursors window → (window ≡ Absent → position (λ cursor. not cursor.done) cursors ≡ None)
     → (if list_all (λ cursor. cursor.done) cursors then 0 else 2) ≡ 2 * waiting window
 open_marks infos limit history cursors Absent waits none = ap (λ (b : Bool). if b then 0 else 2) (none_open cursors (none refl))

@@ -24,7 +24,8 @@ use Rattle.dbl_capture_laws.specs.Carried.{IsNewestCause}
 -- After the first store, the source's trace requires no error if all bytes encode messages and the last answer is neither rows nor a log
 -- that is gone.
 abbrev pub QuietAnswersAskNothing : Type 0
-QuietAnswersAskNothing = (config : Config) (held : Option Offset) (stored : Offset) (report : Report) (t : Trace) (ms : List Message) (result : Result Ending Halt)
+QuietAnswersAskNothing = (config : Config) (held : Option Offset) (stored : Offset) (report : Report) (t : Trace) (ms : List Message)
+    (result : Result Ending Halt)
     → AreSpelled t.read ms → ((rows : List RawRow) → t.answer ≡ Selected rows → ⊥)
     → ((first : Lsn) → t.answer ≡ Began (Gone first) → ⊥)
     → MustHalt config held (Some stored) report t result
@@ -36,16 +37,16 @@ FailuresExcuse = (config : Config) (held : Option Offset) (stored : Offset) (rep
 
 -- A stop at the rows of the next window returns the error that they require.
 abbrev pub RowsAsk : Type 0
-RowsAsk = (config : Config) (now : ℤ) (held : Option Offset) (first stored : Offset) (work : SessionState) (report : Report) (table : ℕ) (t : Trace)
-    (ms : List Message) (h : Halt)
+RowsAsk = (config : Config) (now : ℤ) (held : Option Offset) (first stored : Offset) (work : SessionState) (report : Report)
+    (table : ℕ) (t : Trace) (ms : List Message) (h : Halt)
     → IsOfFirst config now held first stored work → IsBetweenMessages work stored report.chunks → work.follower.window ≡ Absent
     → IsOpenTable work table → AreSpelled t.read ms → IsChunkHalt work table (Some t) h
     → MustHalt config held (Some stored) report t (Err h)
 
 -- A stop at the newest bytes returns the error that they require.
 abbrev pub NewestBytesAsk : Type 0
-NewestBytesAsk = (config : Config) (held : Option Offset) (stored : Offset) (report : Report) (t : Trace) (after : Lsn) (earlier : List (List ℕ))
-    (ms : List Message) (bytes : List ℕ) (work : SessionState) (h : Halt)
+NewestBytesAsk = (config : Config) (held : Option Offset) (stored : Offset) (report : Report) (t : Trace) (after : Lsn)
+    (earlier : List (List ℕ)) (ms : List Message) (bytes : List ℕ) (work : SessionState) (h : Halt)
     → t.answer ≡ Read (Some bytes) → t.read ≡ bytes ∷ earlier → IsNewestCause report.messages after ms bytes work h
     → MustHalt config held (Some stored) report t (Err h)
 

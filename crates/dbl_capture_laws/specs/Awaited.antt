@@ -78,4 +78,5 @@ pub record Awaits {S : Type 0} (stands : S → SourceState → Type 0) (work : S
 
 -- An offset at a position of the log isn't above its last commit.
 abbrev pub StoodOffsetsAreWithin : Type 0
-StoodOffsetsAreWithin = (history : History) (stored : Option Offset) → IsRising history → IfSome stored (λ offset. IsPositionOf history offset.lsn.0) → IsWithinLog history stored
+StoodOffsetsAreWithin = (history : History) (stored : Option Offset) → IsRising history
+    → IfSome stored (λ offset. IsPositionOf history offset.lsn.0) → IsWithinLog history stored

@@ -20,7 +20,8 @@ use Rattle.dbl_capture_work.specs.Begins.{IsOffsetFor}
 use Rattle.dbl_capture_work.specs.Takes.{IsMessageHalt, ReportsStep, WasStepped, WasTaken, closes}
 use Rattle.dbl_capture_work.specs.Works.{AreShort, IsArmedWork, BeginsWithOffset, IsOpenTable, IsWork, next_offset_of}
 use Rattle.dbl_capture_laws.specs.Written.{AreClosed}
-use Rattle.dbl_capture_laws.specs.Reported.{AreSpelled, HasReadMessages, HasSettled, HasStoodAfter, IsFollowed, IsLeftOut, StoodAtLast, TellsSoMany, end_after}
+use Rattle.dbl_capture_laws.specs.Reported.{AreSpelled, HasReadMessages, HasSettled, HasStoodAfter}
+use Rattle.dbl_capture_laws.specs.Reported.{IsFollowed, IsLeftOut, StoodAtLast, TellsSoMany, end_after}
 use Rattle.dbl_capture_laws.specs.Halted.{MovesOne}
 use Rattle.dbl_capture_laws.specs.Musts.{MustHaltStood, MustHaltTold}
 use Rattle.dbl_capture_laws.specs.Underway.{IsNewestHalt, IsOfFirst, IsOpenHalt, IsOpenedBy, IsOrderedWindow}
@@ -70,13 +71,15 @@ StandsAt b ms t = t.reading ≡ Some (record { after = b.first.lsn; messages = m
 -- ---- what its report says when it stops
 
 -- The report and the error agree with the messages of the source's trace.
-pub record HasHaltedTold (config : Config) (now : ℤ) (held stored : Option Offset) (found told : Option Trace) (report : Report) (h : Halt) : Type 0 where
+pub record HasHaltedTold (config : Config) (now : ℤ) (held stored : Option Offset) (found told : Option Trace) (report : Report)
+    (h : Halt) : Type 0 where
   pub followed : IsFollowed config now held stored report told h
   pub read : HasReadMessages (Err h) report.messages found told
   pub must : (t : Trace) → told ≡ Some t → MustHaltTold config now held stored report t (Err h)
 
 -- The report and the error agree with the messages of the source's state.
-pub record HasHaltedStood (config : Config) (now : ℤ) (held stored : Option Offset) (report : Report) (s t : SourceState) (h : Halt) : Type 0 where
+pub record HasHaltedStood (config : Config) (now : ℤ) (held stored : Option Offset) (report : Report) (s t : SourceState)
+    (h : Halt) : Type 0 where
   pub stood : HasStoodAfter config now held stored report s t h
   pub must : MustHaltStood config now held stored report t (Err h)
 
@@ -84,7 +87,9 @@ pub record HasHaltedStood (config : Config) (now : ℤ) (held stored : Option Of
 abbrev pub IsNewestCause : ℕ → Lsn → List Message → List ℕ → SessionState → Halt → Type 0
 IsNewestCause number after ms bytes work h =
     (h ≡ halt.Memory) ⊎ (IsMessageHalt number bytes h ⊎ (IsNewestHalt number after ms bytes work h
-    ⊎ ((h ≡ halt.Sink) × ((next : SessionState) × (commit : Commit) × WasTaken after ms bytes work next (Some commit) × (clash_by next.follower commit ≡ None)))))
+    ⊎ ((h ≡ halt.Sink)
+    × ((next : SessionState) × (commit : Commit) × WasTaken after ms bytes work next (Some commit)
+    × (clash_by next.follower commit ≡ None)))))
 
 -- ---- from step to step
 
@@ -103,7 +108,8 @@ WindowsLetItRest = (b : Beginning) (ms : List Message) (stored : Option Offset) 
 
 -- A message without a commit keeps the invariant between two messages.
 abbrev pub MessagesLetItRest : Type 0
-MessagesLetItRest = (b : Beginning) (ms : List Message) (stored : Option Offset) (old next : SessionState) (before report : Report) (bytes : List ℕ)
+MessagesLetItRest = (b : Beginning) (ms : List Message) (stored : Option Offset) (old next : SessionState) (before report : Report)
+    (bytes : List ℕ)
     → IsResting b ms stored old before → (w : WasTaken b.first.lsn ms bytes old next None)
     → report ≡ record before { messages = before.messages + 1 }
     → IsResting b (w.message ∷ ms) stored next report
@@ -135,7 +141,8 @@ HaltsUnreadAreTold = (config : Config) (now : ℤ) (held stored : Option Offset)
 
 -- A stop before reading counts no message, by the source's state.
 abbrev pub HaltsUnreadAreStood : Type 0
-HaltsUnreadAreStood = (config : Config) (now : ℤ) (held stored : Option Offset) (told : Option Trace) (report : Report) (s t : SourceState) (h : Halt)
+HaltsUnreadAreStood = (config : Config) (now : ℤ) (held stored : Option Offset) (told : Option Trace) (report : Report)
+    (s t : SourceState) (h : Halt)
     → IsOpenHalt config held stored told h → report.messages ≡ 0 → report.commits ≡ 0
     → (t.reading ≡ s.reading) ⊎ IfSome t.reading (λ r. r.messages ≡ [])
     → HasHaltedStood config now held stored report s t h

@@ -22,15 +22,17 @@ IsNotGone h = Unit {0}
 
 -- The source's last answer, if known, is neither rows nor that the log is gone.
 abbrev pub IsQuiet : Option Trace → Type 0
-IsQuiet told = (t : Trace) → told ≡ Some t → ((rows : List RawRow) → t.answer ≡ Selected rows → ⊥) × ((first : Lsn) → t.answer ≡ Began (Gone first) → ⊥)
+IsQuiet told = (t : Trace) → told ≡ Some t → ((rows : List RawRow) → t.answer ≡ Selected rows → ⊥)
+    × ((first : Lsn) → t.answer ≡ Began (Gone first) → ⊥)
 
 -- Before a message is read, the error is the one that the source's last answer requires.
 abbrev pub AsksUnread : Config → Option Offset → Option Offset → Option Trace → Halt → Type 0
-AsksUnread config old new told h = (report : Report) (t : Trace) → report.messages ≡ 0 → told ≡ Some t → MustHalt config old new report t (Err h)
+AsksUnread config old new told h = (report : Report) (t : Trace) → report.messages ≡ 0 → told ≡ Some t
+    → MustHalt config old new report t (Err h)
 
 -- The session stopped with this error, whose cause is defined by the source's trace and state, and which its last answer allows.
-pub record Halts {S : Type 0} (stands : S → SourceState → Type 0) (at : Option SourceState) (found : Option Trace) (config : Config) (now : ℤ)
-    (held stored : Option Offset) (report : Report) (src : S) (told : Option Trace) (h : Halt) : Type 0 where
+pub record Halts {S : Type 0} (stands : S → SourceState → Type 0) (at : Option SourceState) (found : Option Trace)
+    (config : Config) (now : ℤ) (held stored : Option Offset) (report : Report) (src : S) (told : Option Trace) (h : Halt) : Type 0 where
   pub halted : HasHalted stands at found config now held stored report src told h
   pub cause : IsHalt config now held stored report told h
   pub must : (t : Trace) → told ≡ Some t → MustHalt config held stored report t (Err h)

@@ -58,15 +58,18 @@ pub record HasOwnStored (first : Offset) (stored : Option Offset) : Type 0 where
 
 -- The store's cached offset agrees with its disk after the call if it did before, unless the disk failed.
 abbrev pub CacheMatchesDisk : {A D : Type 0} → DiskModel D → StoreOn D → StoreOn D → Result A Halt → Type 0
-CacheMatchesDisk model old new result = HoldsOffset model old old.offset → (result ≡ Err halt.Offsets → ⊥) → HoldsOffset model new new.offset
+CacheMatchesDisk model old new result = HoldsOffset model old old.offset → (result ≡ Err halt.Offsets → ⊥)
+    → HoldsOffset model new new.offset
 
 -- ---- the report
 
 -- The position of a report is that of the last store that was acknowledged, also after an error of the confirm that follows it.
 abbrev pub IsReportAt : Bool → Option Offset → Option Offset → SessionState → Report → Report → Type 0
-IsReportAt true held stored work before after = (stored ≡ Some (next_offset_of work)) × (after ≡ record before { position = work.offset.lsn.0 })
+IsReportAt true held stored work before after = (stored ≡ Some (next_offset_of work))
+    × (after ≡ record before { position = work.offset.lsn.0 })
 IsReportAt false held stored work before after =
-    ((stored ≡ held) × (after ≡ before)) ⊎ ((stored ≡ Some (next_offset_of work)) × (after ≡ record before { position = work.offset.lsn.0 }))
+    ((stored ≡ held) × (after ≡ before))
+    ⊎ ((stored ≡ Some (next_offset_of work)) × (after ≡ record before { position = work.offset.lsn.0 }))
 
 -- The position of the report is the LSN of the stored offset.
 abbrev pub IsAtPosition : Option Offset → Report → Type 0
@@ -85,4 +88,5 @@ abbrev pub LeavesComplete : {S K D : Type 0} → (S → CrashState → Type 0) �
     → SessionStart → S → K → StoreOn D → Type 0
 LeavesComplete may_source may_sink model entry src sink store =
     WasFaithful entry → LeavesOffset model (disk_of store) (λ offset.
-    (left : CrashState) (groups : List (List Record)) → may_source src left → may_sink sink groups → IsCompleteWith entry left groups offset)
+    (left : CrashState) (groups : List (List Record)) → may_source src left → may_sink sink groups
+    → IsCompleteWith entry left groups offset)

@@ -14,13 +14,15 @@ use Rattle.dbl_capture_work.specs.declared.report.Report.{Report}
 use Rattle.dbl_capture_work.specs.declared.work.SessionState.{SessionState}
 use Rattle.dbl_capture_work.specs.Begins.{IsOffsetFor}
 use Rattle.dbl_capture_work.specs.Works.{BeginsWithOffset, IsWork, next_offset_of}
-use Rattle.dbl_capture_laws.specs.Reported.{HasReadSo, HasSettled, HasStood, HasStopped, HasTakenMessages, IsFollowed, IsLeftOut, IsPlacedOf, StandsAfter, StoodAtLast, TellsSoMany, course_from, course_of, end_after}
+use Rattle.dbl_capture_laws.specs.Reported.{HasReadSo, HasSettled, HasStood, HasStopped, HasTakenMessages, IsFollowed, IsLeftOut}
+use Rattle.dbl_capture_laws.specs.Reported.{IsPlacedOf, StandsAfter, StoodAtLast, TellsSoMany, course_from, course_of, end_after}
 
 -- ---- the beginning
 
 -- A session begins with nothing read, by the source's trace, and by its state if that is where reading begins.
 abbrev pub SessionsBeginUnread : Type 0
-SessionsBeginUnread = (first : Offset) (now : ℤ) (chunk every : ℕ) (work : SessionState) (told : Option Trace) (report : Report) (t : SourceState)
+SessionsBeginUnread = (first : Offset) (now : ℤ) (chunk every : ℕ) (work : SessionState) (told : Option Trace) (report : Report)
+    (t : SourceState)
     → BeginsWithOffset first now chunk every work → report.messages ≡ 0 → report.commits ≡ 0
     → HasTakenMessages first.lsn first.end_lsn told told report work
     × (t.reading ≡ Some (record { after = first.lsn; messages = [] }) → StandsAfter first.lsn first.end_lsn report work t)
@@ -36,7 +38,8 @@ pub record ReadsOne (ms : List Message) (m : Message) (before report : Report) (
 
 -- One message more is taken, by the source's trace.
 abbrev pub MessagesAreTaken : Type 0
-MessagesAreTaken = (after end : Lsn) (start old new : Option Trace) (before report : Report) (work next : SessionState) (bytes : List ℕ) (m : Message)
+MessagesAreTaken = (after end : Lsn) (start old new : Option Trace) (before report : Report) (work next : SessionState) (bytes : List ℕ)
+    (m : Message)
     → (t : HasTakenMessages after end start old before work) → IsTakenBy (bytes ∷ []) old new → Spells bytes m
     → ReadsOne t.messages m before report work next → IsWork after (m ∷ t.messages) next
     → HasTakenMessages after end start new report next
@@ -59,7 +62,8 @@ HaltsBetween = (after end : Lsn) (start old new : Option Trace) (before report :
 
 -- A stop at one message more doesn't count what that states.
 abbrev pub HaltsAtMessages : Type 0
-HaltsAtMessages = (after end : Lsn) (start old new : Option Trace) (before report : Report) (work : SessionState) (bytes : List ℕ) (h : Halt)
+HaltsAtMessages =
+    (after end : Lsn) (start old new : Option Trace) (before report : Report) (work : SessionState) (bytes : List ℕ) (h : Halt)
     → HasTakenMessages after end start old before work → IsTakenBy (bytes ∷ []) old new → IsLeftOut h 1
     → report.messages ≡ before.messages + 1 → report.commits ≡ before.commits
     → HasStopped (course_of after work) start new report h
@@ -75,7 +79,8 @@ SourcesStoodSo = (after end : Lsn) (before report : Report) (work : SessionState
 
 -- A stop's report counts the commits that were followed and the messages that were read, by the source's trace.
 abbrev pub StopsAreFollowed : Type 0
-StopsAreFollowed = (config : Config) (now : ℤ) (found begun told : Option Trace) (first stored : Offset) (held : Option Offset) (report : Report) (h : Halt)
+StopsAreFollowed = (config : Config) (now : ℤ) (found begun told : Option Trace) (first stored : Offset) (held : Option Offset)
+    (report : Report) (h : Halt)
     → IsOffsetFor config held first → IsOfSession first stored → IsTakenAnew found begun
     → HasStopped (course_from first now) begun told report h
     → IsFollowed config now held (Some stored) report told h × TellsSoMany report.messages told
@@ -88,7 +93,8 @@ StoodAreFollowed = (config : Config) (now : ℤ) (first stored : Offset) (held :
 
 -- A normal end has stored the last commit that was read, by the source's trace.
 abbrev pub EndsStandAtLast : Type 0
-EndsStandAtLast = (config : Config) (found begun told : Option Trace) (first : Offset) (held : Option Offset) (report : Report) (work : SessionState)
+EndsStandAtLast = (config : Config) (found begun told : Option Trace) (first : Offset) (held : Option Offset) (report : Report)
+    (work : SessionState)
     → IsOffsetFor config held first → IsPlacedOf first work.offset → IsTakenAnew found begun
     → HasTakenMessages first.lsn first.end_lsn begun told report work
     → StoodAtLast config work.now_ms held (Some (next_offset_of work)) report told

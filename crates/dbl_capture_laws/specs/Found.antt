@@ -93,7 +93,8 @@ position_of (Some old) (Some new) = if old.incarnation == new.incarnation then 0
 -- next incarnation.
 abbrev pub IsStoredBy : Config → Option Offset → Offset → Type 0
 IsStoredBy config None new = (new.identity ≡ config.identity) × (map (λ info. info.name) new.infos ≡ config.tables) × (new.incarnation ≡ 1)
-IsStoredBy config (Some old) new = (new.identity ≡ old.identity) × (new.infos ≡ old.infos) × (new.start ≡ old.start) × (new.incarnation ≡ old.incarnation + 1)
+IsStoredBy config (Some old) new = (new.identity ≡ old.identity) × (new.infos ≡ old.infos) × (new.start ≡ old.start)
+    × (new.incarnation ≡ old.incarnation + 1)
 
 -- A first offset of the configured tables, as the catalogue of some later state of the source has them, that starts at a position of that
 -- state, not below any commit of the history.

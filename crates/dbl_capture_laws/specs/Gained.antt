@@ -1,5 +1,6 @@
 -- What the sink gains, and what a report counts of it.
-use Rattle.std.specs.Prelude.{◌≡◌, ◌⊎◌, ℕ, ℤ, ◌+◌, ◌<◌, ◌≤◌, ◌^◌, ◌++◌, is_some, take, Option, Some, None, Result, Ok, Err, List, [], ◌∷◌, length}
+use Rattle.std.specs.Prelude.{◌≡◌, ◌⊎◌, ℕ, ℤ, ◌+◌, ◌<◌, ◌≤◌, ◌^◌, ◌++◌, is_some, take}
+use Rattle.std.specs.Prelude.{Option, Some, None, Result, Ok, Err, List, [], ◌∷◌, length}
 use Rattle.std.specs.List.{AllByRecursion, AllZip}
 use Rattle.dbl_base.specs.declared.lsn.Lsn.{Lsn}
 use Rattle.dbl_pgmsg.specs.declared.messages.Message.{Message}
@@ -45,7 +46,8 @@ pub record Making : Type 0 where
 
 -- The parameters of the records of a session with this offset, time and chunk size.
 abbrev pub making_of : Offset → ℤ → ℕ → Making
-making_of offset now chunk = record { identity = offset.identity; infos = offset.infos; now = now; chunk = chunk; incarnation = offset.incarnation }
+making_of offset now
+    chunk = record { identity = offset.identity; infos = offset.infos; now = now; chunk = chunk; incarnation = offset.incarnation }
 
 -- The records are those of a window of at most `chunk` rows that the commit closes, without a value equal to the placeholder.
 pub record ClosesWindow (by : Making) (commit : Commit) (records : List Record) : Type 0 where
@@ -101,14 +103,16 @@ pub record AreCounted (more : List (List Record)) (report : Report) : Type 0 whe
   pub rows : report.snapshot_rows ≡ counted 0 (snapshot_row_count (joined more))
 
 -- The sink gained groups whose appends were acknowledged, and the report counts them.
-pub record HasCountedGroups {K : Type 0} (holds : K → List (List Record) → Type 0) (groups : List (List Record)) (sink : K) (report : Report) : Type 0 where
+pub record HasCountedGroups {K : Type 0} (holds : K → List (List Record) → Type 0) (groups : List (List Record)) (sink : K)
+    (report : Report) : Type 0 where
   pub more : List (List Record)
   pub held : holds sink (groups ++ more)
   pub are : AreCounted more report
 
 -- After a failed append, the report counts the groups that were acknowledged before it, and a prefix of the failed group may be left
 -- besides.
-pub record HasCountedBefore {K : Type 0} (may_leave : K → List (List Record) → Type 0) (groups : List (List Record)) (sink : K) (report : Report) : Type 0 where
+pub record HasCountedBefore {K : Type 0} (may_leave : K → List (List Record) → Type 0) (groups : List (List Record)) (sink : K)
+    (report : Report) : Type 0 where
   pub more : List (List Record)
   pub group : List Record
   pub left : (found : List (List Record)) → may_leave sink found → IsLeftByPut (groups ++ more) group found
@@ -159,5 +163,6 @@ PutsAreCounted = (commit : Commit) (work : SessionState) (count : ℕ) (before r
     → IsCommitInRange commit → IsMomentInRange work.now_ms → HasSnapshotRecords commit work → AreCounted more before
     → report.records ≡ (report_with (is_some (mark_of commit)) (take count (records_by work.follower commit work.now_ms)) before).records
     → report.chunks ≡ (report_with (is_some (mark_of commit)) (take count (records_by work.follower commit work.now_ms)) before).chunks
-    → report.snapshot_rows ≡ (report_with (is_some (mark_of commit)) (take count (records_by work.follower commit work.now_ms)) before).snapshot_rows
+    → report.snapshot_rows
+    ≡ (report_with (is_some (mark_of commit)) (take count (records_by work.follower commit work.now_ms)) before).snapshot_rows
     → AreCounted (more ++ cut (take count (records_by work.follower commit work.now_ms))) report

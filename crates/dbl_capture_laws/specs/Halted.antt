@@ -1,5 +1,6 @@
 -- The exact cause of each error of a session.
-use Rattle.std.specs.Prelude.{◌≡◌, ◌≢◌, ◌⊎◌, ℕ, ℤ, ◌+◌, ◌≤◌, not, position, Contains, Option, Some, None, Err, List, ◌∷◌, ◌++◌, length, slice_get}
+use Rattle.std.specs.Prelude.{◌≡◌, ◌≢◌, ◌⊎◌, ℕ, ℤ, ◌+◌, ◌≤◌, not, position, Contains}
+use Rattle.std.specs.Prelude.{Option, Some, None, Err, List, ◌∷◌, ◌++◌, length, slice_get}
 use Rattle.std.specs.List.{AllByRecursion}
 use Rattle.dbl_base.specs.declared.lsn.Lsn.{Lsn}
 use Rattle.dbl_pgmsg.specs.declared.error.MsgError.{MsgError}
@@ -100,7 +101,8 @@ pub record IsNextPlan (config : Config) (report : Report) (offset : Offset) (pla
   pub number : plan.number ≡ report.chunks + 1
 
 -- The error of the next window, by the rows that the source returned.
-pub record IsWindowHalt (config : Config) (old new : Option Offset) (report : Report) (told : Option Trace) (table : TableName) (h : Halt) : Type 0 where
+pub record IsWindowHalt (config : Config) (old new : Option Offset) (report : Report) (told : Option Trace) (table : TableName)
+    (h : Halt) : Type 0 where
   pub stored : HasStored config old new
   pub plan : Plan
   pub next : IsNextPlan config report stored.offset plan
@@ -175,7 +177,8 @@ pub record MissesMark (report : Report) (offset : Offset) (reading : Reading) (v
   pub waits : position (λ cursor. not cursor.done) offset.cursors ≡ Some table
   pub side : Side
   pub value_is : value ≡ mark_text offset.incarnation (report.chunks + 1) side
-  pub opened : side ≡ High → IsOpenAmong (mark_text offset.incarnation (report.chunks + 1) Low) value (commits_of offset.infos reading.messages)
+  pub opened : side ≡ High
+      → IsOpenAmong (mark_text offset.incarnation (report.chunks + 1) Low) value (commits_of offset.infos reading.messages)
   pub last : at ≡ last_lsn reading.after reading.messages
 
 -- ---- why it halts
@@ -189,7 +192,8 @@ IsHaltBy config now report offset reading (halt.WatermarkMissing value at) = Mis
 IsHaltBy config now report offset reading h = Unit {0}
 
 -- The cause of an error by the source's trace.
-pub record IsToldHalt (config : Config) (now : ℤ) (old new : Option Offset) (report : Report) (told : Option Trace) (h : Halt) : Type 0 where
+pub record IsToldHalt (config : Config) (now : ℤ) (old new : Option Offset) (report : Report) (told : Option Trace)
+    (h : Halt) : Type 0 where
   pub reading : Reading
   pub was : WasTold config old new report told reading
   pub by : IsHaltBy config now report was.stored.offset reading h
@@ -211,7 +215,8 @@ IsHalt config now old new report told (halt.Message number error) =
     (r : HasReadAfter config old new report told) × IsMessageFault r.read number error
 IsHalt config now old new report told (halt.Txn number error) = IsToldHalt config now old new report told (halt.Txn number error)
 IsHalt config now old new report told (halt.Chunk table row) = IsWindowHalt config old new report told table (halt.Chunk table row)
-IsHalt config now old new report told (halt.Cell table column error) = IsWindowHalt config old new report told table (halt.Cell table column error)
+IsHalt config now old new report told (halt.Cell table column error) =
+    IsWindowHalt config old new report told table (halt.Cell table column error)
 IsHalt config now old new report told (halt.Clash table column) = IsToldHalt config now old new report told (halt.Clash table column)
 IsHalt config now old new report told (halt.RecordTooLong len) = IsToldHalt config now old new report told (halt.RecordTooLong len)
 IsHalt config now old new report told (halt.OffsetTooLong len) = IsLongOffset config old new report told (halt.OffsetTooLong len)
@@ -245,6 +250,7 @@ abbrev pub IsHaltOfStood : Config → ℤ → Option Offset → Option Offset �
 IsHaltOfStood config now old new report t (halt.Txn number error) = IsStoodHalt config now old new report t (halt.Txn number error)
 IsHaltOfStood config now old new report t (halt.Clash table column) = IsStoodHalt config now old new report t (halt.Clash table column)
 IsHaltOfStood config now old new report t (halt.RecordTooLong len) = IsStoodHalt config now old new report t (halt.RecordTooLong len)
-IsHaltOfStood config now old new report t (halt.WatermarkMissing value at) = IsStoodHalt config now old new report t (halt.WatermarkMissing value at)
+IsHaltOfStood config now old new report t (halt.WatermarkMissing value at) =
+    IsStoodHalt config now old new report t (halt.WatermarkMissing value at)
 IsHaltOfStood config now old new report t (halt.OffsetTooLong len) = IsLongStood config old new report t (halt.OffsetTooLong len)
 IsHaltOfStood config now old new report t h = Unit {0}

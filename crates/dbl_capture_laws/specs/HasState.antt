@@ -16,11 +16,14 @@ IsHaltAt config now old new report stands h = (t : SourceState) × stands t × I
 -- The cause of each error that depends on the messages, by a state of the source; other errors have no condition here.
 abbrev pub IsHaltStanding : Config → ℤ → Option Offset → Option Offset → Report → (SourceState → Type 0) → Halt → Type 0
 IsHaltStanding config now old new report stands (halt.Txn number error) = IsHaltAt config now old new report stands (halt.Txn number error)
-IsHaltStanding config now old new report stands (halt.Clash table column) = IsHaltAt config now old new report stands (halt.Clash table column)
-IsHaltStanding config now old new report stands (halt.RecordTooLong len) = IsHaltAt config now old new report stands (halt.RecordTooLong len)
+IsHaltStanding config now old new report stands (halt.Clash table column) =
+    IsHaltAt config now old new report stands (halt.Clash table column)
+IsHaltStanding config now old new report stands (halt.RecordTooLong len) =
+    IsHaltAt config now old new report stands (halt.RecordTooLong len)
 IsHaltStanding config now old new report stands (halt.WatermarkMissing value at) =
     IsHaltAt config now old new report stands (halt.WatermarkMissing value at)
-IsHaltStanding config now old new report stands (halt.OffsetTooLong len) = IsHaltAt config now old new report stands (halt.OffsetTooLong len)
+IsHaltStanding config now old new report stands (halt.OffsetTooLong len) =
+    IsHaltAt config now old new report stands (halt.OffsetTooLong len)
 IsHaltStanding config now old new report stands h = Unit {0}
 
 -- A log that is gone begins above the requested LSN, and not above the confirmed one.

@@ -25,7 +25,8 @@ SpelledBytesNeverHalt = (number : ℕ) (bytes : List ℕ) (m : Message) (h : Hal
 
 -- An invalid transaction that was read from a conforming source is invalid by its content.
 abbrev pub HonestTransactionsFail : Type 0
-HonestTransactionsFail = (infos : List TableInfo) (t : SourceState) (after : Lsn) (ms : List Message) (m : Message) (number : ℕ) (error : TxnError)
+HonestTransactionsFail = (infos : List TableInfo) (t : SourceState) (after : Lsn) (ms : List Message) (m : Message) (number : ℕ)
+    (error : TxnError)
     → t.reading ≡ Some (record { after = after; messages = m ∷ ms }) → AreInfosOf t.history infos
     → IsReadRight t.history (record { after = after; messages = m ∷ ms })
     → AreWithoutFault infos after ms → transaction_fault infos after m ms ≡ Some error → number ≡ length (m ∷ ms)

@@ -10,7 +10,8 @@ use Rattle.dbl_capture_work.specs.Works.{AreShort, IsArmedWork, IsOpenTable, Has
 
 -- A session that has read a window is ready.
 abbrev pub WindowsLeaveItReady : Type 0
-WindowsLeaveItReady = (old new : SessionState) (table : ℕ) → HasReadyWork old → IsOpenTable old table → IsArmedWork table old new → HasReadyWork new
+WindowsLeaveItReady = (old new : SessionState) (table : ℕ) → HasReadyWork old → IsOpenTable old table → IsArmedWork table old new
+    → HasReadyWork new
 
 -- A session that has taken a message without a commit is ready.
 abbrev pub MessagesLeaveItReady : Type 0

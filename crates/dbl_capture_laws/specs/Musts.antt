@@ -56,7 +56,8 @@ pub record MustHaltBy (now : ℤ) (offset : Offset) (reading : Reading) (result 
   pub txn : (number : ℕ) (error : TxnError) → IsTxnFault offset.infos reading number error → HaltsWith (halt.Txn number error) result
   pub clash : (commit : Commit) (changes : List Change) (c : Clash) → EndsCommit offset.infos reading commit → commit.body ≡ Changes changes
       → clash_of offset.identity offset.infos commit ≡ Some c → HaltsWith (halt.Clash c.table c.column) result
-  pub long : (commit : Commit) (changes : List Change) (place : ℕ) (item : Record) → EndsCommit offset.infos reading commit → commit.body ≡ Changes changes
+  pub long : (commit : Commit) (changes : List Change) (place : ℕ) (item : Record) → EndsCommit offset.infos reading commit
+      → commit.body ≡ Changes changes
       → clash_of offset.identity offset.infos commit ≡ None
       → slice_get (envelopes offset.identity offset.infos commit now) place ≡ Some item → group_limit < length (group_form (item ∷ []))
       → HaltsAtRecord (envelopes offset.identity offset.infos commit now) result

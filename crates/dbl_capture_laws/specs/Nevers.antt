@@ -73,7 +73,8 @@ IsHonestHalt entry stands h = Unit {0}
 
 -- The window that a session closes next, of the first unfinished table: both watermarks are in the history, and the rows are those after
 -- the cursor at the high watermark, without those changed between the watermarks, in key order and at most `chunk`.
-pub record IsOwnClosed (infos : List TableInfo) (chunk : ℕ) (offset : Offset) (report : Report) (history : History) (place : ℕ) (closed : Closed) : Type 0 where
+pub record IsOwnClosed (infos : List TableInfo) (chunk : ℕ) (offset : Offset) (report : Report) (history : History) (place : ℕ)
+    (closed : Closed) : Type 0 where
   pub here : IsMarkAt history (mark_text offset.incarnation (report.chunks + 1) High) place
   pub first : position (λ cursor. not cursor.done) offset.cursors ≡ Some closed.table
   pub cursor : Cursor
@@ -86,7 +87,8 @@ pub record IsOwnClosed (infos : List TableInfo) (chunk : ℕ) (offset : Offset) 
   pub few : length closed.rows ≤ chunk
   pub within : AllByRecursion (λ row. IsAbove cursor.last row.0 × IsUpTo closed.through row.0) closed.rows
   -- The key up to which the window was read is the cursor's, or that of a row that the table had at some point.
-  pub through : (closed.through ≡ cursor.last) ⊎ ((key : Key) × (closed.through ≡ Some key) × (at : ℕ) × IsSome (rows_up_to infos history at closed.table key))
+  pub through : (closed.through ≡ cursor.last)
+      ⊎ ((key : Key) × (closed.through ≡ Some key) × (at : ℕ) × IsSome (rows_up_to infos history at closed.table key))
 
 -- The commit that the newest message ends is one of the history.
 pub record IsNewest (infos : List TableInfo) (history : History) (reading : Reading) : Type 0 where
@@ -96,7 +98,8 @@ pub record IsNewest (infos : List TableInfo) (history : History) (reading : Read
   pub stands : slice_get (typed infos history) place ≡ Some commit
 
 -- The value equal to the placeholder is in the newest commit, or in the window that it closes.
-pub record IsOwnClash (entry : SessionStart) (offset : Offset) (report : Report) (history : History) (reading : Reading) (h : Halt) : Type 0 where
+pub record IsOwnClash (entry : SessionStart) (offset : Offset) (report : Report) (history : History) (reading : Reading)
+    (h : Halt) : Type 0 where
   pub infos : List TableInfo
   pub captured : IsCapturing entry infos
   pub newest : IsNewest infos history reading
@@ -105,7 +108,8 @@ pub record IsOwnClash (entry : SessionStart) (offset : Offset) (report : Report)
       × IsClashIn (snapshot_clash (session_identity entry) infos closed) h)
 
 -- The record that is too long is of the newest commit, or of the window that it closes.
-pub record IsOwnLong (entry : SessionStart) (offset : Offset) (report : Report) (history : History) (reading : Reading) (h : Halt) : Type 0 where
+pub record IsOwnLong (entry : SessionStart) (offset : Offset) (report : Report) (history : History) (reading : Reading)
+    (h : Halt) : Type 0 where
   pub infos : List TableInfo
   pub captured : IsCapturing entry infos
   pub newest : IsNewest infos history reading
@@ -130,7 +134,8 @@ IsFaithfulHalt entry stored report stands holds (halt.RecordTooLong len) =
     (t : SourceState) × stands t × (reading : Reading) × (t.reading ≡ Some reading)
     × (offset : Offset) × (stored ≡ Some offset) × IsOwnLong entry offset report t.history reading (halt.RecordTooLong len)
 IsFaithfulHalt entry stored report stands holds (halt.OffsetTooLong len) =
-    (t : SourceState) × stands t × (groups : List (List Record)) × holds groups × IsOwnOffset entry t (joined groups) (halt.OffsetTooLong len)
+    (t : SourceState) × stands t × (groups : List (List Record)) × holds groups
+    × IsOwnOffset entry t (joined groups) (halt.OffsetTooLong len)
 IsFaithfulHalt entry stored report stands holds h = Unit {0}
 
 -- The first offset of the configured tables, as the catalogue has them, is too long with nothing read.

@@ -41,7 +41,8 @@ abbrev pub read_with : Stage → Message → Reading
 read_with stage m = record { after = stage.first.lsn; messages = m ∷ stage.messages }
 
 -- A session in progress over faithful stores: its state and its report agree with its stage.
-pub record IsOverFaithful (entry : SessionStart) (stage : Stage) (b : Beginning) (ms : List Message) (stored : Option Offset) (work : SessionState) (report : Report) : Type 0 where
+pub record IsOverFaithful (entry : SessionStart) (stage : Stage) (b : Beginning) (ms : List Message) (stored : Option Offset)
+    (work : SessionState) (report : Report) : Type 0 where
   pub faithful : WasFaithful entry
   pub going : IsGoing entry stage
   pub work_is : IsWorkOf entry stage work
@@ -71,16 +72,16 @@ IsLongBy config history h = Unit {0}
 
 -- A value equal to the placeholder in the next commit's records is in the history: in that commit, or in the window that it closes.
 abbrev pub ClashesAreOwn : Type 0
-ClashesAreOwn = (entry : SessionStart) (stage : Stage) (b : Beginning) (ms : List Message) (stored : Option Offset) (work : SessionState) (report : Report)
-    (m : Message) (commit : Commit) (later : Report) (h : Halt)
+ClashesAreOwn = (entry : SessionStart) (stage : Stage) (b : Beginning) (ms : List Message) (stored : Option Offset) (work : SessionState)
+    (report : Report) (m : Message) (commit : Commit) (later : Report) (h : Halt)
     → IsOverFaithful entry stage b ms stored work report → EndsNext stage m commit → later.chunks ≡ report.chunks
     → IsClashIn (clash_by work.follower commit) h
     → (offset : Offset) × (stored ≡ Some offset) × IsOwnClash entry offset later stage.history (read_with stage m) h
 
 -- A record of the next commit that is too long comes from the history: from that commit, or from the window that it closes.
 abbrev pub LongRecordsAreOwn : Type 0
-LongRecordsAreOwn = (entry : SessionStart) (stage : Stage) (b : Beginning) (ms : List Message) (stored : Option Offset) (work : SessionState) (report : Report)
-    (m : Message) (commit : Commit) (later : Report) (h : Halt)
+LongRecordsAreOwn = (entry : SessionStart) (stage : Stage) (b : Beginning) (ms : List Message) (stored : Option Offset)
+    (work : SessionState) (report : Report) (m : Message) (commit : Commit) (later : Report) (h : Halt)
     → IsOverFaithful entry stage b ms stored work report → EndsNext stage m commit → later.chunks ≡ report.chunks
     → IsLongRecord (records_by work.follower commit work.now_ms) h
     → (offset : Offset) × (stored ≡ Some offset) × IsOwnLong entry offset later stage.history (read_with stage m) h

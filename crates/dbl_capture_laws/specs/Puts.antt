@@ -20,8 +20,8 @@ use Rattle.dbl_capture_laws.specs.Underway.{IsOfFirst}
 -- ---- the sink's contents
 
 -- The sink has gained all records of the commits that were followed, in batches, and the report counts them.
-pub record HasPut {K : Type 0} (holds : K → List (List Record) → Type 0) (groups : List (List Record)) (after : Lsn) (ms : List Message) (work : SessionState)
-    (report : Report) (sink : K) : Type 0 where
+pub record HasPut {K : Type 0} (holds : K → List (List Record) → Type 0) (groups : List (List Record)) (after : Lsn) (ms : List Message)
+    (work : SessionState) (report : Report) (sink : K) : Type 0 where
   pub records : List Record
   pub held : holds sink (groups ++ cut records)
   pub is : IsGained after ms work records
@@ -31,7 +31,8 @@ pub record HasPut {K : Type 0} (holds : K → List (List Record) → Type 0) (gr
 
 -- A session begins with nothing gained, and nothing counted.
 abbrev pub GainsBegin : Type 0
-GainsBegin = (first : Offset) (now : ℤ) (chunk every : ℕ) (work : SessionState) (report : Report) → BeginsWithOffset first now chunk every work
+GainsBegin = (first : Offset) (now : ℤ) (chunk every : ℕ) (work : SessionState) (report : Report)
+    → BeginsWithOffset first now chunk every work
     → report.records ≡ 0 → report.chunks ≡ 0 → report.snapshot_rows ≡ 0
     → IsGained first.lsn [] work [] × AreCounted (cut []) report
 
@@ -48,7 +49,8 @@ MessagesGainNothing = (after : Lsn) (ms : List Message) (bytes : List ℕ) (old 
 
 -- A commit that is followed gains its records, in batches, and they are counted.
 abbrev pub CommitsGain : Type 0
-CommitsGain = (after : Lsn) (ms : List Message) (bytes : List ℕ) (commit : Commit) (old next new : SessionState) (before report : Report) (records : List Record)
+CommitsGain = (after : Lsn) (ms : List Message) (bytes : List ℕ) (commit : Commit) (old next new : SessionState) (before report : Report)
+    (records : List Record)
     → IsWork after ms old → (w : WasTaken after ms bytes old next (Some commit)) → WasStepped commit next new
     → length ms < read_limit → IsMomentInRange old.now_ms → ReportsStep commit next before report true
     → IsGained after ms old records → AreCounted (cut records) before
@@ -61,23 +63,23 @@ CommitsGain = (after : Lsn) (ms : List Message) (bytes : List ℕ) (commit : Com
 
 -- The sink's gain between two messages is a gain by the stored offset.
 abbrev pub RestsLeaveGains : Type 0
-RestsLeaveGains = (config : Config) (now : ℤ) (held : Option Offset) (first stored : Offset) (work : SessionState) (ms : List Message) (records : List Record)
-    (groups left : List (List Record))
+RestsLeaveGains = (config : Config) (now : ℤ) (held : Option Offset) (first stored : Offset) (work : SessionState) (ms : List Message)
+    (records : List Record) (groups left : List (List Record))
     → IsOfFirst config now held first stored work → IsGained first.lsn ms work records → left ≡ groups ++ cut records
     → Gains config now held (Some stored) groups left
 
 -- The sink's gain within a commit is a gain by the stored offset.
 abbrev pub StepsLeaveGains : Type 0
-StepsLeaveGains = (config : Config) (now : ℤ) (held : Option Offset) (first stored : Offset) (old next : SessionState) (ms : List Message) (bytes : List ℕ)
-    (commit : Commit) (records : List Record) (groups left : List (List Record))
+StepsLeaveGains = (config : Config) (now : ℤ) (held : Option Offset) (first stored : Offset) (old next : SessionState) (ms : List Message)
+    (bytes : List ℕ) (commit : Commit) (records : List Record) (groups left : List (List Record))
     → IsOfFirst config now held first stored old → IsWork first.lsn ms old → WasTaken first.lsn ms bytes old next (Some commit)
     → IsGained first.lsn ms old records → IsLeftByStep commit next (groups ++ cut records) left
     → Gains config now held (Some stored) groups left
 
 -- A report that counts a prefix of a commit's records counts what the sink gained.
 abbrev pub StepsAreCounted : Type 0
-StepsAreCounted = (after : Lsn) (ms : List Message) (bytes : List ℕ) (commit : Commit) (old next : SessionState) (count : ℕ) (before report : Report)
-    (records : List Record) (groups : List (List Record))
+StepsAreCounted = (after : Lsn) (ms : List Message) (bytes : List ℕ) (commit : Commit) (old next : SessionState) (count : ℕ)
+    (before report : Report) (records : List Record) (groups : List (List Record))
     → IsWork after ms old → WasTaken after ms bytes old next (Some commit) → length ms < read_limit → IsMomentInRange old.now_ms
     → IsLeftByStep commit next groups (groups ++ cut (take count (records_by next.follower commit next.now_ms)))
     → AreCounted (cut records) before

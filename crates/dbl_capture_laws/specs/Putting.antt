@@ -10,7 +10,8 @@ use Rattle.dbl_capture_laws.specs.Carried.{Beginning}
 use Rattle.dbl_capture_laws.specs.Sinks.{HasPutCommit, IsPutting}
 
 -- The invariant of source and sink after the next message, or none, by whether the offset is due.
-abbrev pub PutsOn : {S K : Type 0} → (S → SourceState → Type 0) → (K → List (List Record) → Type 0) → List (List Record) → Option SourceState → Option Trace
+abbrev pub PutsOn : {S K : Type 0} → (S → SourceState → Type 0) → (K → List (List Record) → Type 0) → List (List Record)
+    → Option SourceState → Option Trace
     → Beginning → Option Offset → SessionState → Report → S → Option Trace → K → Option Bool → Type 0
 PutsOn stands holds groups at found b stored work report src told sink (Some true) =
     HasPutCommit stands holds groups at found b stored work report src told sink

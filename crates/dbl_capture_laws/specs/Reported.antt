@@ -95,7 +95,8 @@ pub record HasReadAfter (config : Config) (old new : Option Offset) (report : Re
   pub tells : (t : Trace) → told ≡ Some t → t.read ≡ read
 
 -- The parameters by which the session followed commits, with the stored offset's identity and tables.
-abbrev pub course_after : {config : Config} {old new : Option Offset} {report : Report} {told : Option Trace} → ℤ → HasReadAfter config old new report told → Course
+abbrev pub course_after : {config : Config} {old new : Option Offset} {report : Report} {told : Option Trace} → ℤ
+    → HasReadAfter config old new report told → Course
 course_after now r = record { identity = r.stored.offset.identity; infos = r.infos; now = now; after = r.after }
 
 -- The parameters of a session that reads after this LSN, with the stored offset's identity and tables.

@@ -74,7 +74,8 @@ AddsFewOrNoMarks entry left = (marks_in left.history.commits ≡ marks_in entry.
 pub record LeavesBy {S K D : Type 0} (tell : Bool) (may_source : S → CrashState → Type 0) (may_sink : K → List (List Record) → Type 0)
     (model : DiskModel D) (entry : SessionStart) (src : S) (sink : K) (store : StoreOn D) : Type 0 where
   pub follows : IsTrue tell → WasFaithful entry → LeavesOffset model (disk_of store) (λ offset.
-      (left : CrashState) (groups : List (List Record)) → may_source src left → may_sink sink groups → FollowsSession entry left groups offset)
+      (left : CrashState) (groups : List (List Record)) → may_source src left → may_sink sink groups
+      → FollowsSession entry left groups offset)
   pub few : (left : CrashState) → may_source src left → AddsFewOrNoMarks entry left
   pub some_source : (left : CrashState) × may_source src left
   pub some_sink : IsTrue tell → (groups : List (List Record)) × may_sink sink groups
@@ -83,6 +84,7 @@ pub record LeavesBy {S K D : Type 0} (tell : Bool) (may_source : S → CrashStat
 pub record LeavesGoing {S K D : Type 0} (may_source : S → CrashState → Type 0) (may_sink : K → List (List Record) → Type 0)
     (model : DiskModel D) (entry : SessionStart) (src : S) (sink : K) (store : StoreOn D) : Type 0 where
   pub follows : WasFaithful entry → LeavesOffset model (disk_of store) (λ offset.
-      (left : CrashState) (groups : List (List Record)) → may_source src left → may_sink sink groups → FollowsSession entry left groups offset)
+      (left : CrashState) (groups : List (List Record)) → may_source src left → may_sink sink groups
+      → FollowsSession entry left groups offset)
   pub some_source : (left : CrashState) × may_source src left
   pub some_sink : (groups : List (List Record)) × may_sink sink groups

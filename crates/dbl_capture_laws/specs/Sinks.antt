@@ -17,23 +17,23 @@ use Rattle.dbl_capture_laws.specs.Sources.{HasCommitted, IsUnderWay}
 use Rattle.dbl_capture_laws.specs.Puts.{HasPut}
 
 -- The invariant between two messages: the sink has gained the records of the commits that the messages read so far state.
-pub record IsPutting {S K : Type 0} (stands : S → SourceState → Type 0) (holds : K → List (List Record) → Type 0) (groups : List (List Record))
-    (at : Option SourceState) (found : Option Trace) (b : Beginning) (stored : Option Offset) (work : SessionState) (report : Report) (src : S)
-    (told : Option Trace) (sink : K) : Type 0 where
+pub record IsPutting {S K : Type 0} (stands : S → SourceState → Type 0) (holds : K → List (List Record) → Type 0)
+    (groups : List (List Record)) (at : Option SourceState) (found : Option Trace) (b : Beginning) (stored : Option Offset)
+    (work : SessionState) (report : Report) (src : S) (told : Option Trace) (sink : K) : Type 0 where
   pub way : IsUnderWay stands at found b stored work report src told
   pub put : HasPut holds groups b.first.lsn way.messages work report sink
 
 -- The invariant after a commit: the sink has gained the records of all commits that were followed.
-pub record HasPutCommit {S K : Type 0} (stands : S → SourceState → Type 0) (holds : K → List (List Record) → Type 0) (groups : List (List Record))
-    (at : Option SourceState) (found : Option Trace) (b : Beginning) (stored : Option Offset) (work : SessionState) (report : Report) (src : S)
-    (told : Option Trace) (sink : K) : Type 0 where
+pub record HasPutCommit {S K : Type 0} (stands : S → SourceState → Type 0) (holds : K → List (List Record) → Type 0)
+    (groups : List (List Record)) (at : Option SourceState) (found : Option Trace) (b : Beginning) (stored : Option Offset)
+    (work : SessionState) (report : Report) (src : S) (told : Option Trace) (sink : K) : Type 0 where
   pub way : HasCommitted stands at found b stored work report src told
   pub put : HasPut holds groups b.first.lsn way.messages work report sink
 
 -- The session stopped: what is left of the sink, and what the report counts of it, with the commits unless an append failed.
 pub record HasHaltedPut {S K : Type 0} (stands : S → SourceState → Type 0) (holds may_leave : K → List (List Record) → Type 0)
-    (groups : List (List Record)) (at : Option SourceState) (config : Config) (now : ℤ) (held stored : Option Offset) (report : Report) (src : S)
-    (told : Option Trace) (sink : K) (h : Halt) : Type 0 where
+    (groups : List (List Record)) (at : Option SourceState) (config : Config) (now : ℤ) (held stored : Option Offset)
+    (report : Report) (src : S) (told : Option Trace) (sink : K) (h : Halt) : Type 0 where
   pub grouped : (left : List (List Record)) → may_leave sink left → Gains config now held stored groups left
   pub counted : ReportsGroups {A = Ending} holds may_leave groups (Err h) sink report
   pub tallied : (h ≡ halt.Sink → ⊥) → IsTallied holds groups config now held stored report told sink (Err h)

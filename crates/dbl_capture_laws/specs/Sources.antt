@@ -28,7 +28,8 @@ pub record HasCommitted {S : Type 0} (stands : S → SourceState → Type 0) (at
   pub stood : (s : SourceState) → at ≡ Some s → HasState stands src (StandsAt b messages)
 
 -- The invariant after the next message, or none, by whether the offset is due.
-abbrev pub GoesOn : {S : Type 0} → (S → SourceState → Type 0) → Option SourceState → Option Trace → Beginning → Option Offset → SessionState → Report → S
+abbrev pub GoesOn : {S : Type 0} → (S → SourceState → Type 0) → Option SourceState → Option Trace → Beginning → Option Offset → SessionState
+    → Report → S
     → Option Trace → Option Bool → Type 0
 GoesOn stands at found b stored work report src told (Some true) = HasCommitted stands at found b stored work report src told
 GoesOn stands at found b stored work report src told (Some false) = IsUnderWay stands at found b stored work report src told
@@ -44,7 +45,7 @@ pub record HasSettledAll {S : Type 0} (stands : S → SourceState → Type 0) (a
   pub stood : (s : SourceState) → at ≡ Some s → HasState stands src (λ t. StandsAt b messages t × (work.offset.lsn.0 ≤ t.confirmed.0))
 
 -- The session stopped: its report and its error agree with the source's trace and with its state.
-pub record HasHalted {S : Type 0} (stands : S → SourceState → Type 0) (at : Option SourceState) (found : Option Trace) (config : Config) (now : ℤ)
-    (held stored : Option Offset) (report : Report) (src : S) (told : Option Trace) (h : Halt) : Type 0 where
+pub record HasHalted {S : Type 0} (stands : S → SourceState → Type 0) (at : Option SourceState) (found : Option Trace)
+    (config : Config) (now : ℤ) (held stored : Option Offset) (report : Report) (src : S) (told : Option Trace) (h : Halt) : Type 0 where
   pub tells : HasHaltedTold config now held stored found told report h
   pub stood : (s t : SourceState) → at ≡ Some s → stands src t → HasHaltedStood config now held stored report s t h

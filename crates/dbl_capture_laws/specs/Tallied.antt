@@ -50,8 +50,8 @@ IsPartOf by earlier such (newest ∷ (other ∷ more)) part = ⊥
 -- The counted commits are those that the messages state, except perhaps the newest: the sink has all records of the counted ones, and none
 -- or a proper prefix of the newest. A newest commit without records may be counted or not, unless the stored offset is at it. Whether a
 -- high watermark closed a window isn't said.
-pub record Tallies {K A : Type 0} (holds : K → List (List Record) → Type 0) (groups : List (List Record)) (sink : K) (by : Making) (after : Lsn)
-    (stored : Lsn) (such : A → Message → Type 0) (read : List A) (commits : ℕ) (result : Result Ending Halt) : Type 0 where
+pub record Tallies {K A : Type 0} (holds : K → List (List Record) → Type 0) (groups : List (List Record)) (sink : K) (by : Making)
+    (after : Lsn) (stored : Lsn) (such : A → Message → Type 0) (read : List A) (commits : ℕ) (result : Result Ending Halt) : Type 0 where
   pub newest : List A
   pub few : IsLeftOutBy result (length newest)
   pub earlier : List A
@@ -71,12 +71,14 @@ abbrev pub HasPutNothing : {K : Type 0} → (K → List (List Record) → Type 0
 HasPutNothing holds groups report sink = (report.messages ≡ 0) × (report.commits ≡ 0) × holds sink groups
 
 -- The counted commits agree with the sink's contents, by the source's trace.
-abbrev pub IsTallied : {K : Type 0} → (K → List (List Record) → Type 0) → List (List Record) → Config → ℤ → Option Offset → Option Offset → Report
+abbrev pub IsTallied : {K : Type 0} → (K → List (List Record) → Type 0) → List (List Record) → Config → ℤ → Option Offset
+    → Option Offset → Report
     → Option Trace → K → Result Ending Halt → Type 0
 IsTallied holds groups config now old new report told sink result =
     HasPutNothing holds groups report sink
     ⊎ ((r : HasReadAfter config old new report told)
-    × Tallies holds groups sink (making_of r.stored.offset now config.chunk) r.after r.stored.offset.lsn Spells r.read report.commits result)
+    × Tallies holds groups sink (making_of r.stored.offset now config.chunk) r.after r.stored.offset.lsn Spells r.read
+    report.commits result)
 
 -- The counted commits agree with the sink's contents, by the source's state.
 pub record HasTallied {K : Type 0} (holds : K → List (List Record) → Type 0) (groups : List (List Record)) (config : Config) (now : ℤ)
@@ -86,11 +88,13 @@ pub record HasTallied {K : Type 0} (holds : K → List (List Record) → Type 0)
   pub reading_is : t.reading ≡ Some reading
   pub begins_after : BeginsAfter old new stored.offset.infos reading.after
   pub many : length reading.messages ≡ report.messages
-  pub tallies : Tallies holds groups sink (making_of stored.offset now config.chunk) reading.after stored.offset.lsn (λ m n. m ≡ n) reading.messages
+  pub tallies : Tallies holds groups sink (making_of stored.offset now config.chunk) reading.after stored.offset.lsn
+      (λ m n. m ≡ n) reading.messages
       report.commits result
 
 -- Nothing was appended, or the counted commits agree with the sink's contents, by the source's state.
-abbrev pub IsTalliedAfter : {K : Type 0} → (K → List (List Record) → Type 0) → List (List Record) → Config → ℤ → Option Offset → Option Offset → Report
+abbrev pub IsTalliedAfter : {K : Type 0} → (K → List (List Record) → Type 0) → List (List Record) → Config → ℤ → Option Offset
+    → Option Offset → Report
     → SourceState → K → Result Ending Halt → Type 0
 IsTalliedAfter holds groups config now old new report t sink result =
     HasPutNothing holds groups report sink ⊎ HasTallied holds groups config now old new report t sink result

@@ -18,9 +18,11 @@ use Rattle.dbl_capture_laws.specs.Sessions.{InSession}
 -- The report is unchanged, or counts one message more, which may have ended a commit.
 abbrev pub IsCountedNext : Result (Option Bool) Halt → Report → Report → Type 0
 IsCountedNext (Ok None) before after = after ≡ before
-IsCountedNext (Ok (Some due)) before after = (after.messages ≡ before.messages + 1) × (after.commits ≤ before.commits + 1) × (after.position ≡ before.position)
+IsCountedNext (Ok (Some due)) before after = (after.messages ≡ before.messages + 1) × (after.commits ≤ before.commits + 1)
+    × (after.position ≡ before.position)
 IsCountedNext (Err h) before after =
-    (before.messages ≤ after.messages) × (after.messages ≤ before.messages + 1) × (after.commits ≡ before.commits) × (after.position ≡ before.position)
+    (before.messages ≤ after.messages) × (after.messages ≤ before.messages + 1) × (after.commits ≡ before.commits)
+    × (after.position ≡ before.position)
 
 -- What reading and following leave unchanged in the session's state.
 pub record IsNextOf (old new : SessionState) : Type 0 where

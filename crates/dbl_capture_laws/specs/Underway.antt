@@ -102,7 +102,8 @@ StepsMoveOneCursor = (after : Lsn) (ms : List Message) (commit : Commit) (old ne
 
 -- The cause of an error for the rows of a window.
 abbrev pub WindowsHalt : Type 0
-WindowsHalt = (config : Config) (now : ℤ) (held : Option Offset) (first stored : Offset) (work : SessionState) (report : Report) (table : ℕ) (told : Option Trace) (h : Halt)
+WindowsHalt = (config : Config) (now : ℤ) (held : Option Offset) (first stored : Offset) (work : SessionState) (report : Report) (table : ℕ)
+    (told : Option Trace) (h : Halt)
     → IsOfFirst config now held first stored work → IsBetweenMessages work stored report.chunks → work.follower.window ≡ Absent
     → IsOpenTable work table → IsChunkHalt work table told h
     → IsHalt config now held (Some stored) report told h
@@ -135,8 +136,8 @@ MessagesHalt = (config : Config) (now : ℤ) (held : Option Offset) (first store
 
 -- The cause of an error for the newest message or its commit, by the source's state.
 abbrev pub SourcesStoodAtHalts : Type 0
-SourcesStoodAtHalts = (config : Config) (now : ℤ) (held : Option Offset) (first stored : Offset) (work : SessionState) (before report : Report)
-    (s t : SourceState) (m : Message) (bytes : List ℕ) (h : Halt)
+SourcesStoodAtHalts = (config : Config) (now : ℤ) (held : Option Offset) (first stored : Offset) (work : SessionState)
+    (before report : Report) (s t : SourceState) (m : Message) (bytes : List ℕ) (h : Halt)
     → IsOfFirst config now held first stored work → IsBetweenMessages work stored report.chunks
     → (b : StandsAfter first.lsn first.end_lsn before work s)
     → t.reading ≡ Some (record { after = first.lsn; messages = m ∷ b.messages }) → report.messages ≡ before.messages + 1
@@ -158,7 +159,8 @@ MarksAreMissed = (config : Config) (now : ℤ) (held : Option Offset) (first sto
 abbrev pub OffsetsHalt : Type 0
 OffsetsHalt = (config : Config) (now : ℤ) (held : Option Offset) (first stored : Offset) (work : SessionState) (report : Report)
     (found begun told : Option Trace) (h : Halt)
-    → IsOfFirst config now held first stored work → IsTakenAnew found begun → HasTakenMessages first.lsn first.end_lsn begun told report work
+    → IsOfFirst config now held first stored work → IsTakenAnew found begun
+    → HasTakenMessages first.lsn first.end_lsn begun told report work
     → MovesOne stored.cursors work.follower.cursors → IsOffset (next_offset_of work) → IsTooLong (next_offset_of work) h
     → IsHalt config now held (Some stored) report told h
 
@@ -174,14 +176,15 @@ SourcesStoodAtOffsets = (config : Config) (now : ℤ) (held : Option Offset) (fi
 
 -- Messages that were taken and followed require no error.
 abbrev pub TakenMessagesAskNothing : Type 0
-TakenMessagesAskNothing = (config : Config) (now : ℤ) (held : Option Offset) (first stored : Offset) (work : SessionState) (ms : List Message) (result : Result Ending Halt)
+TakenMessagesAskNothing = (config : Config) (now : ℤ) (held : Option Offset) (first stored : Offset) (work : SessionState)
+    (ms : List Message) (result : Result Ending Halt)
     → IsOfFirst config now held first stored work → IsWork first.lsn ms work
     → MustHaltBy now stored (record { after = first.lsn; messages = ms }) result
 
 -- A stop at the newest message returns the error that it or its commit requires.
 abbrev pub NewestMessagesHalt : Type 0
-NewestMessagesHalt = (config : Config) (now : ℤ) (held : Option Offset) (first stored : Offset) (work : SessionState) (ms : List Message) (m : Message)
-    (bytes : List ℕ) (number : ℕ) (h : Halt)
+NewestMessagesHalt = (config : Config) (now : ℤ) (held : Option Offset) (first stored : Offset) (work : SessionState) (ms : List Message)
+    (m : Message) (bytes : List ℕ) (number : ℕ) (h : Halt)
     → IsOfFirst config now held first stored work → IsWork first.lsn ms work → Spells bytes m → number ≡ length (m ∷ ms)
     → (h ≡ halt.Memory) ⊎ (IsNewestHalt number first.lsn ms bytes work h
     ⊎ ((h ≡ halt.Sink) × ((next : SessionState) × (commit : Commit) × WasTaken first.lsn ms bytes work next (Some commit)

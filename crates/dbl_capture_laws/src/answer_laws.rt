@@ -1,7 +1,8 @@
 //! The errors that a source's last answer requires: theorems, as contracts of empty functions.
 
-ghost use Rattle.dbl_capture_laws.specs.Answered.{FailuresExcuse, NewestBytesAsk, QuietAnswersAskNothing};
-ghost use Rattle.dbl_capture_laws.specs.Answered.{RowsAsk, UnreadAnswersAsk};
+ghost use Rattle.dbl_capture_laws.specs.Answered.{FailuresExcuse, NewestBytesAsk};
+ghost use Rattle.dbl_capture_laws.specs.Answered.{QuietAnswersAskNothing, RowsAsk};
+ghost use Rattle.dbl_capture_laws.specs.Answered.{UnreadAnswersAsk};
 
 /// After the first store, valid message bytes require no error, if the last answer is neither rows
 /// nor a log that is gone.

@@ -1,8 +1,9 @@
 //! Why a session stops with an error: theorems, as contracts of empty functions.
 
 ghost use Rattle.dbl_capture_laws.specs.Underway.{BytesHalt, MarksAreMissed, MessagesHalt};
-ghost use Rattle.dbl_capture_laws.specs.Underway.{NewestMessagesHalt, OffsetsHalt, SessionsHaltUnread};
-ghost use Rattle.dbl_capture_laws.specs.Underway.{SourcesStoodAtHalts, SourcesStoodAtOffsets};
+ghost use Rattle.dbl_capture_laws.specs.Underway.{NewestMessagesHalt, OffsetsHalt};
+ghost use Rattle.dbl_capture_laws.specs.Underway.{SessionsHaltUnread, SourcesStoodAtHalts};
+ghost use Rattle.dbl_capture_laws.specs.Underway.{SourcesStoodAtOffsets};
 ghost use Rattle.dbl_capture_laws.specs.Underway.{StepsMoveOneCursor, StepsOpenWindows};
 ghost use Rattle.dbl_capture_laws.specs.Underway.{TakenMessagesAskNothing, WindowsHalt};
 

@@ -1,7 +1,7 @@
 //! What never stops a session: theorems, as contracts of empty functions.
 
-ghost use Rattle.dbl_capture_laws.specs.Honest.{CapturedTablesCanBeCaptured, HonestTransactionsFail};
-ghost use Rattle.dbl_capture_laws.specs.Honest.{SpelledBytesNeverHalt};
+ghost use Rattle.dbl_capture_laws.specs.Honest.{CapturedTablesCanBeCaptured};
+ghost use Rattle.dbl_capture_laws.specs.Honest.{HonestTransactionsFail, SpelledBytesNeverHalt};
 
 /// Bytes that encode a message never stop a session as malformed.
 pub fn spelled_bytes_never_halt()

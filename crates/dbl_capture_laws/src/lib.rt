@@ -1,7 +1,7 @@
 //! What each step of a session keeps, why it stops, and what it may leave: definitions and theorems
-//! over any source, sink and store. A stop is an end by an error. A source's trace is its last answer
-//! and the messages that it has returned since reading began; its state is the history, the confirmed
-//! LSN and the reading that it represents.
+//! over any source, sink and store. A stop is an end by an error. A source's trace is its last
+//! answer and the messages that it has returned since reading began; its state is the history, the
+//! confirmed LSN and the reading that it represents.
 #![tactic(auto)]
 
 mod answer_laws;

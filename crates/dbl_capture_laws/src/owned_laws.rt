@@ -1,8 +1,9 @@
 //! Why a session over a conforming source and faithful stores stops: theorems, as contracts of
 //! empty functions.
 
-ghost use Rattle.dbl_capture_laws.specs.Owned.{ClashesAreOwn, FirstLongOffsetsAreOwn, FirstOffsetsAreLong};
-ghost use Rattle.dbl_capture_laws.specs.Owned.{LongOffsetsAreOwn, LongRecordsAreOwn};
+ghost use Rattle.dbl_capture_laws.specs.Owned.{ClashesAreOwn, FirstLongOffsetsAreOwn};
+ghost use Rattle.dbl_capture_laws.specs.Owned.{FirstOffsetsAreLong, LongOffsetsAreOwn};
+ghost use Rattle.dbl_capture_laws.specs.Owned.{LongRecordsAreOwn};
 
 /// A value equal to the placeholder is in the source's history.
 pub fn clashes_are_own()

@@ -1,7 +1,8 @@
 //! What the sink gains, and what is left of it: theorems, as contracts of empty functions.
 
-ghost use Rattle.dbl_capture_laws.specs.Puts.{CommitsGain, GainsBegin, GainsStay, MessagesGainNothing};
-ghost use Rattle.dbl_capture_laws.specs.Puts.{RestsLeaveGains, StepsAreCounted, StepsLeaveGains};
+ghost use Rattle.dbl_capture_laws.specs.Puts.{CommitsGain, GainsBegin, GainsStay};
+ghost use Rattle.dbl_capture_laws.specs.Puts.{MessagesGainNothing, RestsLeaveGains};
+ghost use Rattle.dbl_capture_laws.specs.Puts.{StepsAreCounted, StepsLeaveGains};
 
 /// A session begins with nothing gained.
 pub fn gains_begin()

@@ -1,10 +1,11 @@
 //! What a session's report says: theorems, as contracts of empty functions.
 
 ghost use Rattle.dbl_capture_laws.specs.Followed.{EndsStandAtLast, HaltsAtMessages, HaltsBetween};
-ghost use Rattle.dbl_capture_laws.specs.Followed.{MessagesAreTaken, SessionsBeginUnread, SourcesSettle};
-ghost use Rattle.dbl_capture_laws.specs.Followed.{SourcesStandAfter, SourcesStoodSo, StoodAreFollowed};
-ghost use Rattle.dbl_capture_laws.specs.Followed.{StopsAreFollowed};
-ghost use Rattle.dbl_capture_laws.specs.Gained.{CommitsAreSent, PutsAreCounted, StatedCommitsAreInRange};
+ghost use Rattle.dbl_capture_laws.specs.Followed.{MessagesAreTaken, SessionsBeginUnread};
+ghost use Rattle.dbl_capture_laws.specs.Followed.{SourcesSettle, SourcesStandAfter, SourcesStoodSo};
+ghost use Rattle.dbl_capture_laws.specs.Followed.{StoodAreFollowed, StopsAreFollowed};
+ghost use Rattle.dbl_capture_laws.specs.Gained.{CommitsAreSent, PutsAreCounted};
+ghost use Rattle.dbl_capture_laws.specs.Gained.{StatedCommitsAreInRange};
 
 /// The records of a commit that is followed come after those of all commits before it, and begin a
 /// new batch.

@@ -1,4 +1,4 @@
--- A window was read: its two marks were written, and its rows selected between them.
+-- A window was read: its two watermarks were written, and its rows selected between them.
 use Rattle.std.proofs.Common.{◌≡◌, ◌∙◌, ◌⊎◌, inl, inr, ◌+◌, ◌*◌, ◌≤◌, ◌<◌, ◌^◌, ℕ, zero, suc, max, Some, List, [], ◌∷◌, ◌++◌, length, map, take, refl, sym, ap, ap₂, subst, arith, append_assoc, le_refl, length-append}
 use Rattle.std.specs.Prelude.{slice_get}
 use Rattle.std.specs.List.{AllByRecursion}
@@ -111,9 +111,9 @@ wider infos history from upto low high chunk less more is = record {
   done_is = is.done_is;
 }
 
--- ---- one mark came
+-- ---- one watermark came
 
--- no mark of this value stands yet
+-- no watermark of this value stands yet
 abbrev IsFresh : History → List ℕ → Type 0
 IsFresh history value = (place : ℕ) (commit : RawCommit) → slice_get history.commits place ≡ Some commit → commit.body ≡ Mark value → ⊥
 
@@ -141,7 +141,7 @@ module _ (value : List ℕ) (old new : History) (m : Marks value old new) where
   before_it : length old.commits ≤ there
   before_it = omega (arith, length-append old.commits m.before)
 
-  -- a mark stood before, or is this one
+  -- a watermark stood before, or is this one
   abbrev StoodOrCame : ℕ → RawCommit → Type 0
   StoodOrCame place commit = (slice_get old.commits place ≡ Some commit) ⊎ ((place ≡ there) × (commit ≡ m.mark))
 
@@ -168,7 +168,7 @@ module _ (value : List ℕ) (old new : History) (m : Marks value old new) where
         all_append (λ (c : RawCommit). IsMarkedBy greatest c.body) m.before (m.mark ∷ m.after) (others_marked greatest m.before m.before_are_others)
         (subst (IsMarkedBy greatest) (sym m.is_mark) (record { incarnation = incarnation; number = n; side = side; is = text; not_above = le; small = small }), others_marked greatest m.after m.after_are_others)
 
-    -- a mark of a fresh text is one more of the session's
+    -- a watermark of a fresh text is one more of the session's
     module _ (number begun : ℕ) (counted : incarnation < 2 ^ 64) (le : n ≤ number) (fresh : IsFresh old value) (over : begun < m.mark.lsn.0) (own : AreOwnMarks incarnation number begun old) where
       numbered_by : (place k : ℕ) (s : Side) (commit : RawCommit) → k < 2 ^ 64 → commit.body ≡ Mark (mark_text incarnation k s) → StoodOrCame place commit → (k ≤ number) × (begun < commit.lsn.0)
       numbered_by place k s commit lt is (inl was) = own.numbered place k s commit lt was is
@@ -224,7 +224,7 @@ module _ (entry : SessionStart) (stage : Stage) (more : List RawCommit) (chunk :
     order = placed.parts.order;
   }
 
-  -- the new commits stand behind where the session began
+  -- the new commits are after where the session began
   over_begun : (placed : IsPlacedInHistory stage) → KeepsStage entry stage placed.parts → AllByRecursion (λ commit. begun_after entry stage.first < commit.lsn.0) more
   over_begun placed kept = both more (behind_top stage.history more fit.rising (joined entry.groups) kept.stand) (behind_position stage.history more fit.rising stage.lsn.0 placed.position)
     where
@@ -422,7 +422,7 @@ module _ (entry : SessionStart) (stage : Stage) (history : History) (chunk : Chu
         (was_on stage.history history all_came whole stage.first.infos stage.following.cursors) reading.counted.come;
   }
 
-  -- ---- its marks
+  -- ---- its watermarks
 
   -- of the two texts neither stood before it was written
   high_fresh : (begun : ℕ) → AreOwnMarks stage.first.incarnation stage.number begun stage.history → IsFresh armed.looked (high_text chunk.plan)

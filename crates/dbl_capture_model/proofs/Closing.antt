@@ -1,4 +1,4 @@
--- A window that is closed: it is right at its high mark, and its snapshot keeps the log.
+-- A window that is closed: it is right at its high watermark, and its snapshot keeps the log.
 use Rattle.std.proofs.Common.{◌≡◌, ◌∙◌, ◌+◌, ◌≤◌, ◌<◌, ℕ, zero, suc, max, Bool, true, false, Option, Some, None, List, [], ◌∷◌, ◌++◌, length, map, take, drop, refl, sym, ap, ap₂, subst, arith, append_assoc, length-append, le_refl}
 use Rattle.std.specs.Prelude.{if◌then◌else◌, codes, decimal, flat_map, slice_get}
 use Rattle.std.specs.List.{AllByRecursion}
@@ -56,7 +56,7 @@ use Rattle.dbl_capture_model.proofs.Windowing.{raw_mark}
 
 -- ---- which window it is
 
--- the mark that closes a window is its high one, and the window is open
+-- the watermark that closes a window is its high one, and the window is open
 pub record ClosesOpen (window : Window) (mark : Option (List ℕ)) (chunk : Chunk) : Type 0 where
   pub is_open : window ≡ Open chunk
   pub mark_is : mark ≡ Some (high_text chunk.plan)
@@ -84,7 +84,7 @@ marked_so : (body : Body) (value : List ℕ) → watermark_in body ≡ Some valu
 marked_so (Changes changes) value is = cc
 marked_so (Mark v) value is = let same : v ≡ value = cc in ap (λ (l : List ℕ). Mark l) same
 
--- a mark tells no event
+-- a watermark tells no event
 pub closing_silent : (stage : Stage) (commit : Commit) (chunk : Chunk) → closing stage.following.window (mark_of commit) ≡ Some chunk → length (events_of_commit stage.first.infos commit) ≡ 0
 closing_silent stage commit chunk is =
     let closes = closes_open stage.following.window (mark_of commit) chunk is in
@@ -103,7 +103,7 @@ further a b c le lt = omega (arith, le, lt)
 under : (a b : ℕ) → a < b → a ≤ b
 under a b lt = omega (arith, lt)
 
--- what rises behind a place stands behind what is before that
+-- what rises after a place is after what is before that
 over_place : (low position k : ℕ) (cs : List Commit) (c : Commit) → AreRising low (lsns cs) → slice_get cs k ≡ Some c → position ≤ c.lsn.0 → AllByRecursion (λ x. position < x.lsn.0) (drop (suc k) cs)
 over_place low position k [] c rise at le = cc
 over_place low position zero (x ∷ cs) c rise at le =
@@ -140,7 +140,7 @@ left_max a b c lt = omega (arith, lt)
 right_max : (a b c : ℕ) → max a b < c → b < c
 right_max a b c lt = omega (arith, lt)
 
--- the text of a high mark ends as such a one does
+-- the text of a high watermark ends as such a one does
 high_ends : (incarnation number : ℕ) → mark_text incarnation number High ≡ (decimal incarnation ++ (codes "-" ++ decimal number)) ++ side_text High
 high_ends incarnation number = ap (λ (l : List ℕ). l ++ side_text High) (append_assoc (decimal incarnation) (codes "-") (decimal number))
 
@@ -176,7 +176,7 @@ module _ (entry : SessionStart) (stage : Stage) (m : Message) (commit : Commit) 
   body_is : commit.body ≡ Mark (high_text chunk.plan)
   body_is = marked_so commit.body (high_text chunk.plan) closes.mark_is
 
-  -- the texts of its marks are this session's
+  -- the texts of its watermarks are this session's
   text_own : high_text chunk.plan ≡ mark_text stage.first.incarnation stage.number High
   text_own = ap₂ (λ (i n : ℕ). mark_text i n High) own.0 own.1
 
@@ -193,7 +193,7 @@ module _ (entry : SessionStart) (stage : Stage) (m : Message) (commit : Commit) 
   raw_is : raw_at.0.body ≡ raw.Mark (mark_text stage.first.incarnation stage.number High)
   raw_is = raw_mark stage.first.infos raw_at.0.body (high_text chunk.plan) (sym (ap (λ (c : Commit). c.body) raw_at.2) ∙ body_is) ∙ ap (λ (l : List ℕ). raw.Mark l) text_own
 
-  -- it is the window's high mark
+  -- it is the window's high watermark
   same_place : length before ≡ w.high
   same_place =
       k.own_marks.once (length before) w.high stage.number High raw_at.0 w.marked.high_is.commit k.small raw_at.1 w.marked.high_is.stands raw_is
@@ -217,7 +217,7 @@ module _ (entry : SessionStart) (stage : Stage) (m : Message) (commit : Commit) 
       subst (λ (n : ℕ). IsRightWindow stage.first.infos (all_changes (commits_at stage)) (moment_after_first (commits_at stage) (w.low + 1)) n chunk.plan.above (closed_of chunk)) before_is
       (kept_promise chunk (closed_of chunk) (record { table = refl; rows = refl; through = refl; done = refl }) listed.ordered stage.first.infos (commits_at stage) (w.low + 1) w.high waits.captured given)
 
-  -- ---- where its low mark stands
+  -- ---- where its low watermark stands
 
   low_commit : slice_get (commits_at stage) w.low ≡ Some (typed_commit stage.first.infos w.marked.low_is.commit)
   low_commit = map_get (typed_commit stage.first.infos) stage.history.commits w.low w.marked.low_is.commit w.marked.low_is.stands

@@ -43,7 +43,7 @@ use Rattle.dbl_capture_model.proofs.Following.{lt, next, raw, sent, sent_all, to
 
 -- ---- where it stands
 
--- behind the commit, of which nothing was read before
+-- after the commit, of which nothing was read before
 module _ (entry : SessionStart) (stage : Stage) (m : Message) (commit : Commit) (new : Following) (followed : WasFollowed stage entry.now m commit new) (going : IsGoing entry stage) (parts : PartsHistory stage) where
   abbrev followed_stage : Stage
   followed_stage = followed_at stage entry.now m commit new
@@ -116,7 +116,7 @@ le_on a b c one two = omega (arith, one, two)
 le_lt : (a b c : ℕ) → a ≤ b → b < c → a ≤ c
 le_lt a b c le less = omega (arith, le, less)
 
--- the commits behind it rise
+-- the commits after it rise
 over_rest : (entry : SessionStart) (stage : Stage) (m : Message) (commit : Commit) (new : Following) (followed : WasFollowed stage entry.now m commit new) (going : IsGoing entry stage) (parts : PartsHistory stage)
     → AllByRecursion (λ c. commit.lsn.0 < c.lsn.0) (comes entry stage m commit new followed going parts).rest
 over_rest entry stage m commit new followed going parts =

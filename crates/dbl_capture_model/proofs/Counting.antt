@@ -1,4 +1,4 @@
--- How many marks a session writes.
+-- How many watermarks a session writes.
 use Rattle.std.proofs.Common.{◌≡◌, ◌∙◌, ◌+◌, ◌*◌, ◌≤◌, ◌<◌, ◌/◌, ℕ, zero, suc, Bool, true, false, cond, Some, List, [], ◌∷◌, ◌++◌, length, refl, sym, ap, subst, arith, append_assoc, length-append}
 use Rattle.std.specs.Prelude.{Contains, slice_get, slice_set, slice_index_or}
 use Rattle.std.specs.List.{AllByRecursion}
@@ -125,7 +125,7 @@ while_waits infos limit history cursors window = by window
     by (Armed chunk) waits = still_open chunk.plan.table waits.cursor waits.cursor_is waits.not_done
     by (Open chunk) waits = still_open chunk.plan.table waits.cursor waits.cursor_is waits.not_done
 
--- ---- marks
+-- ---- watermarks
 
 marks_append : (xs ys : List RawCommit) → marks_in (xs ++ ys) ≡ marks_in xs ++ marks_in ys
 marks_append [] ys = refl

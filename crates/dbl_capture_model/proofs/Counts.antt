@@ -1,4 +1,4 @@
--- How many windows were read, behind one commit more.
+-- How many windows were read, after one commit more.
 use Rattle.std.proofs.Common.{◌≡◌, ◌∙◌, ◌⊎◌, inl, inr, ◌+◌, ◌*◌, ◌≤◌, ℕ, zero, suc, Bool, true, false, cond, Option, Some, None, List, [], ◌∷◌, ◌++◌, length, map, refl, sym, ap, subst, arith, suc-mul, length-append}
 use Rattle.std.specs.Prelude.{if◌then◌else◌, nat_lt, slice_get, slice_set, bytes_eq}
 use Rattle.std.specs.List.{AllByRecursion, AllZip}
@@ -390,7 +390,7 @@ module _ (infos : List TableInfo) (limit number closed : ℕ) (entry history : H
         (subst (IsCounted infos limit number closed entry history window begun) (sym same_cursors) (waits_on infos limit number closed entry history old window begun cursors same waits counted));
   }
 
-  -- a mark that closes an open window, or doesn't
+  -- a watermark that closes an open window, or doesn't
   at_mark : (cursors : List Cursor) (chunk : Chunk) (b : Bool) → new.cursors ≡ cursors_after cursors (if b then Some chunk else None) → new.window ≡ (if b then Absent else Open chunk)
       → IsCounted infos limit number closed entry history (Open chunk) begun cursors → Goes (if b then Some chunk else None)
   at_mark cursors chunk true same_cursors same_window counted = record {

@@ -46,7 +46,7 @@ cursors_step infos old new commit now records same steps listed cursors = by (cl
 lower : (a b c : ℕ) → a ≤ b → b < c → a ≤ c
 lower a b c le lt = omega (arith, le, lt)
 
--- what was told stays told, by records that don't stand behind a later LSN
+-- what was told stays told, by records that aren't after a later LSN
 told_on : (identity : Identity) (records more : List Record) (low high : ℕ) → low < high → (info : TableInfo) (cursor : Cursor) → IsRightCursor identity records low info cursor → IsRightCursor identity (records ++ more) high info cursor
 told_on identity records more low high lt info cursor (inl unread) = inl unread
 told_on identity records more low high lt info cursor (inr told) =

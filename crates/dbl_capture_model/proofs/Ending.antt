@@ -87,7 +87,7 @@ offset_goes entry history new more first offset (Some old) same began is le late
   incarnation = inr (is.incarnation ∙ began.1);
 }
 
--- the position behind which it appends
+-- the position after which it appends
 pub appends_so : (entry : SessionStart) (history : History) (first offset : Offset) (old : Option Offset) → IsFirstOf entry history first old → IsOfSession first offset → appends_after old (Some offset) ≡ first.lsn.0
 appends_so entry history first offset None began is = ap (λ (l : Lsn). l.0) is.start ∙ sym (ap (λ (l : Lsn). l.0) began.1)
 appends_so entry history first offset (Some old) began is = sym (ap (λ (l : Lsn). l.0) began.0.lsn)
@@ -100,7 +100,7 @@ le_max_left a b c le = omega (arith, le)
 le_max_right : (a b c : ℕ) → a ≤ c → a ≤ max b c
 le_max_right a b c le = omega (arith, le)
 
--- No record lies behind the last commit that may have records in the log: so many commits may be repeated.
+-- No record is after the last commit that may have records in the log: so many commits may be repeated.
 pub lag_near : (history : History) (records : List Record) (offset : Offset) (before since later : List RawCommit) (far every entry_lag : ℕ)
     → history.commits ≡ before ++ (since ++ later) → AllByRecursion (λ commit. commit.lsn.0 ≤ offset.lsn.0) before → AllByRecursion (λ commit. far < commit.lsn.0) later → top_position records ≤ far → length since ≤ every
     → lag history records (Some offset) ≤ max every entry_lag
@@ -145,7 +145,7 @@ module _ (entry : SessionStart) (stage : Stage) (left : CrashState) (faithful : 
   fit_longer : IsFitHistory (longer stage.history may.more)
   fit_longer = subst IsFitHistory same may.fit
 
-  -- the log is caught up beside the history that is left
+  -- the log is delivered up to the commits before the history that is left
   up_left : HasDeliveredUpTo stage.first.identity stage.first.infos (typed stage.first.infos left.history) stage.first.start.0 (far_at entry stage) (placed.parts.old ++ read_at stage) (placed.parts.later ++ new entry stage may.more fit_longer) 0 (records_of_stage stage)
   up_left =
       subst (λ (h : History). HasDeliveredUpTo stage.first.identity stage.first.infos (typed stage.first.infos h) stage.first.start.0 (far_at entry stage) (placed.parts.old ++ read_at stage) (placed.parts.later ++ new entry stage may.more fit_longer) 0 (records_of_stage stage)) (sym same)
@@ -159,7 +159,7 @@ module _ (entry : SessionStart) (stage : Stage) (left : CrashState) (faithful : 
       confirmed_so left.history stage.confirmed left.confirmed (records_of_stage stage) offset le
       (subst (λ (h : History). IsOffsetOf h stage.confirmed (records_of_stage stage) offset) (sym same) (offset_longer entry stage may.more fit_longer placed.parts may.marks placed.position offset is of))
 
-  -- what is appended, behind where the session began
+  -- what is appended, after where the session began
   abbrev adds_at : (offset : Offset) → IsOfSession stage.first offset → Adds (appends_after entry.offset (Some offset)) (joined entry.groups) (records_of_stage stage)
   adds_at offset is = record {
     more = kept.adds.more;

@@ -67,7 +67,7 @@ clear_prints identity infos commit now n in_range clear = clear_from identity co
 
 -- ---- where they stand
 
--- the records of a snapshot stand at its mark
+-- the records of a snapshot stand at its watermark
 pub snapshot_run : (identity : Identity) (infos : List TableInfo) (closed : Closed) (mark : Commit) (now : ℤ) (records : List Record) → IsSnapshot identity infos closed mark now records → IsRun mark.lsn.0 records
 snapshot_run identity infos closed mark now records listed =
     subst (IsRun mark.lsn.0) (sym (listed.records_are ∙ ap (λ (o : Option TableInfo). unwrap_or (option_map (λ i. chunk_records identity i closed.rows closed.through closed.done mark now) o) []) listed.captured))

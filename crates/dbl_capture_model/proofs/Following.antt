@@ -1,4 +1,4 @@
--- A session that follows a commit: what its sink may have of it, and what it keeps behind it.
+-- A session that follows a commit: what its sink may have of it, and what it keeps after it.
 use Rattle.std.proofs.Common.{◌≡◌, ◌∙◌, ◌⊎◌, ◌≤◌, ◌<◌, ℕ, max, Option, Some, None, List, ◌∷◌, ◌++◌, length, map, take, refl, sym, ap, subst, arith, append_assoc}
 use Rattle.std.specs.List.{AllByRecursion}
 use Rattle.std.proofs.lemmas.List.{length-map}
@@ -83,7 +83,7 @@ module _ (entry : SessionStart) (stage : Stage) (m : Message) (commit : Commit) 
   pub over_rest : AllByRecursion (λ c. commit.lsn.0 < c.lsn.0) next.rest
   over_rest = all_above commit.lsn.0 next.rest (rising_behind 0 before commit next.rest (subst (λ (l : List Commit). AreRising 0 (lsns l)) spelled up.fit.rise))
 
-  -- the history has it behind the commits that were followed
+  -- the history has it after the commits that were followed
   pub raw : RawNext kept.near.later commit.lsn.0
   raw =
       raw_next stage.first.infos stage.lsn.0 (kept.near.before ++ kept.near.since) kept.near.later before commit next.rest

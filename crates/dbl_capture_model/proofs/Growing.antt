@@ -48,7 +48,7 @@ first_longer entry history more first None is = (
 )
 first_longer entry history more first (Some old) is = is
 
--- what is confirmed may change, as long as it isn't behind the LSN
+-- what is confirmed may change, as long as it isn't after the LSN
 pub confirmed_so : (history : History) (confirmed other : Lsn) (records : List Record) (offset : Offset) → other.0 ≤ offset.lsn.0 → IsOffsetOf history confirmed records offset → IsOffsetOf history other records offset
 confirmed_so history confirmed other records offset le is = record {
   start = is.start;

@@ -27,7 +27,7 @@ use Rattle.dbl_capture_model.specs.Marked.{IsMarkAt, AreOwnMarks, IsAwaited, IsS
 use Rattle.dbl_capture_model.specs.Counted.{WasRead, IsOnTable, IsWaiting, IsCounted}
 use Rattle.dbl_capture_model.proofs.Counts.{come_stays}
 
--- a mark stands at one of the commits that there are
+-- a watermark stands at one of the commits that there are
 place_lt : {X : Type 0} (xs : List X) (k : ℕ) (x : X) → slice_get xs k ≡ Some x → k < length xs
 place_lt [] k x at = cc
 place_lt (y ∷ xs) zero x at = omega arith
@@ -36,7 +36,7 @@ place_lt (y ∷ xs) (suc k) x at = let lt : k < length xs = place_lt xs k x at i
 pub mark_lt : (history : History) (value : List ℕ) (place : ℕ) → IsMarkAt history value place → place < length history.commits
 mark_lt history value place mark = place_lt history.commits place mark.commit mark.stands
 
--- commits of others are no marks of the session's, nor of anybody's
+-- commits of others are no watermarks of the session's, nor of anybody's
 pub others_marked : (greatest : ℕ) (commits : List RawCommit) → AreOthers commits → AllByRecursion (λ commit. IsMarkedBy greatest commit.body) commits
 others_marked greatest commits others = all_weaker (λ (c : RawCommit). HasChanges c.body) (λ (c : RawCommit). IsMarkedBy greatest c.body) commits (λ c has. by c.body has) others
   where
@@ -56,7 +56,7 @@ module _ (old new : History) (g : Grows old new) where
     is_mark = mark.is_mark;
   }
 
-  -- no commit that came is a mark
+  -- no commit that came is a watermark
   pub stood_was : (value : List ℕ) (place : ℕ) (commit : RawCommit) → slice_get new.commits place ≡ Some commit → commit.body ≡ Mark value → slice_get old.commits place ≡ Some commit
   stood_was value place commit at is = elim (at_cases old.commits g.others place commit (sym (ap (λ (l : List RawCommit). slice_get l place) g.commits) ∙ at)) [
     | inl there ↦ there
@@ -79,7 +79,7 @@ module _ (old new : History) (g : Grows old new) where
   below : (a b : ℕ) → a < b → a ≤ b
   below a b lt = omega (arith, lt)
 
-  -- ---- a window between its marks
+  -- ---- a window between its watermarks
 
   pub awaited_stays : (read : ℕ) (window : Window) → IsAwaited old read window → IsAwaited new read window
   awaited_stays read Absent is = tt

@@ -1,4 +1,4 @@
--- A commit that is followed: its records, all of them or some first ones, behind those that were put.
+-- A commit that is followed: its records, all of them or some first ones, after those that were put.
 use Rattle.std.proofs.Common.{◌≡◌, ◌∙◌, ◌+◌, ◌≤◌, ◌<◌, ℕ, zero, suc, ℤ, max, Option, Some, None, List, [], ◌∷◌, ◌++◌, length, take, drop, refl, sym, ap, subst, arith, append_assoc}
 use Rattle.std.specs.List.{AllByRecursion, AllZip}
 use Rattle.dbl_pgmsg.specs.declared.messages.Message.{Message}
@@ -112,7 +112,7 @@ module _ (entry : SessionStart) (stage : Stage) (parts : PartsHistory stage) (ke
       (all_weaker (λ (item : Record). item.position ≤ stage.lsn.0) (λ (item : Record). item.position ≤ commit.lsn.0) kept.adds.more (λ item le. less_le item.position stage.lsn.0 commit.lsn.0 le lt) kept.within)
       (all_weaker (λ (item : Record). item.position ≡ commit.lsn.0) (λ (item : Record). item.position ≤ commit.lsn.0) (take n records) (λ item is. equal_le item.position commit.lsn.0 is) at_commit)
 
--- ---- a log that is caught up
+-- ---- a log that is delivered up to some commits
 
 -- no record lies further
 pub far_on : (stage : Stage) (far other : ℕ) (before later : List Commit) (sent : ℕ) (records : List Record) → far ≤ other

@@ -73,7 +73,7 @@ parts_of entry history first fit = record {
   order = le_refl first.lsn.0;
 }
 
--- ---- no mark is its own yet
+-- ---- no watermark is its own yet
 
 too_late : (a b c : ℕ) → a ≤ b → c ≡ b + 1 → c ≡ a → ⊥
 too_late a b c le is same = omega (arith, le, is, same)
@@ -81,7 +81,7 @@ too_late a b c le is same = omega (arith, le, is, same)
 below : (a b c d : ℕ) → a ≤ b → c ≡ b + 1 → c < d → a < d
 below a b c d le is lt = omega (arith, le, is, lt)
 
--- marks up to an incarnation are none of the next one's
+-- watermarks up to an incarnation are none of the next one's
 not_own : (greatest incarnation n : ℕ) (side : Side) (body : RawBody) → incarnation ≡ greatest + 1 → incarnation < 2 ^ 64 → n < 2 ^ 64 → IsMarkedBy greatest body → body ≡ raw.Mark (mark_text incarnation n side) → ⊥
 not_own greatest incarnation n side (raw.Changes changes) later small number by is = cc
 not_own greatest incarnation n side (raw.Mark value) later small number by is =
@@ -93,7 +93,7 @@ no_mark_own : (incarnation n : ℕ) (side : Side) (body : RawBody) → HasNoMark
 no_mark_own incarnation n side (raw.Changes changes) none is = cc
 no_mark_own incarnation n side (raw.Mark value) none is = absurd none
 
--- each mark of the history is an earlier session's
+-- each watermark of the history is an earlier session's
 pub earlier_marks : (entry : SessionStart) (history : History) (first : Offset) (old : Option Offset) → Grows entry.history history → first.incarnation < 2 ^ 64 → IsFirstOf entry history first old → IsFaithful entry.history entry.confirmed (joined entry.groups) old
     → (place n : ℕ) (side : Side) (commit : RawCommit) → n < 2 ^ 64 → slice_get history.commits place ≡ Some commit → commit.body ≡ raw.Mark (mark_text first.incarnation n side) → ⊥
 earlier_marks entry history first None grows small began is place n side commit less at mark =

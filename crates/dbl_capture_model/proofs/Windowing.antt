@@ -28,7 +28,7 @@ use Rattle.dbl_follow.specs.declared.window.Window.TheVariants.{Absent, Armed, O
 use Rattle.dbl_follow.specs.Steps.{Becomes}
 use Rattle.dbl_capture_model.specs.Marked.{IsMarkAt, AreOwnMarks, IsAwaited, IsArmedBefore, IsOpenBefore, IsArmedAt, IsOpenAt, IsWindowAt, IsOwnWindow}
 
--- a body that is read as a mark is one
+-- a body that is read as a watermark is one
 pub raw_mark : (infos : List TableInfo) (body : RawBody) (value : List ℕ) → typed_body infos body ≡ Mark value → body ≡ raw.Mark value
 raw_mark infos (raw.Changes changes) value is = cc
 raw_mark infos (raw.Mark v) value is = let same : v ≡ value = cc in ap (λ (l : List ℕ). raw.Mark l) same
@@ -52,7 +52,7 @@ same_text : (value text : List ℕ) → value ≡ text → bytes_eq value text �
 same_text value text same = (bytes_eq-Decides value text).1 same
 
 module _ (infos : List TableInfo) (history : History) (read : ℕ) (c : RawCommit) (commit : Commit) (at : slice_get history.commits read ≡ Some c) (commit_is : commit ≡ typed_commit infos c) where
-  -- where a mark stands at this place, the commit is it
+  -- where a watermark stands at this place, the commit is it
   here_marked : (value : List ℕ) (place : ℕ) → IsMarkAt history value place → read ≡ place → commit.body ≡ Mark value
   here_marked value place mark same =
       let one : c ≡ mark.commit = first_some c mark.commit (sym at ∙ (ap (λ (n : ℕ). slice_get history.commits n) same ∙ mark.stands)) in
@@ -93,7 +93,7 @@ module _ (infos : List TableInfo) (history : History) (read : ℕ) (c : RawCommi
       by true same = tt
       by false other = open_on chunk is (not_text value (high_text chunk.plan) is.high is.high_is body other)
 
-  -- ---- a window between its marks
+  -- ---- a window between its watermarks
 
   typed_at : slice_get (typed infos history) read ≡ Some commit
   typed_at = map_get (typed_commit infos) history.commits read c at ∙ ap (λ (x : Commit). Some x) (sym commit_is)
@@ -122,7 +122,7 @@ module _ (infos : List TableInfo) (history : History) (read : ℕ) (c : RawCommi
     armed_at_on : (chunk : Chunk) → (is : IsArmedAt infos history read chunk) → (read ≡ is.low → ⊥) → IsArmedAt infos history (read + 1) chunk
     armed_at_on chunk is other = record { low = is.low; high = is.high; marked = is.marked; not_yet = next_le read is.low is.not_yet other }
 
-    -- its low mark opens it, with all rows that were selected
+    -- its low watermark opens it, with all rows that were selected
     opened_at : (chunk : Chunk) → (is : IsArmedAt infos history read chunk) → read ≡ is.low → IsOpenAt infos history (read + 1) chunk
     opened_at chunk is same = record {
       low = is.low;
@@ -170,7 +170,7 @@ module _ (infos : List TableInfo) (history : History) (read : ℕ) (c : RawCommi
     low_text_is : (chunk : Chunk) → (chunk.plan.incarnation ≡ incarnation) × (chunk.plan.number ≡ number) → low_text chunk.plan ≡ mark_text incarnation number Low
     low_text_is chunk of = ap₂ (λ (i n : ℕ). mark_text i n Low) of.0 of.1
 
-    -- of this session the low mark's text stands once
+    -- of this session the low watermark's text stands once
     low_here : (chunk : Chunk) → (of : (chunk.plan.incarnation ≡ incarnation) × (chunk.plan.number ≡ number)) → (is : IsArmedAt infos history read chunk) → commit.body ≡ Mark (low_text chunk.plan) → read ≡ is.low
     low_here chunk of is body =
         own.once read is.low number Low c is.marked.low_is.commit small at is.marked.low_is.stands

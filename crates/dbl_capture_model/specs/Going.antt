@@ -16,7 +16,8 @@ use Rattle.dbl_faithful.specs.Lag.{IsUnread, IsOffsetOf}
 use Rattle.dbl_faithful.specs.Kept.{HasGrown, IsTakenOver}
 use Rattle.dbl_faithful.specs.Onward.{IsFirstOffset, IsLaterCursor, Adds}
 use Rattle.dbl_capture_model.specs.Entries.{SessionStart, StoodInLog, WasFaithful}
-use Rattle.dbl_capture_model.specs.Stages.{Stage, records_of_stage, next_offset, commits_at, read_at, PartsHistory, IsOfSession, later_count, far_at}
+use Rattle.dbl_capture_model.specs.Stages.{Stage, records_of_stage, next_offset, commits_at}
+use Rattle.dbl_capture_model.specs.Stages.{read_at, PartsHistory, IsOfSession, later_count, far_at}
 use Rattle.dbl_capture_model.specs.Marked.{AreOwnMarks, IsAwaited, IsWindowAt, IsOwnWindow}
 use Rattle.dbl_capture_model.specs.Counted.{IsCounted}
 use Rattle.dbl_capture_model.specs.Reports.{ReportsWindowsOnce}
@@ -86,7 +87,8 @@ pub record IsNear (entry : SessionStart) (stage : Stage) : Type 0 where
   pub many : length since ≡ stage.since
   pub over : AllByRecursion (λ commit. stage.lsn.0 < commit.lsn.0) later
   pub few : stage.since ≤ entry.config.every
-  pub top : (top_position (records_of_stage stage) ≤ stage.lsn.0) ⊎ (top_position (records_of_stage stage) ≡ top_position (joined entry.groups))
+  pub top : (top_position (records_of_stage stage) ≤ stage.lsn.0)
+      ⊎ (top_position (records_of_stage stage) ≡ top_position (joined entry.groups))
 
 -- The topic log has all records of the commits that were followed; the stored offset and the next one agree with it; the appended records
 -- are above where the session began, in batches. Nobody else wrote the texts of its watermarks, so that its window saw the changes between

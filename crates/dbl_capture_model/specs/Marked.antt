@@ -25,7 +25,8 @@ pub record AreOwnMarks (incarnation number begun : ℕ) (history : History) : Ty
   pub numbered : (place n : ℕ) (side : Side) (commit : RawCommit) → n < 2 ^ 64 → slice_get history.commits place ≡ Some commit
       → commit.body ≡ Mark (mark_text incarnation n side) → (n ≤ number) × (begun < commit.lsn.0)
   pub once : (place other n : ℕ) (side : Side) (one two : RawCommit) → n < 2 ^ 64 → slice_get history.commits place ≡ Some one
-      → slice_get history.commits other ≡ Some two → one.body ≡ Mark (mark_text incarnation n side) → two.body ≡ Mark (mark_text incarnation n side)
+      → slice_get history.commits other ≡ Some two → one.body ≡ Mark (mark_text incarnation n side)
+      → two.body ≡ Mark (mark_text incarnation n side)
       → place ≡ other
 
 -- ---- the window

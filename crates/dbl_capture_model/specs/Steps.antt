@@ -54,7 +54,8 @@ following_of offset = record { identity = offset.identity; infos = offset.infos;
 -- The invariant is true after the first store, while only others have committed.
 abbrev pub SessionsBegin : Type 0
 SessionsBegin = (entry : SessionStart) (history : History) (first : Offset)
-    → 1 ≤ entry.config.every → first.incarnation < 2 ^ 64 → Grows entry.history history → IsFitHistory entry.history → IsFitHistory history → AreInfosOf history first.infos
+    → 1 ≤ entry.config.every → first.incarnation < 2 ^ 64 → Grows entry.history history → IsFitHistory entry.history → IsFitHistory history
+    → AreInfosOf history first.infos
     → AreCursorsOf first.infos first.cursors → BeganWith entry history first
     → IsGoing entry (begun_at entry history first (following_of first))
 

@@ -1,7 +1,9 @@
 //! What a session may leave: theorems, as contracts of empty functions.
 
-ghost use Rattle.dbl_capture_model.specs.Exits.{UnreadSessionsFollow, FirstOffsetsFollow, SourcesMayEnd, SinksMayEnd};
-ghost use Rattle.dbl_capture_model.specs.Exits.{StoresMayEnd, FewMarksAreWritten, WindowsAreRead, ReadSessionsAreComplete};
+ghost use Rattle.dbl_capture_model.specs.Exits.{UnreadSessionsFollow, FirstOffsetsFollow};
+ghost use Rattle.dbl_capture_model.specs.Exits.{SourcesMayEnd, SinksMayEnd, StoresMayEnd};
+ghost use Rattle.dbl_capture_model.specs.Exits.{FewMarksAreWritten, WindowsAreRead};
+ghost use Rattle.dbl_capture_model.specs.Exits.{ReadSessionsAreComplete};
 
 /// A stop before the first store leaves faithful stores.
 pub fn unread_sessions_follow()

@@ -1,7 +1,8 @@
 //! The steps of a session keep its invariant: theorems, as contracts of empty functions.
 
-ghost use Rattle.dbl_capture_model.specs.Steps.{SessionsBegin, OthersKeepGoing, ConfirmsKeepGoing, MessagesKeepGoing};
-ghost use Rattle.dbl_capture_model.specs.Steps.{WindowsKeepGoing, CommitsKeepGoing, StoresKeepGoing};
+ghost use Rattle.dbl_capture_model.specs.Steps.{SessionsBegin, OthersKeepGoing, ConfirmsKeepGoing};
+ghost use Rattle.dbl_capture_model.specs.Steps.{MessagesKeepGoing, WindowsKeepGoing};
+ghost use Rattle.dbl_capture_model.specs.Steps.{CommitsKeepGoing, StoresKeepGoing};
 
 /// A session's invariant is true when it begins.
 pub fn sessions_begin()

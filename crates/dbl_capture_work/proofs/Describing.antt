@@ -222,7 +222,7 @@ infos_described old new infos same distinct described = record {
 
 -- ---- one table more
 
--- the names that were gone through, the one that is at hand, and those behind it
+-- the names that were gone through, the current one, and those after it
 pub names_parted : (names : List TableName) (i : ℕ) (name : TableName) → i < length names → name ≡ get_or names i name → names ≡ take i names ++ name ∷ drop (suc i) names
 names_parted names i name within is =
     sym (take-append-drop i names)
@@ -252,14 +252,14 @@ moved_none s rising = record {
 pub described_more : (s mid : SourceState) (infos : List TableInfo) (info : TableInfo) → Moved s mid → AreInfosAt s.history infos → IsInfoAt mid.history info → AreInfosAt s.history (infos ++ info ∷ [])
 described_more s mid infos info moved described at = described_push s.history infos info described (info_before s.history mid.history info moved.grows.tables at)
 
--- the first table at fault behind those that were described
+-- the first invalid table after those that were described
 pub absent_next : (s mid : SourceState) (infos : List TableInfo) (names : List TableName) (i : ℕ) (name : TableName) (h : Halt) → i < length names → name ≡ get_or names i name → Moved s mid → AreInfosAt s.history infos
     → map (λ (x : TableInfo). x.name) infos ≡ take i names → IsAbsentHalt (name ∷ []) mid.history h → IsAbsentHalt names s.history h
 absent_next s mid infos names i name h within is moved described so_far absent =
     absent_of s.history mid.history names (take i names) (drop (suc i) names) name h moved.grows.tables (names_parted names i name within is)
     (subst (AllByRecursion (CanBeCaptured s.history)) so_far (captured_named s.history infos described)) absent
 
--- the head that stood at one place of a call behind another stood there between both
+-- the head that stood at one place of a call after another stood there between both
 pub head_from : (lsn : Lsn) (s mid t : SourceState) → Moved s mid → IsHead lsn mid t → IsHead lsn s t
 head_from lsn s mid t moved head = record {
   place = head.place;

@@ -1,4 +1,4 @@
--- What is known where a call of a device answered an error, and where two calls stand one behind the other.
+-- What is known where a call of a device answered an error, and where two calls stand one after the other.
 use Rattle.std.proofs.Common.{◌≡◌, ◌∙◌, ◌⊎◌, inl, inr, ◌+◌, ◌-◌, ◌^◌, ◌≤◌, ◌<◌, ℕ, Bool, true, false, Option, Some, None, List, [], length, refl, sym, ap, arith, IsTrue}
 use Rattle.std.specs.Prelude.{min, Result, Ok, Err, IfOk}
 use Rattle.dbl_base.specs.Streams.{FaultCounted}
@@ -38,13 +38,13 @@ offset_kinds o (offset.BadOffset index) long = inr (inl refl)
 offset_kinds o (offset.TooLong len) long = let so = long len refl in inr (inr (record { long = so.0; is = ap (λ (n : ℕ). halt.OffsetTooLong n) so.1 }))
 offset_kinds o offset.Memory long = inl refl
 
--- ---- a source that can't be used stands for nothing
+-- ---- a source that can't be used represents nothing
 
 pub dead_source : (b : Bool) → IsTrue b → b ≡ false → ⊥
 dead_source true live dead = cc
 dead_source false live dead = cc
 
--- ---- one call behind another
+-- ---- one call after another
 
 pub moved_on : (s mid t : SourceState) → Moved s mid → Moved mid t → Moved s t
 moved_on s mid t one two = record {
@@ -71,7 +71,7 @@ later_on a b c one two = omega (arith, one, two)
 raised_on : (most a b c : ℕ) → a ≤ b → min (b + 1) most ≤ c → min (a + 1) most ≤ c
 raised_on most a b c le rose = omega (arith, le, rose)
 
--- a count that rose behind a call rose
+-- a count that rose after a call rose
 pub rose_behind : (a b c : ℕ) → a ≤ b → FaultCounted b c → FaultCounted a c
 rose_behind a b c le rose = raised_on (2 ^ 64 - 1) a b c le rose
 

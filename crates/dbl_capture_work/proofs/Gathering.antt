@@ -97,7 +97,7 @@ begins_elsewhere items before last item is differ =
     or_all (stands_elsewhere items item) (nat_lt 1000 (length items + 1)) (nat_lt 16777216 (length (group_form (items ++ item ∷ []))))
     (ap (λ (l : List Record). stands_elsewhere l item) is ∙ (elsewhere_last before last item ∙ not_same last.position item.position (λ same. differ (sym same))))
 
--- behind 1,000 records
+-- after 1,000 records
 pub begins_at_many : (items : List Record) (item : Record) → 1000 ≤ length items → begins_batch items item ≡ true
 unfolding begins_batch
 begins_at_many items item many =

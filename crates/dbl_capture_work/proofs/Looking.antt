@@ -22,7 +22,7 @@ use Rattle.dbl_capture_work.specs.Works.{IsChunkOf}
 
 -- ---- what was done
 
--- the rows were read, and the high mark was written
+-- the rows were read, and the high watermark was written
 pub was_looked : (honest before : Type 0) (plan : Plan) (held armed : Chunk) (s mid t : SourceState) → (honest → before) → armed ≡ held → held.plan ≡ plan → Moved s mid
     → (before → SelectsChunk plan held s mid) → IsMarked (high_text held.plan) mid t → WasLooked honest plan armed s t
 was_looked honest before plan held armed s mid t back same planned moved selects marked = record {
@@ -34,7 +34,7 @@ was_looked honest before plan held armed s mid t back same planned moved selects
   reading = marked.reading ∙ moved.reading;
 }
 
--- behind the low mark
+-- after the low watermark
 pub was_windowed : (honest : Type 0) (idle marked : Plan) (armed : Chunk) (s mid t : SourceState) → marked ≡ idle → IsMarked (low_text idle) s mid → WasLooked honest marked armed mid t → WasWindowed honest idle armed s t
 was_windowed honest idle marked armed s mid t same low looked = record {
   marked = mid.history;
@@ -83,7 +83,7 @@ others_left values s left may = record {
   confirmed = may.confirmed;
 }
 
--- one mark is there
+-- one watermark is there
 marks_one : (value : List ℕ) (old new : History) (m : Marks value old new) → marks_in (m.before ++ m.mark ∷ m.after) ≡ value ∷ []
 marks_one value old new m =
     marks_append m.before (m.mark ∷ m.after)
@@ -105,7 +105,7 @@ mark_left value rest s left (inr may) = by may.history
       confirmed = may.confirmed;
     }
 
--- it goes on behind others' commits
+-- it goes on after others' commits
 pub moved_left : (values : List (List ℕ)) (s mid : SourceState) (left : CrashState) → Moved s mid → MayHaveMarks values mid left → MayHaveMarks values s left
 moved_left values s mid left moved may = record {
   more = moved.grows.others ++ may.more;
@@ -118,7 +118,7 @@ moved_left values s mid left moved may = record {
   confirmed = may.confirmed ∙ moved.confirmed;
 }
 
--- and behind a mark
+-- and after a watermark
 pub marked_left : (value : List ℕ) (rest : List (List ℕ)) (s mid : SourceState) (left : CrashState) → IsMarked value s mid → MayHaveMarks rest mid left → MayHaveMarks (value ∷ rest) s left
 marked_left value rest s mid left marked may = record {
   more = (marked.marks.before ++ marked.marks.mark ∷ marked.marks.after) ++ may.more;

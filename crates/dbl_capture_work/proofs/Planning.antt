@@ -26,7 +26,7 @@ as_many_cursors [] (c ∷ cursors) are = absurd are
 as_many_cursors (info ∷ infos) [] are = absurd are
 as_many_cursors (info ∷ infos) (c ∷ cursors) are = ap suc (as_many_cursors infos cursors are.1)
 
--- the key behind which a table's snapshot has come is of the table's key types
+-- the key after which a table's snapshot has come is of the table's key types
 pub cursor_key : (infos : List TableInfo) (cursors : List Cursor) (table : ℕ) (info : TableInfo) (cursor : Cursor) → AreCursorsOf infos cursors → slice_get infos table ≡ Some info → slice_get cursors table ≡ Some cursor
     → IfSome cursor.last (IsKeyOf info)
 cursor_key infos cursors table info cursor are here at =

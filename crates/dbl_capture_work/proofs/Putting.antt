@@ -1,4 +1,4 @@
--- Where the puts of a commit's records stand: some groups of the cut were put, one is gathered, and the rest comes behind it.
+-- Where the puts of a commit's records stand: some groups of the cut were put, one is gathered, and the rest comes after it.
 use Rattle.std.proofs.Common.{◌≡◌, ◌∙◌, ◌⊎◌, inl, inr, ◌+◌, ◌-◌, ◌^◌, ◌≤◌, ◌<◌, ℕ, zero, suc, Bool, true, false, cond, Some, List, [], ◌∷◌, ◌++◌, length, take, refl, sym, ap, subst, arith, append_assoc, append-nil, length-append, add-zero, le_refl}
 use Rattle.std.specs.Prelude.{if◌then◌else◌, flat_map, slice_get}
 use Rattle.std.specs.List.{AllByRecursion}
@@ -324,7 +324,7 @@ shorts_alone : (groups : List (List Record)) → AllByRecursion IsShortGroup gro
 shorts_alone [] short = tt
 shorts_alone (group ∷ groups) short = all_join (λ (other : Record). length (group_form (other ∷ [])) ≤ 2 ^ 28) group (joined groups) (short_alone group short.0.short) (shorts_alone groups short.1)
 
--- it is of one record, the first that is too long, and stands behind those that were put
+-- it is of one record, the first that is too long, and is after those that were put
 pub long_at : (records : List Record) (put : List (List Record)) (group : List Record) (h : Halt) → IsNextGroup records put group → AllByRecursion IsShortGroup put → 2 ^ 28 < length (group_form group) → h ≡ halt.RecordTooLong (told_length group)
     → (long : IsLongRecord records h) × (long.place ≡ length (joined put))
 long_at records put group h n short long is = by (next_handful records put group n).small

@@ -128,7 +128,7 @@ lasts_by f commit now = by (closing f.window (mark_of commit))
 no_changes : (commit : Commit) (value : List ℕ) → commit.body ≡ Mark value → changes_of commit ≡ []
 no_changes commit value body = ap (λ (b : Body). elim b [ Changes changes ↦ changes | Mark value ↦ [] ]) body
 
--- a mark alone gives no records
+-- a watermark alone gives no records
 no_records : (identity : Identity) (infos : List TableInfo) (commit : Commit) (now : ℤ) (value : List ℕ) → commit.body ≡ Mark value → envelopes identity infos commit now ≡ []
 no_records identity infos commit now value body =
     ap (λ (l : List Change). map (print identity commit now) (numbered commit.lsn.0 0 (flat_map (notices infos) l))) (no_changes commit value body)
@@ -172,7 +172,7 @@ zero_of n m same is = omega (arith, same, is)
 some_of : (n m : ℕ) → n ≡ m → 1 ≤ m → 1 ≤ n
 some_of n m same le = omega (arith, same, le)
 
--- a mark closes a window where it gives records
+-- a watermark closes a window where it gives records
 pub closes_mark : (work : SessionState) (commit : Commit) (items : List Record) (closed empty : Bool) (count : ℕ) → HasSnapshotRecords commit work → items ≡ records_by work.follower commit work.now_ms → is_some (mark_of commit) ≡ true
     → closed ≡ not empty → empty ≡ (count == 0) → count ≡ length items → closed ≡ is_some (closing work.follower.window (mark_of commit))
 closes_mark work commit items closed empty count listed are mark closed_is empty_is many = by (is_some (closing work.follower.window (mark_of commit))) refl
@@ -193,7 +193,7 @@ none_by_changes work commit none = by (mark_of commit) none
     by None none = ap (λ (c : Option Chunk). is_some c) (closing-None work.follower.window)
     by (Some value) none = cc
 
--- ---- what a report has behind a step
+-- ---- what a report has after a step
 
 none_more : (n : ℕ) → n ≡ n + 0
 none_more n = omega arith

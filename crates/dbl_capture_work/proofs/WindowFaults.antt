@@ -31,12 +31,12 @@ pub mark_fault : (plan : Plan) (told : Option Trace) (e : WindowError) → (e �
 mark_fault plan told e (inl failed) = inr (inl failed)
 mark_fault plan told e (inr memory) = inl memory
 
--- a mark has no row that could be at fault
+-- a watermark has no row that could be invalid
 pub mark_honest : (plan : Plan) (stands : SourceState → Type 0) (infos : List TableInfo) (e : WindowError) → (e ≡ window.Failed) ⊎ (e ≡ window.Memory) → IsHonestFault plan stands infos e
 mark_honest plan stands infos e (inl failed) = subst (IsHonestFault plan stands infos) (sym failed) tt
 mark_honest plan stands infos e (inr memory) = subst (IsHonestFault plan stands infos) (sym memory) tt
 
--- of an honest source no row is bad, and the history has a cell that isn't readable
+-- of a conforming source no row is bad, and the history has a cell that isn't readable
 pub select_honest : {S : Type 0} (stands : S → SourceState → Type 0) (src : S) (plan : Plan) (infos : List TableInfo) (e : WindowError) → ((row : ℕ) → e ≡ window.BadChunk row → ⊥)
     → ((name : List ℕ) (error : ValueError) → e ≡ window.Cell name error → HasState stands src (λ t. HasUnreadable infos t.history plan name error)) → IsHonestFault plan (stands src) infos e
 select_honest stands src plan infos (window.BadChunk row) never cell = never row refl

@@ -67,7 +67,8 @@ pub record IsFirstAtFault (names : List TableName) (history : History) (name : T
 abbrev pub IsAbsentHalt : List TableName → History → Halt → Type 0
 IsAbsentHalt names history (halt.UnknownTable name) = IsFirstAtFault names history name × (entry_of history name ≡ None)
 IsAbsentHalt names history (halt.Model error) =
-    (name : TableName) × (raw : RawTable) × IsFirstAtFault names history name × (entry_of history name ≡ Some raw) × (table_fault raw ≡ Some error)
+    (name : TableName) × (raw : RawTable) × IsFirstAtFault names history name × (entry_of history name ≡ Some raw)
+    × (table_fault raw ≡ Some error)
 IsAbsentHalt names history h = Unit {0}
 
 -- The table that the source described last, if known, can be captured.
@@ -107,7 +108,8 @@ IsExhausted (Some stored) h = (2 ^ 63 ≤ stored.incarnation) × (h ≡ halt.Exh
 
 -- The offset that a session stores first: the stored one with the next incarnation, or else one of the configured tables with nothing read.
 abbrev pub IsOffsetFor : Config → Option Offset → Offset → Type 0
-IsOffsetFor config None offset = (offset.identity ≡ config.identity) × (map (λ info. info.name) offset.infos ≡ config.tables) × (offset.incarnation ≡ 1)
+IsOffsetFor config None offset = (offset.identity ≡ config.identity) × (map (λ info. info.name) offset.infos ≡ config.tables)
+    × (offset.incarnation ≡ 1)
     × (offset.lsn ≡ offset.start) × (offset.end_lsn ≡ offset.start) × AreUnread (length offset.infos) offset.cursors
 IsOffsetFor config (Some stored) offset = offset ≡ record stored { incarnation = stored.incarnation + 1 }
 

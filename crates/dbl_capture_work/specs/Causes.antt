@@ -45,7 +45,8 @@ pub record IsChunkHalt (work : SessionState) (table : ℕ) (told : Option Trace)
   pub info_is : slice_get work.offset.infos table ≡ Some info
   pub plan : Plan
   pub plan_is : plan_at work table ≡ Some plan
-  pub cause : (h ≡ halt.Memory) ⊎ ((h ≡ halt.Source) ⊎ ((error : WindowError) × (h ≡ window_halt info.name error) × IsOfRows plan told error))
+  pub cause : (h ≡ halt.Memory)
+      ⊎ ((h ≡ halt.Source) ⊎ ((error : WindowError) × (h ≡ window_halt info.name error) × IsOfRows plan told error))
 
 -- ---- records
 

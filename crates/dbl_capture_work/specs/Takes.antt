@@ -55,7 +55,8 @@ pub record IsTxnHalt (number : ℕ) (after : Lsn) (ms : List Message) (bytes : L
 -- The records of the window that the commit closes, if any, are those of its snapshot.
 abbrev pub HasSnapshotRecords : Commit → SessionState → Type 0
 HasSnapshotRecords commit work = (chunk : Chunk) → closing work.follower.window (mark_of commit) ≡ Some chunk
-    → IsSnapshot work.follower.identity work.follower.infos (closed_of chunk) commit work.now_ms (records_by work.follower commit work.now_ms)
+    → IsSnapshot work.follower.identity work.follower.infos (closed_of chunk) commit work.now_ms
+    (records_by work.follower commit work.now_ms)
 
 -- The follower made this step, and the session's offset is at the commit.
 pub record WasStepped (commit : Commit) (old new : SessionState) : Type 0 where

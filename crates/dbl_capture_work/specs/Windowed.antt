@@ -27,7 +27,8 @@ pub record WasWindowed (honest : Type 0) (plan : Plan) (chunk : Chunk) (s t : So
   pub looked : WasLooked honest plan chunk (record s { history = marked }) t
 
 -- The session waits for a window that was read from the source between its watermarks.
-pub record HasReadWindow {S : Type 0} (honest : Type 0) (stands : S → SourceState → Type 0) (table : ℕ) (old new : SessionState) (s : SourceState) (src : S) : Type 0 where
+pub record HasReadWindow {S : Type 0} (honest : Type 0) (stands : S → SourceState → Type 0) (table : ℕ) (old new : SessionState)
+    (s : SourceState) (src : S) : Type 0 where
   pub armed : IsArmedWork table old new
   pub stood : HasState stands src (λ t. WasWindowed honest armed.chunk.plan armed.chunk s t)
 

@@ -60,7 +60,8 @@ AreShort records = AllByRecursion (λ item. length (group_form (item ∷ [])) �
 
 -- The records of the commit's changes have no value equal to the placeholder, and none is too long.
 abbrev pub CouldBeSent : Identity → List TableInfo → ℤ → Commit → Body → Type 0
-CouldBeSent identity infos now commit (Changes changes) = (clash_of identity infos commit ≡ None) × AreShort (envelopes identity infos commit now)
+CouldBeSent identity infos now commit (Changes changes) = (clash_of identity infos commit ≡ None)
+    × AreShort (envelopes identity infos commit now)
 CouldBeSent identity infos now commit (Mark value) = Unit {0}
 
 -- The invariant of a session that began to read after this LSN, and has read these messages, newest first, all of them valid.
@@ -75,7 +76,8 @@ pub record IsWork (after : Lsn) (ms : List Message) (work : SessionState) : Type
   pub lsn : work.offset.lsn ≡ last_lsn after ms
   pub end_is : EndsAt work.offset.end_lsn (commits_of work.offset.infos ms)
   pub start : work.offset.start.0 ≤ after.0
-  pub sent : AllByRecursion (λ commit. CouldBeSent work.offset.identity work.offset.infos work.now_ms commit commit.body) (commits_of work.offset.infos ms)
+  pub sent : AllByRecursion (λ commit. CouldBeSent work.offset.identity work.offset.infos work.now_ms commit commit.body)
+      (commits_of work.offset.infos ms)
   pub own : IsOwnWaiting work.offset.incarnation work.number work.offset.infos work.follower.cursors work.chunk work.follower.window
   pub some_rows : 1 ≤ work.chunk
   pub few_rows : work.chunk ≤ 100000

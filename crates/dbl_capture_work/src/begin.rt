@@ -1,7 +1,7 @@
 //! How a session begins: with the first offset of a connector, or with the stored one.
 
-ghost use Rattle.std.specs.Prelude.{◌≡◌, ◌≢◌, ◌⊎◌, ◌^◌, ◌<◌, ◌≤◌, ◌∷◌, [], Contains, Option, None, Some, IfOk, IfErr};
-ghost use Rattle.std.specs.Prelude.{IfSome, IsTrue, OnOk, OnErr, length, map};
+ghost use Rattle.std.specs.Prelude.{◌≡◌, ◌≢◌, ◌⊎◌, ◌^◌, ◌<◌, ◌≤◌, ◌∷◌, [], Contains, Option, None};
+ghost use Rattle.std.specs.Prelude.{Some, IfOk, IfErr, IfSome, IsTrue, OnOk, OnErr, length, map};
 ghost use Rattle.dbl_base.specs.Streams.{FailsOnlyIfCounted};
 ghost use Rattle.dbl_journal.specs.Form.{entry_limit};
 ghost use Rattle.dbl_model_table.specs.Configs.{IsGoodConfig};
@@ -14,10 +14,12 @@ ghost use Rattle.dbl_offset.specs.declared.offset.Offset.{Offset as SpecOffset};
 ghost use Rattle.dbl_offset.specs.Entries.{offset_bytes_form};
 ghost use Rattle.dbl_offset.specs.Measures.{capped};
 ghost use Rattle.dbl_offset.specs.Offsets.{IsOffset};
-ghost use Rattle.dbl_offset.specs.Stores.{ExtendsOffsets, HoldsOffset, IsLive, LeavesOffset, disk_of};
-ghost use Rattle.dbl_capture_work.specs.Begins.{AreInfosAt, AreUnread, IsAbsentHalt, IsAgain, IsDescribedAs, IsExhausted};
-ghost use Rattle.dbl_capture_work.specs.Begins.{IsFaultless, IsFirstOffsetAtHead, IsGoneFrom, IsModelFault, IsOffsetFor, IsTooLong};
-ghost use Rattle.dbl_capture_work.specs.Begins.{MayRest};
+ghost use Rattle.dbl_offset.specs.Stores.{ExtendsOffsets, HoldsOffset};
+ghost use Rattle.dbl_offset.specs.Stores.{IsLive, LeavesOffset, disk_of};
+ghost use Rattle.dbl_capture_work.specs.Begins.{AreInfosAt, AreUnread, IsAbsentHalt, IsAgain};
+ghost use Rattle.dbl_capture_work.specs.Begins.{IsDescribedAs, IsExhausted, IsFaultless};
+ghost use Rattle.dbl_capture_work.specs.Begins.{IsFirstOffsetAtHead, IsGoneFrom, IsModelFault};
+ghost use Rattle.dbl_capture_work.specs.Begins.{IsOffsetFor, IsTooLong, MayRest};
 
 use crate::Halt;
 use dbl_base::{Lsn, Seq};
@@ -51,7 +53,8 @@ fn describe_table<S: Source>(
     ensures live { OnOk result (IsTrue (S.is_live src.new)) }
     ensures honest { S.honest src.new → S.honest src.old }
     ensures comes { S.comes_of src.old src.new }
-    ensures cause { FailsOnlyIfCounted (result ≡ Err Halt.Source) (S.faults src.old) (S.faults src.new) }
+    ensures cause { FailsOnlyIfCounted (result ≡ Err Halt.Source)
+        (S.faults src.old) (S.faults src.new) }
 {
     match src.describe(name)? {
         Some(raw) => Ok(TableInfo::make(alloc, &raw)?),
@@ -83,7 +86,8 @@ fn describe_tables<S: Source>(
     ensures live { OnOk result (IsTrue (S.is_live src.new)) }
     ensures honest { S.honest src.new → S.honest src.old }
     ensures comes { S.comes_of src.old src.new }
-    ensures cause { FailsOnlyIfCounted (result ≡ Err Halt.Source) (S.faults src.old) (S.faults src.new) }
+    ensures cause { FailsOnlyIfCounted (result ≡ Err Halt.Source)
+        (S.faults src.old) (S.faults src.new) }
 {
     let mut infos = Vec::with_capacity(alloc, names.len())?;
     'tables: for name in names {
@@ -151,7 +155,8 @@ pub fn first_offset<S: Source>(alloc: Global, config: &Config, src: &mut S) -> R
     ensures live { OnOk result (IsTrue (S.is_live src.new)) }
     ensures honest { S.honest src.new → S.honest src.old }
     ensures comes { S.comes_of src.old src.new }
-    ensures cause { FailsOnlyIfCounted (result ≡ Err Halt.Source) (S.faults src.old) (S.faults src.new) }
+    ensures cause { FailsOnlyIfCounted (result ≡ Err Halt.Source)
+        (S.faults src.old) (S.faults src.new) }
 {
     let infos = describe_tables(alloc, src, config.tables.items())?;
     let head = src.head()?;
@@ -234,7 +239,8 @@ pub fn start_reading<S: Source>(src: &mut S, after: Lsn) -> Result<(), Halt>
     ensures live { OnOk result (IsTrue (S.is_live src.new)) }
     ensures honest { S.honest src.new → S.honest src.old }
     ensures comes { S.comes_of src.old src.new }
-    ensures cause { FailsOnlyIfCounted (result ≡ Err Halt.Source) (S.faults src.old) (S.faults src.new) }
+    ensures cause { FailsOnlyIfCounted (result ≡ Err Halt.Source)
+        (S.faults src.old) (S.faults src.new) }
 {
     match src.start(after)? {
         Started::Ready => Ok(()),

@@ -1,14 +1,16 @@
 //! Appends records to a sink in batches.
 
-ghost use Rattle.std.specs.Prelude.{◌≡◌, ◌≢◌, ◌⊎◌, ◌<◌, ◌++◌, ◌∷◌, [], ℕ, Some, List, length, slice_get, IfErr, IfOk};
-ghost use Rattle.std.specs.Prelude.{IsErr, IsTrue, OnOk, OnErr};
+ghost use Rattle.std.specs.Prelude.{◌≡◌, ◌≢◌, ◌⊎◌, ◌<◌, ◌++◌, ◌∷◌, [], ℕ, Some, List, length};
+ghost use Rattle.std.specs.Prelude.{slice_get, IfErr, IfOk, IsErr, IsTrue, OnOk, OnErr};
 ghost use Rattle.dbl_base.specs.Streams.{FailsOnlyIfCounted};
 ghost use Rattle.dbl_record.specs.declared.record.Record.{Record as SpecRecord};
 ghost use Rattle.dbl_record.specs.Cuts.{IsHandful, begins_batch, cut};
 ghost use Rattle.dbl_record.specs.Groups.{group_form};
 ghost use Rattle.dbl_topic.specs.Sinks.{IsLeftByPut, told_length, group_limit};
 ghost use Rattle.dbl_capture_work.specs.Causes.{HasPutBefore, IsLongRecord};
-ghost use Rattle.dbl_capture_work.specs.Groups.{HasLastsAtItsEnd, HoldsPut, IsGathered, IsLeftByCut, WasTorn, WerePut, ends_commit, report_with};
+ghost use Rattle.dbl_capture_work.specs.Groups.{HasLastsAtItsEnd, HoldsPut};
+ghost use Rattle.dbl_capture_work.specs.Groups.{IsGathered, IsLeftByCut, WasTorn};
+ghost use Rattle.dbl_capture_work.specs.Groups.{WerePut, ends_commit, report_with};
 
 use crate::{Halt, Report};
 use dbl_record::{Record, record_length};
@@ -123,7 +125,8 @@ fn put_group<K: Sink>(
     ensures long { group_limit < length (group_form group.now.items) → IsErr result }
     ensures live { OnOk result (IsTrue (K.is_live sink.new)) }
     ensures comes { K.comes_of sink.old sink.new }
-    ensures cause { FailsOnlyIfCounted (result ≡ Err Halt.Sink) (K.faults sink.old) (K.faults sink.new) }
+    ensures cause { FailsOnlyIfCounted (result ≡ Err Halt.Sink)
+        (K.faults sink.old) (K.faults sink.new) }
 {
     sink.put(group)?;
     count_batch(report, group, snapshot);
@@ -168,7 +171,8 @@ pub fn put_all<K: Sink>(
         group_limit < length (group_form (item ∷ [])) → IsErr result }
     ensures live { OnOk result (IsTrue (K.is_live sink.new)) }
     ensures comes { K.comes_of sink.old sink.new }
-    ensures cause { FailsOnlyIfCounted (result ≡ Err Halt.Sink) (K.faults sink.old) (K.faults sink.new) }
+    ensures cause { FailsOnlyIfCounted (result ≡ Err Halt.Sink)
+        (K.faults sink.old) (K.faults sink.new) }
 {
     // Each count has 64 bits.
     let (_records, _chunks, _rows) = (report.records, report.chunks, report.snapshot_rows);

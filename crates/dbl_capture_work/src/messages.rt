@@ -1,6 +1,7 @@
 //! Reads messages, and follows commits.
 
-ghost use Rattle.std.specs.Prelude.{◌≡◌, ◌≢◌, ◌⊎◌, ◌+◌, ◌^◌, ◌<◌, ◌++◌, ℕ, All, Some, None, List, IfErr, IfOk, IfSome};
+ghost use Rattle.std.specs.Prelude.{◌≡◌, ◌≢◌, ◌⊎◌, ◌+◌, ◌^◌, ◌<◌, ◌++◌, ℕ, All};
+ghost use Rattle.std.specs.Prelude.{Some, None, List, IfErr, IfOk, IfSome};
 ghost use Rattle.std.specs.Prelude.{IsErr, IsTrue, OnErr, OnOk, is_ok, is_some};
 ghost use Rattle.dbl_base.specs.declared.lsn.Lsn.{Lsn as SpecLsn};
 ghost use Rattle.dbl_base.specs.Streams.{FailsOnlyIfCounted};
@@ -16,7 +17,8 @@ ghost use Rattle.dbl_txn.specs.Stands.{StandsWhole, Taken};
 ghost use Rattle.dbl_follow.specs.Steps.{clash_by, mark_of, records_by};
 ghost use Rattle.dbl_capture_work.specs.Causes.{HasPutBefore, IsLongRecord};
 ghost use Rattle.dbl_capture_work.specs.Groups.{HoldsPut, WasTorn};
-ghost use Rattle.dbl_capture_work.specs.Takes.{IsClashIn, IsLeftByStep, IsMessageHalt, IsTxnHalt, ReportsStep, WasStepped, WasTaken, closes};
+ghost use Rattle.dbl_capture_work.specs.Takes.{IsClashIn, IsLeftByStep, IsMessageHalt, IsTxnHalt};
+ghost use Rattle.dbl_capture_work.specs.Takes.{ReportsStep, WasStepped, WasTaken, closes};
 ghost use Rattle.dbl_capture_work.specs.Works.{AreShort, HasReadyWork, IsWork};
 
 use crate::groups::put_all;
@@ -138,7 +140,8 @@ pub fn deliver_commit<K: Sink>(
         (AreShort (records_by work.old.follower commit.now work.old.now_ms)) }
     ensures live { OnOk result (IsTrue (K.is_live sink.new)) }
     ensures comes { K.comes_of sink.old sink.new }
-    ensures cause { FailsOnlyIfCounted (result ≡ Err Halt.Sink) (K.faults sink.old) (K.faults sink.new) }
+    ensures cause { FailsOnlyIfCounted (result ≡ Err Halt.Sink)
+        (K.faults sink.old) (K.faults sink.new) }
 {
     // Each count has 64 bits.
     let (_records, _chunks, _rows) = (report.records, report.chunks, report.snapshot_rows);

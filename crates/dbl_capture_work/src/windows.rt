@@ -1,6 +1,7 @@
 //! Windows of a session: rows that are selected between two watermarks.
 
-ghost use Rattle.std.specs.Prelude.{◌≡◌, ◌⊎◌, ◌+◌, ◌^◌, ◌<◌, ◌∷◌, [], length, IfErr, IfOk, IsTrue, OnErr, OnOk, Some, List};
+ghost use Rattle.std.specs.Prelude.{◌≡◌, ◌⊎◌, ◌+◌, ◌^◌, ◌<◌, ◌∷◌, [], length};
+ghost use Rattle.std.specs.Prelude.{IfErr, IfOk, IsTrue, OnErr, OnOk, Some, List};
 ghost use Rattle.dbl_base.specs.Streams.{FailsOnlyIfCounted};
 ghost use Rattle.dbl_model_table.specs.declared.table.TableInfo.{TableInfo as SpecInfo};
 ghost use Rattle.dbl_source_model.specs.Leaves.{Leaves, LeavesSome};
@@ -9,10 +10,13 @@ ghost use Rattle.dbl_source_model.specs.Trace.{Done, IsTakenBy, LastAnswerIs};
 ghost use Rattle.dbl_window.specs.Plans.{Plan, high_text};
 ghost use Rattle.dbl_window.specs.Selected.{IsCaptured};
 ghost use Rattle.dbl_follow.specs.declared.window.Window.TheVariants as windows;
-ghost use Rattle.dbl_capture_work.specs.Causes.{IsChunkHalt, IsHonestChunkHalt, IsHonestFault, IsOfRows};
+ghost use Rattle.dbl_capture_work.specs.Causes.{IsChunkHalt, IsHonestChunkHalt};
+ghost use Rattle.dbl_capture_work.specs.Causes.{IsHonestFault, IsOfRows};
 ghost use Rattle.dbl_capture_work.specs.Halts.{window_halt};
-ghost use Rattle.dbl_capture_work.specs.Windowed.{HasReadWindow, MayHaveMarks, WasLooked, WasWindowed, own_marks};
-ghost use Rattle.dbl_capture_work.specs.Works.{IsArmedWork, IsChunkOf, IsOpenTable, HasReadyWork, plan_at};
+ghost use Rattle.dbl_capture_work.specs.Windowed.{HasReadWindow, MayHaveMarks};
+ghost use Rattle.dbl_capture_work.specs.Windowed.{WasLooked, WasWindowed, own_marks};
+ghost use Rattle.dbl_capture_work.specs.Works.{IsArmedWork, IsChunkOf, IsOpenTable};
+ghost use Rattle.dbl_capture_work.specs.Works.{HasReadyWork, plan_at};
 
 use crate::Halt;
 use crate::work::SessionState;
@@ -52,7 +56,8 @@ fn select_and_mark_high<S: Source>(marked: Marked, src: &mut S) -> Result<Armed,
     ensures chunk { IfOk result (IsChunkOf marked) }
     ensures rows { IfErr result (λ e. (e ≡ WindowError.Memory) ⊎ ((e ≡ WindowError.Failed)
         ⊎ IsOfRows marked (S.told src.new) e)) }
-    ensures never { (s : SourceState) (infos : List SpecInfo) → S.stands src.old s → S.honest src.new →
+    ensures never { (s : SourceState) (infos : List SpecInfo) → S.stands src.old s →
+        S.honest src.new →
         IsCaptured infos s.history marked →
         IfErr result (IsHonestFault marked (S.stands src.new) infos) }
     ensures left { Leaves S.stands S.may_leave src.old src.new
@@ -81,7 +86,8 @@ fn read_between_watermarks<S: Source>(idle: Idle, src: &mut S) -> Result<Armed, 
     ensures chunk { IfOk result (IsChunkOf idle) }
     ensures rows { IfErr result (λ e. (e ≡ WindowError.Memory) ⊎ ((e ≡ WindowError.Failed)
         ⊎ IsOfRows idle (S.told src.new) e)) }
-    ensures never { (s : SourceState) (infos : List SpecInfo) → S.stands src.old s → S.honest src.new →
+    ensures never { (s : SourceState) (infos : List SpecInfo) → S.stands src.old s →
+        S.honest src.new →
         IsCaptured infos s.history idle →
         IfErr result (IsHonestFault idle (S.stands src.new) infos) }
     ensures left { Leaves S.stands S.may_leave src.old src.new (MayHaveMarks (own_marks idle)) }
@@ -151,7 +157,8 @@ pub fn read_window<S: Source>(work: &mut SessionState, table: u32, src: &mut S) 
         S.stands src.old s → S.honest src.new →
         plan_at work.old table ≡ Some plan → IsCaptured infos s.history plan →
         IfErr result (IsHonestChunkHalt plan (S.stands src.new) infos) }
-    ensures cause { FailsOnlyIfCounted (result ≡ Err Halt.Source) (S.faults src.old) (S.faults src.new) }
+    ensures cause { FailsOnlyIfCounted (result ≡ Err Halt.Source)
+        (S.faults src.old) (S.faults src.new) }
 
     // The source after any answer.
     ensures left { (plan : Plan) → plan_at work.old table ≡ Some plan →

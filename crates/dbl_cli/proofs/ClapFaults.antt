@@ -88,7 +88,7 @@ app_free names b =
     let free : list_all (λ (a : Rule). a.is_free) (all_rules names b) ≡ true = all_by (λ (a : Rule). a.is_free) by_free names (places_by b) (filled_free b) in
     ap (λ (z : App). is_simple (app names b) && is_free_app z) (app_built names b) ∙ rw (app_simple names b, free) refl
 
--- ---- nothing fails behind the words
+-- ---- nothing fails after the words
 
 same : (b : Bool) → cond {A = Kinds} b [] [] ≡ []
 same true = refl

@@ -24,7 +24,7 @@ module _ (names : List Named) (names_are : AreNames names) (has_places : Bool) (
   fault_is : fault_of (app names has_places) words ≡ fault_of_items front texts back
   fault_is = fault_from_run names has_places words _ _ (items_run names names_are front back texts known_before known_since plain has_places none)
 
-  -- clap takes the words exactly where no name is given twice
+  -- clap takes the words if and only if no name is given twice
   pub taken : are_distinct bytes_eq (map name_in (front ++ back)) ≡ true → fault_of (app names has_places) words ≡ []
   taken distinct = fault_is ∙ distinct_clear names names_are front back texts known_before known_since distinct
 

@@ -99,7 +99,7 @@ module _ (names : List Named) (names_are : AreNames names) (rest_rules : List Ru
   abbrev c : List Rule
   c = rules_by names ++ rest_rules
 
-  -- what the words of flags and options do, where the words behind them do so
+  -- what the words of flags and options do, where the words after them do so
   pub settings_run : (settings : List Setting) → list_all (is_known names) settings ≡ true → (rest : List Text) (fault : Kinds) (end now : List Row)
       → ((many : Bool) (rows : List Row) (pending : Option (Text × List Text)) (f : Kinds) → settled_rows c pending rows ≡ used_by settings now → owed c rows pending ≡ f → Runs c (at many rows pending) rest (or_else f fault) end)
       → (many : Bool) (rows : List Row) (pending : Option (Text × List Text)) (f : Kinds) → settled_rows c pending rows ≡ now → owed c rows pending ≡ f

@@ -43,7 +43,8 @@ by_next Bad item value stop = None
 -- The arguments after the leading flags and options, if these are known; if `waits`, the first argument is the value of an option.
 unfoldable pub words_after : List Named → Bool → List (List ℕ) → Option (List (List ℕ))
 words_after names waits [] = if waits then None else Some []
-words_after names waits (word ∷ words) = by_next (next_of names waits word) (words_after names false words) (words_after names true words) (Some (word ∷ words))
+words_after names waits (word ∷ words) = by_next (next_of names waits word) (words_after names false words) (words_after names true words)
+    (Some (word ∷ words))
 
 -- the number of leading arguments that don't begin with `-`
 abbrev pub plain_len : List (List ℕ) → ℕ
@@ -57,7 +58,8 @@ is_end (Some words) = length words == 0
 -- the arguments after the leading flags and options are positional ones of allowed number, followed by flags and options
 abbrev pub ends_well : List Named → ℕ → ℕ → Option (List (List ℕ)) → Bool
 ends_well names least most None = false
-ends_well names least most (Some words) = is_end (words_after names false (drop (plain_len words) words)) && nat_le least (plain_len words) && nat_le (plain_len words) most
+ends_well names least most (Some words) = is_end (words_after names false (drop (plain_len words) words)) && nat_le least (plain_len words)
+    && nat_le (plain_len words) most
 
 -- the arguments are a valid list of items, apart from names given twice
 abbrev pub are_items : List Named → ℕ → ℕ → List (List ℕ) → Bool

@@ -75,7 +75,8 @@ names_pass prefix db placeholder = passes is_name prefix && (passes is_name db &
 
 -- the values of `--chunk`, `--every` and `--messages` are valid
 abbrev pub pace_passes : Option (List ℕ) → Option (List ℕ) → Option (List ℕ) → Bool
-pace_passes chunk every messages = passes (is_number 1 100000) chunk && (passes (is_number 1 10000) every && passes (is_number 1 999999999) messages)
+pace_passes chunk every messages =
+    passes (is_number 1 100000) chunk && (passes (is_number 1 10000) every && passes (is_number 1 999999999) messages)
 
 -- `--lines` and `--placeholder` are valid: the latter requires `--lines`
 abbrev pub apply_passes : Bool → Option (List ℕ) → Bool
@@ -83,11 +84,14 @@ apply_passes lines placeholder = (lines || not (is_some placeholder)) && passes 
 
 -- NUMBER, `--rows` and `--groups` are valid
 abbrev pub gen_passes : List (List ℕ) → Option (List ℕ) → Option (List ℕ) → Bool
-gen_passes texts rows groups = list_all (is_number 0 999999999) texts && (passes (is_number 0 400000) rows && passes (is_number 0 90000) groups)
+gen_passes texts rows groups =
+    list_all (is_number 0 999999999) texts && (passes (is_number 0 400000) rows && passes (is_number 0 90000) groups)
 
 -- the options and positional arguments of `capture` are valid
-abbrev pub capture_passes : Option (List ℕ) → Option (List ℕ) → Option (List ℕ) → Option (List ℕ) → Option (List ℕ) → Option (List ℕ) → List (List ℕ) → Bool
-capture_passes prefix db placeholder chunk every messages texts = names_pass prefix db placeholder && (pace_passes chunk every messages && are_tables texts)
+abbrev pub capture_passes : Option (List ℕ) → Option (List ℕ) → Option (List ℕ) → Option (List ℕ) → Option (List ℕ) → Option (List ℕ)
+    → List (List ℕ) → Bool
+capture_passes prefix db placeholder chunk every messages texts =
+    names_pass prefix db placeholder && (pace_passes chunk every messages && are_tables texts)
 
 -- the options and positional arguments of `replay` are valid
 abbrev pub replay_passes : Option (List ℕ) → Option (List ℕ) → Option (List ℕ) → List (List ℕ) → Bool
@@ -101,9 +105,11 @@ values_pass verb.Offsets settings texts = true
 values_pass verb.Capture settings texts =
     capture_passes (value_of (codes "prefix") settings) (value_of (codes "db") settings) (value_of (codes "placeholder") settings)
     (value_of (codes "chunk") settings) (value_of (codes "every") settings) (value_of (codes "messages") settings) texts
-values_pass verb.Resume settings texts = pace_passes (value_of (codes "chunk") settings) (value_of (codes "every") settings) (value_of (codes "messages") settings)
+values_pass verb.Resume settings texts =
+    pace_passes (value_of (codes "chunk") settings) (value_of (codes "every") settings) (value_of (codes "messages") settings)
 values_pass verb.Apply settings texts = apply_passes (is_given (codes "lines") settings) (value_of (codes "placeholder") settings)
-values_pass verb.Replay settings texts = replay_passes (value_of (codes "prefix") settings) (value_of (codes "db") settings) (value_of (codes "placeholder") settings) texts
+values_pass verb.Replay settings texts =
+    replay_passes (value_of (codes "prefix") settings) (value_of (codes "db") settings) (value_of (codes "placeholder") settings) texts
 values_pass verb.Gen settings texts = gen_passes texts (value_of (codes "rows") settings) (value_of (codes "groups") settings)
 
 -- ---- the command that they request
@@ -122,7 +128,8 @@ number_in [] = 0
 number_in (text ∷ texts) = digits_value 10 text
 
 -- the command of `capture` with these values
-abbrev pub capture_of : Option (List ℕ) → Option (List ℕ) → Option (List ℕ) → Option (List ℕ) → Option (List ℕ) → Option (List ℕ) → List (List ℕ) → Command
+abbrev pub capture_of : Option (List ℕ) → Option (List ℕ) → Option (List ℕ) → Option (List ℕ) → Option (List ℕ) → Option (List ℕ)
+    → List (List ℕ) → Command
 capture_of prefix db placeholder chunk every messages texts =
     command.Capture (record {
       prefix = name_or_demo prefix;
@@ -144,7 +151,8 @@ apply_of lines placeholder = command.Apply lines (placeholder_or_own placeholder
 
 -- the command of `replay` with these values
 abbrev pub replay_of : Option (List ℕ) → Option (List ℕ) → Option (List ℕ) → List (List ℕ) → Command
-replay_of prefix db placeholder texts = command.Replay (name_or_demo prefix) (name_or_demo db) (placeholder_or_own placeholder) (map key_in texts)
+replay_of prefix db placeholder texts =
+    command.Replay (name_or_demo prefix) (name_or_demo db) (placeholder_or_own placeholder) (map key_in texts)
 
 -- the command of `gen` with these values
 abbrev pub gen_of : List (List ℕ) → Option (List ℕ) → Option (List ℕ) → Bool → Command
@@ -158,10 +166,13 @@ command_of verb.Offsets settings texts = command.Offsets
 command_of verb.Capture settings texts =
     capture_of (value_of (codes "prefix") settings) (value_of (codes "db") settings) (value_of (codes "placeholder") settings)
     (value_of (codes "chunk") settings) (value_of (codes "every") settings) (value_of (codes "messages") settings) texts
-command_of verb.Resume settings texts = resume_of (value_of (codes "chunk") settings) (value_of (codes "every") settings) (value_of (codes "messages") settings)
+command_of verb.Resume settings texts =
+    resume_of (value_of (codes "chunk") settings) (value_of (codes "every") settings) (value_of (codes "messages") settings)
 command_of verb.Apply settings texts = apply_of (is_given (codes "lines") settings) (value_of (codes "placeholder") settings)
-command_of verb.Replay settings texts = replay_of (value_of (codes "prefix") settings) (value_of (codes "db") settings) (value_of (codes "placeholder") settings) texts
-command_of verb.Gen settings texts = gen_of texts (value_of (codes "rows") settings) (value_of (codes "groups") settings) (is_given (codes "run") settings)
+command_of verb.Replay settings texts =
+    replay_of (value_of (codes "prefix") settings) (value_of (codes "db") settings) (value_of (codes "placeholder") settings) texts
+command_of verb.Gen settings texts =
+    gen_of texts (value_of (codes "rows") settings) (value_of (codes "groups") settings) (is_given (codes "run") settings)
 
 -- The arguments parse as the command: its name, then a list of items of its form with valid values.
 pub record Spells (words : List (List ℕ)) (command : Command) : Type 0 where

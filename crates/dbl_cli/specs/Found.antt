@@ -1,5 +1,6 @@
 -- For private clauses: clap's matches and its input.
-use Rattle.std.specs.Prelude.{◌≡◌, ◌⊎◌, ℕ, Bool, true, false, Option, Some, option_map, unwrap_or, Result, MatchResult, nat_le, length, List, [], ◌++◌}
+use Rattle.std.specs.Prelude.{◌≡◌, ◌⊎◌, ℕ, Bool, true, false, Option, Some, option_map}
+use Rattle.std.specs.Prelude.{unwrap_or, Result, MatchResult, nat_le, length, List, [], ◌++◌}
 use Rattle.clap.specs.Words.{first_value, found_of, matched_of, one_text, raw_values}
 use Rattle.clap.specs.Values.{bool_text}
 use Rattle.clap.specs.declared.parser.matches.ArgMatches.{ArgMatches}
@@ -42,4 +43,5 @@ pub record SaysItems (verb : Verb) (words : List (List ℕ)) (command : Command)
 
 -- the result is the command that the arguments parse as, or an error if there is none or memory ran out
 abbrev pub ReadsItems : Verb → List (List ℕ) → Result Command CliError → Type 0
-ReadsItems verb words result = MatchResult result (λ command. SaysItems verb words command) (λ e. (e ≡ Memory) ⊎ ((command : Command) → SaysItems verb words command → ⊥))
+ReadsItems verb words result = MatchResult result (λ command. SaysItems verb words command)
+    (λ e. (e ≡ Memory) ⊎ ((command : Command) → SaysItems verb words command → ⊥))

@@ -1,5 +1,6 @@
 -- The items of a command line.
-use Rattle.std.specs.Prelude.{◌≡◌, ℕ, ◌==◌, ◌&&◌, not, nat_le, Bool, true, false, Option, Some, None, option_map, List, [], ◌∷◌, ◌++◌, length, map, find, bytes_eq, codes}
+use Rattle.std.specs.Prelude.{◌≡◌, ℕ, ◌==◌, ◌&&◌, not, nat_le, Bool, true, false, Option, Some, None}
+use Rattle.std.specs.Prelude.{option_map, List, [], ◌∷◌, ◌++◌, length, map, find, bytes_eq, codes}
 use Rattle.std.specs.List.{list_all, flat_map}
 use Rattle.std.specs.Option.{option_map_or}
 use Rattle.dbl_model_table.specs.Tables.{are_distinct}
@@ -72,7 +73,8 @@ is_known names (Apart name value) = is_option names name && not (is_dashed value
 
 -- The arguments are a list of items of the form: known flags and options, none twice, and in one run somewhere between them the positional
 -- arguments.
-pub record AreItems (form : Form) (words : List (List ℕ)) (front : List Setting) (texts : List (List ℕ)) (back : List Setting) : Type 0 where
+pub record AreItems (form : Form) (words : List (List ℕ)) (front : List Setting) (texts : List (List ℕ))
+    (back : List Setting) : Type 0 where
   pub written : words ≡ words_of front ++ (texts ++ words_of back)
   pub known_before : list_all (is_known form.names) front ≡ true
   pub known_since : list_all (is_known form.names) back ≡ true

@@ -44,7 +44,8 @@ abbrev pub IsWithin : Command → Type 0
 IsWithin Init = Unit {0}
 IsWithin Topics = Unit {0}
 IsWithin Offsets = Unit {0}
-IsWithin (Capture options) = AreGoodNames options.prefix options.db options.placeholder × IsGoodPace options.chunk options.every options.messages × AreGoodTables options.tables
+IsWithin (Capture options) = AreGoodNames options.prefix options.db options.placeholder
+    × IsGoodPace options.chunk options.every options.messages × AreGoodTables options.tables
 IsWithin (Resume chunk every messages) = IsGoodPace chunk every messages
 IsWithin (Apply lines placeholder) = is_placeholder placeholder ≡ true
 IsWithin (Replay prefix db placeholder keys) = AreGoodNames prefix db placeholder × AreGoodKeys keys

@@ -33,7 +33,9 @@ with_rules a rules = on_top (λ s. record s { rules = s.rules ++ rules }) a
 
 -- a clap command with flags and options, and with positional arguments if it takes any
 abbrev pub app : List Named → Bool → App
-app names has_places = on_top (λ s. record s { no_binary_name = true; disable_help_flag = true; rules = given_rules names ++ given_places has_places }) (new_app (codes "dblog"))
+app names has_places = on_top
+    (λ s. record s { no_binary_name = true; disable_help_flag = true; rules = given_rules names ++ given_places has_places })
+    (new_app (codes "dblog"))
 
 -- a clap command without any
 abbrev pub bare_app : App

@@ -10,7 +10,8 @@ use Rattle.dbl_model_table.specs.declared.table.TableKey.{TableKey}
 
 -- 1 to 9 decimal digits whose number is within bounds
 abbrev pub is_number : ℕ → ℕ → List ℕ → Bool
-is_number least most text = nat_lt 0 (length text) && nat_le (length text) 9 && list_all is_ascii_digit text && nat_le least (digits_value 10 text) && nat_le (digits_value 10 text) most
+is_number least most text = nat_lt 0 (length text) && nat_le (length text) 9 && list_all is_ascii_digit text
+    && nat_le least (digits_value 10 text) && nat_le (digits_value 10 text) most
 
 -- the number of an option, or the default if it is absent
 abbrev pub number_or : ℕ → Option (List ℕ) → ℕ

@@ -1,11 +1,13 @@
 //! The product's own check of the arguments: which of them begin with `-`, and where the positional
 //! arguments are.
 
-ghost use Rattle.std.specs.Prelude.{◌≡◌, ◌≤◌, false, Some, length, drop, option_map, position, IfSome};
+ghost use Rattle.std.specs.Prelude.{◌≡◌, ◌≤◌, false, Some, length};
+ghost use Rattle.std.specs.Prelude.{drop, option_map, position, IfSome};
 ghost use Rattle.std.specs.List.{list_any, before_first};
 ghost use Rattle.dbl_cli.specs.Items.{is_dashed};
 ghost use Rattle.dbl_cli.specs.Names.{all_named, texts};
-ghost use Rattle.dbl_cli.specs.Checks.{is_equals, after_hyphens, kind_of, next_of, words_after, plain_len, is_end, ends_well, are_items};
+ghost use Rattle.dbl_cli.specs.Checks.{is_equals, after_hyphens, kind_of, next_of, words_after};
+ghost use Rattle.dbl_cli.specs.Checks.{plain_len, is_end, ends_well, are_items};
 
 use crate::names::{Name, has_value};
 

@@ -3,7 +3,8 @@
 ghost use Rattle.std.specs.Prelude.{◌≡◌, false, IfOk, map};
 ghost use Rattle.clap.specs.Words.{app_of, rule_of};
 ghost use Rattle.dbl_cli.specs.Names.{all_named};
-ghost use Rattle.dbl_cli.specs.Parsers.{given_rule, given_rules, given_place, with_rules, bare_app, app};
+ghost use Rattle.dbl_cli.specs.Parsers.{given_rule, given_rules, given_place};
+ghost use Rattle.dbl_cli.specs.Parsers.{with_rules, bare_app, app};
 
 use crate::names::Name;
 use clap::{Arg, ArgAction};

@@ -5,10 +5,12 @@ ghost use Rattle.std.specs.List.{list_all};
 ghost use Rattle.clap.specs.Words.{one_text, found_of};
 ghost use Rattle.clap.specs.Values.{bool_text};
 ghost use Rattle.dbl_cli.specs.Items.{Setting};
-ghost use Rattle.dbl_cli.specs.Values.{number_or, are_tables, are_keys, table_in, key_in, is_number};
-ghost use Rattle.dbl_cli.specs.Commands.{names_pass, pace_passes, name_or_demo, placeholder_or_own, number_in};
-ghost use Rattle.dbl_cli.specs.Commands.{capture_passes, capture_of, resume_of, apply_passes, apply_of, replay_passes};
-ghost use Rattle.dbl_cli.specs.Commands.{replay_of, gen_passes, gen_of, values_pass, command_of};
+ghost use Rattle.dbl_cli.specs.Values.{number_or, are_tables, are_keys};
+ghost use Rattle.dbl_cli.specs.Values.{table_in, key_in, is_number};
+ghost use Rattle.dbl_cli.specs.Commands.{names_pass, pace_passes, name_or_demo, placeholder_or_own};
+ghost use Rattle.dbl_cli.specs.Commands.{number_in, capture_passes, capture_of, resume_of};
+ghost use Rattle.dbl_cli.specs.Commands.{apply_passes, apply_of, replay_passes, replay_of};
+ghost use Rattle.dbl_cli.specs.Commands.{gen_passes, gen_of, values_pass, command_of};
 ghost use Rattle.dbl_cli.specs.Reads.{Reads};
 ghost use Rattle.dbl_cli.specs.Found.{option_in, places_in, SaysFlag, Finds};
 

@@ -1,14 +1,16 @@
 //! The values of options, and the positional arguments.
 
-ghost use Rattle.std.specs.Prelude.{◌≡◌, ◌<◌, ◌≤◌, ◌&&◌, true, Some, length, map, codes, unwrap_or, option_copied, IfOk};
+ghost use Rattle.std.specs.Prelude.{◌≡◌, ◌<◌, ◌≤◌, ◌&&◌, true, Some, length};
+ghost use Rattle.std.specs.Prelude.{map, codes, unwrap_or, option_copied, IfOk};
 ghost use Rattle.std.specs.List.{list_all, list_any, slice_split};
 ghost use Rattle.std.specs.Char.{is_ascii_digit};
 ghost use Rattle.std.specs.Str.Parse.{digits_value};
 ghost use Rattle.dbl_model_table.specs.Tables.{is_name_byte, is_name, are_distinct, same_name};
 ghost use Rattle.dbl_model_table.specs.Identities.{default_placeholder};
 ghost use Rattle.dbl_cli.specs.Names.{texts};
-ghost use Rattle.dbl_cli.specs.Values.{is_number, number_or, passes, is_placeholder, is_comma, table_in, is_table};
-ghost use Rattle.dbl_cli.specs.Values.{are_tables, key_in, is_column, is_key, tables_in, are_keys};
+ghost use Rattle.dbl_cli.specs.Values.{is_number, number_or, passes, is_placeholder};
+ghost use Rattle.dbl_cli.specs.Values.{is_comma, table_in, is_table, are_tables};
+ghost use Rattle.dbl_cli.specs.Values.{key_in, is_column, is_key, tables_in, are_keys};
 ghost use Rattle.dbl_cli.specs.Reads.{Reads, ReadsBy};
 
 use crate::CliError;

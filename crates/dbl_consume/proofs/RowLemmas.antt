@@ -204,6 +204,6 @@ rows_of_tables held tables outer inner is = record {
   exact = λ topic key. exact_all topic key tables.entries outer ∙ is topic key;
 }
 
--- the lines of a topic's rows, and those behind them
+-- the lines of a topic's rows, and those after them
 pub lines_split : (topic : List ℕ) (table : Table) (ts : Entries) → map row_line (all_rows ((topic, table) ∷ ts)) ≡ map row_line (rows_in topic table.entries) ++ map row_line (all_rows ts)
 lines_split topic table ts = map-append row_line (rows_in topic table.entries) (all_rows ts)

@@ -53,5 +53,6 @@ abbrev pub row_line : HeldRow → List ℕ
 row_line row = row.0.0 ++ codes " " ++ row.0.1 ++ codes " " ++ object_text (map cell_part row.1)
 
 -- the lines of the rows are printed, by the result
-abbrev pub PrintsRows : {A : Type 0} → (List ℕ → List ℕ → Option HeldCells) → Result A PrintError → Option (List ℕ) → Option (List ℕ) → Type 0
+abbrev pub PrintsRows : {A : Type 0} → (List ℕ → List ℕ → Option HeldCells) → Result A PrintError → Option (List ℕ)
+    → Option (List ℕ) → Type 0
 PrintsRows held result before after = (rows : List HeldRow) × AreRowsOf held rows × Prints (map row_line rows) result before after

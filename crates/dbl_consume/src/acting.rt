@@ -1,6 +1,6 @@
 //! The effect of a record, and why one is refused.
-ghost use Rattle.std.specs.Prelude.{◌≡◌, ◌≢◌, List, ℕ, Some, None, IfOk, IfErr, OnOk, MatchResult, option_map};
-ghost use Rattle.std.specs.Prelude.{option_and_then, unwrap_or, false, ◌==◌};
+ghost use Rattle.std.specs.Prelude.{◌≡◌, ◌≢◌, List, ℕ, Some, None, IfOk, IfErr, OnOk, MatchResult};
+ghost use Rattle.std.specs.Prelude.{option_map, option_and_then, unwrap_or, false, ◌==◌};
 ghost use Rattle.serde_json.specs.Data.{object};
 ghost use Rattle.serde_json.specs.Events.{members_len};
 ghost use Rattle.serde_json.specs.Find.{as_object};

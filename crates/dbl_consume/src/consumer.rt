@@ -1,4 +1,5 @@
-ghost use Rattle.std.specs.Prelude.{◌≡◌, ◌≢◌, ◌++◌, ◌∷◌, [], List, ℕ, Some, Err, IsOk, IfOk, IfErr, OnOk};
+ghost use Rattle.std.specs.Prelude.{◌≡◌, ◌≢◌, ◌++◌, ◌∷◌, [], List, ℕ};
+ghost use Rattle.std.specs.Prelude.{Some, Err, IsOk, IfOk, IfErr, OnOk};
 ghost use Rattle.serde_json.specs.View.{view};
 ghost use Rattle.dbl_record.specs.declared.acts.ConsumeError.TheVariants.{Memory};
 ghost use Rattle.dbl_record.specs.Acts as spec;

@@ -1,5 +1,6 @@
 //! The text of a consumer's rows.
-ghost use Rattle.std.specs.Prelude.{◌≡◌, ◌++◌, ◌∷◌, [], List, ℕ, OnOk, IfOk, IfErr, Err, map, codes, false, if◌then◌else◌};
+ghost use Rattle.std.specs.Prelude.{◌≡◌, ◌++◌, ◌∷◌, [], List, ℕ, OnOk, IfOk, IfErr};
+ghost use Rattle.std.specs.Prelude.{Err, map, codes, false, if◌then◌else◌};
 ghost use Rattle.std.specs.BTreeMap.{IsOrdered};
 ghost use Rattle.json.specs.Print.{quoted};
 ghost use Rattle.dbl_base.specs.Streams.{FailsOnlyIfCounted};

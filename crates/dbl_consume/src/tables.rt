@@ -1,5 +1,6 @@
 //! The rows of a consumer's state, and the effects of records on them.
-ghost use Rattle.std.specs.Prelude.{◌≡◌, List, ℕ, Some, None, IfOk, IfErr, OnOk, MatchResult, if◌then◌else◌};
+ghost use Rattle.std.specs.Prelude.{◌≡◌, List, ℕ, Some, None, IfOk, IfErr};
+ghost use Rattle.std.specs.Prelude.{OnOk, MatchResult, if◌then◌else◌};
 ghost use Rattle.std.specs.Str.{bytes_eq};
 ghost use Rattle.dbl_record.specs.declared.acts.ConsumeError.TheVariants.{Memory};
 ghost use Rattle.dbl_record.specs.declared.acts.Act.TheVariants.{Set, Remove};

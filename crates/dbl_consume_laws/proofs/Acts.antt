@@ -27,7 +27,7 @@ use Rattle.dbl_consume_laws.proofs.Notices.{CellFits}
 use Rattle.dbl_consume_laws.proofs.Lines.{key_row, sent_fit, IsPart, row_part, old_part, key_part, null_part}
 use Rattle.dbl_consume_laws.proofs.Topics.{not_progress}
 
--- an event's line, wherever it stands in its commit
+-- an event's line, at any index in its commit
 abbrev pub line_of_event : Identity → Commit → ℤ → TableInfo → Option Key → Content → Line
 line_of_event identity commit now info key content = record {
   topic = topic_of identity info;

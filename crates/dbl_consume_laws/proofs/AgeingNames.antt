@@ -120,7 +120,7 @@ module _ (identity : Identity) (infos : List TableInfo) where
   abbrev pub IsNamedHere : List ℕ → List ℕ → Option HeldCells → Type 0
   IsNamedHere topic text held = (cells : HeldCells) → held ≡ Some cells → IsNamedRow identity infos topic text cells
 
-  -- the record leaves named rows named, whatever is held
+  -- the record leaves named rows named, for any row that is held
   abbrev pub KeepsNames : Record → Type 0
   KeepsNames item = (topic text : List ℕ) (held : Option HeldCells) → IsNamedHere topic text held → IsNamedHere topic text (row_after identity.placeholder topic text held (reading_of (as_line item)))
 

@@ -57,7 +57,7 @@ module _ (identity : Identity) (infos : List TableInfo) (commits : List Commit) 
 
 -- ---- records at the position of a commit
 
--- each stands for no moment before that commit
+-- each represents no point in the history before that commit
 at_commit : (infos : List TableInfo) (before : List Commit) (c : Commit) (later : List Commit) → AreFitCommits infos (before ++ c ∷ later) → (items : List Record) → AllByRecursion (λ item. item.position ≡ c.lsn.0) items
     → AllByRecursion (λ item. moment_after before ≤ record_moment infos (before ++ c ∷ later) item) items
 at_commit infos before c later facts [] all = tt

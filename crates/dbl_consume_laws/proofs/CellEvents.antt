@@ -83,7 +83,7 @@ pub item_mapped : {X Y : Type 0} (f : X → Y) (items : List X) (place : Option 
 item_mapped f items None = refl
 item_mapped f items (Some i) = slice_get-map f items i
 
--- ---- cells that don't clash
+-- ---- cells that aren't the placeholder
 
 pub no_clash_cell : (placeholder : List ℕ) (cell : Cell) → is_clash placeholder cell ≡ false → IsNoPlaceholderCell placeholder cell
 no_clash_cell placeholder (Given v) clear =
@@ -120,7 +120,7 @@ created_op placeholder info row column fits lacks =
     ∙ ap (λ o. set_op (option_map (sent_text placeholder) o)) (member_at names row.cells column)
     ∙ given_op placeholder (item_at names row.cells column) lacks
 
--- where a row has no clash, and where it has no cell that is the placeholder
+-- a row without a value equal to the placeholder, and one without a cell that is it
 clear_lacks : (placeholder : List ℕ) (info : TableInfo) (values : List Val) (column : List ℕ) → clash_among placeholder (column_names info.columns) (map Given values) ≡ None → IfSome (named_column_cell info.columns values column) (IsNotPlaceholder placeholder)
 clear_lacks placeholder info values column clear =
     given_lacks placeholder (named_column_cell info.columns values column)
@@ -237,7 +237,7 @@ second_none : {A : Type 0} (a b : Option A) → option_or a b ≡ None → b ≡
 second_none None b e = e
 second_none (Some x) b e = cc
 
--- a column has a clash exactly where there is one
+-- a column has a value equal to the placeholder if and only if there is one
 pub clash_none : (info : TableInfo) (column : Option (List ℕ)) → clash_at info column ≡ None → column ≡ None
 clash_none info column e = none_mapped (λ name. record { table = info.name; column = name }) column e
 

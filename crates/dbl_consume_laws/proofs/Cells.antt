@@ -60,7 +60,7 @@ set_found row column (cell ∷ cells) made found h =
     by true is = ap (λ name. Some (held_now row name cell.text)) (sym (same_text column cell.column is))
     by false is = h
 
--- what a row that is set holds at a column, whatever it held before
+-- what a row that is set has at a column, for any row before
 pub row_cell : (row : Option HeldCells) (cells : List GivenCell) (column : List ℕ) → held_at (Some (row_of row cells)) column ≡ option_map (held_now row column) (set_at cells column)
 row_cell row cells column = set_found row column cells [] None refl
 

@@ -170,7 +170,7 @@ module _ (identity : Identity) (infos : List TableInfo) (before : List Commit) (
           ∙ (ap length (flat_map-append (notices infos) earlier (c ∷ []))
           ∙ (length-append (flat_map (notices infos) earlier) (notices infos c ++ []) ∙ ap (λ (l : List Notice). counted + length l) (append-nil (notices infos c)))))
 
-      -- the commit's events: those of the changes before, its own, those of the changes behind
+      -- the commit's events: those of the changes before, its own, those of the changes after
       parted : events_of infos commit ≡ placed commit.lsn.0 0 (flat_map (notices infos) earlier) (notices infos c ++ flat_map (notices infos) others) ++ (own ++ numbered commit.lsn.0 (counted + length (notices infos c)) (flat_map (notices infos) others))
       parted =
           let all : flat_map (notices infos) (changes_of commit) ≡ flat_map (notices infos) earlier ++ (notices infos c ++ flat_map (notices infos) others) =
@@ -232,7 +232,7 @@ module _ (identity : Identity) (infos : List TableInfo) (before : List Commit) (
       let parts : length (notices infos c ++ flat_map (notices infos) others) ≡ length (notices infos c) + length (flat_map (notices infos) others) = length-append (notices infos c) (flat_map (notices infos) others) in
       absurd (omega (arith, some_told, told, listed, parts))
 
-  -- so the moment behind it is the one before it
+  -- so the moment after it is the one before it
   pub silent_same : (now : ℤ) → envelopes identity infos commit now ≡ [] → moment_after before ≡ moment_after (before ++ commit ∷ [])
   silent_same now none =
       ap length (sym (append-nil (all_changes before)))

@@ -1,4 +1,4 @@
--- Where nothing clashes with the placeholder, no given cell is the placeholder.
+-- If no value equals the placeholder, no given cell is the placeholder.
 use Rattle.std.proofs.Common.{◌≡◌, ◌∙◌, ℕ, List, [], ◌∷◌, ◌++◌, Bool, true, false, cond, Option, Some, None, length, map, flat_map, refl, sym, ap, arith}
 use Rattle.std.specs.Prelude.{IsSomeAnd, option_map, unwrap_or, slice_get}
 use Rattle.std.specs.Option.{option_or}

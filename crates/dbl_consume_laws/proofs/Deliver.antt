@@ -1,4 +1,4 @@
--- The records of a commit's changes, one change behind the other.
+-- The records of a commit's changes, one change after the other.
 use Rattle.std.proofs.Common.{◌≡◌, ◌∙◌, inl, inr, ◌+◌, ◌≤◌, ◌<◌, ℕ, zero, suc, ℤ, max, List, [], ◌∷◌, ◌++◌, length, take, map, flat_map, sym, ap, subst, arith, append_assoc, append-nil, length-append, le_refl}
 use Rattle.std.specs.List.{AllByRecursion}
 use Rattle.std.proofs.lemmas.List.{map-append, length-map, take-append-le, take_all}
@@ -189,7 +189,7 @@ module _ (identity : Identity) (infos : List TableInfo) (before : List Commit) (
   -- ---- changes of the commit from one on
 
   module _ (now : ℤ) where
-    -- their events, behind those of the earlier ones
+    -- their events, after those of the earlier ones
     abbrev pub rest_events : List Change → List Change → List Event
     rest_events earlier rest = numbered commit.lsn.0 (length (flat_map (notices infos) earlier)) (flat_map (notices infos) rest)
 

@@ -39,7 +39,7 @@ use Rattle.dbl_consume_laws.specs.Laws.{IsNotPlaceholder, IsNoPlaceholderCell, H
 abbrev pub set_cell : Option HeldCells → HeldCells → GivenCell → HeldCells
 set_cell row made cell = insert_entry text_cmp made cell.column (held_now row cell.column cell.text)
 
--- cells of later columns go behind
+-- cells of later columns go after
 cells_below : (placeholder : List ℕ) (row : Option HeldCells) (ms : Members) (name : List ℕ) (cell : HeldCell) (made : HeldCells) → IsBelow name ms
     → fold (set_cell row) ((name, cell) ∷ made) (cells_of placeholder ms) ≡ (name, cell) ∷ fold (set_cell row) made (cells_of placeholder ms)
 cells_below placeholder row no_members name cell made h = refl

@@ -59,7 +59,7 @@ module _ (identity : Identity) (infos : List TableInfo) (table : ℕ) (key : Key
     same_change : (x : Option Change) (c d : Change) → x ≡ Some c → x ≡ Some d → c ≡ d
     same_change x c d one two = cc
 
-    -- with quiet records, and the span's end behind the change at m, no more is known than before, or the change is whole
+    -- with quiet records, and the span's end after the change at m, no more is known than before, or the change is whole
     pub known_grows : (c : Change) (m b : ℕ) (records more : List Record) → slice_get changes m ≡ Some c → m ≤ b → AllByRecursion (IsQuiet identity) more
         → knows (records ++ more) (max b (m + 1)) → knows records b ⊎ IsWholeFor infos c table key
     known_grows c m b records more is reached quiet (inl told) = elim (told_cases records more told) [ inl old ↦ inl (inl old) | inr new ↦ absurd (untold more quiet new) ]

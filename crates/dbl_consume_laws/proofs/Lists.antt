@@ -3,7 +3,7 @@ use Rattle.std.proofs.Common.{◌≡◌, ◌∙◌, ◌⊎◌, inl, inr, ◌+◌
 use Rattle.std.specs.Prelude.{slice_get}
 use Rattle.std.specs.List.{AllByRecursion}
 
--- the item behind a list's front
+-- the item after a list's front
 pub slice_get-seam : {X : Type 0} (xs : List X) (y : X) (ys : List X) → slice_get (xs ++ y ∷ ys) (length xs) ≡ Some y
 slice_get-seam [] y ys = refl
 slice_get-seam (x ∷ xs) y ys = slice_get-seam xs y ys
@@ -29,7 +29,7 @@ take_front_suc : {X : Type 0} (xs : List X) (y : X) (ys : List X) → take (suc 
 take_front_suc [] y ys = refl
 take_front_suc (x ∷ xs) y ys = ap (λ (l : List _). x ∷ l) (take_front_suc xs y ys)
 
--- a list's front and the item behind it
+-- a list's front and the item after it
 pub take_front_one : {X : Type 0} (xs : List X) (y : X) (ys : List X) → take (length xs + 1) (xs ++ y ∷ ys) ≡ xs ++ y ∷ []
 take_front_one xs y ys = rw add-one (take_front_suc xs y ys)
 

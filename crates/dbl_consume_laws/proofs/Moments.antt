@@ -1,4 +1,4 @@
--- The moments that places stand for, and how far records reach.
+-- The points in the history that places represent, and how far records reach.
 use Rattle.std.proofs.Common.{◌≡◌, ◌∙◌, inl, inr, ◌+◌, ◌-◌, ◌≤◌, ◌<◌, ℕ, suc, max, Bool, true, false, List, [], ◌∷◌, ◌++◌, length, map, flat_map, refl, sym, ap, subst, arith, length-append, le_refl}
 use Rattle.std.specs.Prelude.{◌==◌, nat_lt, if◌then◌else◌}
 use Rattle.std.specs.List.{AllByRecursion}
@@ -215,7 +215,7 @@ reach_stays infos cs moment far (r ∷ rs) le at =
     let e : max far (record_moment infos cs r) ≡ far = ap (max far) at.0 ∙ max_covered far moment le in
     ap (λ (x : ℕ). last_moment infos cs x rs) e ∙ reach_stays infos cs moment far rs le at.1
 
--- records that all stand for one moment
+-- records that all represent one point in the history
 pub reach_at : (infos : List TableInfo) (cs : List Commit) (moment far : ℕ) (rs : List Record) → 0 < length rs → AreAt infos cs moment rs → last_moment infos cs far rs ≡ max far moment
 reach_at infos cs moment far [] some at = absurd (omega (arith, some))
 reach_at infos cs moment far (r ∷ rs) some at =
@@ -227,7 +227,7 @@ last_moment-most infos cs far [] le = le
 last_moment-most infos cs far (r ∷ rs) le =
     last_moment-most infos cs (max far (record_moment infos cs r)) rs (max_least far (record_moment infos cs r) (length (all_changes cs)) le (place_moment-most infos cs (place_of r)))
 
--- none of these stands for a later moment
+-- none of these represents a later point in the history
 pub reach_under : (infos : List TableInfo) (cs : List Commit) (moment far : ℕ) (rs : List Record) → AllByRecursion (λ item. record_moment infos cs item ≤ moment) rs → last_moment infos cs far rs ≤ max far moment
 reach_under infos cs moment far [] under = max_here far moment
 reach_under infos cs moment far (r ∷ rs) under =

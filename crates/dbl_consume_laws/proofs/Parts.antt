@@ -1,5 +1,5 @@
 -- What each event of a change does to one cell, beside what the change does: it does the same, or leaves the cell, and then, if
--- the change is whole for the key, there is no row before the change or behind it.
+-- the change is whole for the key, there is no row before the change or after it.
 use Rattle.std.proofs.Common.{◌≡◌, ◌≢◌, ◌∙◌, ◌⊎◌, inl, inr, ℕ, List, [], ◌∷◌, Bool, true, false, cond, Option, Some, None, map, refl, sym, ap, ap₂, subst}
 use Rattle.std.specs.Prelude.{◌==◌, IsSome, IsSomeAnd, option_map, unwrap_or, slice_get}
 use Rattle.std.specs.List.{AllByRecursion, position_from}
@@ -34,7 +34,7 @@ use Rattle.dbl_consume_laws.specs.Effects.{effect_op}
 use Rattle.dbl_consume_laws.proofs.Steps.{keys_by_text}
 use Rattle.dbl_consume_laws.proofs.CellEvents.{item_mapped}
 
--- where the effect is whole there is no row before it or behind it
+-- where the effect is whole there is no row before it or after it
 abbrev pub IsGone : Effect → Option (List Val) → Type 0
 IsGone effect row = IsWholeEffect effect → (row ≡ None) ⊎ (row_after effect row ≡ None)
 

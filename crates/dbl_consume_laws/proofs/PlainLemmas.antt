@@ -36,7 +36,7 @@ passes p = (λ _. p, λ _. refl)
 pub fails : {P : Type 0} → (P → ⊥) → Decides false P
 fails none = (λ (t : false ≡ true). absurd (false≢true t), λ p. absurd (none p))
 
--- a test of one thing is one of another that comes to the same
+-- a test of one thing is one of another that amounts to the same
 pub instead : (P Q : Type 0) (b : Bool) → (P → Q) → (Q → P) → Decides b P → Decides b Q
 instead P Q b there back d = (λ t. there (d.0 t), λ q. d.1 (back q))
 
@@ -176,7 +176,7 @@ module _ (infos : List TableInfo) (table : ℕ) (key : Key) where
       let within : t.place < length changes = slice_get_within changes t.place t.change t.is in
       none t.place t.change (omega (arith, within, past)) t.not_before t.before t.is t.whole
 
-  -- of changes and those behind them
+  -- of changes and those after them
   pub touched_front : (xs ys : List Change) (from to : ℕ) → IsTouched infos xs from to table key → IsTouched infos (xs ++ ys) from to table key
   touched_front xs ys from to t =
       record { place = t.place; change = t.change; not_before = t.not_before; before = t.before; is = slice_get-front xs ys t.place (slice_get_within xs t.place t.change t.is) ∙ t.is; whole = t.whole }
@@ -216,7 +216,7 @@ module _ (infos : List TableInfo) (table : ℕ) (key : Key) where
   no_changes : (from to : ℕ) → IsTouched infos [] from to table key → ⊥
   no_changes from to t = let e : None ≡ Some t.change = t.is in cc
 
--- what is left of a history behind its first commits, and of a stretch of moments, is touched exactly where the whole is
+-- what is left of a history after its first commits, and of a stretch of moments, is touched if and only if the whole is
 pub record IsLeft (infos : List TableInfo) (table : ℕ) (key : Key) (commits : List Commit) (from to i left_from left_to : ℕ) : Type 0 where
   pub there : IsTouched infos (all_changes commits) from to table key → IsTouched infos (all_changes (drop i commits)) left_from left_to table key
   pub back : IsTouched infos (all_changes (drop i commits)) left_from left_to table key → IsTouched infos (all_changes commits) from to table key

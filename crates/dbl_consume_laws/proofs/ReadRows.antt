@@ -60,7 +60,7 @@ read_rows_leave_others identity info commit now ordinal entry topic text held ra
       | inr texts ↦ texts (same_text (key_text info entry.0) text of_text)
     ])
 
--- a progress record is passed over, whatever it says
+-- a progress record is passed over, for any contents
 pub act_progress : (identity : Identity) (info : TableInfo) (commit : Commit) (ordinal : ℕ) (through : Option Key) (done : Bool) → act identity.placeholder (as_line (progress_record identity info commit ordinal through done)) ≡ Ok Nothing
 unfolding act_of
 act_progress identity info commit ordinal through done = rw (is_progress_topic identity) refl

@@ -1,4 +1,4 @@
--- What aged cells come to for whole rows.
+-- What aged cells amount to for whole rows.
 use Rattle.std.proofs.Common.{◌≡◌, ◌∙◌, inl, inr, ◌+◌, ◌≤◌, ◌<◌, ℕ, zero, suc, max, true, List, [], ◌∷◌, Option, Some, None, length, refl, sym, ap, subst, arith}
 use Rattle.std.specs.Prelude.{nat_lt, IsSome, option_map, option_and_then, slice_get}
 use Rattle.std.specs.List.{list_all}

@@ -1,4 +1,4 @@
--- Any prefix of the records of a closed window that is right at its high mark.
+-- Any prefix of the records of a closed window that is right at its high watermark.
 use Rattle.std.proofs.Common.{◌≡◌, ◌∙◌, ◌⊎◌, inl, inr, ◌+◌, ◌≤◌, ℕ, zero, suc, ℤ, max, List, [], ◌∷◌, ◌++◌, Bool, true, false, cond, Option, Some, None, length, take, refl, sym, ap, ap₂, subst, arith, append_assoc, append-nil}
 use Rattle.std.specs.Prelude.{IsTrue, IsSome, IsSomeAnd, IfSome, option_map, unwrap_or, slice_get}
 use Rattle.std.specs.List.{AllByRecursion}
@@ -64,7 +64,7 @@ aged_read false texts o K L f m d h same less room fit = aged_wider K L f m m d 
 true_false : {X : Type 0} → false ≡ true → X
 true_false e = cc
 
--- a cell that is held as the source has it is so behind such a row, and behind its own row whatever was held
+-- a cell that is held as the source has it is so after such a row, and after its own row for any cell that was held
 settled_read : (topics texts : Bool) (o : Option Val) (now : Option (List ℕ)) (h : Option HeldCell) → (topics ≡ true → texts ≡ true → now ≡ option_map json_of o) → (h ≡ option_map Known now) ⊎ ((topics ≡ true) × (texts ≡ true))
     → cell_after (cond topics (cond texts (cell_op (option_map Given o)) Stay) Stay) h ≡ option_map Known now
 settled_read true true None now h same was = sym (ap (option_map Known) (same refl refl))
@@ -136,7 +136,7 @@ pub record IsRightRow (identity : Identity) (infos : List TableInfo) (changes : 
 no_row_in : (key : Key) → IsSome (row_in [] key) → ⊥
 no_row_in key some = cc
 
--- ---- a mark among the commits
+-- ---- a watermark among the commits
 
 module _ (identity : Identity) (infos : List TableInfo) (before : List Commit) (mark : Commit) (later : List Commit) (facts : AreFitCommits infos (before ++ mark ∷ later)) (none : changes_of mark ≡ []) (start : ℕ) where
   abbrev commits : List Commit
@@ -151,7 +151,7 @@ module _ (identity : Identity) (infos : List TableInfo) (before : List Commit) (
   at_mark : (ordinal : ℕ) → place_moment infos commits (mark.lsn.0, ordinal) ≡ m
   at_mark ordinal = place_moment-at infos before mark later 0 ordinal facts.rise ∙ (ap (λ (l : List Change). length (all_changes before) + changes_through infos l ordinal) none ∙ mark_moment (length (all_changes before)))
 
-  -- a record of the mark leaves the span
+  -- a record of the watermark leaves the span
   same_span : (records : List Record) (item : Record) → record_moment infos commits item ≡ m → span_end infos commits start (records ++ item ∷ []) m ≡ span_end infos commits start records m
   same_span records item at = span_kept m (last_moment infos commits start records) (record_moment infos commits item) (last_moment infos commits start (records ++ item ∷ [])) (last_moment-one infos commits start records item) at
 

@@ -18,7 +18,7 @@ no_dot : (xs ys : List ℕ) → list_all is_name_byte (xs ++ 46 ∷ ys) ≡ true
 no_dot [] ys h = let contra : true ≡ false = sym (and_left (is_name_byte 46) (list_all is_name_byte ys) h) in cc
 no_dot (x ∷ xs) ys h = no_dot xs ys (and_right (is_name_byte x) _ h)
 
--- of two texts that end in a part without a dot, each behind one
+-- of two texts that end in a part without a dot, each after one
 last_parts : (xs ys a b : List ℕ) → list_all is_name_byte a ≡ true → list_all is_name_byte b ≡ true → xs ++ 46 ∷ a ≡ ys ++ 46 ∷ b → a ≡ b
 last_parts [] [] a b ha hb e = cc
 last_parts [] (y ∷ ys) a b ha hb e = let rest : a ≡ ys ++ 46 ∷ b = cc in absurd (no_dot ys b (subst (λ (t : List ℕ). list_all is_name_byte t ≡ true) rest ha))

@@ -1,5 +1,6 @@
 -- The effect of one record on one cell of a consumer: at a topic, a key's text and a column.
-use Rattle.std.specs.Prelude.{◌≡◌, ℕ, ℤ, List, Bool, true, if◌then◌else◌, Option, Some, None, option_map, option_and_then, unwrap_or, slice_get, fold, Result, Ok, Err}
+use Rattle.std.specs.Prelude.{◌≡◌, ℕ, ℤ, List, Bool, true, if◌then◌else◌, Option, Some, None}
+use Rattle.std.specs.Prelude.{option_map, option_and_then, unwrap_or, slice_get, fold, Result, Ok, Err}
 use Rattle.std.specs.List.{AllByRecursion}
 use Rattle.std.specs.Str.{bytes_eq}
 use Rattle.dbl_value.specs.Values.{json_of}
@@ -64,20 +65,24 @@ result_op (Err error) text column = Stay
 
 -- The operation of a record on the cell at a topic, a key's text and a column.
 abbrev pub record_op : List ℕ → Reading → List ℕ → List ℕ → List ℕ → Op
-record_op placeholder reading topic text column = if bytes_eq reading.topic topic then result_op (act_of placeholder reading) text column else Stay
+record_op placeholder reading topic text column = if bytes_eq reading.topic topic
+    then result_op (act_of placeholder reading) text column else Stay
 
 -- A cell after a record depends only on the record and on this cell before, for any other cells of the row.
 abbrev pub CellsGoAlone : Type 0
 CellsGoAlone = (placeholder : List ℕ) (reading : Reading) (topic text column : List ℕ) (held : Option HeldCells)
-    → held_at (row_after placeholder topic text held reading) column ≡ cell_after (record_op placeholder reading topic text column) (held_at held column)
+    → held_at (row_after placeholder topic text held reading) column ≡ cell_after (record_op placeholder reading topic text column)
+    (held_at held column)
 
 -- The cell of a consumer after these records, one by one.
 abbrev pub cell_held : List ℕ → List Reading → List ℕ → List ℕ → List ℕ → Option HeldCell
-cell_held placeholder readings topic text column = fold (λ cell reading. cell_after (record_op placeholder reading topic text column) cell) None readings
+cell_held placeholder readings topic text column =
+    fold (λ cell reading. cell_after (record_op placeholder reading topic text column) cell) None readings
 
 -- The cells of a consumer's rows are the results of its records, one by one.
 abbrev pub ConsumersHoldCells : Type 0
-ConsumersHoldCells = (placeholder : List ℕ) (readings : List Reading) (topic text column : List ℕ) → held_at (consumer_of placeholder readings topic text) column ≡ cell_held placeholder readings topic text column
+ConsumersHoldCells = (placeholder : List ℕ) (readings : List Reading) (topic text column : List ℕ)
+    → held_at (consumer_of placeholder readings topic text) column ≡ cell_held placeholder readings topic text column
 
 -- ---- events
 
@@ -107,10 +112,13 @@ is_about info (Some key) text = bytes_eq (key_text info key) text
 -- The operation of an event on the cell at a topic, a key's text and a column.
 abbrev pub notice_op : Identity → Notice → List ℕ → List ℕ → List ℕ → Op
 notice_op identity n topic text column =
-    if bytes_eq (topic_of identity n.info) topic then (if is_about n.info n.key text then content_op n.info n.content column else Stay) else Stay
+    if bytes_eq (topic_of identity n.info) topic then (if is_about n.info n.key text then content_op n.info n.content column else Stay)
+    else Stay
 
 -- The records of a commit without a value equal to the placeholder have the effect of their events on each cell.
 abbrev pub EventsChangeCells : Type 0
-EventsChangeCells = (identity : Identity) (infos : List TableInfo) (commit : Commit) (now : ℤ) → IsCommitInRange commit → IsMomentInRange now → clash_of identity infos commit ≡ None
+EventsChangeCells = (identity : Identity) (infos : List TableInfo) (commit : Commit) (now : ℤ) → IsCommitInRange commit
+    → IsMomentInRange now → clash_of identity infos commit ≡ None
     → AllByRecursion (λ e. (topic text column : List ℕ)
-    → record_op identity.placeholder (reading_of (as_line (print identity commit now e))) topic text column ≡ notice_op identity e.notice topic text column) (events_of infos commit)
+    → record_op identity.placeholder (reading_of (as_line (print identity commit now e))) topic text column
+    ≡ notice_op identity e.notice topic text column) (events_of infos commit)

@@ -24,7 +24,8 @@ IsAsWide infos (Clear table) = Unit {0}
 
 -- The new cells of changes that are valid after the rows before them are one per column.
 abbrev pub FitChangesAreWide : Type 0
-FitChangesAreWide = (infos : List TableInfo) (at : Rows) (changes : List Change) → AreFit infos at changes → AllByRecursion (IsAsWide infos) changes
+FitChangesAreWide = (infos : List TableInfo) (at : Rows) (changes : List Change) → AreFit infos at changes
+    → AllByRecursion (IsAsWide infos) changes
 
 -- The new cells of a change that matches the captured tables are one per column.
 abbrev pub FittingChangesAreWide : Type 0
@@ -32,15 +33,18 @@ FittingChangesAreWide = (infos : List TableInfo) (change : Change) → FitsInfos
 
 -- No change of a commit without a value equal to the placeholder sets a cell to the placeholder.
 abbrev pub CommitsLackPlaceholders : Type 0
-CommitsLackPlaceholders = (identity : Identity) (infos : List TableInfo) (commit : Commit) → AllByRecursion (IsAsWide infos) (changes_of commit) → clash_of identity infos commit ≡ None
+CommitsLackPlaceholders = (identity : Identity) (infos : List TableInfo) (commit : Commit)
+    → AllByRecursion (IsAsWide infos) (changes_of commit) → clash_of identity infos commit ≡ None
     → AllByRecursion (LacksPlaceholder identity.placeholder) (changes_of commit)
 
 -- No change of a list of commits without a value equal to the placeholder sets a cell to the placeholder.
 abbrev pub HistoriesLackPlaceholders : Type 0
-HistoriesLackPlaceholders = (identity : Identity) (infos : List TableInfo) (commits : List Commit) → AllByRecursion (IsAsWide infos) (all_changes commits) → AllByRecursion (λ commit. clash_of identity infos commit ≡ None) commits
+HistoriesLackPlaceholders = (identity : Identity) (infos : List TableInfo) (commits : List Commit)
+    → AllByRecursion (IsAsWide infos) (all_changes commits) → AllByRecursion (λ commit. clash_of identity infos commit ≡ None) commits
     → AllByRecursion (LacksPlaceholder identity.placeholder) (all_changes commits)
 
 -- No row of a snapshot without a value equal to the placeholder has such a cell.
 abbrev pub SnapshotsLackPlaceholders : Type 0
-SnapshotsLackPlaceholders = (identity : Identity) (infos : List TableInfo) (closed : Closed) → FitsSnapshot infos closed → snapshot_clash identity infos closed ≡ None
+SnapshotsLackPlaceholders = (identity : Identity) (infos : List TableInfo) (closed : Closed) → FitsSnapshot infos closed
+    → snapshot_clash identity infos closed ≡ None
     → AllByRecursion (λ e. AllByRecursion (IsNotPlaceholder identity.placeholder) e.1.cells) closed.rows

@@ -27,5 +27,8 @@ after_notices identity ns topic text column cell = fold (λ held n. cell_after (
 
 -- The events of a valid change together have the effect of the change on each cell of a captured table and key, for any cell before.
 abbrev pub ChangesChangeCells : Type 0
-ChangesChangeCells = (identity : Identity) (infos : List TableInfo) (at : Rows) (change : Change) (topic text : List ℕ) (table : ℕ) (key : Key) (names : Names identity infos topic text table key) (column : List ℕ) (cell : Option HeldCell)
-    → AreDistinctTables infos → IsFit infos at change → after_notices identity (notices infos change) topic text column cell ≡ cell_after (effect_op names.info (effect_of infos change table key) column) cell
+ChangesChangeCells = (identity : Identity) (infos : List TableInfo) (at : Rows) (change : Change) (topic text : List ℕ) (table : ℕ)
+    (key : Key) (names : Names identity infos topic text table key) (column : List ℕ) (cell : Option HeldCell)
+    → AreDistinctTables infos → IsFit infos at change
+    → after_notices identity (notices infos change) topic text column cell
+    ≡ cell_after (effect_op names.info (effect_of infos change table key) column) cell

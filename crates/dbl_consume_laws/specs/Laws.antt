@@ -35,7 +35,8 @@ pub record IsReadBack (item : Record) : Type 0 where
 
 -- The records of a commit are read back from their lines.
 abbrev pub LinesAreRead : Type 0
-LinesAreRead = (identity : Identity) (infos : List TableInfo) (commit : Commit) (now : ℤ) → IsCommitInRange commit → IsMomentInRange now → AllByRecursion IsReadBack (envelopes identity infos commit now)
+LinesAreRead = (identity : Identity) (infos : List TableInfo) (commit : Commit) (now : ℤ) → IsCommitInRange commit → IsMomentInRange now
+    → AllByRecursion IsReadBack (envelopes identity infos commit now)
 
 -- Whether the values of a window's rows and keys are in range, and the number of its rows, which is that of a map.
 pub record IsWindowInRange (closed : Closed) : Type 0 where
@@ -45,7 +46,8 @@ pub record IsWindowInRange (closed : Closed) : Type 0 where
 
 -- The records of a closed window of a snapshot are read back from their lines.
 abbrev pub SnapshotLinesAreRead : Type 0
-SnapshotLinesAreRead = (identity : Identity) (infos : List TableInfo) (closed : Closed) (commit : Commit) (now : ℤ) → IsWindowInRange closed → IsCommitInRange commit → IsMomentInRange now
+SnapshotLinesAreRead = (identity : Identity) (infos : List TableInfo) (closed : Closed) (commit : Commit) (now : ℤ) → IsWindowInRange closed
+    → IsCommitInRange commit → IsMomentInRange now
     → AllByRecursion IsReadBack (snapshot identity infos closed commit now)
 
 -- Whether the value isn't printed as the placeholder, which a consumer would take for an unsent cell.
@@ -77,7 +79,8 @@ lines_of_commits identity infos now commits = map as_line (flat_map (λ commit. 
 
 -- The row that a consumer of all records of a history has at a topic and a key's text.
 abbrev pub held_of : Identity → List TableInfo → (Commit → ℤ) → History → List ℕ → List ℕ → Option HeldCells
-held_of identity infos now history topic text = consumer identity.placeholder (lines_of_commits identity infos now (typed infos history)) topic text
+held_of identity infos now history topic text =
+    consumer identity.placeholder (lines_of_commits identity infos now (typed infos history)) topic text
 
 -- Whether the row has exactly these texts, and no unknown cell.
 abbrev pub HoldsTexts : HeldCells → (List ℕ → Option (List ℕ)) → Type 0
@@ -96,16 +99,21 @@ last_rows infos commits = rows infos commits (length (all_changes commits))
 
 -- At each topic and key text a consumer of all records has the image of the last rows.
 abbrev pub ConsumersHoldImages : Type 0
-ConsumersHoldImages = (history : History) (infos : List TableInfo) (identity : Identity) (now : Commit → ℤ) → IsToldWhole history infos identity now
-    → (topic text : List ℕ) (image : Option (List ℕ → Option (List ℕ))) → IsImage identity infos (last_rows infos (typed infos history)) topic text image
+ConsumersHoldImages = (history : History) (infos : List TableInfo) (identity : Identity) (now : Commit → ℤ)
+    → IsToldWhole history infos identity now
+    → (topic text : List ℕ) (image : Option (List ℕ → Option (List ℕ)))
+    → IsImage identity infos (last_rows infos (typed infos history)) topic text image
     → HoldsJsonTexts (held_of identity infos now history topic text) image
 
 -- There is an image at each topic and key text, which is then the one value that the consumer has there.
 abbrev pub ImagesStand : Type 0
 ImagesStand = (history : History) (infos : List TableInfo) (identity : Identity) (now : Commit → ℤ) → IsToldWhole history infos identity now
-    → (topic text : List ℕ) → (image : Option (List ℕ → Option (List ℕ))) × IsImage identity infos (last_rows infos (typed infos history)) topic text image
+    → (topic text : List ℕ) → (image : Option (List ℕ → Option (List ℕ)))
+    × IsImage identity infos (last_rows infos (typed infos history)) topic text image
 
 -- Each row of such a consumer is at the topic and the key's text of a captured table and a key.
 abbrev pub ConsumersHoldNoOtherRows : Type 0
-ConsumersHoldNoOtherRows = (history : History) (infos : List TableInfo) (identity : Identity) (now : Commit → ℤ) → IsToldWhole history infos identity now
-    → (topic text : List ℕ) (cells : HeldCells) → held_of identity infos now history topic text ≡ Some cells → (table : ℕ) × (key : Key) × Names identity infos topic text table key
+ConsumersHoldNoOtherRows = (history : History) (infos : List TableInfo) (identity : Identity) (now : Commit → ℤ)
+    → IsToldWhole history infos identity now
+    → (topic text : List ℕ) (cells : HeldCells) → held_of identity infos now history topic text ≡ Some cells → (table : ℕ) × (key : Key)
+    × Names identity infos topic text table key

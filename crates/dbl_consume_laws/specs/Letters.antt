@@ -29,9 +29,11 @@ content_letter Truncated = Some (codes "t")
 
 -- The records of a commit have the letters of its events.
 abbrev pub EventsHaveLetters : Type 0
-EventsHaveLetters = (identity : Identity) (infos : List TableInfo) (commit : Commit) (now : ℤ) → IsCommitInRange commit → IsMomentInRange now
+EventsHaveLetters = (identity : Identity) (infos : List TableInfo) (commit : Commit) (now : ℤ) → IsCommitInRange commit
+    → IsMomentInRange now
     → AllByRecursion (λ e. letter_of (print identity commit now e) ≡ content_letter e.notice.content) (events_of infos commit)
 
 -- The record of a snapshot's row has the letter r.
 abbrev pub ReadRowsHaveTheirLetter : Type 0
-ReadRowsHaveTheirLetter = (identity : Identity) (info : TableInfo) (commit : Commit) (now : ℤ) (ordinal : ℕ) (entry : Key × Row) → IsReadInRange entry commit now → letter_of (read_record identity info commit now ordinal entry) ≡ Some (codes "r")
+ReadRowsHaveTheirLetter = (identity : Identity) (info : TableInfo) (commit : Commit) (now : ℤ) (ordinal : ℕ) (entry : Key × Row)
+    → IsReadInRange entry commit now → letter_of (read_record identity info commit now ordinal entry) ≡ Some (codes "r")

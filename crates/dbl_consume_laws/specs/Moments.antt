@@ -1,6 +1,7 @@
 -- The points in the history that records correspond to, and the last one that they reach. A point is a number of changes counted from the
 -- start.
-use Rattle.std.specs.Prelude.{◌≡◌, ℕ, suc, ◌+◌, ◌-◌, ◌<◌, ◌≤◌, max, ◌==◌, nat_lt, if◌then◌else◌, Some, List, [], ◌∷◌, ◌++◌, length, fold, flat_map, slice_get}
+use Rattle.std.specs.Prelude.{◌≡◌, ℕ, suc, ◌+◌, ◌-◌, ◌<◌, ◌≤◌, max, ◌==◌, nat_lt, if◌then◌else◌}
+use Rattle.std.specs.Prelude.{Some, List, [], ◌∷◌, ◌++◌, length, fold, flat_map, slice_get}
 use Rattle.dbl_record.specs.declared.record.Record.{Record}
 use Rattle.dbl_record.specs.Places.{Place, place_of, IsBefore, IsTop}
 use Rattle.dbl_model_table.specs.declared.table.TableInfo.{TableInfo}

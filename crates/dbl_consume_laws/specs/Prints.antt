@@ -21,12 +21,15 @@ pub record IsEventOf (infos : List TableInfo) (history : List Commit) (place num
 -- Position and ordinal identify at most one event of a history.
 abbrev pub PairsNameEvents : Type 0
 PairsNameEvents = (infos : List TableInfo) (history : List Commit) (i j k l : ℕ) (c d : Commit) (e f : Event) → CommitsRise history
-    → IsEventOf infos history i j c e → IsEventOf infos history k l d f → e.position ≡ f.position → e.ordinal ≡ f.ordinal → (i ≡ k) × (j ≡ l) × (c ≡ d) × (e ≡ f)
+    → IsEventOf infos history i j c e → IsEventOf infos history k l d f → e.position ≡ f.position → e.ordinal ≡ f.ordinal
+    → (i ≡ k) × (j ≡ l) × (c ≡ d) × (e ≡ f)
 
 -- A record encodes at most one event, made at any time.
 abbrev pub RecordsTellOneEvent : Type 0
-RecordsTellOneEvent = (identity : Identity) (infos : List TableInfo) (history : List Commit) (i j k l : ℕ) (c d : Commit) (e f : Event) (now later : ℤ) → CommitsRise history
-    → IsEventOf infos history i j c e → IsEventOf infos history k l d f → print identity c now e ≡ print identity d later f → (i ≡ k) × (j ≡ l) × (c ≡ d) × (e ≡ f)
+RecordsTellOneEvent = (identity : Identity) (infos : List TableInfo) (history : List Commit) (i j k l : ℕ) (c d : Commit) (e f : Event)
+    (now later : ℤ) → CommitsRise history
+    → IsEventOf infos history i j c e → IsEventOf infos history k l d f → print identity c now e ≡ print identity d later f
+    → (i ≡ k) × (j ≡ l) × (c ≡ d) × (e ≡ f)
 
 -- Whether the record reports that a table's snapshot has reached a key, or none yet, and whether it is done.
 pub record ReportsProgress (identity : Identity) (info : TableInfo) (item : Record) (through : Option Key) (done : Bool) : Type 0 where
@@ -37,13 +40,17 @@ pub record ReportsProgress (identity : Identity) (info : TableInfo) (item : Reco
 
 -- The progress record of a table reports its snapshot's progress.
 abbrev pub ProgressRecordsTell : Type 0
-ProgressRecordsTell = (identity : Identity) (info : TableInfo) (commit : Commit) (ordinal : ℕ) (through : Option Key) (done : Bool) → IfSome through (IsKeyOf info) → ReportsProgress identity info (progress_record identity info commit ordinal through done) through done
+ProgressRecordsTell = (identity : Identity) (info : TableInfo) (commit : Commit) (ordinal : ℕ) (through : Option Key) (done : Bool)
+    → IfSome through (IsKeyOf info) → ReportsProgress identity info (progress_record identity info commit ordinal through done) through done
 
 -- A record in the topic of a table reports no progress.
 abbrev pub TableTopicsTellNone : Type 0
-TableTopicsTellNone = (identity : Identity) (table info : TableInfo) (item : Record) (through : Option Key) (done : Bool) → item.topic ≡ topic_of identity table → ReportsProgress identity info item through done → ⊥
+TableTopicsTellNone = (identity : Identity) (table info : TableInfo) (item : Record) (through : Option Key) (done : Bool)
+    → item.topic ≡ topic_of identity table → ReportsProgress identity info item through done → ⊥
 
 -- A record reports the progress of at most one table, with one key and one flag.
 abbrev pub ProgressIsReadOnce : Type 0
-ProgressIsReadOnce = (identity : Identity) (infos : List TableInfo) (t u : ℕ) (x y : TableInfo) (item : Record) (through last : Option Key) (done whole : Bool) → AreDistinctTables infos
-    → slice_get infos t ≡ Some x → slice_get infos u ≡ Some y → ReportsProgress identity x item through done → ReportsProgress identity y item last whole → (t ≡ u) × (through ≡ last) × (done ≡ whole)
+ProgressIsReadOnce = (identity : Identity) (infos : List TableInfo) (t u : ℕ) (x y : TableInfo) (item : Record) (through last : Option Key)
+    (done whole : Bool) → AreDistinctTables infos
+    → slice_get infos t ≡ Some x → slice_get infos u ≡ Some y → ReportsProgress identity x item through done
+    → ReportsProgress identity y item last whole → (t ≡ u) × (through ≡ last) × (done ≡ whole)

@@ -26,29 +26,38 @@ pub record IsReadInRange (entry : Key × Row) (commit : Commit) (now : ℤ) : Ty
 
 -- After a snapshot's row the consumer has its texts at its topic and key, for every earlier state.
 abbrev pub ReadRowsAreHeld : Type 0
-ReadRowsAreHeld = (identity : Identity) (info : TableInfo) (commit : Commit) (now : ℤ) (ordinal : ℕ) (entry : Key × Row) (held : Option HeldCells) → IsReadInRange entry commit now
+ReadRowsAreHeld = (identity : Identity) (info : TableInfo) (commit : Commit) (now : ℤ) (ordinal : ℕ) (entry : Key × Row)
+    (held : Option HeldCells) → IsReadInRange entry commit now
     → AllByRecursion (IsNotPlaceholder identity.placeholder) entry.1.cells
-    → HoldsJsonTexts (row_after identity.placeholder (topic_of identity info) (key_text info entry.0) held (reading_of (as_line (read_record identity info commit now ordinal entry)))) (Some (row_json_texts info.columns entry.1.cells))
+    → HoldsJsonTexts
+    (row_after identity.placeholder (topic_of identity info) (key_text info entry.0) held
+    (reading_of (as_line (read_record identity info commit now ordinal entry)))) (Some (row_json_texts info.columns entry.1.cells))
 
 -- A snapshot's row changes nothing at other topics and key texts.
 abbrev pub ReadRowsLeaveOthers : Type 0
-ReadRowsLeaveOthers = (identity : Identity) (info : TableInfo) (commit : Commit) (now : ℤ) (ordinal : ℕ) (entry : Key × Row) (topic text : List ℕ) (held : Option HeldCells) → IsReadInRange entry commit now
+ReadRowsLeaveOthers = (identity : Identity) (info : TableInfo) (commit : Commit) (now : ℤ) (ordinal : ℕ) (entry : Key × Row)
+    (topic text : List ℕ) (held : Option HeldCells) → IsReadInRange entry commit now
     → (topic_of identity info ≢ topic) ⊎ (key_text info entry.0 ≢ text)
     → row_after identity.placeholder topic text held (reading_of (as_line (read_record identity info commit now ordinal entry))) ≡ held
 
 -- A snapshot's row has the effect on each cell of an event that creates the row.
 abbrev pub ReadRowsChangeCells : Type 0
-ReadRowsChangeCells = (identity : Identity) (table : ℕ) (info : TableInfo) (commit : Commit) (now : ℤ) (ordinal : ℕ) (entry : Key × Row) (topic text column : List ℕ) → IsReadInRange entry commit now
+ReadRowsChangeCells = (identity : Identity) (table : ℕ) (info : TableInfo) (commit : Commit) (now : ℤ) (ordinal : ℕ) (entry : Key × Row)
+    (topic text column : List ℕ) → IsReadInRange entry commit now
     → AllByRecursion (IsNotPlaceholder identity.placeholder) entry.1.cells
     → record_op identity.placeholder (reading_of (as_line (read_record identity info commit now ordinal entry))) topic text column
     ≡ notice_op identity (notice table info (Some entry.0) (Created entry.1)) topic text column
 
 -- A progress record changes no row of a consumer.
 abbrev pub ProgressChangesNothing : Type 0
-ProgressChangesNothing = (identity : Identity) (info : TableInfo) (commit : Commit) (ordinal : ℕ) (through : Option Key) (done : Bool) (topic text : List ℕ) (held : Option HeldCells)
-    → row_after identity.placeholder topic text held (reading_of (as_line (progress_record identity info commit ordinal through done))) ≡ held
+ProgressChangesNothing = (identity : Identity) (info : TableInfo) (commit : Commit) (ordinal : ℕ) (through : Option Key) (done : Bool)
+    (topic text : List ℕ) (held : Option HeldCells)
+    → row_after identity.placeholder topic text held (reading_of (as_line (progress_record identity info commit ordinal through done)))
+    ≡ held
 
 -- A progress record changes no cell of a consumer.
 abbrev pub ProgressChangesNoCell : Type 0
-ProgressChangesNoCell = (identity : Identity) (info : TableInfo) (commit : Commit) (ordinal : ℕ) (through : Option Key) (done : Bool) (topic text column : List ℕ)
-    → record_op identity.placeholder (reading_of (as_line (progress_record identity info commit ordinal through done))) topic text column ≡ Stay
+ProgressChangesNoCell = (identity : Identity) (info : TableInfo) (commit : Commit) (ordinal : ℕ) (through : Option Key) (done : Bool)
+    (topic text column : List ℕ)
+    → record_op identity.placeholder (reading_of (as_line (progress_record identity info commit ordinal through done))) topic text
+    column ≡ Stay

@@ -1,8 +1,10 @@
 //! How stale the cells of a consumer may be as records are delivered to it.
-ghost use Rattle.dbl_consume_laws.specs.ChangeLaws.{RecordsOfAChangeKeepAge, PartsOfCommitsKeepAge, ChangesMoveAge};
-ghost use Rattle.dbl_consume_laws.specs.ChangeLaws.{CommitsMoveAge, SilentCommitsMoveAge, AgeGoesBack};
-ghost use Rattle.dbl_consume_laws.specs.ChangeLaws.{AgeStaysAsHistoriesGrow};
-ghost use Rattle.dbl_consume_laws.specs.SnapshotLaws.{PartsOfSnapshotsKeepAge, AgedCellsAgree, AgedRecordsAgree};
+ghost use Rattle.dbl_consume_laws.specs.ChangeLaws.{RecordsOfAChangeKeepAge};
+ghost use Rattle.dbl_consume_laws.specs.ChangeLaws.{PartsOfCommitsKeepAge, ChangesMoveAge};
+ghost use Rattle.dbl_consume_laws.specs.ChangeLaws.{CommitsMoveAge, SilentCommitsMoveAge};
+ghost use Rattle.dbl_consume_laws.specs.ChangeLaws.{AgeGoesBack, AgeStaysAsHistoriesGrow};
+ghost use Rattle.dbl_consume_laws.specs.SnapshotLaws.{PartsOfSnapshotsKeepAge};
+ghost use Rattle.dbl_consume_laws.specs.SnapshotLaws.{AgedCellsAgree, AgedRecordsAgree};
 ghost use Rattle.dbl_consume_laws.specs.RowLaws.{NoRecordsAreAged};
 
 /// Some records of the next change leave records aged.

@@ -1,4 +1,6 @@
-ghost use Rattle.dbl_consume_laws.specs.Laws.{LinesAreRead, SnapshotLinesAreRead, ConsumersHoldImages, ImagesStand, ConsumersHoldNoOtherRows};
+ghost use Rattle.dbl_consume_laws.specs.Laws.{LinesAreRead, SnapshotLinesAreRead};
+ghost use Rattle.dbl_consume_laws.specs.Laws.{ConsumersHoldImages, ImagesStand};
+ghost use Rattle.dbl_consume_laws.specs.Laws.{ConsumersHoldNoOtherRows};
 
 /// The line of each record of a commit is read back as that record.
 pub fn lines_are_read()

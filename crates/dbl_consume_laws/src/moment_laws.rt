@@ -1,7 +1,8 @@
 //! The points in the history that records correspond to, and the progress of snapshots that they
 //! report.
 ghost use Rattle.dbl_consume_laws.specs.Commits.{FitHistoriesHaveFitCommits};
-ghost use Rattle.dbl_consume_laws.specs.Moments.{EventsStandForChanges, MarksStandForCommits, LaterPlacesStandLater, RecordsReachTheirTop};
+ghost use Rattle.dbl_consume_laws.specs.Moments.{EventsStandForChanges, MarksStandForCommits};
+ghost use Rattle.dbl_consume_laws.specs.Moments.{LaterPlacesStandLater, RecordsReachTheirTop};
 ghost use Rattle.dbl_consume_laws.specs.KnownKeys.{ToldBoundsAreTold};
 
 /// The captured commits of a valid history satisfy all that the theorems require of commits.

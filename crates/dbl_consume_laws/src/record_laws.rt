@@ -1,13 +1,17 @@
 //! The effect of one record on a consumer, and what it reports.
 ghost use Rattle.dbl_consume_laws.specs.Cells.{CellsGoAlone, ConsumersHoldCells, EventsChangeCells};
-ghost use Rattle.dbl_consume_laws.specs.Snapshots.{ReadRowsAreHeld, ReadRowsLeaveOthers, ReadRowsChangeCells};
-ghost use Rattle.dbl_consume_laws.specs.Snapshots.{ProgressChangesNothing, ProgressChangesNoCell};
-ghost use Rattle.dbl_consume_laws.specs.Clashes.{FitChangesAreWide, FittingChangesAreWide, CommitsLackPlaceholders};
-ghost use Rattle.dbl_consume_laws.specs.Clashes.{HistoriesLackPlaceholders, SnapshotsLackPlaceholders};
+ghost use Rattle.dbl_consume_laws.specs.Snapshots.{ReadRowsAreHeld, ReadRowsLeaveOthers};
+ghost use Rattle.dbl_consume_laws.specs.Snapshots.{ReadRowsChangeCells, ProgressChangesNothing};
+ghost use Rattle.dbl_consume_laws.specs.Snapshots.{ProgressChangesNoCell};
+ghost use Rattle.dbl_consume_laws.specs.Clashes.{FitChangesAreWide, FittingChangesAreWide};
+ghost use Rattle.dbl_consume_laws.specs.Clashes.{CommitsLackPlaceholders};
+ghost use Rattle.dbl_consume_laws.specs.Clashes.{HistoriesLackPlaceholders};
+ghost use Rattle.dbl_consume_laws.specs.Clashes.{SnapshotsLackPlaceholders};
 ghost use Rattle.dbl_consume_laws.specs.Effects.{ChangesChangeCells};
 ghost use Rattle.dbl_consume_laws.specs.Letters.{EventsHaveLetters, ReadRowsHaveTheirLetter};
-ghost use Rattle.dbl_consume_laws.specs.Prints.{PairsNameEvents, RecordsTellOneEvent, ProgressRecordsTell};
-ghost use Rattle.dbl_consume_laws.specs.Prints.{TableTopicsTellNone, ProgressIsReadOnce};
+ghost use Rattle.dbl_consume_laws.specs.Prints.{PairsNameEvents, RecordsTellOneEvent};
+ghost use Rattle.dbl_consume_laws.specs.Prints.{ProgressRecordsTell, TableTopicsTellNone};
+ghost use Rattle.dbl_consume_laws.specs.Prints.{ProgressIsReadOnce};
 
 /// A cell after a record depends only on the record and on the cell before.
 pub fn cells_go_alone()

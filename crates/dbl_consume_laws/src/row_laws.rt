@@ -1,7 +1,9 @@
 //! What aged cells mean for whole rows.
-ghost use Rattle.dbl_consume_laws.specs.RowLaws.{LackedRowsWereAbsent, UnknownRowsWereThere, KnownCellsWereSo};
-ghost use Rattle.dbl_consume_laws.specs.RowLaws.{EventsKeepNames, SnapshotsKeepNames, NoRecordsAreNamed};
-ghost use Rattle.dbl_consume_laws.specs.RowLaws.{RecordsOfHistoriesAreNamed, RecordsOfHistoriesAgree};
+ghost use Rattle.dbl_consume_laws.specs.RowLaws.{LackedRowsWereAbsent, UnknownRowsWereThere};
+ghost use Rattle.dbl_consume_laws.specs.RowLaws.{KnownCellsWereSo, EventsKeepNames};
+ghost use Rattle.dbl_consume_laws.specs.RowLaws.{SnapshotsKeepNames, NoRecordsAreNamed};
+ghost use Rattle.dbl_consume_laws.specs.RowLaws.{RecordsOfHistoriesAreNamed};
+ghost use Rattle.dbl_consume_laws.specs.RowLaws.{RecordsOfHistoriesAgree};
 
 /// A known key without a row, or with an unknown cell, had no row at some point of the span.
 pub fn lacked_rows_were_absent()

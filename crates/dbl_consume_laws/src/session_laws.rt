@@ -1,6 +1,8 @@
 //! What a session preserves of its records while it delivers: they are aged at each point from its
 //! offset's to the delivered one.
-ghost use Rattle.dbl_consume_laws.specs.SessionAges.{RecordsOfAChangeKeepAges, PartsOfCommitsKeepAges, PartsOfSnapshotsKeepAges};
+ghost use Rattle.dbl_consume_laws.specs.SessionAges.{RecordsOfAChangeKeepAges};
+ghost use Rattle.dbl_consume_laws.specs.SessionAges.{PartsOfCommitsKeepAges};
+ghost use Rattle.dbl_consume_laws.specs.SessionAges.{PartsOfSnapshotsKeepAges};
 
 /// Any records of the next change leave records aged at each of these points.
 pub fn records_of_a_change_keep_ages()

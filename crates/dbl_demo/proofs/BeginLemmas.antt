@@ -54,12 +54,12 @@ two_first script rows messages old mid new some empty one two = omega (arith, em
 
 -- ---- how long the disk gets
 
--- behind the workload
+-- after the workload
 pub grown_once : (script form : List ℕ) (rows : Option (List Message)) (old new : ℕ) → form ≡ workload_form script → new ≤ max old (size ([] ++ form ∷ [])) → new ≤ max old (size (first_forms script rows))
 grown_once script form rows old new is le =
     grew_once old new (size ([] ++ form ∷ [])) (size (first_forms script rows)) le (subst (λ (w : List ℕ). size (w ∷ []) ≤ size (first_forms script rows)) (sym is) (first_less script rows))
 
--- and behind its rows
+-- and after its rows
 pub grown_twice : (script first second : List ℕ) (rows : Option (List Message)) (messages : List Message) (old mid new : ℕ) → rows ≡ Some messages → first ≡ workload_form script → EncodesEntry second (Commits 0 messages)
     → mid ≤ max old (size ([] ++ first ∷ [])) → new ≤ max mid (size ((first ∷ []) ++ second ∷ [])) → new ≤ max old (size (first_forms script rows))
 grown_twice script first second rows messages old mid new some is spells once again =

@@ -39,7 +39,7 @@ module _ (bytes : List ℕ) (e : DemoError) where
   prepare_spares (inl memory) failed = let wrong : fault.Memory ≡ fault.Journal broken.Failed = sym memory ∙ failed in cc
   prepare_spares (inr refused) failed = refused_spares bytes e refused failed
 
-  -- ---- behind it
+  -- ---- after it
 
   pub begin_kinds : IsBeginFault e → IsMakeFault e
   begin_kinds (inl memory) = subst IsMakeFault (sym memory) tt

@@ -1,4 +1,4 @@
--- How a call ends that writes an entry of its own behind the group that it ran.
+-- How a call ends that writes an entry of its own after the group that it ran.
 use Rattle.std.proofs.Common.{◌≡◌, ◌∙◌, ◌⊎◌, ℕ, ◌+◌, ◌<◌, ◌≤◌, ◌^◌, Bool, true, false, List, [], ◌∷◌, ◌++◌, refl, sym, ap, subst, arith}
 use Rattle.std.specs.Prelude.{Result, Ok, Err, nat_lt, if◌then◌else◌}
 use Rattle.std.proofs.lemmas.Bool.{ltb-true}
@@ -69,7 +69,7 @@ running_lists model wal demo journal lists r = record {
 }
 
 module _ {D : Type 0} (model : DiskModel D) {parts whole : Demo D} (is : parts ≡ whole) where
-  -- ---- nothing was appended behind the group
+  -- ---- nothing was appended after the group
 
   -- a crash leaves the first ones of what the group adds
   pub first_from : (new : Demo D) → Leaves model parts (next_end parts) [] new → LeavesFirst model (next_end whole) [] whole new
@@ -123,7 +123,7 @@ module _ {D : Type 0} (model : DiskModel D) {parts whole : Demo D} (is : parts �
     later_both : model.faults parts.journal.disk ≤ model.faults new.journal.disk
     later_both = omega (arith, later, later_own)
 
-    -- ---- a mark
+    -- ---- a watermark
 
     module _ (value : List ℕ) (spells : EncodesEntry bytes (Marks (next_end parts) value)) (logged : new ≡ record mid { journal = new.journal; commits = new.commits }) where
       mark_left : Leaves model parts (next_end parts) (mark_entries value (next_end parts)) new

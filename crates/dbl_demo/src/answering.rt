@@ -8,7 +8,8 @@ ghost use Rattle.std.specs.BTreeSet.{IsEmpty};
 ghost use Rattle.dbl_model_table.specs.Tables.{same_name};
 ghost use Rattle.dbl_source_model.specs.ModelHistory.History.{entry_of};
 ghost use Rattle.dbl_source_log.specs.Histories.{history_of};
-ghost use Rattle.dbl_demo_laws.specs.Answers.{RunsStepsAndWrites, AddsRead, AnswersEntry, AnswersHead, AnswersStart};
+ghost use Rattle.dbl_demo_laws.specs.Answers.{RunsStepsAndWrites, AddsRead};
+ghost use Rattle.dbl_demo_laws.specs.Answers.{AnswersEntry, AnswersHead, AnswersStart};
 ghost use Rattle.dbl_demo_laws.specs.Calls.{next_end};
 
 use crate::DemoSource;

@@ -1,7 +1,7 @@
 //! An entry that is built and appended to the journal.
 
-ghost use Rattle.std.specs.Prelude.{◌≡◌, ◌⊎◌, ◌+◌, ◌<◌, ◌≤◌, ◌++◌, ◌∷◌, [], ℕ, List, length, drop, slice_get, Some};
-ghost use Rattle.std.specs.Prelude.{Err, IsTrue, IfOk, OnErr, OnOk};
+ghost use Rattle.std.specs.Prelude.{◌≡◌, ◌⊎◌, ◌+◌, ◌<◌, ◌≤◌, ◌++◌, ◌∷◌, [], ℕ, List, length};
+ghost use Rattle.std.specs.Prelude.{drop, slice_get, Some, Err, IsTrue, IfOk, OnErr, OnOk};
 ghost use Rattle.dbl_base.specs.Streams.{FailsOnlyIfCounted};
 ghost use Rattle.dbl_journal.specs.Growth.{ExtendsJournal};
 ghost use Rattle.dbl_journal.specs.Stored.{LeavesEntries, Lists, count_of};

@@ -1,24 +1,29 @@
 //! The calls of the source, with the contract of every source.
 
-ghost use Rattle.std.specs.Prelude.{◌≡◌, ◌≤◌, ◌∷◌, [], length, None, false, is_none, is_some, option_copied, Err};
-ghost use Rattle.std.specs.Prelude.{IsTrue, IfSome, IfOk, OnOk, OnErr, MatchOption};
+ghost use Rattle.std.specs.Prelude.{◌≡◌, ◌≤◌, ◌∷◌, [], length, None, false};
+ghost use Rattle.std.specs.Prelude.{is_none, is_some, option_copied, Err, IsTrue};
+ghost use Rattle.std.specs.Prelude.{IfSome, IfOk, OnOk, OnErr, MatchOption};
 ghost use Rattle.dbl_base.specs.Streams.{FailsOnlyIfCounted};
 ghost use Rattle.dbl_pgmsg.specs.declared.messages.Message.{Message};
 ghost use Rattle.dbl_pgmsg.specs.Grammar.{Spells};
 ghost use Rattle.dbl_source_log.specs.declared.error.SourceError.TheVariants.{Failed, Memory};
 ghost use Rattle.dbl_source_model.specs.Standings.{SourceState, HasState, MovesTo};
 ghost use Rattle.dbl_source_model.specs.Answered.{IsDescribed, IsHeaded, IsSelectAnswer};
-ghost use Rattle.dbl_source_model.specs.Calls.{Moved, IsMarked, Starts, HasReadOneMore, HasReadAll, IsConfirmed};
-ghost use Rattle.dbl_source_model.specs.Leaves.{Leaves, LeavesSome, MayFollow, MayFollowMark, MayFollowConfirm};
-ghost use Rattle.dbl_source_model.specs.Trace.{Described, Head, Began, Read, Selected, Done, IsTakenBy, IsTakenAnew, LastAnswerIs, is_ready};
+ghost use Rattle.dbl_source_model.specs.Calls.{Moved, IsMarked, Starts, HasReadOneMore};
+ghost use Rattle.dbl_source_model.specs.Calls.{HasReadAll, IsConfirmed};
+ghost use Rattle.dbl_source_model.specs.Leaves.{Leaves, LeavesSome, MayFollow};
+ghost use Rattle.dbl_source_model.specs.Leaves.{MayFollowMark, MayFollowConfirm};
+ghost use Rattle.dbl_source_model.specs.Trace.{Described, Head, Began, Read, Selected, Done};
+ghost use Rattle.dbl_source_model.specs.Trace.{IsTakenBy, IsTakenAnew, LastAnswerIs, is_ready};
 ghost use Rattle.dbl_source_log.specs.Numbers.{lsn_of};
 ghost use Rattle.dbl_demo_wal.specs.CrashState.{added_by, with_entries};
 ghost use Rattle.dbl_demo_wal.specs.Workloads.{acts_at};
 ghost use Rattle.dbl_demo_wal.specs.Wals.{Wal};
 ghost use Rattle.dbl_demo_wal.specs.Standings.{MayLeaveWal};
 ghost use Rattle.dbl_demo_wal.specs.Shown.{AreRowsShown};
-ghost use Rattle.dbl_demo_laws.specs.Calls.{HasReadWhole, confirm_of, LeavesFirst, LeavesRead, mark_entries, next_end};
-ghost use Rattle.dbl_demo_laws.specs.Calls.{ReadsOnTo, ReleasesSteps, second_end, start_answer};
+ghost use Rattle.dbl_demo_laws.specs.Calls.{HasReadWhole, confirm_of, LeavesFirst};
+ghost use Rattle.dbl_demo_laws.specs.Calls.{LeavesRead, mark_entries, next_end, ReadsOnTo};
+ghost use Rattle.dbl_demo_laws.specs.Calls.{ReleasesSteps, second_end, start_answer};
 ghost use Rattle.dbl_demo_laws.specs.Demo.{ExtendsDemo, IsDemo, HasDemoState};
 
 use crate::DemoSource;
@@ -32,7 +37,9 @@ impl<D: Disk> Source for DemoSource<D> {
     ghost use Rattle.std.specs.Prelude.{None, is_some};
     ghost use Rattle.dbl_demo_wal.specs.Standings.{MayLeaveWal};
     ghost use Rattle.dbl_demo_laws.specs.Demo.{ExtendsDemo, HasDemoState};
-    ghost use Rattle.dbl_demo_laws.specs.SourceLaws.{lives_so, one_standing, only_left, may_leave_so, reads_so, rising_so, fit_so, right_so};
+    ghost use Rattle.dbl_demo_laws.specs.SourceLaws.{lives_so, one_standing, only_left};
+    ghost use Rattle.dbl_demo_laws.specs.SourceLaws.{may_leave_so, reads_so, rising_so};
+    ghost use Rattle.dbl_demo_laws.specs.SourceLaws.{fit_so, right_so};
 
     ghost stands = { λ source s. HasDemoState D.Disk source s };
 

@@ -1,7 +1,7 @@
 //! The begin of a log.
 
-ghost use Rattle.std.specs.Prelude.{◌≡◌, ◌≢◌, ℕ, ◌<◌, ◌≤◌, List, [], Some, None, Err, IfSome, IfOk, IfErr, OnOk};
-ghost use Rattle.std.specs.Prelude.{IsTrue, MatchResult, is_some, length, max};
+ghost use Rattle.std.specs.Prelude.{◌≡◌, ◌≢◌, ℕ, ◌<◌, ◌≤◌, List, [], Some, None, Err, IfSome, IfOk};
+ghost use Rattle.std.specs.Prelude.{IfErr, OnOk, IsTrue, MatchResult, is_some, length, max};
 ghost use Rattle.dbl_base.specs.Streams.{FailsOnlyIfCounted};
 ghost use Rattle.dbl_journal.specs.Stored.{IsSteady, Lists, count_of, size};
 ghost use Rattle.dbl_demo_wal.specs.Wals.{Wal};

@@ -1,6 +1,7 @@
 //! The opening of a log.
 
-ghost use Rattle.std.specs.Prelude.{◌≡◌, ◌⊎◌, ℕ, ◌<◌, List, None, Err, IfOk, IfErr, IsTrue, MatchResult};
+ghost use Rattle.std.specs.Prelude.{◌≡◌, ◌⊎◌, ℕ, ◌<◌, List, None, Err};
+ghost use Rattle.std.specs.Prelude.{IfOk, IfErr, IsTrue, MatchResult};
 ghost use Rattle.dbl_journal.specs.Stored.{Lists};
 ghost use Rattle.dbl_demo_wal.specs.Sound.{steps_in};
 ghost use Rattle.dbl_demo_wal.specs.Wals.{IsFirstBad, Wal, forms_of};

@@ -1,7 +1,7 @@
 //! The next message of the log. The entry of a commit is read once from the disk.
 
-ghost use Rattle.std.specs.Prelude.{◌≡◌, ◌⊎◌, ◌<◌, ℕ, List, None, Some, Err, IfOk, IsTrue, slice_get, IfErr};
-ghost use Rattle.std.specs.Prelude.{IsSome, is_some, false, length};
+ghost use Rattle.std.specs.Prelude.{◌≡◌, ◌⊎◌, ◌<◌, ℕ, List, None, Some, Err, IfOk, IsTrue};
+ghost use Rattle.std.specs.Prelude.{slice_get, IfErr, IsSome, is_some, false, length};
 ghost use Rattle.dbl_base.specs.Streams.{FailsOnlyIfCounted};
 ghost use Rattle.dbl_source_log.specs.declared.reader_position.ReaderPosition.{ReaderPosition};
 ghost use Rattle.dbl_source_log.specs.Sent.{index_of};

@@ -1,6 +1,7 @@
 //! Groups of steps that a call runs, and the commits that they add to the log.
 
-ghost use Rattle.std.specs.Prelude.{◌≡◌, ◌<◌, ◌≤◌, ◌+◌, Err, [], false, length, IfOk, OnOk, IsTrue, slice_get, Some, ◌⊎◌, true};
+ghost use Rattle.std.specs.Prelude.{◌≡◌, ◌<◌, ◌≤◌, ◌+◌, Err, [], false, length};
+ghost use Rattle.std.specs.Prelude.{IfOk, OnOk, IsTrue, slice_get, Some, ◌⊎◌, true};
 ghost use Rattle.dbl_base.specs.Streams.{FailsOnlyIfCounted};
 ghost use Rattle.dbl_journal.specs.Growth.{ExtendsJournal};
 ghost use Rattle.dbl_journal.specs.Stored.{count_of};
@@ -11,7 +12,8 @@ ghost use Rattle.dbl_script.specs.declared.script.Step.{Step};
 ghost use Rattle.dbl_demo_wal.specs.Wals.{Wal};
 ghost use Rattle.dbl_demo_laws.specs.Calls.{next_end};
 ghost use Rattle.dbl_demo_laws.specs.Demo.{IsRunning};
-ghost use Rattle.dbl_demo_laws.specs.Reading.{has_unread, IsLogged, LeavesLogged, LeavesReadRun, RanOn};
+ghost use Rattle.dbl_demo_laws.specs.Reading.{has_unread, IsLogged, LeavesLogged};
+ghost use Rattle.dbl_demo_laws.specs.Reading.{LeavesReadRun, RanOn};
 ghost use Rattle.dbl_demo_laws.specs.Running.{IsRunOf, LeavesRun, Ran};
 ghost use Rattle.dbl_demo_workload.specs.Steps.{FitAnEntry, is_tick};
 ghost use Rattle.dbl_disk.specs.Disks.{disk_limit};

@@ -1,4 +1,5 @@
-ghost use Rattle.std.specs.Prelude.{◌≡◌, ◌≢◌, ◌⊎◌, ℕ, ◌<◌, ◌≤◌, List, [], Some, None, IfOk, IfErr, IsTrue, MatchResult, length, map};
+ghost use Rattle.std.specs.Prelude.{◌≡◌, ◌≢◌, ◌⊎◌, ℕ, ◌<◌, ◌≤◌, List, [], Some, None};
+ghost use Rattle.std.specs.Prelude.{IfOk, IfErr, IsTrue, MatchResult, length, map};
 ghost use Rattle.dbl_base.specs.Streams.{FaultCounted};
 ghost use Rattle.dbl_disk.specs.Disks.{IsOnly};
 ghost use Rattle.dbl_journal.specs.Form.{IsFaultAt, entry_limit};

@@ -33,11 +33,11 @@ module _ {D : Type 0} (model : DiskModel D) where
     reader = r.reader;
   }
 
-  -- what it stood for is what the wal says
+  -- what it represented is what the wal says
   pub stood_for : (old : Demo D) (wal : Wal) (s : SourceState) → IsDemo model wal old → HasDemoState model old s → s ≡ standing_in wal old.place
   stood_for old wal s of_old stands = stands.2 ∙ ap (λ (x : Wal). standing_in x old.place) (one_demo model old stands.0 wal stands.1 of_old)
 
-  -- it stands for what the new wal says
+  -- it represents what the new wal says
   pub leads : (old new : Demo D) (wal next : Wal) (s : SourceState) (P : SourceState → SourceState → Type 0) → IsDemo model wal old → IsDemo model next new → HasDemoState model old s → P (standing_in wal old.place) (standing_in next new.place)
       → HasState (HasDemoState model) new (P s)
   leads old new wal next s P of_old of_new stands holds = record {
@@ -53,19 +53,19 @@ module _ {D : Type 0} (model : DiskModel D) where
         leads old new wal (with_entries wal more) s Moved of_old of_new stands
         (subst (λ (p : Option ReaderPosition). Moved (standing_in wal old.place) (standing_in (with_entries wal more) p)) (sym same) (standing_moves wal more old.place are of_old.running.reader.placed))
 
-    -- a mark behind them
+    -- a watermark after them
     pub leads_marked : (steps : ℕ) (value : List ℕ) → IsDemo model (with_entries wal (marked more steps value)) new → HasState (HasDemoState model) new (IsMarked value s)
     leads_marked steps value of_new =
         leads old new wal (with_entries wal (marked more steps value)) s (IsMarked value) of_old of_new stands
         (subst (λ (p : Option ReaderPosition). IsMarked value (standing_in wal old.place) (standing_in (with_entries wal (marked more steps value)) p)) (sym same) (standing_marks wal more are steps value old.place of_old.running.reader.placed))
 
-    -- a confirmed position behind them
+    -- a confirmed position after them
     pub leads_confirmed : (upto : Lsn) → (confirmed_of wal).0 ≤ upto.0 → IsDemo model (with_entries wal (confirming more upto)) new → HasState (HasDemoState model) new (IsConfirmed upto s)
     leads_confirmed upto le of_new =
         leads old new wal (with_entries wal (confirming more upto)) s (IsConfirmed upto) of_old of_new stands
         (subst (λ (p : Option ReaderPosition). IsConfirmed upto (standing_in wal old.place) (standing_in (with_entries wal (confirming more upto)) p)) (sym same) (standing_confirms wal more are upto old.place le of_old.running.reader.placed))
 
-  -- ---- what a crash leaves behind a call
+  -- ---- what a crash leaves after a call
 
   module _ (old new : Demo D) (wal : Wal) (more : List Entry) (are : AreCommits more) (of_old : IsDemo model wal old) (s : SourceState) (stands : HasDemoState model old s) (l : CrashState) (may : MayLeaveWal model new.journal.disk l) where
     pub left_moved : LeavesWal model new.journal.disk (IsLeftOf wal more) → MayFollow s l

@@ -1,4 +1,4 @@
--- What a read told that found nothing left goes on holding, until a read finds a message or a start begins anew.
+-- What a read told that found nothing left goes on holding, until a read finds a message or a start begins again.
 use Rattle.std.proofs.Common.{◌≡◌, ◌∙◌, ℕ, zero, suc, List, [], ◌∷◌, ◌++◌, length, drop, sym, ap, subst}
 use Rattle.std.specs.Prelude.{IsTrue}
 use Rattle.std.specs.List.{AllByRecursion}
@@ -32,7 +32,7 @@ marks_on (suc n) [] ys first second = watermarks_since (suc n) ys second
 marks_on (suc n) (x ∷ xs) ys first second = marks_on n xs ys first second
 
 module _ {D : Type 0} (model : DiskModel D) (old new : Demo D) (wal : Wal) (of_old : IsDemo model wal old) where
-  -- a call that runs no step then, and writes a mark at the most
+  -- a call that runs no step then, and writes a watermark at the most
   pub ended_on : (upto : ℕ) (own : List Entry) → (old.done ≡ length old.steps → upto ≡ old.done) → AreMarks (logged_in own) → new.done ≡ upto → new.steps ≡ old.steps → IsReaderKept old new → IsTrue new.ended
       → HasReachedEnd (with_entries wal (added_by wal old.done upto own)) new
   ended_on upto own stays marks done steps kept is =

@@ -29,7 +29,7 @@ within demo = record demo { live = false }
 abbrev pub answering : {D : Type 0} → Demo D → Demo D
 answering demo = record demo { live = true }
 
--- ---- what is left behind some of the steps is left behind all of them
+-- ---- what is left after some of the steps is left after all of them
 
 take_in : (count : ℕ) (some subsequent : List Entry) → (n : ℕ) × (take count some ≡ take n (some ++ subsequent))
 take_in zero some subsequent = (0, refl)
@@ -131,11 +131,11 @@ module _ {D : Type 0} (model : DiskModel D) (old : Demo D) where
           answers = holds;
         })
 
--- ---- behind a group that was run
+-- ---- after a group that was run
 
 module _ {D : Type 0} (model : DiskModel D) (old mid : Demo D) (same : IsRunOf (within old) mid) (left : Leaves model old (next_end old) [] mid)
     (come : journals.ExtendsJournal model old.journal mid.journal) (later : model.faults old.journal.disk ≤ model.faults mid.journal.disk) where
-  -- the call fails there, with the group or behind it
+  -- the call fails there, with the group or after it
   pub fails_there : {T : Type 0} (upto : ℕ) (own : List Entry) (Answers : Demo D → T → Type 0) (result : Result T SourceError) (e : SourceError) → result ≡ Err e → next_end old ≤ upto → (e ≡ Failed → FaultCounted (model.faults old.journal.disk) (model.faults mid.journal.disk))
       → RunsStepsAndWrites model upto own Answers old mid result
   fails_there upto own Answers result e is above failed =

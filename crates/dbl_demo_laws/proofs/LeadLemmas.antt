@@ -110,7 +110,7 @@ module _ {D : Type 0} (model : DiskModel D) (old new : Demo D) (wal : Wal) (of_o
     pub lead_moved : (P : SourceState → Type 0) → new.place ≡ old.place → ((t : SourceState) → Moved s t → P t) → HasState (HasDemoState model) new (λ t. Moved s t × P t)
     lead_moved P place holds = stood_as (HasDemoState model) new (Moved s) (λ t. Moved s t × P t) (λ t moved. (moved, holds t moved)) (moved_on place)
 
-  -- ---- a mark
+  -- ---- a watermark
 
   pub lead_mark : (upto : ℕ) (value : List ℕ) (s : SourceState) → HasDemoState model old s → Released model wal upto (mark_entries value upto) old new → new.place ≡ old.place → HasState (HasDemoState model) new (IsMarked value s)
   lead_mark upto value s stands done place = leads_marked model old new wal (released wal.workload old.done upto) (released_are wal.workload old.done upto) of_old place s stands upto value done.is
@@ -134,7 +134,7 @@ module _ {D : Type 0} (model : DiskModel D) (old new : Demo D) (wal : Wal) (of_o
   pub lead_confirm : (upto : ℕ) (lsn : Lsn) (s : SourceState) → HasDemoState model old s → Released model wal upto (confirm_of old.confirmed lsn) old new → new.place ≡ old.place → HasState (HasDemoState model) new (IsConfirmed lsn s)
   lead_confirm upto lsn s stands done place = lead_confirm_at upto lsn s stands (nat_lt old.confirmed.0 lsn.0) refl done place
 
--- ---- what a crash leaves behind a mark and behind a confirmed position
+-- ---- what a crash leaves after a watermark and after a confirmed position
 
 module _ {D : Type 0} (model : DiskModel D) (old new : Demo D) where
   pub left_mark : (upto : ℕ) (value : List ℕ) → LeavesFirst model upto (mark_entries value upto) old new → Leaves (HasDemoState model) (λ source l. MayLeaveWal model source.journal.disk l) old new (MayFollowMark value)

@@ -1,4 +1,4 @@
--- Runs of steps, one behind the other, and where a group ends.
+-- Runs of steps, one after the other, and where a group ends.
 use Rattle.std.proofs.Common.{◌≡◌, ◌∙◌, ◌⊎◌, ℕ, zero, suc, ◌+◌, ◌≤◌, true, false, Option, Some, List, [], ◌∷◌, ◌++◌, length, take, drop, refl, sym, ap, subst, arith, append_assoc, inl, inr}
 use Rattle.std.specs.Prelude.{slice_get}
 use Rattle.std.proofs.lemmas.List.{append-nil, length-drop, nil_from_length}
@@ -30,7 +30,7 @@ use Rattle.dbl_source.specs.SourceLog.Sent.{index_of}
 use Rattle.dbl_demo_workload.specs.DemoWal.Sound.{logged_in}
 use Rattle.dbl_demo_workload.proofs.DemoWalGroupLemmas.{end_later}
 
--- ---- entries behind entries
+-- ---- entries after entries
 
 pub with_plus : (wal : Wal) (first second : List Entry) → with_entries (with_entries wal first) second ≡ with_entries wal (first ++ second)
 with_plus wal first second = ap (λ (l : List Entry). let x : Wal = record wal { entries = l } in x) (append_assoc wal.entries first second)
@@ -50,7 +50,7 @@ left_on wal before more subsequent left is =
     let n = take_on before more subsequent is.count in
     record { count = n.0; is = is.is ∙ with_plus wal before (take is.count more) ∙ ap (with_entries wal) n.1 }
 
--- ---- a run behind a run
+-- ---- a run after a run
 
 added_plus : (w : Workload) (done mid upto : ℕ) → done ≤ mid → mid ≤ upto → (released w done mid ++ []) ++ (released w mid upto ++ []) ≡ released w done upto ++ []
 added_plus w done mid upto first second =
@@ -59,7 +59,7 @@ added_plus w done mid upto first second =
     ∙ ap (λ (l : List Entry). l ++ []) (sym (released_plus w done mid upto first second))
 
 module _ {D : Type 0} (model : DiskModel D) (wal : Wal) (old mid : Demo D) (between : ℕ) (first : old.done ≤ between) (ran : Ran model wal between [] old mid) where
-  -- the wal behind the first run
+  -- the wal after the first run
   abbrev pub wal_between : Wal
   wal_between = with_entries wal (added_by wal old.done between [])
 
@@ -107,7 +107,7 @@ size_other (kinds.Truncate session tables) rest h = refl
 pub end_here : (steps : List Step) (done : ℕ) (s : Step) → slice_get steps done ≡ Some s → is_tick s ≡ true → group_end steps done ≡ done + 1
 end_here steps done s there tick = omega (arith, ap group_size (drop_there steps done s there), size_tick s (drop (suc done) steps) tick)
 
--- behind another one it goes on
+-- after another one it goes on
 pub end_on : (steps : List Step) (done : ℕ) (s : Step) → slice_get steps done ≡ Some s → is_tick s ≡ false → group_end steps done ≡ group_end steps (done + 1)
 end_on steps done s there other =
     let more : suc done ≡ done + 1 = omega arith in
@@ -233,7 +233,7 @@ module _ {D : Type 0} (model : DiskModel D) where
 -- ---- a read, group by group
 
 module _ {D : Type 0} (model : DiskModel D) (old now : Demo D) (later : old.done ≤ now.done) where
-  -- the wal behind what was run so far
+  -- the wal after what was run so far
   abbrev wal_now : Wal → Wal
   wal_now wal = with_entries wal (added_by wal old.done now.done [])
 
@@ -322,7 +322,7 @@ module _ {D : Type 0} (model : DiskModel D) where
       let whole : added_by wal old.done upto [] ++ subsequent ≡ added_by wal old.done end [] = added_plus wal.workload old.done upto end first second in
       (here.0, here.1, record { count = n.0; is = here.2.is ∙ ap (with_entries wal) (n.1 ∙ ap (take n.0) whole) })
 
-  -- wherever the read ends, it adds what was being added first
+  -- where the read ends, it adds what was being added first
   left_by_end : (wal : Wal) (place : ReaderPosition) (upto : ℕ) (old new : Demo D) → IsRunning model wal old → old.done ≤ upto → upto ≤ length (steps_of wal.workload) → IsReadingOn wal.workload wal.entries place old.done upto → LeavesRun model wal upto [] old new
       → LeavesReadRun model wal place old new
   left_by_end wal place upto old new running first within reading leaves crashed may =

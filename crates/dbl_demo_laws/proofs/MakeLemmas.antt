@@ -118,7 +118,7 @@ module _ {D : Type 0} (model : DiskModel D) (script : List ℕ) (w : Workload) (
         held_is = λ p logged there holds. absurd (nowhere p there);
       }
 
-  -- it stands for its first wal
+  -- it represents its first wal
   pub made_first : IsTrue demo.live → demo.ended ≡ false → Lists model demo.journal (first_forms script ready.rows) → demo.names ≡ ready.names.items → demo.tables ≡ ready.tables.items → demo.store ≡ ready.store → demo.steps ≡ ready.steps.items → demo.done ≡ 0
       → demo.commits ≡ first_places ready.rows → demo.confirmed ≡ record { 0 = 0 } → demo.place ≡ None → (wal : Wal) × IsDemo model wal demo × IsFirstWal script wal × (demo.done ≡ 0)
   made_first live ended lists names tables store steps done commits confirmed place = (

@@ -1,4 +1,4 @@
--- One more message was read: the reader behind it; and the rows that the store shows.
+-- One more message was read: the reader after it; and the rows that the store shows.
 use Rattle.std.proofs.Common.{◌≡◌, ◌∙◌, ◌⊎◌, ℕ, Option, None, Some, List, [], refl, sym, ap, subst, inl, inr, ◌+◌}
 use Rattle.std.specs.Prelude.{slice_get, Ok, Err}
 use Rattle.std.specs.BTreeSet.{BTreeSet}
@@ -33,7 +33,7 @@ module _ {D : Type 0} (model : DiskModel D) (old : Demo D) (wal : Wal) (place : 
   abbrev log : List Logged
   log = logged_in wal.entries
 
-  -- what is held behind it: nothing, or what was held, where the place is in the same commit
+  -- what is held after it: nothing, or what was held, where the place is in the same commit
   module _ (described : BTreeSet ℕ) (held : Option Logged) (describes : Describes described (told_at old.tables (logged_in wal.entries) step.place)) (holds : (held ≡ None) ⊎ ((held ≡ old.held) × (step.place.commits ≡ place.commits))) where
     abbrev subsequent : Demo D
     subsequent = record old { place = Some step.place; described = described; held = held }

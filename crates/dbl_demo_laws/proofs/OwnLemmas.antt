@@ -1,4 +1,4 @@
--- A mark or a confirmed position behind the group that its call ran.
+-- A watermark or a confirmed position after the group that its call ran.
 use Rattle.std.proofs.Common.{◌≡◌, ◌∙◌, ◌⊎◌, ℕ, ◌+◌, ◌<◌, ◌^◌, List, [], ◌∷◌, ◌++◌, length, refl, sym, ap, subst, arith, length-append}
 use Rattle.std.proofs.lemmas.List.{append-nil}
 use Rattle.dbl_base.specs.declared.lsn.Lsn.{Lsn}
@@ -20,7 +20,7 @@ use Rattle.dbl_demo_laws.specs.Running.{Ran}
 use Rattle.dbl_demo_laws.proofs.LoopLemmas.{left_on, with_plus}
 use Rattle.dbl_demo_laws.proofs.RunLemmas.{count_is, leaves_push, lists_push, one_more, running_entry}
 
--- the entry behind what the steps added is what the call adds
+-- the entry after what the steps added is what the call adds
 pub own_wal : (wal : Wal) (done upto : ℕ) (entry : Entry) → one_more (with_entries wal (added_by wal done upto [])) entry ≡ with_entries wal (added_by wal done upto (entry ∷ []))
 own_wal wal done upto entry =
     with_plus wal (added_by wal done upto []) (entry ∷ []) ∙ ap (λ (l : List Entry). with_entries wal (l ++ entry ∷ [])) (append-nil (released wal.workload done upto))
@@ -32,7 +32,7 @@ module _ {D : Type 0} (model : DiskModel D) (wal : Wal) (old mid : Demo D) (upto
   few_more : length subsequent.entries + 1 < 2 ^ 40
   few_more = omega (arith, small, count_is model subsequent mid ran.running)
 
-  -- the store stands behind the group, and nothing that it commits is wanting
+  -- the store is after the group, and nothing that it commits is missing
   silent : IsSilent subsequent.workload subsequent.entries upto
   silent = subst (λ (n : ℕ). IsSilent subsequent.workload subsequent.entries n) ran.done ran.running.silent
 
@@ -46,7 +46,7 @@ module _ {D : Type 0} (model : DiskModel D) (wal : Wal) (old mid : Demo D) (upto
         ap (λ (l : List Entry). l ++ entry ∷ []) (append-nil (released wal.workload old.done upto)) in
         (here.0, here.1, subst (λ (l : List Entry). IsLeftOf wal l here.0) added left)
 
-    -- once it stands the source runs on behind it
+    -- once it stands the source runs on after it
     own_running : (journal : OnDisk D) (commits : List ℕ) (confirmed : Lsn) → Lists model journal (forms_of subsequent ++ entry_form entry ∷ []) → IsSilent subsequent.workload (one_more subsequent entry).entries mid.done
         → commits ≡ commit_places 1 (one_more subsequent entry).entries → confirmed ≡ confirmed_of (one_more subsequent entry)
         → IsRunning model (with_entries wal (added_by wal old.done upto (entry ∷ []))) (record mid { journal = journal; commits = commits; confirmed = confirmed })
@@ -56,7 +56,7 @@ module _ {D : Type 0} (model : DiskModel D) (wal : Wal) (old mid : Demo D) (upto
         (running_entry model subsequent mid ran.running entry journal mid.store mid.done commits confirmed (lists_push model journal subsequent entry (entry_form entry) refl lists) fits next
         (omega (arith, few_more, length-append subsequent.entries (entry ∷ []))) ran.running.stands on places are)
 
-  -- ---- a mark
+  -- ---- a watermark
 
   module _ (value : List ℕ) (fits : FitsWalEntry (Marks upto value)) where
     pub mark_next : IsNextEntry subsequent.workload subsequent.entries (Marks upto value)

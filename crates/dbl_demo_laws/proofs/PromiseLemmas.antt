@@ -1,4 +1,4 @@
--- What a call promises as a call of any source, from what it comes to.
+-- What a call promises as a call of any source, from what it amounts to.
 use Rattle.std.proofs.Common.{◌≡◌, ◌∙◌, ℕ, true, false, Option, None, Some, List, [], length, sym, ap, subst, arith}
 use Rattle.std.specs.Prelude.{IsTrue, is_some, IfSome, Result, Ok, Err, IfOk, OnOk, OnErr}
 use Rattle.dbl_disk.specs.Model.{DiskModel}

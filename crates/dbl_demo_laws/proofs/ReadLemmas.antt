@@ -1,4 +1,4 @@
--- What a read promises as one of any source, from what it comes to.
+-- What a read promises as one of any source, from what it amounts to.
 use Rattle.std.proofs.Common.{◌≡◌, ◌∙◌, ◌⊎◌, ℕ, ◌≤◌, Bool, true, false, Option, None, Some, List, [], ◌∷◌, ◌++◌, length, refl, sym, ap, subst, arith, inl, inr}
 use Rattle.std.specs.Prelude.{IsTrue, is_none, is_some, MatchOption, Result, Ok, Err, IfOk, OnOk, option_map}
 use Rattle.std.specs.List.{AllByRecursion}
@@ -88,7 +88,7 @@ module _ {D : Type 0} (model : DiskModel D) (old new : Demo D) (wal : Wal) (plac
     whole = λ p at. not_begun p.begun (λ begun. absurd (omega (arith, (running.reader.placed p at).there begun, whole.read p at)));
   }
 
-  -- the source behind it
+  -- the source after it
   pub demo_behind : IsTrue new.live → (read : Option (List ℕ)) → new.ended ≡ is_none read → ReadAfter model wal place old new read → IsDemo model next new
   demo_behind live None ended subsequent = record { live = live; running = subsequent.next.running; ended = λ is. ended_whole (read_whole subsequent) subsequent.next.running }
   demo_behind live (Some bytes) ended subsequent = record { live = live; running = subsequent.next.running; ended = λ is. absurd (let wrong : true ≡ false = sym is ∙ ended in cc) }

@@ -1,4 +1,4 @@
--- A reader that begins, that is told that its log is gone, and one that reads on: the source runs on behind it.
+-- A reader that begins, that is told that its log is gone, and one that reads on: the source runs on after it.
 use Rattle.std.proofs.Common.{◌≡◌, ◌∙◌, ◌⊎◌, ℕ, ◌≤◌, Bool, true, false, Option, None, Some, List, [], length, refl, sym, ap, subst, arith, inl, inr}
 use Rattle.std.specs.Prelude.{IsTrue, is_none, is_some, Result, Ok, Err}
 use Rattle.std.specs.List.{list_any}
@@ -75,7 +75,7 @@ with_reader model wal demo place described held ended live reader r = record {
   reader = reader;
 }
 
--- ---- a reader that starts, behind the group
+-- ---- a reader that starts, after the group
 
 module _ {D : Type 0} (model : DiskModel D) {parts whole : Demo D} (is : parts ≡ whole) (mid : Demo D) (left : Leaves model parts (next_end parts) [] mid)
     (come : journals.ExtendsJournal model parts.journal mid.journal) (later : model.faults parts.journal.disk ≤ model.faults mid.journal.disk) (runs : Runs model parts (next_end parts) [] mid) (done : mid.done ≡ next_end parts) where
@@ -103,7 +103,7 @@ module _ {D : Type 0} (model : DiskModel D) {parts whole : Demo D} (is : parts �
 -- ---- a read
 
 module _ {D : Type 0} (model : DiskModel D) {parts whole : Demo D} (is : parts ≡ whole) where
-  -- it failed while groups were run, or behind them
+  -- it failed while groups were run, or after them
   pub read_fails : (new : Demo D) (result : Result (Option (List ℕ)) SourceError) (e : SourceError) → result ≡ Err e
       → ((wal : Wal) (place : ReaderPosition) → IsRunning model wal (within parts) → parts.place ≡ Some place → LeavesReadRun model wal place (within parts) new) → new.live ≡ false
       → journals.ExtendsJournal model parts.journal new.journal → model.faults parts.journal.disk ≤ model.faults new.journal.disk → (e ≡ Failed → FaultCounted (model.faults parts.journal.disk) (model.faults new.journal.disk)) → is_some new.place ≡ is_some parts.place
@@ -144,7 +144,7 @@ module _ {D : Type 0} (model : DiskModel D) {parts whole : Demo D} (is : parts �
         still = tt;
       })
 
--- the next message behind the groups, as the source stands once it answers
+-- the next message after the groups, as the source stands once it answers
 pub read_after : {D : Type 0} (model : DiskModel D) (wal : Wal) (place : ReaderPosition) (old mid new : Demo D) (read : Option (List ℕ)) (ended : Bool) → RanOn model wal place old mid → new.done ≡ mid.done
     → ReadsNext model (with_entries wal (added_by wal old.done mid.done [])) place new read → ReadAfter model wal place old (record new { ended = ended; live = true }) read
 read_after model wal place old mid new read ended ran done next = record {
@@ -162,7 +162,7 @@ read_after model wal place old mid new read ended ran done next = record {
     answers_live None none = record { is = none.is; end = none.end; running = live none.running }
     answers_live (Some bytes) one = record { next = one.next; is = one.is; same = one.same; message = one.message; spelled = one.spelled; told = one.told; running = live one.running }
 
--- ---- the read itself, behind the groups
+-- ---- the read itself, after the groups
 
 -- it changes nothing but the journal and the reader
 abbrev pub IsReadOf : {D : Type 0} → Demo D → Demo D → Type 0

@@ -1,4 +1,4 @@
--- What the source is behind a step, behind a mark and behind a confirmed position, from what the journal lists and the store stands for.
+-- What the source is after a step, after a watermark and after a confirmed position, from what the journal lists and the store represents.
 use Rattle.std.proofs.Common.{◌≡◌, ◌∙◌, ◌⊎◌, ℕ, zero, suc, ◌+◌, ◌<◌, ◌^◌, Option, Some, List, [], ◌∷◌, ◌++◌, length, map, refl, sym, ap, subst, arith, inl, inr}
 use Rattle.std.specs.Prelude.{slice_get}
 use Rattle.std.specs.BTreeSet.{BTreeSet}
@@ -90,7 +90,7 @@ leaves_push model disk wal entry form is sound few fits next leaves crashed may 
     length-push [] entry = refl
     length-push (x ∷ entries) entry = omega (arith, length-push entries entry)
 
--- ---- behind a step
+-- ---- after a step
 
 module _ {D : Type 0} (model : DiskModel D) (wal : Wal) (old : Demo D) (running : IsRunning model wal old) where
   -- one that committed nothing
@@ -109,7 +109,7 @@ module _ {D : Type 0} (model : DiskModel D) (wal : Wal) (old : Demo D) (running 
     reader = running.reader;
   }
 
-  -- an entry was appended, whatever it is: what it changes is told
+  -- an entry of any kind was appended: what it changes is told
   pub running_entry : (entry : Entry) (journal : OnDisk D) (store : Tables) (done : ℕ) (commits : List ℕ) (confirmed : Lsn) → Lists model journal (forms_of (one_more wal entry)) → FitsWalEntry entry → IsNextEntry wal.workload wal.entries entry
       → length (one_more wal entry).entries < 2 ^ 40 → Stands wal.workload.tables (acts_at wal.workload done) store → IsSilent wal.workload (one_more wal entry).entries done → commits ≡ commit_places 1 (one_more wal entry).entries
       → confirmed ≡ confirmed_of (one_more wal entry) → IsRunning model (one_more wal entry) (record old { journal = journal; store = store; done = done; commits = commits; confirmed = confirmed })
@@ -143,7 +143,7 @@ module _ {D : Type 0} (model : DiskModel D) (wal : Wal) (old : Demo D) (running 
   more = omega arith
 
   module _ (store : Tables) where
-    -- behind it, before anything is appended
+    -- after it, before anything is appended
     abbrev pub stepped : Demo D
     stepped = record old { store = store; done = old.done + 1 }
 

@@ -26,7 +26,7 @@ use Rattle.dbl_demo_laws.proofs.CallLemmas.{running_live}
 use Rattle.dbl_demo_laws.proofs.ExitLemmas.{Leaves, Runs, answering, answers, dead_is, fails, kept_is, releases_is, within}
 use Rattle.dbl_demo_laws.proofs.LoopLemmas.{end_none, left_all, ran_on, wal_between}
 
--- no step is left behind the last one
+-- no step is left after the last one
 second_none : (steps : List Step) (done : ℕ) → done ≡ length steps → group_end steps (group_end steps done) ≡ done
 second_none steps done all =
     let once : group_end steps done ≡ done = end_none steps done (omega (arith, all)) in
@@ -72,7 +72,7 @@ module _ {D : Type 0} (model : DiskModel D) {parts whole : Demo D} (is : parts �
         (fails model parts (second_end parts) [] (Answers parts) new result e told left_both (dead_is model parts new same_both) (kept_is model parts new same_both) come_both (omega (arith, later, later_again))
         (λ same_error. omega (arith, later, failed same_error)))
 
-    -- it answers behind both
+    -- it answers after both
     pub answers_again : {T : Type 0} (Answers : Demo D → Demo D → T → Type 0) (x : T) → ((wal : Wal) → IsRunning model wal mid → Ran model wal (next_end mid) [] mid new) → new.done ≡ next_end mid → Answers parts (answering new) x
         → RunsStepsAndWrites model (second_end whole) [] (Answers whole) whole (answering new) (Ok x)
     answers_again Answers x second done holds =

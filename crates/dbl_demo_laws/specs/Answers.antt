@@ -1,5 +1,6 @@
 -- For private clauses: the result and effect of a call, for every answer.
-use Rattle.std.specs.Prelude.{◌≡◌, ℕ, ◌≤◌, false, IsTrue, is_none, is_some, IfOk, OnOk, OnErr, Option, Some, None, Result, Err, List, [], length}
+use Rattle.std.specs.Prelude.{◌≡◌, ℕ, ◌≤◌, false, IsTrue, is_none, is_some, IfOk, OnOk}
+use Rattle.std.specs.Prelude.{OnErr, Option, Some, None, Result, Err, List, [], length}
 use Rattle.dbl_base.specs.declared.lsn.Lsn.{Lsn}
 use Rattle.dbl_base.specs.Streams.{FaultCounted}
 use Rattle.dbl_disk.specs.Model.{DiskModel}
@@ -32,7 +33,8 @@ pub record IsReaderKept {D : Type 0} (old new : Demo D) : Type 0 where
   pub ended : new.ended ≡ old.ended
 
 -- The effect of a call that ran the steps up to the first so many, and wrote these entries of its own.
-pub record RunsStepsAndWrites {D T : Type 0} (model : DiskModel D) (upto : ℕ) (own : List Entry) (Answers : Demo D → T → Type 0) (old new : Demo D) (result : Result T SourceError) : Type 0 where
+pub record RunsStepsAndWrites {D T : Type 0} (model : DiskModel D) (upto : ℕ) (own : List Entry) (Answers : Demo D → T → Type 0)
+    (old new : Demo D) (result : Result T SourceError) : Type 0 where
   pub released : OnOk result (ReleasesSteps model upto own old new)
   pub first : LeavesFirst model upto own old new
   pub group : OnOk result (new.done ≡ upto)
@@ -66,23 +68,27 @@ pub record AnswersStart {D : Type 0} (after : Lsn) (old new : Demo D) (started :
   pub ended : new.ended ≡ false
 
 -- A call returned the rows after the first group.
-pub record AnswersRows {D : Type 0} (model : DiskModel D) (table : TableName) (above : Option Key) (limit : ℕ) (old new : Demo D) (rows : List RawRow) : Type 0 where
+pub record AnswersRows {D : Type 0} (model : DiskModel D) (table : TableName) (above : Option Key) (limit : ℕ) (old new : Demo D)
+    (rows : List RawRow) : Type 0 where
   pub reader : IsReaderKept old new
-  pub are : (wal : Wal) → IsDemo model wal old → AreRowsShown wal.workload.tables (acts_at wal.workload (next_end old)) table above limit rows
+  pub are : (wal : Wal) → IsDemo model wal old
+      → AreRowsShown wal.workload.tables (acts_at wal.workload (next_end old)) table above limit rows
 
 -- A call returned no value.
 pub record AnswersNothing {D : Type 0} (old new : Demo D) (done : Unit {0}) : Type 0 where
   pub reader : IsReaderKept old new
 
 -- Groups were run until there was a commit to be read, or no step was left; then this was read.
-pub record ReadAfter {D : Type 0} (model : DiskModel D) (wal : Wal) (place : ReaderPosition) (old new : Demo D) (read : Option (List ℕ)) : Type 0 where
+pub record ReadAfter {D : Type 0} (model : DiskModel D) (wal : Wal) (place : ReaderPosition) (old new : Demo D)
+    (read : Option (List ℕ)) : Type 0 where
   pub on : ReadsOn wal.workload wal.entries place old.done new.done old.done
   pub next : ReadsNext model (with_entries wal (added_by wal old.done new.done [])) place new read
 
 -- The effect of a read: what it added to the log, and what it returned.
 pub record AddsRead {D : Type 0} (model : DiskModel D) (old new : Demo D) (result : Result (Option (List ℕ)) SourceError) : Type 0 where
   pub all : IfOk result (λ read. read ≡ None → new.done ≡ length new.steps)
-  pub reads : (wal : Wal) (place : ReaderPosition) → IsDemo model wal old → old.place ≡ Some place → IfOk result (λ read. ReadAfter model wal place old new read)
+  pub reads : (wal : Wal) (place : ReaderPosition) → IsDemo model wal old → old.place ≡ Some place
+      → IfOk result (λ read. ReadAfter model wal place old new read)
   pub first : LeavesRead model old new
   pub live : OnOk result (IsTrue new.live)
   pub dead : OnErr result (new.live ≡ false)

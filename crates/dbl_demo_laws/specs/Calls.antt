@@ -58,7 +58,9 @@ ReadsOnTo model old new = (wal : Wal) → IsDemo model wal old → ReadOn model 
 -- After every answer of a read, a crash leaves a first part of what it adds by its end.
 abbrev pub LeavesRead : {D : Type 0} → DiskModel D → Demo D → Demo D → Type 0
 LeavesRead model old new = (wal : Wal) (place : ReaderPosition) → IsDemo model wal old → old.place ≡ Some place
-    → LeavesWal model new.journal.disk (λ left. (upto : ℕ) × ReadsOn wal.workload wal.entries place old.done upto old.done × IsLeftOf wal (added_by wal old.done upto []) left)
+    → LeavesWal model new.journal.disk
+    (λ left. (upto : ℕ) × ReadsOn wal.workload wal.entries place old.done upto old.done
+    × IsLeftOf wal (added_by wal old.done upto []) left)
 
 -- No step is left, and no commit that the reader hasn't read whole.
 pub record HasReadWhole {D : Type 0} (wal : Wal) (demo : Demo D) : Type 0 where

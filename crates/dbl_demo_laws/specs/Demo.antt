@@ -45,7 +45,8 @@ pub record Demo (D : Type 0) : Type 0 where
   pub live : Bool
 
 -- The reader is at a position of the log, knows the tables described to it, and caches its commit, or none.
-pub record IsReader (tables : List LogTable) (log : List Logged) (place : Option ReaderPosition) (described : BTreeSet ℕ) (held : Option Logged) : Type 0 where
+pub record IsReader (tables : List LogTable) (log : List Logged) (place : Option ReaderPosition) (described : BTreeSet ℕ)
+    (held : Option Logged) : Type 0 where
   pub placed : (p : ReaderPosition) → place ≡ Some p → IsPlaceIn log p
   pub recalled : (p : ReaderPosition) → place ≡ Some p → Describes described (told_at tables log p)
   pub held_is : (p : ReaderPosition) (logged : Logged) → place ≡ Some p → held ≡ Some logged → slice_get log (index_of p) ≡ Some logged
@@ -101,7 +102,8 @@ ExtendsDemo model old new = (script : List ℕ) (gate most : ℕ) → HasKept mo
 -- ---- what is true of its parts for every disk
 
 -- The parts of a source between calls: its journal, store, steps, commits and reader.
-pub record HasParts {D : Type 0} (journal : OnDisk D) (store : Tables) (steps : List Step) (done : ℕ) (commits : List ℕ) (place : Option ReaderPosition) (live : Bool) : Type 0 where
+pub record HasParts {D : Type 0} (journal : OnDisk D) (store : Tables) (steps : List Step) (done : ℕ) (commits : List ℕ)
+    (place : Option ReaderPosition) (live : Bool) : Type 0 where
   pub has_run : HasRunSteps steps done store
   pub usable : IsTrue live → IsTrue journal.live
   -- The first entry is no commit.

@@ -20,13 +20,15 @@ use Rattle.dbl_demo_laws.specs.Running.{IsRunOf, Ran}
 
 -- The commit of the last step that was done is in the journal, and its number is known.
 pub record IsLogged {D : Type 0} (model : DiskModel D) (messages : List Message) (old new : Demo D) : Type 0 where
-  pub lists : (forms : List (List ℕ)) → Lists model old.journal forms → Lists model new.journal (forms ++ entry_form (Commits old.done messages) ∷ [])
+  pub lists : (forms : List (List ℕ)) → Lists model old.journal forms
+      → Lists model new.journal (forms ++ entry_form (Commits old.done messages) ∷ [])
   pub commits : new.commits ≡ old.commits ++ length old.journal.places ∷ []
 
 -- A crash leaves the journal without or with the commit.
 abbrev pub LeavesLogged : {D : Type 0} → DiskModel D → List Message → Demo D → Demo D → Type 0
 LeavesLogged model messages old new =
-    (forms : List (List ℕ)) → Lists model old.journal forms → LeavesEntries model new.journal.disk (λ left. (left ≡ forms) ⊎ (left ≡ forms ++ entry_form (Commits old.done messages) ∷ []))
+    (forms : List (List ℕ)) → Lists model old.journal forms
+    → LeavesEntries model new.journal.disk (λ left. (left ≡ forms) ⊎ (left ≡ forms ++ entry_form (Commits old.done messages) ∷ []))
 
 -- Whether a log of so many commits has one that the reader hasn't read whole.
 abbrev pub has_unread : Option ReaderPosition → ℕ → Bool
@@ -46,7 +48,8 @@ pub record RanOn {D : Type 0} (model : DiskModel D) (wal : Wal) (place : ReaderP
 
 -- Some groups of a read were run.
 pub record HasRunOn {D : Type 0} (model : DiskModel D) (old now : Demo D) : Type 0 where
-  pub ran : (wal : Wal) (place : ReaderPosition) → IsRunning model wal old → old.place ≡ Some place → IsReadingOn wal.workload wal.entries place old.done now.done × Ran model wal now.done [] old now
+  pub ran : (wal : Wal) (place : ReaderPosition) → IsRunning model wal old → old.place ≡ Some place
+      → IsReadingOn wal.workload wal.entries place old.done now.done × Ran model wal now.done [] old now
   pub later : old.done ≤ now.done
   pub live : IsTrue now.journal.live
   pub same : IsRunOf old now
@@ -56,7 +59,9 @@ pub record HasRunOn {D : Type 0} (model : DiskModel D) (old now : Demo D) : Type
 -- A crash within a read leaves a first part of the entries of the groups that it runs.
 abbrev pub LeavesReadRun : {D : Type 0} → DiskModel D → Wal → ReaderPosition → Demo D → Demo D → Type 0
 LeavesReadRun model wal place old new =
-    LeavesWal model new.journal.disk (λ left. (upto : ℕ) × ReadsOn wal.workload wal.entries place old.done upto old.done × IsLeftOf wal (added_by wal old.done upto []) left)
+    LeavesWal model new.journal.disk
+    (λ left. (upto : ℕ) × ReadsOn wal.workload wal.entries place old.done upto old.done
+    × IsLeftOf wal (added_by wal old.done upto []) left)
 
 -- The journal was read, and the commit at the reader's position is cached.
 abbrev pub CachesCommit : {D : Type 0} → Demo D → Demo D → Type 0

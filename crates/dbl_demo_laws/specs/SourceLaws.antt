@@ -24,7 +24,8 @@ module _ {D : Type 0} (model : DiskModel D) where
   one_demo demo a b of_a of_b =
       let told : Some of_a.running.lists.bytes ≡ Some of_b.running.lists.bytes = sym of_a.running.lists.told ∙ of_b.running.lists.told in
       let same : of_a.running.lists.bytes ≡ of_b.running.lists.bytes = cc in
-      one_wal of_b.running.lists.bytes a b (subst (λ (bytes : List ℕ). IsWal bytes a) same (wal_of demo a of_a.running)) (wal_of demo b of_b.running)
+      one_wal of_b.running.lists.bytes a b (subst (λ (bytes : List ℕ). IsWal bytes a) same (wal_of demo a of_a.running))
+      (wal_of demo b of_b.running)
 
   pub lives_so : (demo : Demo D) (s : SourceState) → HasDemoState model demo s → IsTrue demo.live
   lives_so demo s a = a.1.live
@@ -32,17 +33,26 @@ module _ {D : Type 0} (model : DiskModel D) where
   pub one_standing : (demo : Demo D) (s t : SourceState) → HasDemoState model demo s → HasDemoState model demo t → s ≡ t
   one_standing demo s t a b = a.2 ∙ ap (λ (wal : Wal). standing_in wal demo.place) (one_demo demo a.0 b.0 a.1 b.1) ∙ sym b.2
 
-  pub only_left : (demo : Demo D) (s : SourceState) (l : CrashState) → HasDemoState model demo s → MayLeaveWal model demo.journal.disk l → l ≡ left_of s
+  pub only_left : (demo : Demo D) (s : SourceState) (l : CrashState) → HasDemoState model demo s → MayLeaveWal model demo.journal.disk l
+      → l ≡ left_of s
   only_left demo s l a may =
       let running = a.1.running in
       let same : may.crashed ≡ running.lists.bytes = running.lists.only may.crashed may.may in
-      let wals : may.wal ≡ a.0 = one_wal running.lists.bytes may.wal a.0 (subst (λ (bytes : List ℕ). IsWal bytes may.wal) same may.is) (wal_of demo a.0 running) in
+      let wals : may.wal ≡ a.0 = one_wal running.lists.bytes may.wal a.0 (subst (λ (bytes : List ℕ). IsWal bytes may.wal) same may.is)
+      (wal_of demo a.0 running) in
       may.left ∙ ap left_in wals ∙ ap left_of (sym a.2)
 
-  pub may_leave_so : ((disk : D) (bytes : List ℕ) → model.seen disk ≡ Some bytes → model.may_leave disk bytes) → (demo : Demo D) (s : SourceState) → HasDemoState model demo s → MayLeaveWal model demo.journal.disk (left_of s)
+  pub may_leave_so : ((disk : D) (bytes : List ℕ) → model.seen disk ≡ Some bytes → model.may_leave disk bytes)
+      → (demo : Demo D) (s : SourceState) → HasDemoState model demo s → MayLeaveWal model demo.journal.disk (left_of s)
   may_leave_so may_be_left demo s a =
       let lists = a.1.running.lists in
-      record { crashed = lists.bytes; may = may_be_left demo.journal.disk lists.bytes lists.told; wal = a.0; is = wal_of demo a.0 a.1.running; left = ap left_of a.2 }
+      record {
+        crashed = lists.bytes;
+        may = may_be_left demo.journal.disk lists.bytes lists.told;
+        wal = a.0;
+        is = wal_of demo a.0 a.1.running;
+        left = ap left_of a.2;
+      }
 
   same_some : {A B : Type 0} (f : A → B) (o : Option A) → is_some (option_map f o) ≡ is_some o
   same_some f None = refl
@@ -54,7 +64,8 @@ module _ {D : Type 0} (model : DiskModel D) where
   pub rising_so : (demo : Demo D) (s : SourceState) → HasDemoState model demo s → IsRising s.history
   rising_so demo s a = subst (λ (t : SourceState). IsRising t.history) (sym a.2) (is_rising (tables_of a.0) (logged_in a.0.entries))
 
-  right_at : (wal : Wal) (bytes : List ℕ) (place : Option ReaderPosition) (r : Reading) → IsWal bytes wal → option_map (wal_reading wal) place ≡ Some r → IsReadRight (history_in wal) r
+  right_at : (wal : Wal) (bytes : List ℕ) (place : Option ReaderPosition) (r : Reading) → IsWal bytes wal
+      → option_map (wal_reading wal) place ≡ Some r → IsReadRight (history_in wal) r
   right_at wal bytes None r is reads = cc
   right_at wal bytes (Some place) r is reads =
       let same : wal_reading wal place ≡ r = cc in

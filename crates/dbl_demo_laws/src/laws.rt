@@ -1,7 +1,8 @@
 //! Theorems about sources of workloads. The functions do nothing: their contracts are the theorems.
 
-ghost use Rattle.dbl_demo_laws.specs.Laws.{CallsUndoNothing, EntriesAreWrittenAsPromised, GroupsAnswerAsPromised};
-ghost use Rattle.dbl_demo_laws.specs.Laws.{ReadsAnswerAsPromised, SelectsAnswerAsPromised, SourcesStandWell};
+ghost use Rattle.dbl_demo_laws.specs.Laws.{CallsUndoNothing, EntriesAreWrittenAsPromised};
+ghost use Rattle.dbl_demo_laws.specs.Laws.{GroupsAnswerAsPromised, ReadsAnswerAsPromised};
+ghost use Rattle.dbl_demo_laws.specs.Laws.{SelectsAnswerAsPromised, SourcesStandWell};
 ghost use Rattle.dbl_demo_laws.specs.Laws.{CrashesLeaveWhatFollows};
 
 use dbl_disk::Disk;

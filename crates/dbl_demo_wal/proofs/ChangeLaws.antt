@@ -1,4 +1,4 @@
--- Changes behind their length: what is read was written, and what was written is read again.
+-- Changes after their length: what is read was written, and what was written is read again.
 use Rattle.std.proofs.Common.{◌≡◌, ◌⊎◌, ◌∙◌, ℕ, ◌^◌, ◌<◌, ◌≤◌, true, false, ltb, List, ◌++◌, length, take, drop, Result, Ok, Err, refl, sym, ap, subst, append_assoc, arith, inl, inr}
 use Rattle.std.specs.Int.{w32}
 use Rattle.std.specs.List.{flat_map, AllByRecursion}
@@ -89,7 +89,7 @@ spelled_takes : (bytes : List ℕ) (m : Message) → IsBytes bytes → spelled_c
 unfolding spelled_change
 spelled_takes bytes m fits e = taken_of bytes m (messages.whole bytes) refl fits e
 
--- ---- a change behind its length
+-- ---- a change after its length
 
 change_again : (m : Message) (rest : List ℕ) → HoldsChange m → change_at (change_form m ++ rest) ≡ Ok (m, rest)
 unfolding change_at change_form
@@ -124,7 +124,7 @@ change_takes bytes m rest fits e =
 pub change_reads : Reads change_at change_form HoldsChange
 change_reads = record { again = change_again; takes = change_takes }
 
--- ---- changes behind their number
+-- ---- changes after their number
 
 changes_again : (ms : List Message) (rest : List ℕ) → (length ms < 2 ^ 32) × AllByRecursion HoldsChange ms → changes_at (changes_form ms ++ rest) ≡ Ok (ms, rest)
 unfolding changes_at changes_form

@@ -1,4 +1,4 @@
--- A read ends behind one number of steps.
+-- A read ends after one number of steps.
 use Rattle.std.proofs.Common.{◌≡◌, ◌∙◌, ◌⊎◌, ℕ, zero, suc, ◌+◌, ◌<◌, ◌≤◌, List, ◌++◌, length, drop, refl, sym, ap, subst, arith, inl, inr}
 use Rattle.std.proofs.lemmas.Bool.{cases_lt}
 use Rattle.std.proofs.lemmas.List.{length-drop, nil_from_length}
@@ -45,7 +45,7 @@ module _ (w : Workload) (entries : List Entry) (place : ReaderPosition) (done : 
   abbrev Ends : ℕ → Type 0
   Ends from = (upto : ℕ) × ReadsOn w entries place done upto from
 
-  -- the log behind the group
+  -- the log after the group
   abbrev subsequent : ℕ → ℕ
   subsequent from = length (logged_in (entries ++ released w done (group_end (steps_of w) from)))
 

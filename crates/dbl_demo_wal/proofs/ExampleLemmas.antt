@@ -1,4 +1,4 @@
--- The bytes of a workload with one table, with a mark and a confirmed position behind it.
+-- The bytes of a workload with one table, with a watermark and a confirmed position after it.
 use Rattle.std.proofs.Common.{◌≡◌, ◌∙◌, ℕ, true, false, Bool, Option, None, Some, List, [], ◌∷◌, ◌++◌, length, refl, sym, ap, arith, length-append}
 use Rattle.std.specs.Prelude.{codes, if◌then◌else◌}
 use Rattle.std.specs.List.{All, cons_option, filter_map}

@@ -1,4 +1,4 @@
--- The log of a wal is fit and fair, as its serial run is: marks and confirmed positions change no row.
+-- The log of a wal is fit and fair, as its serial run is: watermarks and confirmed positions change no row.
 use Rattle.std.proofs.Common.{◌≡◌, ℕ, ◌<◌, ◌≤◌, ◌^◌, List, [], ◌∷◌, length, map, sym, subst, arith}
 use Rattle.std.specs.List.{AllByRecursion}
 use Rattle.dbl_pgmsg.specs.declared.messages.Message.{Message}
@@ -24,7 +24,7 @@ use Rattle.dbl_demo_wal.specs.SoundLaws.{WalsAreFit, WalsAreFair, WalsHaveFitHis
 use Rattle.dbl_demo_wal.proofs.RangeLaws.{workload_in_range}
 use Rattle.dbl_demo_wal.proofs.SerialLaws.{sound_serial}
 
--- ---- marks between commits
+-- ---- watermarks between commits
 
 with_marks : (tables : List LogTable) (rows : TextRows) (entries : List Entry) → AllByRecursion FitsWalEntry entries → AreFitEntries tables rows (map Changes (session_commits entries)) → AreFitEntries tables rows (logged_in entries)
 with_marks tables rows [] fits are = tt

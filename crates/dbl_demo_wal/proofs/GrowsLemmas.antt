@@ -1,4 +1,4 @@
--- Wals that grow: what they stand for grows with them.
+-- Wals that grow: what they represent grows with them.
 use Rattle.std.proofs.Common.{◌≡◌, ◌∙◌, ℕ, ◌≤◌, Option, None, Some, option_map, List, [], ◌∷◌, ◌++◌, map, refl, sym, ap, subst, arith, append_assoc}
 use Rattle.std.proofs.lemmas.List.{append-nil}
 use Rattle.std.proofs.lemmas.List.Elements.{filter_map-append}
@@ -37,7 +37,7 @@ module _ (wal : Wal) (more : List Entry) (are : AreCommits more) where
   pub left_follows : (place : Option ReaderPosition) → MayFollow (standing_in wal place) (left_in (with_entries wal more))
   left_follows place = record { grows = history_grows; confirmed = confirmed_stays }
 
--- what was read stays, whatever is added
+-- what was read stays, for any addition
 pub reading_stays : (wal : Wal) (more : List Entry) (place : Option ReaderPosition) → ((p : ReaderPosition) → place ≡ Some p → IsPlaceIn (logged_in wal.entries) p) → option_map (wal_reading (with_entries wal more)) place ≡ option_map (wal_reading wal) place
 reading_stays wal more None placed = refl
 reading_stays wal more (Some p) placed =
@@ -48,7 +48,7 @@ reading_stays wal more (Some p) placed =
 pub standing_moves : (wal : Wal) (more : List Entry) (place : Option ReaderPosition) → AreCommits more → ((p : ReaderPosition) → place ≡ Some p → IsPlaceIn (logged_in wal.entries) p) → Moved (standing_in wal place) (standing_in (with_entries wal more) place)
 standing_moves wal more place are placed = record { grows = history_grows wal more are; confirmed = confirmed_stays wal more are; reading = reading_stays wal more place placed }
 
--- ---- a mark
+-- ---- a watermark
 
 abbrev pub marked : List Entry → ℕ → List ℕ → List Entry
 marked more steps value = more ++ entry.Marks steps value ∷ []

@@ -1,4 +1,4 @@
--- Logs that grow: by an entry that may stand behind them, and by the commits of more steps.
+-- Logs that grow: by an entry that may come after them, and by the commits of more steps.
 use Rattle.std.proofs.Common.{◌≡◌, ◌∙◌, ℕ, zero, suc, ◌+◌, Result, Ok, Err, List, [], ◌∷◌, ◌++◌, length, take, drop, refl, sym, ap, subst, arith, append_assoc, length-append}
 use Rattle.std.proofs.lemmas.List.{append-nil, map_push}
 use Rattle.std.proofs.lemmas.List.Elements.{filter_map-append}
@@ -89,7 +89,7 @@ take_plus (suc few) more (step ∷ steps) =
     let k : suc few + more ≡ suc (few + more) = omega arith in
     ap (λ (n : ℕ). take n (step ∷ steps)) k ∙ ap (λ (l : List Step). step ∷ l) (take_plus few more steps)
 
--- what a few steps ask of the store, and what those behind them ask
+-- what a few steps ask of the store, and what those after them ask
 pub session_steps_plus : (w : Workload) (few more : ℕ) → session_steps_at w (few + more) ≡ session_steps_at w few ++ session_steps_of (take more (drop few (steps_of w)))
 session_steps_plus w few more = ap session_steps_of (take_plus few more (steps_of w)) ∙ filter_map-append session_step_of (take few (steps_of w)) (take more (drop few (steps_of w)))
 

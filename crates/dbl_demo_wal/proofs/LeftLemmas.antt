@@ -1,4 +1,4 @@
--- What a crash leaves of a wal follows what the source stood for.
+-- What a crash leaves of a wal follows what the source represented.
 use Rattle.std.proofs.Common.{◌≡◌, ◌∙◌, ℕ, ◌≤◌, max, Option, Some, List, take, refl, sym, ap, subst, arith, inl, inr}
 use Rattle.dbl_base.specs.declared.lsn.Lsn.{Lsn}
 use Rattle.dbl_disk.specs.Model.{DiskModel}
@@ -29,7 +29,7 @@ module _ {D : Type 0} (model : DiskModel D) (disk : D) (P : Wal → Type 0) wher
       let here = leaves bytes may in
       (left_in here.0, record { crashed = bytes; may = may; wal = here.0; is = here.1; left = refl })
 
--- ---- commits, with a mark or a confirmed position behind them
+-- ---- commits, with a watermark or a confirmed position after them
 
 module _ (wal : Wal) (more : List Entry) (are : AreCommits more) (place : Option ReaderPosition) (left : Wal) where
   -- the first ones of some commits

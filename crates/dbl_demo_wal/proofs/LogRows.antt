@@ -1,4 +1,4 @@
--- The rows behind a fit log stand at their keys, and their texts are UTF-8; the first part of a fit log is one; and marks change no
+-- The rows after a fit log stand at their keys, and their texts are UTF-8; the first part of a fit log is one; and watermarks change no
 -- row.
 use Rattle.std.proofs.Common.{◌≡◌, List, [], ◌∷◌, ◌++◌, map, refl, sym, subst, arith, length-append}
 use Rattle.dbl_tables_laws.specs.SourceLog.declared.logged.LogTable.{LogTable}

@@ -1,4 +1,4 @@
--- The rows that are shown of a fit log's tables are those of its history behind all of its commits.
+-- The rows that are shown of a fit log's tables are those of its history after all of its commits.
 use Rattle.std.proofs.Common.{◌≡◌, ◌∙◌, ℕ, ◌+◌, Bool, true, false, Option, Some, None, List, [], ◌∷◌, length, refl, sym, ap, subst}
 use Rattle.std.specs.Prelude.{IfSome, if◌then◌else◌, not, option_map, slice_get}
 use Rattle.dbl_script.specs.ModelTable.declared.row.Key.{Key}

@@ -68,7 +68,7 @@ pub begun_more : (w : Workload) (entries more : List Entry) → HasInitialCommit
 begun_more w entries more begun =
     omega (arith, begun, ap (λ (l : List (List Message)). length l) (filter_map-append committed_by entries more), length-append (session_commits entries) (session_commits more))
 
--- these entries may stand behind others, and then so many steps were done, none of which commits anything that doesn't stand there
+-- these entries may come after others, and then so many steps were done, none of which commits anything that doesn't stand there
 pub record Runs (w : Workload) (entries more : List Entry) (upto : ℕ) : Type 0 where
   pub each : AreNext w entries more
   pub silent : IsSilent w (entries ++ more) upto

@@ -49,7 +49,7 @@ rows_one tables past name above limit a b of_a of_b = by (found tables name) of_
 
 -- ---- the rows of a wal, and of one that goes on
 
--- the store's committed rows are those of the log, where nothing is wanting in it
+-- the store's committed rows are those of the log, where nothing is missing in it
 rows_committed : (wal : Wal) (done : ℕ) → IsSilent wal.workload wal.entries done → committed_rows (tables_of wal) (acts_at wal.workload done) ≡ rows_of (tables_of wal) (logged_in wal.entries)
 rows_committed wal done silent =
     ap (λ (log : List (List Message)). rows_of (tables_of wal) (map Changes log)) silent.none_between ∙ sym (without_marks (tables_of wal) wal.entries no_text_rows)

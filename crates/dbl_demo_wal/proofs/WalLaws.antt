@@ -85,7 +85,7 @@ next_at w before (x ∷ entries) zero e are there =
 next_at w before (x ∷ entries) (suc k) e are there =
     subst (λ (l : List Entry). IsNextEntry w l e) (append_assoc before (x ∷ []) (take k entries)) (next_at w (before ++ x ∷ []) entries k e are.1 there)
 
--- the entry of a wal at a place behind the first
+-- the entry of a wal at a place after the first
 record IsAt (wal : Wal) (k : ℕ) (form : List ℕ) : Type 0 where
   entry : Entry
   there : slice_get wal.entries k ≡ Some entry

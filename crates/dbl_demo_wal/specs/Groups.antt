@@ -50,5 +50,7 @@ EndsRead w entries place done upto = HasUnread (logged_in (entries ++ released w
 
 -- A read runs one group, and then others until there is a commit to be read or no step is left.
 pub data ReadsOn (w : Workload) (entries : List Entry) (place : ReaderPosition) (done upto : ℕ) : ℕ → Type 0 where
-  stops : (from : ℕ) → upto ≡ group_end (steps_of w) from → EndsRead w entries place done upto ⊎ (length (steps_of w) ≤ upto) → ReadsOn w entries place done upto from
-  goes : (from : ℕ) → (¬ EndsRead w entries place done (group_end (steps_of w) from)) → ReadsOn w entries place done upto (group_end (steps_of w) from) → ReadsOn w entries place done upto from
+  stops : (from : ℕ) → upto ≡ group_end (steps_of w) from → EndsRead w entries place done upto ⊎ (length (steps_of w) ≤ upto)
+      → ReadsOn w entries place done upto from
+  goes : (from : ℕ) → (¬ EndsRead w entries place done (group_end (steps_of w) from))
+      → ReadsOn w entries place done upto (group_end (steps_of w) from) → ReadsOn w entries place done upto from

@@ -19,11 +19,13 @@ ReadsEndOnce = (w : Workload) (entries : List Entry) (place : ReaderPosition) (d
 
 -- What was read since a start is the first part of what is sent after it.
 abbrev pub ReadingsAreSent : Type 0
-ReadingsAreSent = (wal : Wal) (place : ReaderPosition) → (rest : List Message) × (messages_sent wal place.after ≡ reverse (wal_reading wal place).messages ++ rest)
+ReadingsAreSent = (wal : Wal) (place : ReaderPosition)
+    → (rest : List Message) × (messages_sent wal place.after ≡ reverse (wal_reading wal place).messages ++ rest)
 
 -- If a crash can leave the bytes of one log only, it leaves only the state that they represent.
 abbrev pub LeavesOneWal : {D : Type 0} → DiskModel D → Type 0
-LeavesOneWal {D} model = (disk : D) (bytes : List ℕ) (wal : Wal) (l : CrashState) → IsWal bytes wal → model.may_leave disk bytes → IsOnly bytes (model.may_leave disk) → MayLeaveWal model disk l ↔ (l ≡ left_in wal)
+LeavesOneWal {D} model = (disk : D) (bytes : List ℕ) (wal : Wal) (l : CrashState) → IsWal bytes wal → model.may_leave disk bytes
+    → IsOnly bytes (model.may_leave disk) → MayLeaveWal model disk l ↔ (l ≡ left_in wal)
 
 -- ---- a log exists
 

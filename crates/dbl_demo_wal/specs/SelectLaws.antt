@@ -28,7 +28,8 @@ RowsShownAreOne = (tables : List DemoTable) (past : List Accepted) (name : Table
 -- A select runs some steps, takes the rows of the store, and runs some more: these are the rows of one position between its call and its
 -- return, for every choice of captured tables.
 abbrev pub SelectsAreAnswered : Type 0
-SelectsAreAnswered = (bytes : List ℕ) (wal : Wal) (done between upto : ℕ) (name : TableName) (above : Option Key) (limit : ℕ) (rows : List RawRow)
+SelectsAreAnswered = (bytes : List ℕ) (wal : Wal) (done between upto : ℕ) (name : TableName) (above : Option Key) (limit : ℕ)
+    (rows : List RawRow)
     → IsSilent wal.workload wal.entries done → done ≤ between → between ≤ upto → upto ≤ length (steps_of wal.workload)
     → IsWal bytes (with_entries wal (added_by wal done upto []))
     → AreRowsShown wal.workload.tables (acts_at wal.workload between) name above limit rows

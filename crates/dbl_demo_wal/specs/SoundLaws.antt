@@ -27,11 +27,13 @@ WalsAreReadOnce = (bytes : List ℕ) (first second : Wal) → IsWal bytes first 
 -- The commits without the watermarks are the serial run of the initial rows and of the steps that the log counts.
 abbrev pub SoundWalsAreSerial : Type 0
 SoundWalsAreSerial = (bytes : List ℕ) (wal : Wal) → IsWal bytes wal
-    → session_commits wal.entries ≡ serial wal.workload.tables (workload_rows wal.workload) (session_steps_of (take (steps_in wal.entries) (steps_of wal.workload)))
+    → session_commits wal.entries ≡ serial wal.workload.tables (workload_rows wal.workload)
+    (session_steps_of (take (steps_in wal.entries) (steps_of wal.workload)))
 
 -- A sound log with one more entry that may follow is sound.
 abbrev pub SoundWalsGoOn : Type 0
-SoundWalsGoOn = (forms : List (List ℕ)) (wal : Wal) (entry : Entry) → IsWalOf forms wal → FitsWalEntry entry → IsNextEntry wal.workload wal.entries entry → IsWalOf (forms ++ entry_form entry ∷ []) (with_entries wal (entry ∷ []))
+SoundWalsGoOn = (forms : List (List ℕ)) (wal : Wal) (entry : Entry) → IsWalOf forms wal → FitsWalEntry entry
+    → IsNextEntry wal.workload wal.entries entry → IsWalOf (forms ++ entry_form entry ∷ []) (with_entries wal (entry ∷ []))
 
 -- The commits after more steps begin with those after fewer.
 abbrev pub CommitsStay : Type 0
@@ -39,7 +41,8 @@ CommitsStay = (w : Workload) (few more : ℕ) → (rest : List (List Message)) �
 
 -- Running more steps keeps a log sound, with each commit of the steps that were run.
 abbrev pub SoundLogsRelease : Type 0
-SoundLogsRelease = (w : Workload) (entries : List Entry) (done upto : ℕ) → IsSound w entries → IsSilent w entries done → done ≤ upto → upto ≤ length (steps_of w)
+SoundLogsRelease = (w : Workload) (entries : List Entry) (done upto : ℕ) → IsSound w entries → IsSilent w entries done → done ≤ upto
+    → upto ≤ length (steps_of w)
     → IsSound w (entries ++ released w done upto) × IsSilent w (entries ++ released w done upto) upto
 
 -- The initial rows and the first steps of a workload are in range for the store.

@@ -80,7 +80,8 @@ pub record IsTableOf (line : ScriptTable) (table : DemoTable) : Type 0 where
 -- Each of these steps is accepted after those before it.
 abbrev pub AreAccepted : List DemoTable → List Accepted → List SessionStep → Type 0
 AreAccepted tables past [] = Unit {0}
-AreAccepted tables past (step ∷ steps) = IsOk (judged tables past step) × AreAccepted tables (accepted_onto (judged tables past step) past) steps
+AreAccepted tables past (step ∷ steps) = IsOk (judged tables past step)
+    × AreAccepted tables (accepted_onto (judged tables past step) past) steps
 
 -- The bytes are the lines of a workload whose tables can be captured and whose rows can be inserted.
 pub record IsWorkload (bytes : List ℕ) (w : Workload) : Type 0 where

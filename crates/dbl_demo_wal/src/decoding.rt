@@ -4,8 +4,9 @@
 ghost use Rattle.std.specs.Prelude.{◌≡◌, ℕ, Ok, Err, IfOk};
 ghost use Rattle.dbl_record.specs.GroupReading.{Gives, many_at};
 ghost use Rattle.dbl_demo_wal.specs.Entries.{IsWalEntry, EncodesEntry};
-ghost use Rattle.dbl_demo_wal.specs.Reading.{change_at, change_in, changes_at, wal_commit_at, confirm_at, wal_entry_at, is_change};
-ghost use Rattle.dbl_demo_wal.specs.Reading.{wal_mark_at, refusal, spelled_change, whole_entry};
+ghost use Rattle.dbl_demo_wal.specs.Reading.{change_at, change_in, changes_at, wal_commit_at};
+ghost use Rattle.dbl_demo_wal.specs.Reading.{confirm_at, wal_entry_at, is_change, wal_mark_at};
+ghost use Rattle.dbl_demo_wal.specs.Reading.{refusal, spelled_change, whole_entry};
 
 use crate::{Entry, EntryError};
 use dbl_base::{Lsn, Seq};

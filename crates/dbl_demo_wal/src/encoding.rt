@@ -6,7 +6,8 @@ ghost use Rattle.std.specs.List.{AllByRecursion, flat_map};
 ghost use Rattle.dbl_pgmsg.specs.Grammar.{Fits, spelling};
 ghost use Rattle.dbl_record.specs.Fields.{Extends};
 ghost use Rattle.dbl_demo_wal.specs.declared.entry.Entry.TheVariants.{Commits, Marks, Confirms};
-ghost use Rattle.dbl_demo_wal.specs.Entries.{HoldsChange, EncodesEntry, change_form, changes_form, workload_form};
+ghost use Rattle.dbl_demo_wal.specs.Entries.{HoldsChange, EncodesEntry, change_form};
+ghost use Rattle.dbl_demo_wal.specs.Entries.{changes_form, workload_form};
 ghost use Rattle.dbl_journal.specs.Form.{entry_limit};
 
 use dbl_base::{Lsn, Text};
@@ -114,7 +115,8 @@ pub fn commit_entry(alloc: Global, steps: u64, messages: &[Message]) -> Result<V
 pub fn mark_entry(alloc: Global, steps: u64, value: &Text) -> Result<Vec<u8>, AllocError>
     requires { length value.now ≤ 64 }
     ensures room { IfOk result (λ bytes. 4 ≤ length bytes.items) }
-    ensures entry { IfOk result (λ bytes. EncodesEntry (drop 4 bytes.items) (Marks steps value.now)) }
+    ensures entry { IfOk result
+        (λ bytes. EncodesEntry (drop 4 bytes.items) (Marks steps value.now)) }
 {
     let mut bytes = begin_entry(alloc, b'M', 12 + value.as_str().len())?;
     append_number64(&mut bytes, steps)?;

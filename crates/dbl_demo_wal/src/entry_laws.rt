@@ -2,7 +2,8 @@
 
 ghost use Rattle.std.specs.Prelude.{◌≡◌, ℕ, List};
 ghost use Rattle.dbl_demo_wal.specs.declared.entry.Entry.{Entry};
-ghost use Rattle.dbl_demo_wal.specs.Entries.{FitsWalEntry, IsWalEntry, EncodesEntry, entry_form, workload_form};
+ghost use Rattle.dbl_demo_wal.specs.Entries.{FitsWalEntry, IsWalEntry, EncodesEntry};
+ghost use Rattle.dbl_demo_wal.specs.Entries.{entry_form, workload_form};
 
 /// Bytes encode one entry at most, and each valid entry has an encoding.
 pub fn entries_are_read_once()

@@ -1,7 +1,8 @@
 //! Theorems about the log of a workload. The functions do nothing: their contracts are the
 //! theorems.
 
-ghost use Rattle.dbl_demo_wal.specs.LogLaws.{AWalStands, LeavesOneWal, ReadingsAreSent, ReadsEndOnce};
+ghost use Rattle.dbl_demo_wal.specs.LogLaws.{AWalStands, LeavesOneWal};
+ghost use Rattle.dbl_demo_wal.specs.LogLaws.{ReadingsAreSent, ReadsEndOnce};
 
 use dbl_disk::Disk;
 

@@ -3,9 +3,10 @@
 ghost use Rattle.std.specs.Prelude.{◌≡◌, ℕ, List};
 ghost use Rattle.dbl_journal.specs.Form.{IsFaultAt};
 ghost use Rattle.dbl_demo_wal.specs.Contents.{GoodScriptsHaveFewTables, ScriptsAreFilled};
-ghost use Rattle.dbl_demo_wal.specs.SoundLaws.{CommitsStay, SoundLogsRelease, SoundWalsAreSerial, SoundWalsGoOn, WalsAreFair};
-ghost use Rattle.dbl_demo_wal.specs.SoundLaws.{WalsAreFit, WalsAreReadOnce, WalsHaveFitHistories, WorkloadsAreInRange};
-ghost use Rattle.dbl_demo_wal.specs.SoundLaws.{WorkloadsAreReadOnce};
+ghost use Rattle.dbl_demo_wal.specs.SoundLaws.{CommitsStay, SoundLogsRelease, SoundWalsAreSerial};
+ghost use Rattle.dbl_demo_wal.specs.SoundLaws.{SoundWalsGoOn, WalsAreFair, WalsAreFit};
+ghost use Rattle.dbl_demo_wal.specs.SoundLaws.{WalsAreReadOnce, WalsHaveFitHistories};
+ghost use Rattle.dbl_demo_wal.specs.SoundLaws.{WorkloadsAreInRange, WorkloadsAreReadOnce};
 ghost use Rattle.dbl_demo_wal.specs.Wals.{HasBadWalEntry, IsWal, Wal};
 
 /// Bytes encode one workload at most, and one log of it.

@@ -1,4 +1,4 @@
--- Which entries can't stand behind others, though they say that they can.
+-- Which entries can't come after others, though they say that they can.
 use Rattle.std.proofs.Common.{◌≡◌, ◌∙◌, ◌⊎◌, ℕ, zero, suc, ◌+◌, ◌-◌, ◌<◌, ◌≤◌, true, false, Option, None, Some, List, [], ◌∷◌, ◌++◌, length, length-append, refl, sym, ap, subst, arith, inl, inr}
 use Rattle.std.specs.Prelude.{Result, Ok, Err, IfSome, is_some, option_to_list}
 use Rattle.std.proofs.lemmas.List.{append-nil}
@@ -39,7 +39,7 @@ none_when (Some x) is = absurd (let t = is in cc)
 abbrev count : Log → ℕ
 count log = length log
 
--- behind more steps there is no less
+-- after more steps there is no less
 pub no_less : (w : Workload) (few more : ℕ) → few ≤ more → count (log_at w few) ≤ count (log_at w more)
 no_less w few more le =
     let sum : few + (more - few) ≡ more = omega (arith, le) in
@@ -71,7 +71,7 @@ module _ (w : Workload) (entries : List Entry) (steps : ℕ) where
       by_commit zero lt is = absurd (omega (arith, lt))
       by_commit (suc n) lt is = absurd (omega (arith, longer, no_less w earlier n (omega (arith, lt)), ap count is))
 
-  -- the last step commits, so no mark stands there
+  -- the last step commits, so no watermark stands there
   pub cant_mark : (messages : List Message) → log_at w steps ≡ session_commits entries ++ messages ∷ [] → IsSilent w entries steps → ⊥
   cant_mark messages log silent = absurd (omega (arith, one_longer (log_at w steps) (session_commits entries) messages log, ap count silent.none_between))
 
@@ -87,7 +87,7 @@ module _ (w : Workload) (entries : List Entry) (steps : ℕ) where
       last_same [] h = cc
       last_same (x ∷ front) h = let rest : front ++ a ∷ [] ≡ front ++ b ∷ [] = cc in last_same front rest
 
--- ---- while the commit of the rows is wanting
+-- ---- before the commit of the rows
 
 module _ (w : Workload) (rows : List Message) (are : log_at w 0 ≡ rows ∷ []) where
   -- it is the first
@@ -122,7 +122,7 @@ pub record IsRunTo (old now : Checked) (number : ℕ) : Type 0 where
   pub from : old.done ≤ number
   pub so : (w : Workload) (entries : List Entry) → IsChecked w entries old → old.prepared.rows ≡ None → Stands w.tables (acts_at w number) now.prepared.store × (log_at w number ≡ session_commits entries)
 
--- behind one more
+-- after one more
 abbrev pub one_on : Checked → ℕ → Tables → Checked
 one_on now number store = record now { prepared = record now.prepared { store = store }; done = number + 1 }
 
@@ -315,7 +315,7 @@ other_commit w entries bytes steps messages says must other entry spells next = 
     by (Marks n value) is form at = cc
     by (Confirms upto) is form at = cc
 
--- ---- a mark, and a confirmed position
+-- ---- a watermark, and a confirmed position
 
 pub mark_of_rows : (number steps : ℕ) (old : Checked) (rows : List Message) → old.prepared.rows ≡ Some rows → TakesMark number steps old old (Err doubt.Bad)
 mark_of_rows number steps old rows some value bytes w entries number_is spells is =

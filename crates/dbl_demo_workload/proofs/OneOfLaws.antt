@@ -111,7 +111,7 @@ open_on tables past row opened = by (insert_judged tables past [] row.table row.
     by (Err e) is = opened
     by (Ok act) is = let d = insert_done tables past [] row.table row.cells act is in subst (λ (a : Accepted). is_open [] (a ∷ past) ≡ true) d.did opened
 
--- so the commit behind all inserts is accepted
+-- so the commit after all inserts is accepted
 with_commit : (tables : List DemoTable) (rows : List ScriptRow) (past : List Accepted) → is_open [] past ≡ true → AreAccepted tables past (row_calls rows) → AreAccepted tables past (row_calls rows ++ Commit [] ∷ [])
 with_commit tables [] past opened all = (rw opened refl, tt)
 with_commit tables (row ∷ rows) past opened all = (all.0, with_commit tables rows (accepted_onto (judged tables past (insert row)) past) (open_on tables past row opened) all.1)

@@ -26,7 +26,7 @@ use Rattle.dbl_demo_workload.specs.Ready.{IsReady}
 use Rattle.dbl_demo_workload.specs.Refusals.{IsRefused}
 use Rattle.dbl_demo_workload.specs.Steps.{FitAnEntry, HasRunSteps}
 use Rattle.dbl_demo_workload.proofs.RefusalLaws.{not_refused}
-use Rattle.dbl_demo_workload.proofs.WorkloadLemmas.{begins_batch}
+use Rattle.dbl_demo_workload.proofs.WorkloadLemmas.{ready_has_run}
 use Rattle.dbl_demo_workload.proofs.LogLemmas.{all_read, opens_first, read_moved, rows_missing}
 
 -- ---- the first entry
@@ -46,7 +46,7 @@ first_read forms first checked there b fits none commits confirmed =
 pub first_parts : (first : List ℕ) (checked : Checked) → BeginsWithWorkload first checked.prepared → IfSome checked.prepared.rows FitAnEntry → checked.done ≡ 0 → checked.commits.items ≡ [] → HasReadParts 1 checked
 first_parts first checked b fits none commits = record {
   goes = record {
-    has_run = subst (λ (n : ℕ). HasRunSteps checked.prepared.steps.items n checked.prepared.store) (sym none) (begins_batch b.0 b.1 checked.prepared b.3 b.4);
+    has_run = subst (λ (n : ℕ). HasRunSteps checked.prepared.steps.items n checked.prepared.store) (sym none) (ready_has_run b.0 b.1 checked.prepared b.3 b.4);
     rows = fits;
     named = (b.0, b.1, b.3, b.4.names);
   };
@@ -79,7 +79,7 @@ pub first_fault : (forms : List (List ℕ)) (e : DemoError) → (e ≡ demo.Memo
 first_fault forms e (inl memory) = inl memory
 first_fault forms e (inr failed) = inr (inl failed)
 
--- the same of an entry behind it
+-- the same of an entry after it
 pub entry_stops : (forms : List (List ℕ)) (was new : Checked) (e : DemoError) → (e ≡ demo.Memory) ⊎ IsFailed e → ChecksAll forms was new (Err e)
 entry_stops forms was new e (inl memory) first others are opened = inl memory
 entry_stops forms was new e (inr failed) first others are opened = inr (inl failed)

@@ -90,7 +90,7 @@ table_or_all captured bytes e tables bad are =
 
 -- ---- rows
 
--- calls that are accepted behind some acts, and one that isn't, are the first ones of a list in one way
+-- calls that are accepted after some acts, and one that isn't, are the first ones of a list in one way
 record IsFirstRefused (tables : List DemoTable) (past : List Accepted) (rows before : List ScriptRow) (row : ScriptRow) : Type 0 where
   subsequent : List ScriptRow
   are : rows ≡ before ++ row ∷ subsequent

@@ -1,4 +1,4 @@
--- Rows that are inserted one behind the other, and a workload that is read whole, as the code has them.
+-- Rows that are inserted one after the other, and a workload that is read whole, as the code has them.
 use Rattle.std.proofs.Common.{◌≡◌, ◌∙◌, ◌⊎◌, ℕ, zero, suc, ◌+◌, ◌<◌, ◌≤◌, None, Some, List, [], ◌∷◌, length, take, get_or, refl, sym, ap, subst, arith, inl, inr}
 use Rattle.std.specs.Prelude.{◌↔◌, Result, Ok, Err, IfOk, IfErr, IfSome}
 use Rattle.dbl_base.specs.Lines.{lines_of}
@@ -75,7 +75,7 @@ committed_by tables rows s mid new messages unnamed some inserts is given =
     let past = acts_after tables (begun tables) (row_calls rows) in
     all_committed tables rows mid new messages some inserts (subst (λ (x : List ℕ). IsAccepted tables past (Commit x) new) unnamed is) (subst (λ (x : List ℕ). IsGiven past x messages) unnamed given)
 
--- the store behind their begin
+-- the store after their begin
 pub begun_by : (tables : List DemoTable) (s : List ℕ) (store : Tables) → s ≡ [] → IsAccepted tables [] (Begin s) store → Stands tables (begun tables) store
 begun_by tables s store unnamed is =
     let both = accepted_ok tables [] (Begin s) store is in

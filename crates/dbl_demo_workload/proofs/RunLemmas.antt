@@ -74,7 +74,7 @@ module _ (tables : List DemoTable) (past : List Accepted) (call : SessionStep) (
   onto_accepted : (act : Accepted) → judged tables past call ≡ Ok act → Stands tables (act ∷ past) new → Stands tables (accepted_onto (judged tables past call) past) new
   onto_accepted act is stands = subst (λ (r : Result Accepted StepError). Stands tables (accepted_onto r past) new) (sym is) stands
 
-  -- it stands behind the call, unless memory ran out
+  -- it is after the call, unless memory ran out
   pub answered_onto : (answer : Result Unit StepError) → answer ≢ Err errors.Memory → AnswersStep tables past call new answer → Stands tables (accepted_onto (judged tables past call) past) new
   answered_onto (Ok x) none is = onto_accepted is.act is.accepted is.stands
   answered_onto (Err e) none is = elim is.why [

@@ -1,4 +1,4 @@
--- One more step of a workload: the acts behind it, and what may stand behind its log then.
+-- One more step of a workload: the acts after it, and what may come after its log then.
 use Rattle.std.proofs.Common.{◌≡◌, ◌∙◌, ℕ, zero, suc, ◌+◌, ◌<◌, Option, None, Some, List, [], ◌∷◌, ◌++◌, length, take, drop, refl, sym, ap, arith}
 use Rattle.std.specs.Prelude.{slice_get, option_to_list}
 use Rattle.std.specs.List.{AllByRecursion, cons_option}
@@ -30,7 +30,7 @@ one_call : (tables : List DemoTable) (past : List Accepted) (o : Option SessionS
 one_call tables past None = refl
 one_call tables past (Some call) = refl
 
--- the acts behind one more step
+-- the acts after one more step
 pub acts_next : (w : Workload) (done : ℕ) (step : Step) → slice_get (steps_of w) done ≡ Some step → acts_at w (suc done) ≡ acts_with w.tables (acts_at w done) step
 acts_next w done step there =
     let more : suc done ≡ done + 1 = omega arith in
@@ -38,7 +38,7 @@ acts_next w done step there =
     ∙ ap (λ (l : List Step). acts_after w.tables (acts_at w done) (session_steps_of (take 1 l))) (drop_there (steps_of w) done step there)
     ∙ one_call w.tables (acts_at w done) (session_step_of step)
 
--- the commits behind it
+-- the commits after it
 pub log_next : (w : Workload) (done : ℕ) (step : Step) (committed : Option (List Message)) → slice_get (steps_of w) done ≡ Some step
     → log_in (acts_with w.tables (acts_at w done) step) ≡ log_in (acts_at w done) ++ option_to_list committed → log_at w (suc done) ≡ log_at w done ++ option_to_list committed
 log_next w done step committed there log = ap log_in (acts_next w done step there) ∙ log
@@ -59,7 +59,7 @@ pub runnable_steps : (steps : List Step) → AllByRecursion HasContent steps →
 runnable_steps [] h = tt
 runnable_steps (s ∷ steps) h = (runnable_step s h.0, runnable_steps steps h.1)
 
--- ---- what may stand behind the log
+-- ---- what may come after the log
 
 module _ (w : Workload) (entries : List Entry) (done : ℕ) (silent : IsSilent w entries done) (left : done < length (steps_of w)) where
   -- the step committed nothing
@@ -81,7 +81,7 @@ module _ (w : Workload) (entries : List Entry) (done : ℕ) (silent : IsSilent w
       none_between = is_next ∙ sym (committed-push entries (Commits (suc done) messages));
     }
 
--- a mark behind the steps that were done: nothing changes for those that come
+-- a watermark after the steps that were done: nothing changes for those that come
 pub silent_mark : (w : Workload) (entries : List Entry) (done : ℕ) (value : List ℕ) → IsSilent w entries done → IsSilent w (entries ++ Marks done value ∷ []) done
 silent_mark w entries done value silent = record {
   later = omega (arith, steps_from-append 0 entries (Marks done value ∷ []));

@@ -1,4 +1,4 @@
--- One more entry that was checked and may stand there: what the entries come to with it.
+-- One more entry that was checked and may stand there: what the entries amount to with it.
 use Rattle.std.proofs.Common.{◌≡◌, ◌∙◌, ℕ, zero, suc, ◌+◌, ◌-◌, ◌<◌, ◌≤◌, ◌^◌, Bool, true, false, IsTrue, Decides, eqb, Option, None, Some, List, [], ◌∷◌, ◌++◌, length, take, drop, length-drop, refl, sym, ap, subst, arith}
 use Rattle.std.specs.Cmp.Lexicographic.{pointwise}
 use Rattle.std.proofs.lemmas.Bool.Decides.{Decides-eqb}
@@ -60,7 +60,7 @@ module _ (w : Workload) (entries : List Entry) (number : ℕ) (number_is : numbe
         checked = subst (IsChecked w (entries ++ Commits steps messages ∷ [])) (sym same) subsequent;
       }
 
-  -- a mark behind the steps that were run, if none of them commits
+  -- a watermark after the steps that were run, if none of them commits
   pub taken_mark : (steps : ℕ) (value : List ℕ) (first : Checked) → EncodesEntry bytes (Marks steps value) → IsChecked w entries first → first.prepared.rows ≡ None → RanAlone first old → HasCheckedSteps w entries steps None old → IsEntryChecked w entries bytes new
   taken_mark steps value first spells was none ran run =
       let silent : IsSilent w entries steps = record { later = run.later; there = run.there; none_between = run.log ∙ append-nil (session_commits entries) } in
@@ -124,7 +124,7 @@ take_all {A = A} (x ∷ xs) (suc n) le = ap (λ (l : List A). x ∷ l) (take_all
 abbrev pub IsSaid : Bool → List ℕ → List ℕ → Type 0
 IsSaid r bytes form = (IsTrue r → bytes ≡ form) × (bytes ≡ form → IsTrue r)
 
--- behind four bytes the buffer has the form
+-- after four bytes the buffer has the form
 pub said_by : (r : Bool) (buffer bytes form : List ℕ) → r ≡ pointwise eqb (take (length buffer - 4) (drop 4 buffer)) bytes → drop 4 buffer ≡ form → IsSaid r bytes form
 said_by r buffer bytes form is are =
     let whole : take (length buffer - 4) (drop 4 buffer) ≡ drop 4 buffer = take_all (drop 4 buffer) (length buffer - 4) (omega (arith, length-drop 4 buffer)) in
@@ -157,7 +157,7 @@ module _ (number steps : ℕ) (bytes : List ℕ) (old next : Checked) where
     pub commit_is : (new : Checked) → new ≡ record next { commits = new.commits } → new.commits.items ≡ next.commits.items ++ number ∷ [] → steps < 2 ^ 64 → FitAnEntry messages → bytes ≡ entry_form (Commits steps messages) → ChecksCommit number steps bytes old new (Ok tt)
     commit_is new same pushed fit held form says w entries number_is is = taken_commit w entries number number_is bytes next new same pushed steps messages fit held (must w entries is) form
 
--- ---- a mark and a confirmed position, as the code takes them
+-- ---- a watermark and a confirmed position, as the code takes them
 
 pub mark_is : (number steps : ℕ) (old mid new : Checked) → old.prepared.rows ≡ None → RanAlone old mid → RunsTo steps old mid (Ok None) → new ≡ record mid { commits = new.commits } → new.commits.items ≡ mid.commits.items ++ number ∷ [] → TakesMark number steps old new (Ok tt)
 mark_is number steps old mid new none ran runs same pushed value bytes w entries number_is spells is = taken_mark w entries number number_is bytes mid new same pushed steps value old spells is none ran (runs w entries is none)

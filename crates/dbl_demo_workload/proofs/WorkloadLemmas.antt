@@ -63,9 +63,9 @@ fits_entry bytes w is steps front (Some messages) log short = record { each = ho
 pub rows_fit : (bytes : List ℕ) (w : Workload) (ready : Prepared) → IsWorkload bytes w → IsReady w ready → IfSome ready.rows FitAnEntry
 rows_fit bytes w ready is of = fits_entry bytes w is 0 [] ready.rows of.rows of.short
 
--- the store stands behind no step of the workload that was read
-pub begins_batch : (bytes : List ℕ) (w : Workload) (ready : Prepared) → IsWorkload bytes w → IsReady w ready → HasRunSteps ready.steps.items 0 ready.store
-begins_batch bytes w ready is of = record { script = bytes; w = w; is = is; are = of.steps; there = omega arith; stands = of.stands }
+-- the store is after no step of the workload that was read
+pub ready_has_run : (bytes : List ℕ) (w : Workload) (ready : Prepared) → IsWorkload bytes w → IsReady w ready → HasRunSteps ready.steps.items 0 ready.store
+ready_has_run bytes w ready is of = record { script = bytes; w = w; is = is; are = of.steps; there = omega arith; stands = of.stands }
 
 -- ---- the next step
 

@@ -1,5 +1,6 @@
 -- For private clauses: the state after a log's checked entries, and the check of one more.
-use Rattle.std.specs.Prelude.{◌≡◌, ℕ, ◌+◌, ◌≤◌, Option, None, Some, IfSome, option_to_list, Result, Ok, Err, List, [], ◌∷◌, ◌++◌, length, map}
+use Rattle.std.specs.Prelude.{◌≡◌, ℕ, ◌+◌, ◌≤◌, Option, None, Some, IfSome, option_to_list}
+use Rattle.std.specs.Prelude.{Result, Ok, Err, List, [], ◌∷◌, ◌++◌, length, map}
 use Rattle.dbl_base.specs.declared.lsn.Lsn.{Lsn}
 use Rattle.dbl_pgmsg.specs.declared.messages.Message.{Message}
 use Rattle.dbl_demo_wal.specs.declared.entry.Entry.{Entry}
@@ -72,7 +73,8 @@ TakesEntry w entries bytes new (Err doubt.Memory) = Unit {0}
 
 -- The check of the entry with this number, after valid ones.
 abbrev pub ChecksAt : ℕ → List ℕ → Checked → Checked → Result Unit Doubt → Type 0
-ChecksAt number bytes old new result = (w : Workload) (entries : List Entry) → number ≡ 1 + length entries → IsChecked w entries old → TakesEntry w entries bytes new result
+ChecksAt number bytes old new result = (w : Workload) (entries : List Entry) → number ≡ 1 + length entries → IsChecked w entries old
+    → TakesEntry w entries bytes new result
 
 -- If the bytes are an entry of a commit, then of one of so many steps.
 abbrev pub SaysCommit : List ℕ → ℕ → Type 0
@@ -85,11 +87,13 @@ ChecksCommit number steps bytes old new result = SaysCommit bytes steps → Chec
 -- The check of a watermark that was read from any bytes.
 abbrev pub TakesMark : ℕ → ℕ → Checked → Checked → Result Unit Doubt → Type 0
 TakesMark number steps old new result =
-    (value bytes : List ℕ) (w : Workload) (entries : List Entry) → number ≡ 1 + length entries → EncodesEntry bytes (Marks steps value) → IsChecked w entries old → TakesEntry w entries bytes new result
+    (value bytes : List ℕ) (w : Workload) (entries : List Entry) → number ≡ 1 + length entries → EncodesEntry bytes (Marks steps value)
+    → IsChecked w entries old → TakesEntry w entries bytes new result
 
 -- The check of a confirmed position that was read from any bytes.
 abbrev pub TakesConfirm : Lsn → Checked → Checked → Result Unit Doubt → Type 0
-TakesConfirm upto old new result = (bytes : List ℕ) (w : Workload) (entries : List Entry) → EncodesEntry bytes (Confirms upto) → IsChecked w entries old → TakesEntry w entries bytes new result
+TakesConfirm upto old new result = (bytes : List ℕ) (w : Workload) (entries : List Entry) → EncodesEntry bytes (Confirms upto)
+    → IsChecked w entries old → TakesEntry w entries bytes new result
 
 -- The result of the check of the entry with this number, with the number in the error if it is bad.
 abbrev pub ChecksTo : ℕ → Workload → List Entry → List ℕ → Checked → Result Unit DemoError → Type 0
@@ -100,7 +104,8 @@ ChecksTo number w entries bytes new (Err e) = ⊥
 
 -- The check of the entry with this number, after valid ones, with the number in the error.
 abbrev pub Checks : ℕ → List ℕ → Checked → Checked → Result Unit DemoError → Type 0
-Checks number bytes old new result = (w : Workload) (entries : List Entry) → number ≡ 1 + length entries → IsChecked w entries old → ChecksTo number w entries bytes new result
+Checks number bytes old new result = (w : Workload) (entries : List Entry) → number ≡ 1 + length entries → IsChecked w entries old
+    → ChecksTo number w entries bytes new result
 
 -- ---- runs of steps
 
@@ -109,7 +114,8 @@ abbrev pub RanAlone : Checked → Checked → Type 0
 RanAlone old new = new ≡ record old { prepared = record old.prepared { store = new.prepared.store }; done = new.done }
 
 -- The steps up to the first so many were run, and the last one committed this, or nothing.
-pub record HasCheckedSteps (w : Workload) (entries : List Entry) (steps : ℕ) (committed : Option (List Message)) (new : Checked) : Type 0 where
+pub record HasCheckedSteps (w : Workload) (entries : List Entry) (steps : ℕ) (committed : Option (List Message))
+    (new : Checked) : Type 0 where
   pub done : new.done ≡ steps
   pub later : steps_in entries ≤ steps
   pub there : steps ≤ length (steps_of w)
@@ -119,7 +125,8 @@ pub record HasCheckedSteps (w : Workload) (entries : List Entry) (steps : ℕ) (
 
 -- No next entry can count so many steps.
 abbrev pub CantBe : Workload → List Entry → ℕ → Type 0
-CantBe w entries steps = ((messages : List Message) → ¬ IsNextEntry w entries (Commits steps messages)) × ((value : List ℕ) → ¬ IsNextEntry w entries (Marks steps value))
+CantBe w entries steps = ((messages : List Message) → ¬ IsNextEntry w entries (Commits steps messages))
+    × ((value : List ℕ) → ¬ IsNextEntry w entries (Marks steps value))
 
 -- The result of a run up to so many steps: what the last one commits, or that the entry is bad.
 abbrev pub RunTo : Workload → List Entry → ℕ → Checked → Result (Option (List Message)) Doubt → Type 0
@@ -129,7 +136,8 @@ RunTo w entries steps new (Err doubt.Memory) = Unit {0}
 
 -- A run up to the first so many steps, after valid entries.
 abbrev pub RunsTo : ℕ → Checked → Checked → Result (Option (List Message)) Doubt → Type 0
-RunsTo steps old new result = (w : Workload) (entries : List Entry) → IsChecked w entries old → old.prepared.rows ≡ None → RunTo w entries steps new result
+RunsTo steps old new result = (w : Workload) (entries : List Entry) → IsChecked w entries old → old.prepared.rows ≡ None
+    → RunTo w entries steps new result
 
 -- The only commit of so many steps that may follow.
 pub record MustBe (w : Workload) (entries : List Entry) (steps : ℕ) (messages : List Message) (new : Checked) : Type 0 where

@@ -64,7 +64,8 @@ ReadsTo forms new (Err e) = (e ≡ demo.Memory) ⊎ IsFailed e ⊎ ((index : ℕ
 
 -- The check of all entries after the first.
 abbrev pub ChecksAll : List (List ℕ) → Checked → Checked → Result Unit DemoError → Type 0
-ChecksAll forms old new result = (first : List ℕ) (others : List (List ℕ)) → forms ≡ first ∷ others → IsOpened (first ∷ []) old → ReadsTo forms new result
+ChecksAll forms old new result = (first : List ℕ) (others : List (List ℕ)) → forms ≡ first ∷ others → IsOpened (first ∷ []) old
+    → ReadsTo forms new result
 
 -- For every disk: the check can continue, and the commits are among the entries after the first.
 pub record HasReadParts (count : ℕ) (checked : Checked) : Type 0 where

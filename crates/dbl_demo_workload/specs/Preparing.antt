@@ -53,12 +53,15 @@ row_error e line = demo.Script (script.BadLine line)
 -- The result of inserting a row: it was accepted, or its line is bad.
 abbrev pub InsertsRow : List DemoTable → List Accepted → List ℕ → ScriptRow → Tables → Result Unit DemoError → Type 0
 InsertsRow tables past session row new (Ok done) =
-    IsOk (judged tables past (Insert session row.table row.cells)) × Stands tables (accepted_onto (judged tables past (Insert session row.table row.cells)) past) new
-InsertsRow tables past session row new (Err e) = (e ≡ demo.Memory) ⊎ ((e ≡ demo.Script (script.BadLine row.line)) × ¬ IsOk (judged tables past (Insert session row.table row.cells)))
+    IsOk (judged tables past (Insert session row.table row.cells))
+    × Stands tables (accepted_onto (judged tables past (Insert session row.table row.cells)) past) new
+InsertsRow tables past session row new (Err e) = (e ≡ demo.Memory)
+    ⊎ ((e ≡ demo.Script (script.BadLine row.line)) × ¬ IsOk (judged tables past (Insert session row.table row.cells)))
 
 -- The result of inserting a row after any acts.
 abbrev pub IsRowRefused : List ℕ → ScriptRow → Tables → Tables → Result Unit DemoError → Type 0
-IsRowRefused session row old new result = (tables : List DemoTable) (past : List Accepted) → Stands tables past old → InsertsRow tables past session row new result
+IsRowRefused session row old new result = (tables : List DemoTable) (past : List Accepted) → Stands tables past old
+    → InsertsRow tables past session row new result
 
 -- The error is of the first of these rows that can't be inserted after some acts.
 pub record HasBadRowIn (tables : List DemoTable) (past : List Accepted) (rows : List ScriptRow) (e : DemoError) : Type 0 where
@@ -72,7 +75,8 @@ pub record HasBadRowIn (tables : List DemoTable) (past : List Accepted) (rows : 
 
 -- The result of inserting rows: all were accepted, or one can't be inserted.
 abbrev pub InsertsRows : List DemoTable → List Accepted → List ScriptRow → Tables → Result Unit DemoError → Type 0
-InsertsRows tables past rows new (Ok done) = AreAccepted tables past (row_calls rows) × Stands tables (acts_after tables past (row_calls rows)) new
+InsertsRows tables past rows new (Ok done) = AreAccepted tables past (row_calls rows)
+    × Stands tables (acts_after tables past (row_calls rows)) new
 InsertsRows tables past rows new (Err e) = (e ≡ demo.Memory) ⊎ HasBadRowIn tables past rows e
 
 -- All steps of the initial rows: the begin, the inserts and the commit.
@@ -82,7 +86,8 @@ initial_row_calls rows = initial_steps (map initial_row rows)
 -- The result of committing the initial rows in a store without rows.
 abbrev pub CommitsRows : List DemoTable → List ScriptRow → Tables → Result (Option (List Message)) DemoError → Type 0
 CommitsRows tables rows new (Ok committed) =
-    AreAccepted tables [] (initial_row_calls rows) × Stands tables (acts_after tables [] (initial_row_calls rows)) new × (log_in (acts_after tables [] (initial_row_calls rows)) ≡ option_to_list committed) × IfSome committed IsShortCommit
+    AreAccepted tables [] (initial_row_calls rows) × Stands tables (acts_after tables [] (initial_row_calls rows)) new
+    × (log_in (acts_after tables [] (initial_row_calls rows)) ≡ option_to_list committed) × IfSome committed IsShortCommit
 CommitsRows tables rows new (Err e) = (e ≡ demo.Memory) ⊎ HasBadRowIn tables (acts_after tables [] (Begin [] ∷ [])) rows e
 
 -- The result of committing the initial rows in every store without rows.
@@ -99,4 +104,5 @@ pub record IsReadyOf (script : Script) (ready : Prepared) : Type 0 where
 -- Why a script can't be run: a table that can't be captured, or a row that can't be inserted.
 pub data IsRefusedBy (script : Script) (e : DemoError) : Type 0 where
   table : HasBadTableIn script.tables e → IsRefusedBy script e
-  row : (tables : List DemoTable) → AllZip IsTableOf script.tables tables → HasBadRowIn tables (acts_after tables [] (Begin [] ∷ [])) script.rows e → IsRefusedBy script e
+  row : (tables : List DemoTable) → AllZip IsTableOf script.tables tables
+      → HasBadRowIn tables (acts_after tables [] (Begin [] ∷ [])) script.rows e → IsRefusedBy script e

@@ -20,7 +20,8 @@ use Rattle.dbl_demo_workload.specs.declared.error.DemoError.TheVariants as demo
 -- A line is bad by itself or after those before it, or there are too many lines.
 pub data HasBadLines (bytes : List ℕ) (e : ScriptError) : Type 0 where
   too_many : 1000000 < length (lines_of bytes) → e ≡ script.TooManyLines → HasBadLines bytes e
-  bad_line : (number : ℕ) → length (lines_of bytes) ≤ 1000000 → first_bad (lines_of bytes) ≡ Some number → e ≡ script.BadLine number → HasBadLines bytes e
+  bad_line : (number : ℕ) → length (lines_of bytes) ≤ 1000000 → first_bad (lines_of bytes) ≡ Some number → e ≡ script.BadLine number
+      → HasBadLines bytes e
 
 -- The lines are good, each by itself and together.
 pub record HasGoodLines (bytes : List ℕ) : Type 0 where

@@ -1,5 +1,6 @@
 -- A step of a workload, run on the store of rows: the acts after it, and what it commits.
-use Rattle.std.specs.Prelude.{◌≡◌, ◌≢◌, ℕ, ◌+◌, ◌≤◌, Bool, true, false, Option, None, Some, IfSome, option_to_list, Result, Ok, Err, List, ◌++◌, length}
+use Rattle.std.specs.Prelude.{◌≡◌, ◌≢◌, ℕ, ◌+◌, ◌≤◌, Bool, true, false, Option, None, Some}
+use Rattle.std.specs.Prelude.{IfSome, option_to_list, Result, Ok, Err, List, ◌++◌, length}
 use Rattle.std.specs.List.{AllByRecursion}
 use Rattle.dbl_pgmsg.specs.declared.messages.Message.{Message}
 use Rattle.dbl_script.specs.declared.script.Step.{Step}
@@ -53,7 +54,8 @@ abbrev pub IsShortCommit : List Message → Type 0
 IsShortCommit messages = entry_size messages ≤ entry_limit
 
 -- The step was run, and the store committed these changes, or nothing.
-pub record IsRun (tables : List DemoTable) (past : List Accepted) (step : Step) (committed : Option (List Message)) (new : Tables) : Type 0 where
+pub record IsRun (tables : List DemoTable) (past : List Accepted) (step : Step) (committed : Option (List Message))
+    (new : Tables) : Type 0 where
   pub stands : Stands tables (acts_with tables past step) new
   pub log : log_in (acts_with tables past step) ≡ log_in past ++ option_to_list committed
   pub short : IfSome committed IsShortCommit

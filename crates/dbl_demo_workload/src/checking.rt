@@ -1,10 +1,12 @@
 //! The entries of a log that is opened, compared with what the workload's steps commit.
 
-ghost use Rattle.std.specs.Prelude.{◌≡◌, ◌↔◌, ◌+◌, ◌⊎◌, Err, IfOk, IfErr, IfSome, OnOk, OnErr, IsTrue};
+ghost use Rattle.std.specs.Prelude.{◌≡◌, ◌↔◌, ◌+◌, ◌⊎◌, Err, IfOk};
+ghost use Rattle.std.specs.Prelude.{IfErr, IfSome, OnOk, OnErr, IsTrue};
 ghost use Rattle.dbl_demo_wal.specs.declared.entry.Entry.TheVariants.{Commits};
 ghost use Rattle.dbl_demo_wal.specs.Entries.{entry_form};
-ghost use Rattle.dbl_demo_workload.specs.Checking.{CanGoOn, Checks, ChecksAt, ChecksCommit, NextCommit, RanAlone, RunsTo};
-ghost use Rattle.dbl_demo_workload.specs.Checking.{TakesConfirm, TakesMark};
+ghost use Rattle.dbl_demo_workload.specs.Checking.{CanGoOn, Checks, ChecksAt};
+ghost use Rattle.dbl_demo_workload.specs.Checking.{ChecksCommit, NextCommit, RanAlone};
+ghost use Rattle.dbl_demo_workload.specs.Checking.{RunsTo, TakesConfirm, TakesMark};
 ghost use Rattle.dbl_demo_workload.specs.Logs.{HasReadParts};
 ghost use Rattle.dbl_demo_workload.specs.Steps.{FitAnEntry};
 

@@ -1,9 +1,12 @@
 //! The entries of a log, from the first to the last, compared with what its workload commits.
 
-ghost use Rattle.std.specs.Prelude.{◌≡◌, ◌⊎◌, ℕ, ◌<◌, List, Some, Err, IfOk, IfErr, IfSome, OnOk, IsTrue, None, slice_get};
+ghost use Rattle.std.specs.Prelude.{◌≡◌, ◌⊎◌, ℕ, ◌<◌, List, Some, Err, IfOk, IfErr};
+ghost use Rattle.std.specs.Prelude.{IfSome, OnOk, IsTrue, None, slice_get};
 ghost use Rattle.dbl_journal.specs.Stored.{Lists, count_of};
-ghost use Rattle.dbl_demo_workload.specs.Logs.{ChecksAll, FailsByJournal, HasReadParts, BeginsWithWorkload, IsFailed, IsReadFault, IsReadOnly};
-ghost use Rattle.dbl_demo_workload.specs.Logs.{NoWorkload, ReadsFirst, ReadsLog, workload_error};
+ghost use Rattle.dbl_demo_workload.specs.Logs.{ChecksAll, FailsByJournal, HasReadParts};
+ghost use Rattle.dbl_demo_workload.specs.Logs.{BeginsWithWorkload, IsFailed};
+ghost use Rattle.dbl_demo_workload.specs.Logs.{IsReadFault, IsReadOnly, NoWorkload};
+ghost use Rattle.dbl_demo_workload.specs.Logs.{ReadsFirst, ReadsLog, workload_error};
 ghost use Rattle.dbl_demo_workload.specs.Ready.{AreTableNames};
 ghost use Rattle.dbl_demo_workload.specs.Steps.{FitAnEntry};
 ghost use Rattle.dbl_disk.specs.Disks.{disk_limit};

@@ -6,7 +6,8 @@ ghost use Rattle.dbl_tables_rows.specs.declared.demo_table.DemoTable.{DemoTable}
 ghost use Rattle.dbl_tables_rows.specs.Acts.{Accepted};
 ghost use Rattle.dbl_tables.specs.Stands.{Stands};
 ghost use Rattle.dbl_demo_wal.specs.Workloads.{Workload, acts_at, steps_of};
-ghost use Rattle.dbl_demo_workload.specs.Steps.{FitAnEntry, is_tick, HasRunSteps, IsNextRun, IsPassed, IsRun, IsRunnable};
+ghost use Rattle.dbl_demo_workload.specs.Steps.{FitAnEntry, is_tick, HasRunSteps};
+ghost use Rattle.dbl_demo_workload.specs.Steps.{IsNextRun, IsPassed, IsRun, IsRunnable};
 
 use dbl_base::{Seq, Text};
 use dbl_pgmsg::Message;

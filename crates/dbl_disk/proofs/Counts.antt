@@ -4,7 +4,7 @@ use Rattle.dbl_base.specs.Streams.{incremented}
 use Rattle.dbl_disk.specs.Disks.{IsCalled}
 use Rattle.dbl_disk.specs.Fuse.{all_calls}
 
--- one more call of the disk behind is one more in all
+-- one more call of the disk after is one more in all
 pub one_passed : (old new : Option ℕ) (refused still : ℕ) → still ≡ refused → IsCalled old new → (count : ℕ) → all_calls old refused ≡ Some count → all_calls new still ≡ Some (incremented count)
 one_passed None new refused still same called count is = cc
 one_passed (Some passed) new refused still same called count is =

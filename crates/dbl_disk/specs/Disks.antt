@@ -1,6 +1,7 @@
 -- Disks as bytes: the effect of a write, and the contents that a crash may leave between two syncs. Nothing is assumed about the order in
 -- which a device persists writes, or about sectors.
-use Rattle.std.specs.Prelude.{◌^◌, ◌≡◌, ◌⊎◌, ℕ, ◌+◌, ◌-◌, ◌<◌, ◌≤◌, max, List, [], ◌∷◌, ◌++◌, length, take, drop, replicate, slice_index, Option, Some}
+use Rattle.std.specs.Prelude.{◌^◌, ◌≡◌, ◌⊎◌, ℕ, ◌+◌, ◌-◌, ◌<◌, ◌≤◌, max, List, [], ◌∷◌, ◌++◌}
+use Rattle.std.specs.Prelude.{length, take, drop, replicate, slice_index, Option, Some}
 use Rattle.std.specs.List.{All}
 use Rattle.dbl_base.specs.Streams.{incremented}
 use Rattle.dbl_disk.specs.declared.extent.Extent.{Extent}

@@ -1,7 +1,8 @@
-ghost use Rattle.std.specs.Prelude.{◌≡◌, ◌↔◌, ℕ, ◌+◌, ◌-◌, ◌<◌, ◌≤◌, List, length, take, drop, min, Option, Some, None};
-ghost use Rattle.std.specs.Prelude.{IsErr, IfOk, OnOk, OnErr};
+ghost use Rattle.std.specs.Prelude.{◌≡◌, ◌↔◌, ℕ, ◌+◌, ◌-◌, ◌<◌, ◌≤◌, List, length, take, drop};
+ghost use Rattle.std.specs.Prelude.{min, Option, Some, None, IsErr, IfOk, OnOk, OnErr};
 ghost use Rattle.dbl_base.specs.Streams.{FailsOnlyIfCounted};
-ghost use Rattle.dbl_disk.specs.Disks.{Follows, IsCalled, IsOnly, Torn, written, half_limit, disk_limit};
+ghost use Rattle.dbl_disk.specs.Disks.{Follows, IsCalled, IsOnly, Torn};
+ghost use Rattle.dbl_disk.specs.Disks.{written, half_limit, disk_limit};
 
 use dbl_base::Failed;
 
@@ -90,5 +91,6 @@ pub trait Disk {
         ensures called { IsCalled (calls self.old) (calls self.new) };
 
     /// A crash may leave the contents that a read returns, if they are known.
-    ghost seen_may_be_left: { (disk : Self) (bytes : List ℕ) → seen disk ≡ Some bytes → may_leave disk bytes };
+    ghost seen_may_be_left: { (disk : Self) (bytes : List ℕ) → seen disk ≡ Some bytes
+        → may_leave disk bytes };
 }

@@ -1,6 +1,8 @@
-ghost use Rattle.std.specs.Prelude.{◌≡◌, ◌↔◌, ℕ, ◌+◌, ◌-◌, ◌<◌, ◌≤◌, List, length, take, drop, min, Some, None, IfOk, OnOk, OnErr, IsErr};
+ghost use Rattle.std.specs.Prelude.{◌≡◌, ◌↔◌, ℕ, ◌+◌, ◌-◌, ◌<◌, ◌≤◌, List, length, take};
+ghost use Rattle.std.specs.Prelude.{drop, min, Some, None, IfOk, OnOk, OnErr, IsErr};
 ghost use Rattle.dbl_base.specs.Streams.{FailsOnlyIfCounted, incremented};
-ghost use Rattle.dbl_disk.specs.Disks.{Follows, IsCalled, IsOnly, Torn, written, half_limit, disk_limit};
+ghost use Rattle.dbl_disk.specs.Disks.{Follows, IsCalled, IsOnly, Torn};
+ghost use Rattle.dbl_disk.specs.Disks.{written, half_limit, disk_limit};
 ghost use Rattle.dbl_disk.specs.Fuse.{Burns, fuse_calls, fuse_faults};
 
 use crate::Disk;

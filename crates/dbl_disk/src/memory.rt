@@ -1,11 +1,13 @@
-ghost use Rattle.std.specs.Prelude.{◌≡◌, ◌↔◌, ◌⊎◌, ℕ, ◌+◌, ◌-◌, ◌<◌, ◌≤◌, ◌++◌, List, [], ◌∷◌, length, take, drop};
-ghost use Rattle.std.specs.Prelude.{replicate, min, slice_index, Some, None, Ok, Err, IsErr, IfOk, OnOk, OnErr};
-ghost use Rattle.std.specs.Prelude.{Contains};
+ghost use Rattle.std.specs.Prelude.{◌≡◌, ◌↔◌, ◌⊎◌, ℕ, ◌+◌, ◌-◌, ◌<◌, ◌≤◌, ◌++◌, List, [], ◌∷◌};
+ghost use Rattle.std.specs.Prelude.{length, take, drop, replicate, min, slice_index, Some};
+ghost use Rattle.std.specs.Prelude.{None, Ok, Err, IsErr, IfOk, OnOk, OnErr, Contains};
 ghost use Rattle.std.specs.List.{All};
 ghost use Rattle.dbl_base.specs.Streams.{FailsOnlyIfCounted, incremented};
 ghost use Rattle.dbl_base.specs.Memory.{new_plan};
-ghost use Rattle.dbl_disk.specs.Disks.{Follows, IsAside, IsCalled, IsOnly, MayLeave, Torn, written, half_limit, disk_limit};
-ghost use Rattle.dbl_disk.specs.Memory.{AreFilled, DiffersInside, MayRemain, IsFilled, IsKept, synced};
+ghost use Rattle.dbl_disk.specs.Disks.{Follows, IsAside, IsCalled, IsOnly, MayLeave};
+ghost use Rattle.dbl_disk.specs.Disks.{Torn, written, half_limit, disk_limit};
+ghost use Rattle.dbl_disk.specs.Memory.{AreFilled, DiffersInside, MayRemain};
+ghost use Rattle.dbl_disk.specs.Memory.{IsFilled, IsKept, synced};
 
 use crate::{DISK_LIMIT, Disk, Extent};
 use dbl_base::{Failed, FaultPlan};
@@ -40,7 +42,12 @@ impl Model for MemDisk {
 
     ghost Value = { Platter };
 
-    ghost view = { λ d. record { stable = d.stable.items; current = d.current.items; dirty = d.dirty.items; plan = d.plan } };
+    ghost view = { λ d. record {
+      stable = d.stable.items;
+      current = d.current.items;
+      dirty = d.dirty.items;
+      plan = d.plan;
+    } };
 
     ghost invariant = { λ d. IsKept d.stable.items d.current.items d.dirty.items };
 }
@@ -256,7 +263,8 @@ impl Disk for MemDisk {
         ensures seen { Some self.new.current ≡ Some self.old.current }
         ensures crash { (crashed : List ℕ) →
             MayRemain self.new crashed ↔ MayRemain self.old crashed }
-        ensures cause { FailsOnlyIfCounted (IsErr result) self.old.plan.faults self.new.plan.faults }
+        ensures cause { FailsOnlyIfCounted (IsErr result)
+            self.old.plan.faults self.new.plan.faults }
         ensures steady { (bytes : List ℕ) → Some self.old.current ≡ Some bytes →
             OnOk result (self.new.plan.faults ≡ self.old.plan.faults) }
         ensures called { IsCalled (Some self.old.plan.calls) (Some self.new.plan.calls) }
@@ -286,7 +294,8 @@ impl Disk for MemDisk {
         ensures seen { Some self.new.current ≡ Some self.old.current }
         ensures crash { (crashed : List ℕ) →
             MayRemain self.new crashed ↔ MayRemain self.old crashed }
-        ensures cause { FailsOnlyIfCounted (IsErr result) self.old.plan.faults self.new.plan.faults }
+        ensures cause { FailsOnlyIfCounted (IsErr result)
+            self.old.plan.faults self.new.plan.faults }
         ensures steady { (bytes : List ℕ) → Some self.old.current ≡ Some bytes →
             OnOk result (self.new.plan.faults ≡ self.old.plan.faults) }
         ensures called { IsCalled (Some self.old.plan.calls) (Some self.new.plan.calls) }
@@ -328,7 +337,8 @@ impl Disk for MemDisk {
         ensures silent { Some self.old.current ≡ None → Some self.new.current ≡ None }
         ensures untried { disk_limit ≤ at + length bytes.now → (crashed : List ℕ) →
             MayRemain self.new crashed ↔ MayRemain self.old crashed }
-        ensures cause { FailsOnlyIfCounted (IsErr result) self.old.plan.faults self.new.plan.faults }
+        ensures cause { FailsOnlyIfCounted (IsErr result)
+            self.old.plan.faults self.new.plan.faults }
         ensures steady { (bytes : List ℕ) → Some self.old.current ≡ Some bytes →
             OnOk result (self.new.plan.faults ≡ self.old.plan.faults) }
         ensures called { IsCalled (Some self.old.plan.calls) (Some self.new.plan.calls) }
@@ -360,7 +370,8 @@ impl Disk for MemDisk {
         ensures seen { Some self.new.current ≡ Some self.old.current }
         ensures crash { (crashed : List ℕ) →
             MayRemain self.new crashed → MayRemain self.old crashed }
-        ensures cause { FailsOnlyIfCounted (IsErr result) self.old.plan.faults self.new.plan.faults }
+        ensures cause { FailsOnlyIfCounted (IsErr result)
+            self.old.plan.faults self.new.plan.faults }
         ensures steady { (bytes : List ℕ) → Some self.old.current ≡ Some bytes →
             OnOk result (self.new.plan.faults ≡ self.old.plan.faults) }
         ensures called { IsCalled (Some self.old.plan.calls) (Some self.new.plan.calls) }

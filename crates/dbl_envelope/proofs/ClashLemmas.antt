@@ -1,4 +1,4 @@
--- The first clash, change by change and row by row.
+-- The first value equal to the placeholder, change by change and row by row.
 use Rattle.std.proofs.Common.{◌≡◌, ◌∙◌, ◌⊎◌, inl, inr, ℕ, suc, zero, ◌+◌, ◌<◌, ◌≤◌, Bool, true, false, List, [], ◌∷◌, ◌++◌, length, drop, map, flat_map, slice_get, Option, Some, None, refl, sym, ap, ap₂, subst, arith, min}
 use Rattle.std.specs.Prelude.{IsSome, option_map, unwrap_or, if◌then◌else◌}
 use Rattle.std.specs.Option.{option_or}
@@ -80,14 +80,14 @@ update_clash : (p : List ℕ) (t : ℕ) (info : TableInfo) (key : Key) (old : Op
 update_clash p t info key old cells true given = update_kept p t info key old cells
 update_clash p t info key old cells false given = update_moved p t info key old cells (given refl)
 
--- the first clash of what a change of a table tells
+-- the first value equal to the placeholder of what a change of a table tells
 pub table_clash : (p : List ℕ) (t : ℕ) (info : TableInfo) (c : Change) → SuitsTable info c → first_found (notice_clash p) (change_notices t info c) ≡ clash_at info (change_clash p info c)
 table_clash p t info (Insert u row) suits = simp (none_among, or_none)
 table_clash p t info (Update u key old cells) suits = update_clash p t info key old cells (same_key key (new_key_of info cells)) (moves_given info key old cells suits)
 table_clash p t info (Delete u key old) suits = simp (none_among, or_none)
 table_clash p t info (Clear u) suits = simp (none_among, or_none)
 
--- one more change without a clash, or with the first one
+-- one more change without a value equal to the placeholder, or with the first one
 pub change_found : (p : List ℕ) (infos : List TableInfo) (c : Change) (info : TableInfo) → slice_get infos (table_of c) ≡ Some info → SuitsTable info c
     → first_found (notice_clash p) (notices infos c) ≡ clash_at info (change_clash p info c)
 change_found p infos c info is suits =

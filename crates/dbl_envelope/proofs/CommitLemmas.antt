@@ -138,7 +138,7 @@ change_step captured commit now i o c stamp made more all suits within here numb
     ∙ ap (λ (x : List Record). made ++ x) (sym split)
     ∙ before
 
--- nothing is left behind the last change
+-- nothing is left after the last change
 pub nothing_left : (captured : Captured) (commit : Commit) (now : ℤ) (i o : ℕ) → i ≡ length (changes_of commit) → records_from captured commit now i o ≡ []
 unfolding records_from
 nothing_left captured commit now i o end =

@@ -28,7 +28,7 @@ read_count : (identity : Identity) (info : TableInfo) (commit : Commit) (now : �
 read_count identity info commit now from [] = refl
 read_count identity info commit now from (e ∷ rows) = ap suc (read_count identity info commit now (from + 1) rows)
 
--- the rows' records, and the progress behind them
+-- the rows' records, and the progress after them
 pub chunk_is : (identity : Identity) (info : TableInfo) (commit : Commit) (now : ℤ) (rows : List (Key × Row)) (through : Option Key) (done : Bool) (made more : List Record) (r : Record)
     → made ≡ read_records identity info commit now 0 rows → more ≡ made ++ r ∷ [] → r ≡ progress_record identity info commit (length made) through done
     → more ≡ chunk_records identity info rows through done commit now

@@ -24,7 +24,8 @@ IsClash clash e = e ≢ Memory → option_map clash_error clash ≡ Some e
 abbrev pub change_clash : List ℕ → TableInfo → Change → Option (List ℕ)
 change_clash placeholder info (Insert table row) = clash_among placeholder (column_names info.columns) (map Given row.cells)
 change_clash placeholder info (Update table key old cells) =
-    option_or (clash_among placeholder (column_names info.columns) (old_cells old)) (clash_among placeholder (column_names info.columns) cells)
+    option_or (clash_among placeholder (column_names info.columns) (old_cells old))
+    (clash_among placeholder (column_names info.columns) cells)
 change_clash placeholder info (Delete table key old) = clash_among placeholder (column_names info.columns) (map Given old.cells)
 change_clash placeholder info (Clear table) = None
 

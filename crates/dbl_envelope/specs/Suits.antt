@@ -52,4 +52,5 @@ SuitsSnapshot infos closed = IsSomeAnd (slice_get infos closed.table) (λ info. 
 
 -- changes and windows valid for the captured tables are accepted by a writer of these tables
 abbrev pub FittingSuits : Type 0
-FittingSuits = (infos : List TableInfo) → ((c : Change) → FitsInfos infos c → Suits infos c) × ((closed : Closed) → FitsSnapshot infos closed → SuitsSnapshot infos closed)
+FittingSuits = (infos : List TableInfo) → ((c : Change) → FitsInfos infos c → Suits infos c)
+    × ((closed : Closed) → FitsSnapshot infos closed → SuitsSnapshot infos closed)

@@ -19,7 +19,8 @@ pub record Captured : Type 0 where
 -- for private clauses: the records of a commit's changes from an index on, numbered from an ordinal on
 unfoldable pub records_from : Captured → Commit → ℤ → ℕ → ℕ → List Record
 records_from captured commit now change ordinal =
-    map (print captured.identity commit now) (numbered commit.lsn.0 ordinal (flat_map (notices captured.infos) (drop change (changes_of commit))))
+    map (print captured.identity commit now)
+    (numbered commit.lsn.0 ordinal (flat_map (notices captured.infos) (drop change (changes_of commit))))
 
 -- for private clauses: the records of one change
 unfoldable pub change_records : Captured → Commit → ℤ → Stamp → Change → List Record
@@ -33,4 +34,5 @@ tail_at captured commit now table =
 
 -- the tails that exist are those of their tables
 abbrev pub AreTails : Captured → Commit → ℤ → List (Option (List ℕ)) → Type 0
-AreTails captured commit now tails = (table : ℕ) (text : List ℕ) → slice_get tails table ≡ Some (Some text) → text ≡ tail_at captured commit now table
+AreTails captured commit now tails = (table : ℕ) (text : List ℕ) → slice_get tails table ≡ Some (Some text)
+    → text ≡ tail_at captured commit now table

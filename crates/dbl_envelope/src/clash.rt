@@ -1,13 +1,15 @@
 //! Cells with a value equal to the placeholder, which every consumer would take for unsent ones.
 
-ghost use Rattle.std.specs.Prelude.{◌≡◌, ◌≢◌, ◌==◌, ◌-◌, length, slice_get, true, false, Some, None, IfOk, IfErr, OnOk, All, map};
+ghost use Rattle.std.specs.Prelude.{◌≡◌, ◌≢◌, ◌==◌, ◌-◌, length, slice_get, true};
+ghost use Rattle.std.specs.Prelude.{false, Some, None, IfOk, IfErr, OnOk, All, map};
 ghost use Rattle.std.specs.Option.{option_or};
 ghost use Rattle.base64.specs.Rfc4648.{encoded_size};
 ghost use Rattle.dbl_model_table.specs.declared.change.Cell.TheVariants.{Given};
 ghost use Rattle.dbl_model_table.specs.Tables.{column_names};
 ghost use Rattle.dbl_model_table.specs.Rows.{changes_of};
 ghost use Rattle.dbl_envelope.specs.Suits.{Suits};
-ghost use Rattle.dbl_model_event.specs.Clashes.{is_clash, clash_among, clash_at, old_cells, clash_of};
+ghost use Rattle.dbl_model_event.specs.Clashes.{is_clash, clash_among};
+ghost use Rattle.dbl_model_event.specs.Clashes.{clash_at, old_cells, clash_of};
 ghost use Rattle.dbl_envelope.specs.Clashing.{IsClash, change_clash, notices_clash};
 
 use crate::changes::changes;

@@ -1,5 +1,5 @@
-ghost use Rattle.std.specs.Prelude.{◌≡◌, ◌≤◌, ◌<◌, ◌+◌, ◌*◌, ◌^◌, ◌++◌, ℕ, [], None, Some, length, replicate};
-ghost use Rattle.std.specs.Prelude.{slice_get, All, IfOk, IfErr, OnOk, OnErr, codes};
+ghost use Rattle.std.specs.Prelude.{◌≡◌, ◌≤◌, ◌<◌, ◌+◌, ◌*◌, ◌^◌, ◌++◌, ℕ, [], None, Some, length};
+ghost use Rattle.std.specs.Prelude.{replicate, slice_get, All, IfOk, IfErr, OnOk, OnErr, codes};
 ghost use Rattle.dbl_model_table.specs.Rows.{changes_of, table_of};
 ghost use Rattle.dbl_model_event.specs.EventJson.{envelopes};
 ghost use Rattle.dbl_envelope.specs.Suits.{Suits, SuitsTable};

@@ -3,7 +3,8 @@
 ghost use Rattle.std.specs.Prelude.{◌≡◌, None, IfOk, IfErr, IfSome, OnOk, length, codes};
 ghost use Rattle.dbl_model_table.specs.Infos.{width};
 ghost use Rattle.dbl_model_event.specs.Clashes.{clash_at, rows_clash, snapshot_clash};
-ghost use Rattle.dbl_model_event.specs.Snapshots.{AreInKeyOrder, read_record, read_records, chunk_records, snapshot};
+ghost use Rattle.dbl_model_event.specs.Snapshots.{AreInKeyOrder, read_record, read_records};
+ghost use Rattle.dbl_model_event.specs.Snapshots.{chunk_records, snapshot};
 ghost use Rattle.dbl_envelope.specs.Clashing.{IsClash, row_clash};
 ghost use Rattle.dbl_envelope_json.specs.Frames.{Framed};
 ghost use Rattle.dbl_envelope.specs.Suits.{SuitsRows, SuitsSnapshot};

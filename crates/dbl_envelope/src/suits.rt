@@ -7,7 +7,8 @@ ghost use Rattle.dbl_model_table.specs.Infos.{width};
 ghost use Rattle.dbl_model_table.specs.Keys.{new_key_of};
 ghost use Rattle.dbl_model_table.specs.Rows.{changes_of, all_given};
 ghost use Rattle.dbl_model_event.specs.ModelHistory.PlainRows.{is_sent};
-ghost use Rattle.dbl_envelope.specs.Suits.{Suits, SuitsTable, SuitsUpdate, SuitsDelete, SuitsRows, SuitsChunk, SuitsSnapshot};
+ghost use Rattle.dbl_envelope.specs.Suits.{Suits, SuitsTable, SuitsUpdate, SuitsDelete};
+ghost use Rattle.dbl_envelope.specs.Suits.{SuitsRows, SuitsChunk, SuitsSnapshot};
 
 use crate::changes::changes;
 use crate::writer::EventWriter;

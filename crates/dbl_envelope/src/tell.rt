@@ -1,7 +1,8 @@
 //! The records of each kind of change.
 
 ghost use Rattle.std.specs.Prelude.{◌≡◌, ◌<◌, ◌≤◌, ◌+◌, ◌^◌, IfSome, IsSome, OnOk, length};
-ghost use Rattle.dbl_model_table.specs.declared.change.Change.TheVariants.{Insert, Update, Delete, Clear};
+ghost use Rattle.dbl_model_table.specs.declared.change.Change.TheVariants.{Insert, Update};
+ghost use Rattle.dbl_model_table.specs.declared.change.Change.TheVariants.{Delete, Clear};
 ghost use Rattle.dbl_model_table.specs.Infos.{width};
 ghost use Rattle.dbl_model_table.specs.Rows.{all_given};
 ghost use Rattle.dbl_envelope.specs.Suits.{SuitsUpdate, SuitsDelete, SuitsTable};
@@ -124,7 +125,8 @@ fn tell_clear(
     stamp: &Stamp,
 ) -> Result<(), AllocError>
     requires framed { Framed frame.now }
-    ensures { OnOk result (AppendsEvents frame.now stamp.now (Clear 0) out.old.items out.new.items) }
+    ensures { OnOk result
+        (AppendsEvents frame.now stamp.now (Clear 0) out.old.items out.new.items) }
 {
     out.push(truncated_record(alloc, frame, stamp)?)?;
     Ok(())
@@ -142,7 +144,8 @@ pub(crate) fn append_change_records(
     requires framed { Framed frame.now }
     requires room { stamp.now.ordinal + 2 < 2 ^ 64 }
     requires suits { SuitsTable frame.now.info.now change.now }
-    ensures { OnOk result (AppendsEvents frame.now stamp.now change.now out.old.items out.new.items) }
+    ensures { OnOk result
+        (AppendsEvents frame.now stamp.now change.now out.old.items out.new.items) }
 {
     match change {
         Change::Insert { table: _, row } => tell_insert(out, alloc, frame, stamp, row),

@@ -1,4 +1,5 @@
-ghost use Rattle.std.specs.Prelude.{◌≡◌, ◌<◌, ◌++◌, ◌∷◌, [], Some, length, map, option_map, slice_get, IfOk, IfErr, OnOk, OnErr};
+ghost use Rattle.std.specs.Prelude.{◌≡◌, ◌<◌, ◌++◌, ◌∷◌, [], Some, length, map};
+ghost use Rattle.std.specs.Prelude.{option_map, slice_get, IfOk, IfErr, OnOk, OnErr};
 ghost use Rattle.dbl_model_table.specs.Rows.{table_of};
 ghost use Rattle.dbl_envelope.specs.Suits.{Suits, SuitsTable};
 ghost use Rattle.dbl_envelope_json.specs.Layouts.{layout_of};

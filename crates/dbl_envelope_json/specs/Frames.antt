@@ -1,5 +1,6 @@
 -- What is common to the records of one table in a commit, and the records of a change.
-use Rattle.std.specs.Prelude.{◌≡◌, ℕ, ℤ, ◌+◌, ◌<◌, Bool, false, Option, Some, None, option_map, List, [], ◌∷◌, ◌++◌, length, map, codes, All}
+use Rattle.std.specs.Prelude.{◌≡◌, ℕ, ℤ, ◌+◌, ◌<◌, Bool, false, Option, Some, None}
+use Rattle.std.specs.Prelude.{option_map, List, [], ◌∷◌, ◌++◌, length, map, codes, All}
 use Rattle.json.specs.Print.{print as print_tokens}
 use Rattle.serde_json.specs.Data.{Data, null, string, object, no_members, member}
 use Rattle.serde_json.specs.Written.{compact_text}
@@ -119,7 +120,8 @@ AppendsEvents frame stamp change old new = new ≡ old ++ told frame stamp chang
 abbrev pub TellsMove : Frame → Stamp → Key → Option Row → List Cell → List Record → List Record → Type 0
 TellsMove frame stamp key old cells before after =
     after ≡ before ++ map (print_as frame.snapshot.now frame.identity.now frame.commit.now frame.now_ms.now)
-    (events_from frame.commit.now.lsn.0 stamp.ordinal stamp.last (move_notices 0 frame.info.now key (new_key_of frame.info.now cells) old (record { cells = map given_or_null cells })))
+    (events_from frame.commit.now.lsn.0 stamp.ordinal stamp.last
+    (move_notices 0 frame.info.now key (new_key_of frame.info.now cells) old (record { cells = map given_or_null cells })))
 
 -- the record of an event of the frame's table, with this stamp
 abbrev pub printed : Frame → Stamp → Notice → Record

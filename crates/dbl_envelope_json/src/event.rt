@@ -5,7 +5,8 @@ ghost use Rattle.dbl_model_table.specs.Infos.{width};
 ghost use Rattle.dbl_model_table.specs.Keys.{key_of, new_key_of, given_or_null};
 ghost use Rattle.dbl_model_table.specs.Rows.{all_given};
 ghost use Rattle.dbl_model_event.specs.Events.{Content, notice};
-ghost use Rattle.dbl_envelope_json.specs.Frames.{Framed, IsWide, side_row, plain_record, deleted_record, printed};
+ghost use Rattle.dbl_envelope_json.specs.Frames.{Framed, IsWide, side_row};
+ghost use Rattle.dbl_envelope_json.specs.Frames.{plain_record, deleted_record, printed};
 ghost use Rattle.dbl_model_event.specs.EventJson.{old_data};
 
 use crate::frame::Frame;

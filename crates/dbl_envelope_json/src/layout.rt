@@ -1,5 +1,6 @@
 ghost use Rattle.std.specs.Prelude.{◌≡◌, IfOk};
-ghost use Rattle.dbl_envelope_json.specs.Layouts.{sorted, column_names_from, column_names_at, key_names_from, places_of, layout_of};
+ghost use Rattle.dbl_envelope_json.specs.Layouts.{sorted, column_names_from, column_names_at};
+ghost use Rattle.dbl_envelope_json.specs.Layouts.{key_names_from, places_of, layout_of};
 
 use dbl_base::{Seq, Text};
 use dbl_model_table::{Column, Identity, TableInfo};

@@ -4,7 +4,8 @@ ghost use Rattle.json.specs.Print.{print as print_tokens};
 ghost use Rattle.json.specs.Tree.{json_tokens};
 ghost use Rattle.serde_json.specs.Written.{outline, compact_text};
 ghost use Rattle.dbl_envelope_json.specs.Tokens.{head_tokens};
-ghost use Rattle.dbl_envelope_json.specs.Frames.{Framed, FitsPlaces, IsWide, side_data, side_row, framed_event};
+ghost use Rattle.dbl_envelope_json.specs.Frames.{Framed, FitsPlaces, IsWide};
+ghost use Rattle.dbl_envelope_json.specs.Frames.{side_data, side_row, framed_event};
 
 use crate::frame::Frame;
 use crate::layout::Place;

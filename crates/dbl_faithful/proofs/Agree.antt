@@ -77,7 +77,7 @@ under_both start here far m le one two = omega (arith, le, one, two)
 abbrev pub IsRun : ℕ → List Record → Type 0
 IsRun position rs = (j : ℕ) (item : Record) → slice_get rs j ≡ Some item → (item.position ≡ position) × (item.last ≡ true → j + 1 ≡ length rs)
 
--- what stands before a record stands for no later moment
+-- what stands before a record represents no later point in the history
 before_under : (infos : List TableInfo) (commits : List Commit) (item : Record) (rs : List Record) → AllByRecursion (λ earlier. IsBefore (place_of earlier) (place_of item)) rs → AllByRecursion (λ earlier. record_moment infos commits earlier ≤ record_moment infos commits item) rs
 before_under infos commits item [] before = tt
 before_under infos commits item (r ∷ rs) before = (later_places infos commits (place_of r) (place_of item) before.0, before_under infos commits item rs before.1)

@@ -88,7 +88,7 @@ module _ (identity : Identity) (infos : List TableInfo) (before : List Commit) (
       ap length (all_changes-append before (commit ∷ []) ∙ ap (λ (l : List Change). all_changes before ++ l) (append-nil (changes_of commit)))
       ∙ length-append (all_changes before) (changes_of commit)
 
-  -- none stands for a moment behind the commit
+  -- none represents a point in the history after the commit
   pub envelope_under : (now : ℤ) (j : ℕ) (item : Record) → slice_get (envelopes identity infos commit now) j ≡ Some item → record_moment infos cs item ≤ moment_after (before ++ commit ∷ [])
   envelope_under now j item at =
       let position : item.position ≡ commit.lsn.0 = (commit_run identity infos commit now j item at).0 in
@@ -96,7 +96,7 @@ module _ (identity : Identity) (infos : List TableInfo) (before : List Commit) (
       (ap (λ (p : ℕ). place_moment infos cs (p, item.ordinal)) position ∙ place_moment-at infos before commit later 0 item.ordinal facts.rise)
       (changes_through-most infos (changes_of commit) item.ordinal) after_size
 
-  -- all of them reach the moment behind it
+  -- all of them reach the moment after it
   module _ (now : ℤ) (start : ℕ) where
     rest_reach : (earlier rest : List Change) → changes_of commit ≡ earlier ++ rest → AllDo identity infos before commit later facts now earlier rest → (records : List Record) → length (all_changes before ++ earlier) ≤ last_moment infos cs start records
         → length (all_changes before ++ (earlier ++ rest)) ≤ last_moment infos cs start (records ++ rest_records identity infos before commit later facts now earlier rest)
@@ -145,7 +145,7 @@ clear_whole identity infos commit now n clear full =
     let enough : length told ≤ n = subst (λ (k : ℕ). k ≤ n) (envelopes_length identity infos commit now) long in
     ap (first_found (notice_clash identity.placeholder)) (sym (take_all n told enough)) ∙ clear
 
--- with any prefix, from what all of them come to
+-- with any prefix, from what all of them amount to
 agrees_parts : (identity : Identity) (infos : List TableInfo) (commits before : List Commit) (commit : Commit) (later : List Commit) (start : ℕ) (records : List Record) (now : ℤ) (n : ℕ) → IsCommitAmong infos commits before commit later
     → first_found (notice_clash identity.placeholder) (take n (flat_map (notices infos) (changes_of commit))) ≡ None → IsMomentInRange now
     → start ≤ moment_after before → AgreesUpTo identity infos commits start records (moment_after before) → Agrees identity infos commits start (records ++ take n (envelopes identity infos commit now))

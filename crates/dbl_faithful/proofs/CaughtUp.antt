@@ -66,7 +66,7 @@ under_count (x ∷ xs) (suc count) under =
 
 -- ---- the commits that are next
 
--- the events behind the start: those of the commits before, and those of the later ones
+-- the events after the start: those of the commits before, and those of the later ones
 told_parts : (infos : List TableInfo) (start : ℕ) (commits before later : List Commit) → commits ≡ before ++ later → AllByRecursion (λ c. start < c.lsn.0) later → events_since infos start commits ≡ events_since infos start before ++ events_of_commits infos later
 told_parts infos start commits before later is ahead =
     ap (events_since infos start) is
@@ -303,7 +303,7 @@ module _ (identity : Identity) (infos : List TableInfo) (commits before : List C
   under : (place : ℕ) (item : Record) → slice_get records place ≡ Some item → item.position ≤ far
   under place item at = at_all (λ (r : Record). r.position ≤ far) records place item up.placed at
 
-  -- the rows are those of the mark's position
+  -- the rows are those of the watermark's position
   moment_is : moment_at commits mark.lsn.0 ≡ moment_after before
   moment_is =
       ap (λ (l : List Commit). moment_at l mark.lsn.0) up.spelled
@@ -355,7 +355,7 @@ module _ (identity : Identity) (infos : List TableInfo) (commits before : List C
       not_above : (m p : ℕ) → p < m → m < p → ⊥
       not_above m p lt gt = omega (arith, lt, gt)
 
-  -- each record of the window stands behind all before it
+  -- each record of the window is after all before it
   fresh_here : (j : ℕ) (item : Record) → slice_get (take n snapshot) j ≡ Some item → (place : ℕ) → place ≡ length records + j → slice_get (records ++ take n snapshot) place ≡ Some item → AreBefore (take place (records ++ take n snapshot)) item
   fresh_here j item at place is stands = all_by_place (λ (earlier : Record). IsBefore (place_of earlier) (place_of item)) (take place (records ++ take n snapshot)) (λ k x there. (
       let taken = taken_at place (records ++ take n snapshot) k x there in
@@ -408,7 +408,7 @@ snapshots_are_caught_up identity infos commits before mark later start far low a
 within_all : (a b w : ℕ) → w ≡ a + b → a ≤ w
 within_all a b w e = omega (arith, e)
 
--- more told events behind those that the log has
+-- more told events after those that the log has
 exact_longer : (identity : Identity) (told extra : List ToldEvent) (records : List Record) (count : ℕ) → IsExact identity told records count → IsExact identity (told ++ extra) records count
 exact_longer identity told extra records count exact =
     let same : take count (told ++ extra) ≡ take count told = take_within count told extra exact.few in

@@ -1,4 +1,4 @@
--- A record that is delivered keeps the log exact, where snapshots stand behind all earlier commits' records.
+-- A record that is delivered keeps the log exact, where snapshots are after all earlier commits' records.
 use Rattle.std.proofs.Common.{◌≡◌, ◌≢◌, ◌∙◌, ◌⊎◌, inl, inr, ⊎_elim, ◌+◌, ◌≤◌, ◌<◌, ℕ, suc, Bool, true, false, List, [], ◌∷◌, ◌++◌, Some, length, take, refl, sym, ap, subst, arith, append_assoc, append-nil}
 use Rattle.std.specs.Prelude.{slice_get}
 use Rattle.std.specs.List.{AllZip}
@@ -19,7 +19,7 @@ use Rattle.dbl_faithful.proofs.News.{AreBefore, fresh_true, stale, fresh_before,
 two_ways : {X : Type 0} (b : Bool) → b ≡ true → b ≡ false → X
 two_ways b is isnt = cc
 
--- what stands of the records that are no changes: each behind all earlier events, and at no event's position
+-- what stands of the records that are no changes: each after all earlier events, and at no event's position
 pub record AreBehind (identity : Identity) (told : List ToldEvent) (records : List Record) : Type 0 where
   pub put : (place : ℕ) (item : Record) → slice_get records place ≡ Some item → is_change_record item ≡ false → ArePutBefore identity records told item.position
   pub apart : (place : ℕ) (item : Record) → slice_get records place ≡ Some item → is_change_record item ≡ false
@@ -79,7 +79,7 @@ module _ (identity : Identity) (told : List ToldEvent) (rise : TellsRise told) (
         ];
       }
 
-  -- the next event stands behind every record
+  -- the next event is after every record
   next_behind : (records : List Record) (t : ToldEvent) (item : Record) (count : ℕ) → IsExact identity told records count → AreBehind identity told records → slice_get told count ≡ Some t → IsPrint identity t item → AreBefore records item
   next_behind records t item count exact subsequent at is = all_by_place (λ (earlier : Record). IsBefore (place_of earlier) (place_of item)) records (λ k x there. before k x there (bool_case (is_change_record x)))
     where
@@ -156,7 +156,7 @@ module _ (identity : Identity) (told : List ToldEvent) (rise : TellsRise told) (
     ];
   }
 
-  -- ---- records that are delivered, again or anew
+  -- ---- records that are redelivered or new
 
   log_one : (records : List Record) (index : ℕ) (t : ToldEvent) (item : Record) → slice_get told index ≡ Some t → IsPrint identity t item → AreBehind identity told records → IsExactLog identity told records index
       → IsExactLog identity told (records ++ item ∷ []) (suc index)

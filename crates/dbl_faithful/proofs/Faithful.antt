@@ -126,7 +126,7 @@ caught_up_stores_are_faithful history confirmed records offset before later far 
     not_both : (p l : ℕ) → p ≤ l → l < p → ⊥
     not_both p l le lt = omega (arith, le, lt)
 
-    -- an event behind the delivered commits stands behind the LSN
+    -- an event after the delivered commits is after the LSN
     behind_lsn : (k : ℕ) (t : ToldEvent) → slice_get (events_since offset.infos offset.start.0 later) k ≡ Some t → offset.lsn.0 < t.event.position
     behind_lsn k t at =
         let found = told_at offset.infos (commits_since offset.start.0 later) k t at in

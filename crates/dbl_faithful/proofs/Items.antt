@@ -45,7 +45,7 @@ taken_at (suc n) [] k x at = cc
 taken_at (suc n) (y ∷ xs) zero x at = (omega arith, at)
 taken_at (suc n) (y ∷ xs) (suc k) x at = let rest = taken_at n xs k x at in let lt : k < n = rest.0 in (omega (arith, lt), rest.1)
 
--- what is left behind a front, by places
+-- what is left after a front, by places
 pub drop_get : {X : Type 0} (n : ℕ) (xs : List X) (k : ℕ) → slice_get (drop n xs) k ≡ slice_get xs (n + k)
 drop_get zero xs k = let e : k ≡ 0 + k = omega arith in ap (slice_get xs) e
 drop_get (suc n) [] k = refl

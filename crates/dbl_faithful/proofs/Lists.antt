@@ -54,12 +54,12 @@ behind_zero low [] more rise = raw_above 0 low more (least low) rise
     least n = omega arith
 behind_zero low (c ∷ commits) more rise = behind_zero c.lsn.0 commits more rise.1
 
--- new commits stand behind each position of the history
+-- new commits are after each position of the history
 pub behind_position : (history : History) (more : List RawCommit) → IsRising (longer history more) → (position : ℕ) → IsPositionOf history position → AllByRecursion (λ commit. position < commit.lsn.0) more
 behind_position history more rise position (inl none) = subst (λ (p : ℕ). AllByRecursion (λ (commit : RawCommit). p < commit.lsn.0) more) (sym none) (behind_zero 0 history.commits more rise)
 behind_position history more rise position (inr at) = behind_old 0 history.commits more rise at.0 position at.1
 
--- and behind every record that stands at a commit
+-- and after every record that stands at a commit
 pub behind_top : (history : History) (more : List RawCommit) → IsRising (longer history more) → (records : List Record) → ((place : ℕ) (item : Record) → slice_get records place ≡ Some item → IsCommitAt history item.position)
     → AllByRecursion (λ commit. top_position records < commit.lsn.0) more
 behind_top history more rise records stand = all_by_place (λ (commit : RawCommit). top_position records < commit.lsn.0) more (λ k commit at.
@@ -80,7 +80,7 @@ still_position history more position (inr at) = inr (still_at history more posit
 both_under : (a b c : ℕ) → a < c → b < c → max a b < c
 both_under a b c one two = omega (arith, one, two)
 
--- commits behind two positions stand behind the greater one
+-- commits after two positions are after the greater one
 pub over_both : (a b : ℕ) (cs : List Commit) → AllByRecursion (λ c. a < c.lsn.0) cs → AllByRecursion (λ c. b < c.lsn.0) cs → AllByRecursion (λ c. max a b < c.lsn.0) cs
 over_both a b [] one two = tt
 over_both a b (c ∷ cs) one two = (both_under a b c.lsn.0 one.0 two.0, over_both a b cs one.1 two.1)
@@ -94,7 +94,7 @@ pairs a b (c ∷ cs) one two = ((one.0, two.0), pairs a b cs one.1 two.1)
 same_most : (a b : ℕ) → b ≤ a → max a b ≡ a
 same_most a b le = omega (arith, le)
 
--- records that don't lie behind a position don't raise the greatest one behind it
+-- records that aren't after a position don't raise the greatest one after it
 pub top_stays : (far : ℕ) (records : List Record) → AllByRecursion (λ item. item.position ≤ far) records → fold (λ most item. max most item.position) far records ≡ far
 top_stays far [] all = refl
 top_stays far (item ∷ records) all = ap (λ (n : ℕ). fold (λ most (x : Record). max most x.position) n records) (same_most far item.position all.0) ∙ top_stays far records all.1

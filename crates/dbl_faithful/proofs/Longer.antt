@@ -51,7 +51,7 @@ not_both p l le lt = omega (arith, le, lt)
 
 -- ---- where new commits stand
 
--- behind each commit that was there
+-- after each commit that was there
 behind_old : (low : ℕ) (commits more : List RawCommit) → AreRising low (map (λ (c : RawCommit). c.lsn.0) (commits ++ more)) → (place position : ℕ) → slice_get (map (λ (c : RawCommit). c.lsn.0) commits) place ≡ Some position
     → AllByRecursion (λ commit. position < commit.lsn.0) more
 behind_old low [] more rise place position at = cc
@@ -69,7 +69,7 @@ behind_old low (c ∷ commits) more rise zero position at = subst (λ (p : ℕ).
         all_over a b (y ∷ cs) lt all = (further a b y.lsn.0 lt all.0, all_over a b cs lt all.1)
 behind_old low (c ∷ commits) more rise (suc place) position at = behind_old c.lsn.0 commits more rise.1 place position at
 
--- and behind 0
+-- and after 0
 behind_zero : (low : ℕ) (commits more : List RawCommit) → AreRising low (map (λ (c : RawCommit). c.lsn.0) (commits ++ more)) → AllByRecursion (λ commit. 0 < commit.lsn.0) more
 behind_zero low [] more rise = raw_above 0 low more (least low) rise
   where
@@ -86,7 +86,7 @@ module _ (history : History) (more : List RawCommit) (rise : AreRising 0 (map (�
   behind_lsn offset start (inl same) = subst (λ (p : ℕ). AllByRecursion (λ (commit : RawCommit). p < commit.lsn.0) more) (sym same) (behind_position offset.start.0 start)
   behind_lsn offset start (inr at) = behind_position offset.lsn.0 (inr at)
 
-  -- and behind every record that stands at a commit
+  -- and after every record that stands at a commit
   behind_top : (records : List Record) → ((place : ℕ) (item : Record) → slice_get records place ≡ Some item → IsCommitAt history item.position) → AllByRecursion (λ commit. top_position records < commit.lsn.0) more
   behind_top records stand = all_by_place (λ (commit : RawCommit). top_position records < commit.lsn.0) more (λ k commit at.
       top_below commit.lsn.0 records (at_all (λ (c : RawCommit). 0 < c.lsn.0) more k commit (behind_zero 0 history.commits more rise) at)
@@ -128,7 +128,7 @@ module _ (history : History) (more : List RawCommit) (confirmed : Lsn) (records 
   list : captured_commits (longer history more) offset ≡ captured_commits history offset ++ new
   list = map_append (typed_commit offset.infos) history.commits more
 
-  -- the new events stand behind the LSN
+  -- the new events are after the LSN
   new_event : AllByRecursion (λ c. offset.lsn.0 < c.lsn.0) new → (k : ℕ) (t : ToldEvent) → slice_get (events_since offset.infos offset.start.0 new) k ≡ Some t → offset.lsn.0 < t.event.position
   new_event high k t at =
       let found = told_at offset.infos (commits_since offset.start.0 new) k t at in

@@ -149,7 +149,7 @@ news_are_fresh records item = (
 
 -- ---- they rise
 
--- what is news behind a record stands behind that record
+-- what is news after a record is after that record
 behind_one : (before items : List Record) (x : Record) (number : ℕ) (item : Record) → slice_get (fresh_after (before ++ x ∷ []) items) number ≡ Some item → IsBefore (place_of x) (place_of item)
 behind_one before items x number item at =
     let found = stands_behind (before ++ x ∷ []) items number item at in

@@ -40,7 +40,7 @@ pub all_under : (low : ℕ) (before : List Commit) (c : Commit) (later : List Co
 all_under low [] c later rise = (le_refl c.lsn.0, tt)
 all_under low (b ∷ before) c later rise = (under b.lsn.0 c.lsn.0 (rising_to before c later b.lsn.0 rise.1), all_under b.lsn.0 before c later rise.1)
 
--- ---- what a position that ends some first commits comes to
+-- ---- what a position that ends some first commits amounts to
 
 seam : (front : List Commit) (last : Commit) (later : List Commit) → (front ++ last ∷ []) ++ later ≡ front ++ last ∷ later
 seam front last later = append_assoc front (last ∷ []) later
@@ -76,7 +76,7 @@ end_moment position before later rise (inr end) =
 
 -- ---- moments of a start
 
--- a start before some commits names no moment behind those before them
+-- a start before some commits names no moment after those before them
 pub start_moment : (start : ℕ) (before later : List Commit) → AllByRecursion (λ c. start < c.lsn.0) later → moment_at (before ++ later) start ≤ moment_after before
 start_moment start before later ahead = subst (λ (n : ℕ). n ≤ moment_after before) (sym (moment_at-longer before later start ahead)) (moment_at-most before start)
 

@@ -220,7 +220,7 @@ module _ (identity : Identity) (infos : List TableInfo) (commits before : List C
       same_age identity infos commits start records (item ∷ more) (take n (envelopes identity infos commit own.0)) (likes_here identity infos before commit later facts own.0 own.2 n (item ∷ more) zipped) (moment_after before)
       (parts_keep_age identity infos commits before commit later start (moment_after before) records own.0 n next own.2 clear (le_refl (moment_after before)) (here_reached (moment_after before) (last_moment infos commits start records)) caught.aged)
 
-  -- all of them make a log that is caught up with the commit, but for what is said of agreement
+  -- all of them make a log that is delivered up to the commit, but for what is said of agreement
   module _ (item : Record) (more : List Record) (zipped : AllZip (IsClearPrint identity) (events_of_commit infos commit) (item ∷ more)) where
     abbrev count : ℕ
     count = length (events_of_commit infos commit)

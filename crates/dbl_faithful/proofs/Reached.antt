@@ -1,4 +1,4 @@
--- Records that tell all events of some first commits reach the moment behind those.
+-- Records that tell all events of some first commits reach the moment after those.
 use Rattle.std.proofs.Common.{◌≡◌, ◌∙◌, ◌⊎◌, inl, inr, ◌+◌, ◌≤◌, ◌<◌, ℕ, zero, suc, max, Bool, true, cond, List, [], ◌∷◌, ◌++◌, Some, length, flat_map, refl, sym, ap, subst, arith, append_assoc, append-nil, length-append, le_refl, le_trans}
 use Rattle.std.specs.Prelude.{nat_lt, slice_get}
 use Rattle.std.proofs.lemmas.Bool.{cases_lt}
@@ -98,7 +98,7 @@ module _ (identity : Identity) (infos : List TableInfo) (start from : ℕ) (reco
         same_reached (record_moment infos (done ++ c ∷ rest) is_put.item) (moment_after (done ++ c ∷ [])) (last_moment infos (done ++ c ∷ rest) from records) (moment ∙ sym size) (reach_has infos (done ++ c ∷ rest) from records is_put.place is_put.item is_put.stands))
   ]
 
-  -- the events of a commit behind the start are among those that are told
+  -- the events of a commit after the start are among those that are told
   of_next : (c : Commit) (cs : List Commit) → start < c.lsn.0 → ArePut identity records (events_since infos start (c ∷ cs)) → (number : ℕ) (t : ToldEvent) → slice_get (events_of_commit infos c) number ≡ Some t → HasRecordOfEvent identity records t
   of_next c cs lt put number t at =
       let first : events_since infos start (c ∷ cs) ≡ events_of_commit infos c ++ events_since infos start cs =

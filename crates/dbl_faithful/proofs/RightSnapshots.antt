@@ -81,9 +81,9 @@ filter_from p (y ∷ xs) k x at = by (λ n. filter_from p xs n x) (p y) k at
     by below true (suc n) here = let rest = below n here in (suc rest.0, rest.1)
     by below false n here = let rest = below n here in (suc rest.0, rest.1)
 
--- ---- marks
+-- ---- watermarks
 
--- a mark has no changes
+-- a watermark has no changes
 pub mark_is_silent : (commit : Commit) → IsHighMark commit → changes_of commit ≡ []
 mark_is_silent commit high = ap (λ (b : Body). changes_of (record { lsn = commit.lsn; end_lsn = commit.end_lsn; time = commit.time; xid = commit.xid; body = b })) high.is
 
@@ -91,7 +91,7 @@ mark_is_silent commit high = ap (λ (b : Body). changes_of (record { lsn = commi
 pub event_position : (infos : List TableInfo) (commits : List Commit) (t : ToldEvent) → IsToldAt infos commits t → t.event.position ≡ t.commit.lsn.0
 event_position infos commits t at = (event_numbered t.commit.lsn.0 0 (flat_map (notices infos) (changes_of t.commit)) at.number t.event at.event_at).0
 
--- so none stands at a mark's
+-- so none stands at a watermark's
 pub no_event_at_mark : (infos : List TableInfo) (start : ℕ) (commits before : List Commit) (mark : Commit) (later : List Commit) → AreRising 0 (lsns commits) → commits ≡ before ++ mark ∷ later → changes_of mark ≡ []
     → (number : ℕ) (t : ToldEvent) → slice_get (events_since infos start commits) number ≡ Some t → t.event.position ≡ mark.lsn.0 → ⊥
 no_event_at_mark infos start commits before mark later rise is none number t at same =
@@ -171,7 +171,7 @@ module _ (identity : Identity) (infos : List TableInfo) (commits more : List Com
       ∙ (ap (λ (l : List Change). rows_at infos l (moment_at commits position)) (all_changes-append commits more)
       ∙ rows_at-longer infos (all_changes commits) (all_changes more) (moment_at commits position) (moment_at-most commits position))
 
-  -- the events of the new commits stand behind every record
+  -- the events of the new commits are after every record
   new_events : (number : ℕ) (t : ToldEvent) → slice_get (events_since infos start more) number ≡ Some t → far < t.event.position
   new_events number t at =
       let found = told_at infos (commits_since start more) number t at in
@@ -221,11 +221,11 @@ next_count : (o n : ℕ) → o + suc n ≡ o + 1 + n
 next_count o n = omega arith
 
 module _ (identity : Identity) (info : TableInfo) (mark : Commit) (now : ℤ) (through : Option Key) (done : Bool) where
-  -- the records of rows, and the progress behind them
+  -- the records of rows, and the progress after them
   abbrev pub listing : ℕ → ℕ → List (Key × Row) → List Record
   listing ordinal last rows = read_records identity info mark now ordinal rows ++ progress_record identity info mark last through done ∷ []
 
-  -- they stand at the mark, one behind the other
+  -- they stand at the watermark, one after the other
   pub listing_places : (ordinal : ℕ) (rows : List (Key × Row)) (j : ℕ) (item : Record) → slice_get (listing ordinal (ordinal + length rows) rows) j ≡ Some item → (item.position ≡ mark.lsn.0) × (item.ordinal ≡ ordinal + j)
   listing_places ordinal [] zero item at =
       let e : progress_record identity info mark (ordinal + 0) through done ≡ item = first_some (progress_record identity info mark (ordinal + 0) through done) item at in

@@ -82,11 +82,11 @@ far_below far most (r ∷ records) lt all = far_below (max far r.position) most 
     both_below : (a b w : ℕ) → a < w → b < w → max a b < w
     both_below a b w one two = omega (arith, one, two)
 
--- it is before what stands behind each of them
+-- it is before what is after each of them
 pub top_below : (most : ℕ) (records : List Record) → 0 < most → AllByRecursion (λ item. item.position < most) records → top_position records < most
 top_below most records lt all = far_below 0 most records lt all
 
--- no record stands behind it
+-- no record is after it
 pub top_has : (records : List Record) → AllByRecursion (λ item. item.position ≤ top_position records) records
 top_has records = far_has 0 records
 
@@ -154,7 +154,7 @@ filter_short p (x ∷ xs) = by (filter_short p xs) (p x)
     by rest true = more (length (filter p xs)) (length xs) rest
     by rest false = step (length (filter p xs)) (length xs) rest
 
--- the commits up to the offset don't pass, nor those behind the top
+-- the commits up to the offset don't pass, nor those after the top
 passes_none : (low top : ℕ) (commits : List RawCommit) → AllByRecursion (λ commit. commit.lsn.0 ≤ low) commits → AllByRecursion (λ commit. (nat_lt low commit.lsn.0 && nat_le commit.lsn.0 top) ≡ false) commits
 passes_none low top commits under = all_weaker (λ (c : RawCommit). c.lsn.0 ≤ low) (λ (c : RawCommit). (nat_lt low c.lsn.0 && nat_le c.lsn.0 top) ≡ false) commits (λ c le. ap (λ (t : Bool). t && nat_le c.lsn.0 top) (not_lt low c.lsn.0 le)) under
 

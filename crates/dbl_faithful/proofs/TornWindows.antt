@@ -210,7 +210,7 @@ module _ (identity : Identity) (infos : List TableInfo) (commits : List Commit) 
       nothing key (inl is_done) = let e : false ≡ true = is_done in cc
       nothing key (inr up_to) = up_to
 
-  -- with the start at the insert, the log is caught up
+  -- with the start at the insert, the log is delivered
   up : HasDeliveredUpTo identity infos commits late.lsn.0 mark.lsn.0 front (mark ∷ torn.later) 0 records
   up =
       subst (HasDeliveredUpTo identity infos commits late.lsn.0 mark.lsn.0 front (mark ∷ torn.later) 0) others_are
@@ -311,7 +311,7 @@ module _ (identity : Identity) (infos : List TableInfo) (commits : List Commit) 
 
   -- ---- and is spoilt by what comes next
 
-  -- the insert's events are told behind the start
+  -- the insert's events are told after the start
   stands : (k : ℕ) (t : ToldEvent) → slice_get (events_of_commit infos late) k ≡ Some t → (number : ℕ) × (slice_get told number ≡ Some t)
   stands k t at =
       let rise : AreRising 0 (lsns (torn.before ++ low ∷ late ∷ mark ∷ torn.later)) = subst (λ (l : List Commit). AreRising 0 (lsns l)) torn.spelled fit.rise in

@@ -131,7 +131,7 @@ tell_changes identity infos commits ranges k t item at is =
     ap is_change_record is.printed
     ∙ at_all (λ (e : Event). is_change_record (print identity t.commit is.now e) ≡ true) (events_of infos t.commit) found.number t.event (events_are_changes identity infos t.commit is.now range is.in_range) found.event_at
 
--- ---- commits behind a position
+-- ---- commits after a position
 
 pub events_of_commits-append : (infos : List TableInfo) (xs ys : List Commit) → events_of_commits infos (xs ++ ys) ≡ events_of_commits infos xs ++ events_of_commits infos ys
 events_of_commits-append infos xs ys = flat_map-append (events_of_commit infos) xs ys
@@ -176,7 +176,7 @@ tests_above a b lt = grind (arith, nat_tests)
 tests_under : (a b : ℕ) → b ≤ a → nat_lt a b ≡ false
 tests_under a b le = grind (arith, nat_tests)
 
--- commits that all stand behind the position, and ones of which none does
+-- commits that are all after the position, and ones of which none does
 pub behind_all : (start : ℕ) (commits : List Commit) → AllByRecursion (λ c. start < c.lsn.0) commits → commits_since start commits ≡ commits
 behind_all start commits all = filter_whole (λ (c : Commit). nat_lt start c.lsn.0) commits
     (all_weaker (λ (c : Commit). start < c.lsn.0) (λ (c : Commit). nat_lt start c.lsn.0 ≡ true) commits (λ c lt. tests_above start c.lsn.0 lt) all)

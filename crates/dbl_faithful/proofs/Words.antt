@@ -1,4 +1,4 @@
--- What a log comes to in a consumer's words.
+-- What a log amounts to in a consumer's terms.
 use Rattle.std.proofs.Common.{◌≡◌, ◌∙◌, inl, inr, ◌<◌, ◌≤◌, ℕ, max, Bool, true, false, List, [], ◌++◌, Option, Some, None, Contains, length, take, refl, sym, ap, subst, arith, le_refl}
 use Rattle.std.specs.Prelude.{◌==◌, slice_get, option_map, unwrap_or}
 use Rattle.std.specs.List.{AllByRecursion}

@@ -19,7 +19,8 @@ pub record IsFreshChange (records : List Record) (item : Record) : Type 0 where
 
 -- The news of a log are its fresh records of changes.
 abbrev pub NewsAreFresh : Type 0
-NewsAreFresh = (records : List Record) (item : Record) → ((number : ℕ) × (slice_get (news records) number ≡ Some item)) ↔ IsFreshChange records item
+NewsAreFresh = (records : List Record) (item : Record)
+    → ((number : ℕ) × (slice_get (news records) number ≡ Some item)) ↔ IsFreshChange records item
 
 -- Later news have greater positions, so that they are in order, each once.
 abbrev pub NewsRise : Type 0

@@ -24,11 +24,13 @@ captured_commits history offset = typed offset.infos history
 -- Faithful stores with an offset: a consumer agrees with the source at each first delivery; the log is exact and its snapshots right; each
 -- cell of a consumer is the source's at some point from the offset on; and a connector can restart from the offset.
 pub record IsFaithfulTo (history : History) (confirmed : Lsn) (records : List Record) (offset : Offset) : Type 0 where
-  pub agrees : Agrees offset.identity offset.infos (captured_commits history offset) (moment_at (captured_commits history offset) offset.start.0) records
+  pub agrees : Agrees offset.identity offset.infos (captured_commits history offset)
+      (moment_at (captured_commits history offset) offset.start.0) records
   pub exact : IsLogExact offset.identity offset.infos (captured_commits history offset) offset.start.0 records
   pub snapshots : AreSnapshotsRight offset.identity offset.infos (captured_commits history offset)
       (events_since offset.infos offset.start.0 (captured_commits history offset)) records
-  pub aged : IsAged offset.identity offset.infos (captured_commits history offset) (moment_at (captured_commits history offset) offset.start.0) records
+  pub aged : IsAged offset.identity offset.infos (captured_commits history offset)
+      (moment_at (captured_commits history offset) offset.start.0) records
       (moment_at (captured_commits history offset) offset.lsn.0)
   pub named : HasNamedRows offset.identity offset.infos records
   pub lags : IsBehind history confirmed records offset

@@ -76,5 +76,6 @@ pub record IsOffsetOf (history : History) (confirmed : Lsn) (records : List Reco
 -- the log.
 pub record IsBehind (history : History) (confirmed : Lsn) (records : List Record) (offset : Offset) : Type 0 where
   pub offset_is : IsOffsetOf history confirmed records offset
-  pub has_records : (number : ℕ) (event : ToldEvent) → slice_get (events_since offset.infos offset.start.0 (typed offset.infos history)) number ≡ Some event
+  pub has_records : (number : ℕ) (event : ToldEvent)
+      → slice_get (events_since offset.infos offset.start.0 (typed offset.infos history)) number ≡ Some event
       → event.event.position ≤ offset.lsn.0 → HasRecordOfEvent offset.identity records event

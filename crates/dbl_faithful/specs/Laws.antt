@@ -30,7 +30,8 @@ pub record BeginsCaughtUp (history : History) (records : List Record) (offset : 
   pub before : List Commit
   pub later : List Commit
   pub ends : IsEndOf offset.lsn.0 before
-  pub delivered : HasDeliveredUpTo offset.identity offset.infos (captured_commits history offset) offset.start.0 (top_position records) before later 0 records
+  pub delivered : HasDeliveredUpTo offset.identity offset.infos (captured_commits history offset) offset.start.0
+      (top_position records) before later 0 records
 
 -- A session on faithful stores has all records of the commits up to the offset's LSN in its log.
 abbrev pub FaithfulStoresAreCaughtUp : Type 0

@@ -43,7 +43,8 @@ pub record IsWindowOfRecords (identity : Identity) (infos : List TableInfo) (com
   pub listed : IsSnapshot identity infos closed mark now snapshot
   pub count : ℕ
   pub front : records_at position records ≡ take count snapshot
-  pub right : AllByRecursion (λ entry. rows infos commits (moment_at commits position) closed.table entry.0 ≡ Some entry.1.cells) closed.rows
+  pub right : AllByRecursion (λ entry. rows infos commits (moment_at commits position) closed.table entry.0 ≡ Some entry.1.cells)
+      closed.rows
 
 -- Whether the snapshot's record at this index is right.
 pub record IsRightSnapshot (identity : Identity) (infos : List TableInfo) (commits : List Commit) (told : List ToldEvent)

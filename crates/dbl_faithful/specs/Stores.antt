@@ -1,5 +1,6 @@
 -- A connector's stores: its source, its topic log and its offset.
-use Rattle.std.specs.Prelude.{◌≡◌, ◌⊎◌, ◌&&◌, ◌<◌, ◌≤◌, ℕ, max, nat_lt, nat_le, Option, Some, None, List, [], ◌++◌, length, map, fold, filter, slice_get}
+use Rattle.std.specs.Prelude.{◌≡◌, ◌⊎◌, ◌&&◌, ◌<◌, ◌≤◌, ℕ, max, nat_lt, nat_le, Option, Some}
+use Rattle.std.specs.Prelude.{None, List, [], ◌++◌, length, map, fold, filter, slice_get}
 use Rattle.std.specs.List.{AllByRecursion}
 use Rattle.dbl_base.specs.declared.lsn.Lsn.{Lsn}
 use Rattle.dbl_record.specs.declared.record.Record.{Record}
@@ -42,7 +43,8 @@ TopPositionsAreTops = (records : List Record) (top : Place) → IsTop records to
 -- The commits after an offset's LSN up to the log's greatest position: those that a restart redelivers (theorem
 -- RepeatedCommitsStandTogether).
 abbrev pub repeated : History → List Record → Offset → List RawCommit
-repeated history records offset = filter (λ commit. nat_lt offset.lsn.0 commit.lsn.0 && nat_le commit.lsn.0 (top_position records)) history.commits
+repeated history records offset =
+    filter (λ commit. nat_lt offset.lsn.0 commit.lsn.0 && nat_le commit.lsn.0 (top_position records)) history.commits
 
 -- The number of commits that a restart redelivers, 0 if no offset is stored.
 abbrev pub lag : History → List Record → Option Offset → ℕ
@@ -73,7 +75,8 @@ pub record StandTogether (history : History) (records : List Record) (offset : O
   pub later : List RawCommit
   pub spelled : history.commits ≡ before ++ (repeated history records offset ++ later)
   pub unread : AllByRecursion (λ commit. commit.lsn.0 ≤ offset.lsn.0) before
-  pub redelivered : AllByRecursion (λ commit. (offset.lsn.0 < commit.lsn.0) × (commit.lsn.0 ≤ top_position records)) (repeated history records offset)
+  pub redelivered : AllByRecursion (λ commit. (offset.lsn.0 < commit.lsn.0) × (commit.lsn.0 ≤ top_position records))
+      (repeated history records offset)
   pub undelivered : AllByRecursion (λ commit. (offset.lsn.0 < commit.lsn.0) × (top_position records < commit.lsn.0)) later
 
 -- The redelivered commits lie between those up to the offset and those after the log.

@@ -62,9 +62,11 @@ pub record HasRecordOfEvent (identity : Identity) (records : List Record) (event
 
 -- Whether each of these events has a record in the list.
 abbrev pub ArePut : Identity → List Record → List ToldEvent → Type 0
-ArePut identity records told = (number : ℕ) (event : ToldEvent) → slice_get told number ≡ Some event → HasRecordOfEvent identity records event
+ArePut identity records told = (number : ℕ) (event : ToldEvent) → slice_get told number ≡ Some event
+    → HasRecordOfEvent identity records event
 
 -- Whether each of these events before a position has a record in the list.
 abbrev pub ArePutBefore : Identity → List Record → List ToldEvent → ℕ → Type 0
 ArePutBefore identity records told position =
-    (number : ℕ) (event : ToldEvent) → slice_get told number ≡ Some event → event.event.position < position → HasRecordOfEvent identity records event
+    (number : ℕ) (event : ToldEvent) → slice_get told number ≡ Some event → event.event.position < position
+    → HasRecordOfEvent identity records event

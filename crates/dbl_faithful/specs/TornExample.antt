@@ -65,7 +65,12 @@ example_commits = first ∷ low_mark ∷ late ∷ high_mark ∷ []
 
 -- A window of at most one row.
 abbrev pub example_window : Closed
-example_window = record { table = 0; rows = (keyed (codes "a"), example_text_row (codes "a")) ∷ []; through = Some (keyed (codes "a")); done = false }
+example_window = record {
+  table = 0;
+  rows = (keyed (codes "a"), example_text_row (codes "a")) ∷ [];
+  through = Some (keyed (codes "a"));
+  done = false;
+}
 
 -- The log of the example.
 abbrev pub example_records : List Record

@@ -1,7 +1,8 @@
 //! What a session preserves of its log, step by step: the log is delivered up to some commits
 //! (`HasDeliveredUpTo`).
-ghost use Rattle.dbl_faithful.specs.CaughtUpLaws.{StartsAreCaughtUp, PutLogsAreCaughtUp, SentRecordsAreCaughtUp};
-ghost use Rattle.dbl_faithful.specs.CaughtUpLaws.{CommitsAreCaughtUp, SilentCommitsAreCaughtUp, SnapshotsAreCaughtUp};
+ghost use Rattle.dbl_faithful.specs.CaughtUpLaws.{StartsAreCaughtUp, PutLogsAreCaughtUp};
+ghost use Rattle.dbl_faithful.specs.CaughtUpLaws.{SentRecordsAreCaughtUp, CommitsAreCaughtUp};
+ghost use Rattle.dbl_faithful.specs.CaughtUpLaws.{SilentCommitsAreCaughtUp, SnapshotsAreCaughtUp};
 ghost use Rattle.dbl_faithful.specs.CaughtUpLaws.{LongerHistoriesAreCaughtUp, CaughtUpLogsAreRight};
 ghost use Rattle.dbl_faithful.specs.CaughtUpLaws.{DeliveredEventsArePut};
 

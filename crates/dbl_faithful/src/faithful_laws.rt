@@ -1,7 +1,8 @@
 //! How a session begins with faithful stores, and leaves them faithful.
 ghost use Rattle.dbl_faithful.specs.Complete.{CompleteStoresAreImages};
-ghost use Rattle.dbl_faithful.specs.Laws.{FaithfulStoresAreCaughtUp, CursorsWereTold, FaithfulRecordsStand};
-ghost use Rattle.dbl_faithful.specs.Laws.{CaughtUpStoresAreFaithful, FirstOffsetsAreFaithful};
+ghost use Rattle.dbl_faithful.specs.Laws.{FaithfulStoresAreCaughtUp, CursorsWereTold};
+ghost use Rattle.dbl_faithful.specs.Laws.{FaithfulRecordsStand, CaughtUpStoresAreFaithful};
+ghost use Rattle.dbl_faithful.specs.Laws.{FirstOffsetsAreFaithful};
 
 /// A session continues from faithful stores: its log has all records of the commits up to the
 /// offset.

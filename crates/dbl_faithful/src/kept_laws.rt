@@ -1,7 +1,7 @@
 //! Changes other than a session's records that keep stores faithful.
 ghost use Rattle.dbl_faithful.specs.Kept.{LongerHistoriesStayFaithful, LongerHistoriesKeepOffsets};
-ghost use Rattle.dbl_faithful.specs.Kept.{MoreRecordsKeepOffsets, StartOffsetsLag, ConfirmsStayFaithful};
-ghost use Rattle.dbl_faithful.specs.Kept.{LaterSessionsStayFaithful};
+ghost use Rattle.dbl_faithful.specs.Kept.{MoreRecordsKeepOffsets, StartOffsetsLag};
+ghost use Rattle.dbl_faithful.specs.Kept.{ConfirmsStayFaithful, LaterSessionsStayFaithful};
 
 /// A longer history keeps stores faithful, also if no offset is stored.
 pub fn longer_histories_stay_faithful()

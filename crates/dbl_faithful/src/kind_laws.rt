@@ -1,5 +1,6 @@
 //! How kinds of records are distinguished: by their topics and the letters of their values.
-ghost use Rattle.dbl_faithful.specs.Kinds.{EventsAreChanges, ReadRowsAreRows, ProgressIsNeither, RowsAreNoChanges};
+ghost use Rattle.dbl_faithful.specs.Kinds.{EventsAreChanges, ReadRowsAreRows};
+ghost use Rattle.dbl_faithful.specs.Kinds.{ProgressIsNeither, RowsAreNoChanges};
 
 /// The records of a commit are changes.
 pub fn events_are_changes()

@@ -1,8 +1,10 @@
 //! Theorems about exact logs and right snapshots.
 ghost use Rattle.dbl_faithful.specs.Controls.{CellsMissEmptyRows, TornWindowsAreSpoilt};
-ghost use Rattle.dbl_faithful.specs.ExactLaws.{NewsAreFresh, NewsRise, ExactLogsHaveOneCount, RepeatsAreEarlier, GapsSpoilExactLogs};
-ghost use Rattle.dbl_faithful.specs.CaughtUpLaws.{PositionsEndOnce, SnapshotRowsOverwriteNothing, DoneLogsAreImages};
-ghost use Rattle.dbl_faithful.specs.CaughtUpLaws.{DoneLogsHaveImages, CompleteLogsAreImages};
+ghost use Rattle.dbl_faithful.specs.ExactLaws.{NewsAreFresh, NewsRise, ExactLogsHaveOneCount};
+ghost use Rattle.dbl_faithful.specs.ExactLaws.{RepeatsAreEarlier, GapsSpoilExactLogs};
+ghost use Rattle.dbl_faithful.specs.CaughtUpLaws.{PositionsEndOnce, SnapshotRowsOverwriteNothing};
+ghost use Rattle.dbl_faithful.specs.CaughtUpLaws.{DoneLogsAreImages, DoneLogsHaveImages};
+ghost use Rattle.dbl_faithful.specs.CaughtUpLaws.{CompleteLogsAreImages};
 ghost use Rattle.dbl_faithful.specs.TornExample.{TornWindowsStand};
 
 /// The news of a log are its fresh records of changes.

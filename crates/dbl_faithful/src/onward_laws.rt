@@ -1,5 +1,6 @@
 //! Stores that only advance.
-ghost use Rattle.dbl_faithful.specs.Laws.{StoresStayOnward, AddsGoOn, AddsAreOne, SentRecordsRise, WindowsRise};
+ghost use Rattle.dbl_faithful.specs.Laws.{StoresStayOnward, AddsGoOn, AddsAreOne};
+ghost use Rattle.dbl_faithful.specs.Laws.{SentRecordsRise, WindowsRise};
 
 /// A session that does nothing only advances the stores.
 pub fn stores_stay_onward()

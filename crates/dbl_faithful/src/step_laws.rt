@@ -1,7 +1,8 @@
 //! What a session preserves of its records, step by step: they agree up to a point in the history
 //! (`AgreesUpTo`).
-ghost use Rattle.dbl_faithful.specs.CaughtLaws.{StartsAreCaught, EarlierMomentsAreCaught, PartsOfCommitsAreCaught};
-ghost use Rattle.dbl_faithful.specs.CaughtLaws.{PrintsAreCaught, AllPrintsAreCaught, CommitsAreCaught};
+ghost use Rattle.dbl_faithful.specs.CaughtLaws.{StartsAreCaught, EarlierMomentsAreCaught};
+ghost use Rattle.dbl_faithful.specs.CaughtLaws.{PartsOfCommitsAreCaught, PrintsAreCaught};
+ghost use Rattle.dbl_faithful.specs.CaughtLaws.{AllPrintsAreCaught, CommitsAreCaught};
 ghost use Rattle.dbl_faithful.specs.CaughtLaws.{SilentCommitsAreCaught, PartsOfSnapshotsAreCaught};
 ghost use Rattle.dbl_faithful.specs.CaughtLaws.{LongerHistoriesAreCaught};
 

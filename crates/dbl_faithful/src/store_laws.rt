@@ -1,5 +1,6 @@
 //! Positions of a history, and the lag of an offset relative to its log.
-ghost use Rattle.dbl_faithful.specs.Stores.{TopPositionsAreTops, EmptyLogsHaveNoLag, LagsAreBounded, LaterOffsetsLagLess};
+ghost use Rattle.dbl_faithful.specs.Stores.{TopPositionsAreTops, EmptyLogsHaveNoLag};
+ghost use Rattle.dbl_faithful.specs.Stores.{LagsAreBounded, LaterOffsetsLagLess};
 ghost use Rattle.dbl_faithful.specs.Stores.{RepeatedCommitsStandTogether};
 
 /// The greatest position is that of the greatest record.

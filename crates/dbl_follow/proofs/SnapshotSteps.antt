@@ -38,7 +38,7 @@ is_snapshot identity infos chunk closed commit now records planned is fits keys 
       records_are = are;
     })
 
--- which mark closes which chunk
+-- which watermark closes which chunk
 pub record IsOwn (opened chunk : Chunk) (value : List ℕ) : Type 0 where
   pub own : value ≡ high_text opened.plan
   pub same : opened ≡ chunk

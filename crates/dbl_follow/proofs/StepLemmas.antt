@@ -1,4 +1,4 @@
--- What a commit makes of a follower is one thing, and what marks of others do to it is nothing.
+-- What a commit makes of a follower is one thing, and what watermarks of others do to it is nothing.
 use Rattle.std.proofs.Common.{◌≡◌, ◌≢◌, ◌∙◌, ◌<◌, ℕ, ℤ, zero, suc, length, Bool, true, false, Option, Some, None, List, [], ◌∷◌, ◌++◌, All, map, bytes_eq, refl, sym, ap, subst, arith}
 use Rattle.std.specs.Prelude.{if◌then◌else◌, slice_get, slice_set, flat_map, IsSomeAnd}
 use Rattle.std.proofs.lemmas.List.Elements.{All-weaker}
@@ -48,7 +48,7 @@ one_step old commit a b by_a by_b =
     let window : a.window ≡ b.window = windows_one old.infos old.window commit.body a.window b.window by_a.window by_b.window in
     λ i. record { identity = identity i; infos = infos i; cursors = cursors i; window = window i }
 
--- ---- marks of others
+-- ---- watermarks of others
 
 marked_so : (body : Body) (value : List ℕ) → watermark_in body ≡ Some value → body ≡ Mark value
 marked_so (Changes changes) value is = cc
@@ -143,7 +143,7 @@ cursors_long (i ∷ infos) (c ∷ cursors) are = ap suc (cursors_long infos curs
 
 -- ---- what each kind of commit does
 
--- a mark that closes no window: what it makes of the window is all that it does
+-- a watermark that closes no window: what it makes of the window is all that it does
 pub marked_steps : (old new : Following) (commit : Commit) (value : List ℕ) → commit.body ≡ Mark value → closing old.window (Some value) ≡ None → new.window ≡ seen_by old.window value → new.identity ≡ old.identity
     → new.infos ≡ old.infos → new.cursors ≡ old.cursors → Steps old commit new
 marked_steps old new commit value is closes window identity infos cursors = record {
@@ -158,7 +158,7 @@ marked_clash f commit value is closes =
     ap (λ (b : Body). clash_in f (closing f.window (watermark_in b)) commit) is
     ∙ (ap (λ (o : Option Chunk). clash_in f o commit) closes ∙ nothing_clashes f.identity f.infos commit value is)
 
--- another mark closes nothing
+-- another watermark closes nothing
 pub closing-other : (chunk : Chunk) (value : List ℕ) → value ≢ high_text chunk.plan → closing (Open chunk) (Some value) ≡ None
 closing-other chunk value other = closing_not (Open chunk) value (λ same. (let is : high_text chunk.plan ≡ value = cc in other (sym is)))
 

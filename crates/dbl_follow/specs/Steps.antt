@@ -73,7 +73,8 @@ abbrev pub Passes : List TableInfo → Window → List Change → Window → Typ
 Passes infos Absent changes new = new ≡ Absent
 Passes infos (Armed chunk) changes new = new ≡ Armed chunk
 Passes infos (Open chunk) changes new =
-    (rows : List (Key × Row)) × (new ≡ Open (record chunk { rows = rows })) × AreLeft infos chunk.plan.table chunk.rows changes rows × AreInKeyOrder rows
+    (rows : List (Key × Row)) × (new ≡ Open (record chunk { rows = rows })) × AreLeft infos chunk.plan.table chunk.rows changes rows
+    × AreInKeyOrder rows
 
 -- The window after a watermark: its low watermark opens it, and then its high watermark closes it. Others change nothing.
 abbrev pub seen_by : Window → List ℕ → Window

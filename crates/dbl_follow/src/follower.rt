@@ -1,4 +1,5 @@
-ghost use Rattle.std.specs.Prelude.{◌≡◌, ◌≤◌, not, length, None, Some, List, [], ◌∷◌, slice_set, position, All, IfOk, IfErr, OnOk};
+ghost use Rattle.std.specs.Prelude.{◌≡◌, ◌≤◌, not, length, None, Some, List, [], ◌∷◌};
+ghost use Rattle.std.specs.Prelude.{slice_set, position, All, IfOk, IfErr, OnOk};
 ghost use Rattle.std.specs.Option.{option_copied};
 ghost use Rattle.dbl_model_table.specs.declared.change.Body.TheVariants as bodies;
 ghost use Rattle.dbl_model_table.specs.declared.table.TableInfo.{TableInfo as SpecInfo};
@@ -10,9 +11,11 @@ ghost use Rattle.dbl_model_event.specs.Snapshots.{snapshot, FitsSnapshot};
 ghost use Rattle.dbl_model_event.specs.SnapshotLists.{IsSnapshot};
 ghost use Rattle.dbl_window.specs.Plans.{Chunk, high_text};
 ghost use Rattle.dbl_follow.specs.declared.window.Window.TheVariants as windows;
-ghost use Rattle.dbl_follow.specs.Followed.{awaited, FitsWindow, IsPlanOfCaptured, IsOpenOf, IsWindowOf};
+ghost use Rattle.dbl_follow.specs.Followed.{awaited, FitsWindow, IsPlanOfCaptured};
+ghost use Rattle.dbl_follow.specs.Followed.{IsOpenOf, IsWindowOf};
 ghost use Rattle.dbl_follow.specs.Faults.{IsClashOf};
-ghost use Rattle.dbl_follow.specs.Steps.{Passes, Steps, clash_by, closed_of, closing, mark_of, records_by, seen_by};
+ghost use Rattle.dbl_follow.specs.Steps.{Passes, Steps, clash_by, closed_of};
+ghost use Rattle.dbl_follow.specs.Steps.{closing, mark_of, records_by, seen_by};
 
 use crate::FollowError;
 use crate::window::Window;
@@ -62,7 +65,8 @@ fn first_open(cursors: &Vec<Cursor>) -> Option<usize>
 // The window after an armed window sees a watermark.
 fn seen_window(armed: Armed, value: &Text) -> Window
     ensures seen { result ≡ seen_by (windows.Armed armed) value.now }
-    ensures fits { (infos : List SpecInfo) → IsPlanOfCaptured infos armed.plan → IsWindowOf infos result }
+    ensures fits { (infos : List SpecInfo) → IsPlanOfCaptured infos armed.plan
+        → IsWindowOf infos result }
 {
     match armed.see(value) {
         Seen::Opened(opened) => Window::Open(opened),

@@ -10,7 +10,8 @@ abbrev pub accounts_table : ScriptTable
 accounts_table = record {
   raw = record {
     name = record { schema = codes "public"; name = codes "accounts" };
-    columns = record { name = codes "id"; oid = 20 } ∷ record { name = codes "owner"; oid = 25 } ∷ record { name = codes "balance"; oid = 20 } ∷ record { name = codes "note"; oid = 25 } ∷ [];
+    columns = record { name = codes "id"; oid = 20 } ∷ record { name = codes "owner"; oid = 25 }
+        ∷ record { name = codes "balance"; oid = 20 } ∷ record { name = codes "note"; oid = 25 } ∷ [];
     key = codes "id" ∷ [];
   };
   full = false;

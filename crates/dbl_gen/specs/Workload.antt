@@ -32,7 +32,9 @@ table_lines = codes "table public.accounts default toast 64 id:int8:key owner:te
 
 -- the line of an account in the initial state
 unfoldable pub row_line : ℕ → List ℕ
-row_line key = line_of (codes "row" ∷ accounts ∷ id_cell key ∷ owner_cell key ∷ codes "balance=100" ∷ codes "note=nnnnnnnnnnnnnnnnnnnnnnnnnnnnnnnnnnnnnnnnnnnnnnnnnnnnnnnnnnnnnnnn" ∷ [])
+row_line key =
+    line_of (codes "row" ∷ accounts ∷ id_cell key ∷ owner_cell key ∷ codes "balance=100" ∷ codes
+    "note=nnnnnnnnnnnnnnnnnnnnnnnnnnnnnnnnnnnnnnnnnnnnnnnnnnnnnnnnnnnnnnnn" ∷ [])
 
 -- the lines of this many accounts, from this key on
 unfoldable pub row_lines : ℕ → ℕ → List (List ℕ)
@@ -45,11 +47,13 @@ session group = numbered (codes "s") (group % 3)
 
 -- the line that inserts an account
 abbrev pub insert_line : ℕ → ℕ → List ℕ
-insert_line group key = line_of (session group ∷ codes "insert" ∷ accounts ∷ id_cell key ∷ owner_cell key ∷ codes "balance=0" ∷ codes "note=new" ∷ [])
+insert_line group key =
+    line_of (session group ∷ codes "insert" ∷ accounts ∷ id_cell key ∷ owner_cell key ∷ codes "balance=0" ∷ codes "note=new" ∷ [])
 
 -- the line that updates an account's balance
 abbrev pub balance_line : ℕ → ℕ → ℕ → List ℕ
-balance_line group key balance = line_of (session group ∷ codes "update" ∷ accounts ∷ id_cell key ∷ codes "set" ∷ numbered (codes "balance=") balance ∷ [])
+balance_line group key balance =
+    line_of (session group ∷ codes "update" ∷ accounts ∷ id_cell key ∷ codes "set" ∷ numbered (codes "balance=") balance ∷ [])
 
 -- the line that deletes an account
 abbrev pub delete_line : ℕ → ℕ → List ℕ
@@ -99,7 +103,8 @@ group_lines rows group before =
 -- this many groups, from this number on
 unfoldable pub groups_from : ℕ → ℕ → ℕ → ℕ → List (List ℕ)
 groups_from rows first zero before = []
-groups_from rows first (suc count) before = let group = group_lines rows first before in group.0 ++ groups_from rows (first + 1) count group.1
+groups_from rows first (suc count) before = let group =
+    group_lines rows first before in group.0 ++ groups_from rows (first + 1) count group.1
 
 -- the commit of the last transaction, after all groups
 abbrev pub last_lines : ℕ → List (List ℕ)

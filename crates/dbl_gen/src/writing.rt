@@ -1,9 +1,10 @@
 ghost use Rattle.std.specs.Prelude.{◌≡◌, ◌≤◌, ◌++◌, ◌%◌, ◌∷◌, [], IfOk, OnOk};
 ghost use Rattle.std.specs.String.{string_bytes};
 ghost use Rattle.dbl_base.specs.Lines.{lines_text};
-ghost use Rattle.dbl_gen.specs.Workload.{row_line, row_lines, insert_line, balance_line, delete_line, note_line};
-ghost use Rattle.dbl_gen.specs.Workload.{tick_line, change, begin_line, commit_line, lines_before, group_lines};
-ghost use Rattle.dbl_gen.specs.Workload.{groups_from, last_lines, workload};
+ghost use Rattle.dbl_gen.specs.Workload.{row_line, row_lines, insert_line, balance_line};
+ghost use Rattle.dbl_gen.specs.Workload.{delete_line, note_line, tick_line, change};
+ghost use Rattle.dbl_gen.specs.Workload.{begin_line, commit_line, lines_before};
+ghost use Rattle.dbl_gen.specs.Workload.{group_lines, groups_from, last_lines, workload};
 
 use crate::draws::Draws;
 use dbl_base::Text;

@@ -1,4 +1,4 @@
--- Journals that come of one another.
+-- Journals that extend one another.
 use Rattle.std.proofs.Common.{◌≡◌, ◌⊎◌, ◌∙◌, inl, inr, ℕ, ◌+◌, ◌^◌, ◌≤◌, List, [], ◌∷◌, ◌++◌, length, Some, sym, ap, subst, arith}
 use Rattle.std.specs.Prelude.{IsTrue, max}
 use Rattle.dbl_disk.specs.Model.{DiskModel}
@@ -28,7 +28,7 @@ module _ {D : Type 0} (model : DiskModel D) where
   pub comes_on : (first second third : OnDisk D) → ExtendsJournal model first second → ExtendsJournal model second third → ExtendsJournal model first third
   comes_on first second third a b gate most has = b gate most (a gate most has)
 
-  -- an append to a journal that could be used, whatever it answered
+  -- an append to a journal that could be used, for every answer
   pub comes_by_append : ((disk : D) (bytes : List ℕ) → model.seen disk ≡ Some bytes → model.may_leave disk bytes) → (old new : OnDisk D) (entry : List ℕ) → IsEntry entry → IsTrue old.live
       → ((entries : List (List ℕ)) → Lists model old entries → IsTrue new.live → Lists model new (entries ++ entry ∷ []))
       → ((entries : List (List ℕ)) → Lists model old entries → LeavesEntries model new.disk (λ left. (left ≡ entries) ⊎ (left ≡ entries ++ entry ∷ [])))
@@ -49,11 +49,11 @@ module _ {D : Type 0} (model : DiskModel D) where
             record { entries = here.0; journal = here.1; on = far.0; short = far.1 };
       }
 
-  -- a journal with the same parts comes of what the other does
+  -- a journal with the same parts extends what the other extends
   pub comes_at : (parts whole new : OnDisk D) → parts ≡ whole → ExtendsJournal model parts new → ExtendsJournal model whole new
   comes_at parts whole new same comes = subst (λ (j : OnDisk D). ExtendsJournal model j new) same comes
 
-  -- the disk of a journal that comes of one with entries goes on telling its bytes
+  -- the disk of a journal that extends one with entries goes on telling its bytes
   pub told_from : (old new : OnDisk D) (entries : List (List ℕ)) → ExtendsJournal model old new → Lists model old entries → (after : List ℕ) × (model.seen new.disk ≡ Some after)
   told_from old new entries comes lists =
       let has : HasCome model 0 (length lists.bytes) old =
@@ -67,7 +67,7 @@ module _ {D : Type 0} (model : DiskModel D) where
       } in
       (comes 0 (length lists.bytes) has).told
 
-  -- the bytes of a journal that comes of one with entries
+  -- the bytes of a journal that extends one with entries
   pub grown_from : (old new : OnDisk D) (entries : List (List ℕ)) (before after : List ℕ) → ExtendsJournal model old new → Lists model old entries → model.seen old.disk ≡ Some before → model.seen new.disk ≡ Some after
       → ReachesFrom (length (up_to_gate entries)) (length before) after
   grown_from old new entries before after comes lists was told =

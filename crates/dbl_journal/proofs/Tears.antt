@@ -1,4 +1,4 @@
--- What a torn write leaves before and behind its extent.
+-- What a torn write leaves before and after its extent.
 use Rattle.std.proofs.Common.{◌≡◌, ◌∙◌, inl, inr, ℕ, ◌+◌, ◌<◌, ◌≤◌, List, length, take, drop, sym, arith, length-take, length-drop}
 use Rattle.std.proofs.lemmas.List.{ext_get_or, get_or-take, get_or-drop}
 use Rattle.dbl_disk.specs.Disks.{Torn}

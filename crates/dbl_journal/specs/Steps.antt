@@ -10,7 +10,8 @@ use Rattle.dbl_journal.specs.Stored.{places_from}
 -- the commit byte at the offset is unset, or it is set and this is the extent of the entry after it
 abbrev pub IsStep : List ℕ → ℕ → Option Extent → Type 0
 IsStep bytes gate None = IsClosed (drop gate bytes)
-IsStep bytes gate (Some place) = (entry : List ℕ) × IsEntry entry × (drop gate bytes ≡ frame entry ++ drop (gate + 5 + length entry) bytes) × (place ≡ record { at = gate + 5; length = length entry })
+IsStep bytes gate (Some place) = (entry : List ℕ) × IsEntry entry × (drop gate bytes ≡ frame entry ++ drop (gate + 5 + length entry) bytes)
+    × (place ≡ record { at = gate + 5; length = length entry })
 
 -- the extents are those of the entries scanned, up to the offset
 pub record AreRead (bytes : List ℕ) (gate : ℕ) (places : List Extent) : Type 0 where

@@ -46,7 +46,8 @@ MayLeaveEntries model disk entries = (crashed : List ℕ) × model.may_leave dis
 
 -- a crash leaves a journal, whose entries satisfy the predicate
 abbrev pub LeavesEntries : {D : Type 0} → DiskModel D → D → (List (List ℕ) → Type 0) → Type 0
-LeavesEntries model disk P = (crashed : List ℕ) → model.may_leave disk crashed → (entries : List (List ℕ)) × IsJournal crashed entries × P entries
+LeavesEntries model disk P = (crashed : List ℕ) → model.may_leave disk crashed → (entries : List (List ℕ))
+    × IsJournal crashed entries × P entries
 
 -- The invariant of journals: the unset commit byte's offset is small, and in a usable journal within the disk and at least the number of
 -- entries.

@@ -1,4 +1,5 @@
-ghost use Rattle.std.specs.Prelude.{◌≡◌, ◌⊎◌, ℕ, ◌+◌, ◌<◌, ◌≤◌, ◌++◌, List, [], ◌∷◌, length, drop, max, Some, IfOk, OnOk, IsErr};
+ghost use Rattle.std.specs.Prelude.{◌≡◌, ◌⊎◌, ℕ, ◌+◌, ◌<◌, ◌≤◌, ◌++◌, List, [], ◌∷◌};
+ghost use Rattle.std.specs.Prelude.{length, drop, max, Some, IfOk, OnOk, IsErr};
 ghost use Rattle.std.specs.Int.{to_be_bytes, w32};
 ghost use Rattle.dbl_base.specs.Streams.{FailsOnlyIfCounted};
 ghost use Rattle.dbl_disk.specs.Disks.{Follows, IsOnly, Torn, disk_limit};

@@ -1,5 +1,6 @@
-ghost use Rattle.std.specs.Prelude.{◌≡◌, ◌≢◌, ◌⊎◌, ◌↔◌, ℕ, ◌+◌, ◌<◌, ◌≤◌, ◌++◌, List, [], ◌∷◌, length, drop, max, Some};
-ghost use Rattle.std.specs.Prelude.{IsTrue, IfOk, IfErr, OnOk, OnErr, MatchResult, slice_get};
+ghost use Rattle.std.specs.Prelude.{◌≡◌, ◌≢◌, ◌⊎◌, ◌↔◌, ℕ, ◌+◌, ◌<◌, ◌≤◌, ◌++◌, List};
+ghost use Rattle.std.specs.Prelude.{[], ◌∷◌, length, drop, max, Some, IsTrue, IfOk};
+ghost use Rattle.std.specs.Prelude.{IfErr, OnOk, OnErr, MatchResult, slice_get};
 ghost use Rattle.dbl_base.specs.Streams.{FailsOnlyIfCounted, incremented};
 ghost use Rattle.dbl_disk.specs.Disks.{Follows, IsOnly, Torn, disk_limit};
 ghost use Rattle.dbl_journal.specs.Form.{IsFaultAt, IsJournal, entry_limit};
@@ -42,7 +43,8 @@ impl<D: Disk> Model for Journal<D> {
 
     ghost Value = { OnDisk D };
 
-    ghost view = { λ j. record { disk = j.disk; gate = j.gate; places = j.places.items; live = j.live } };
+    ghost view = { λ j.
+        record { disk = j.disk; gate = j.gate; places = j.places.items; live = j.live } };
 
     ghost invariant = { λ j. IsPlaced D.Disk j.disk j.gate j.places.items j.live };
 }

@@ -1,5 +1,6 @@
-ghost use Rattle.std.specs.Prelude.{◌≡◌, ◌≢◌, ◌↔◌, ℕ, ◌+◌, ◌^◌, ◌<◌, ◌≤◌, ◌++◌, List, [], ◌∷◌, length, take, drop};
-ghost use Rattle.std.specs.Prelude.{slice_index, Some, IfOk, IfSome, IfNone, OnOk};
+ghost use Rattle.std.specs.Prelude.{◌≡◌, ◌≢◌, ◌↔◌, ℕ, ◌+◌, ◌^◌, ◌<◌, ◌≤◌, ◌++◌};
+ghost use Rattle.std.specs.Prelude.{List, [], ◌∷◌, length, take, drop, slice_index};
+ghost use Rattle.std.specs.Prelude.{Some, IfOk, IfSome, IfNone, OnOk};
 ghost use Rattle.std.specs.Int.{to_be_bytes, w32};
 ghost use Rattle.dbl_base.specs.Streams.{FailsOnlyIfCounted, incremented};
 ghost use Rattle.dbl_disk.specs.Disks.{IsOnly, disk_limit};

@@ -1,9 +1,9 @@
 -- The exit statuses of the program.
 use Rattle.std.specs.Prelude.{ℕ}
 use Rattle.dbl_lines.specs.declared.status.Status.{Status}
-use Rattle.dbl_lines.specs.declared.status.Status.TheVariants.{Done, InvalidArguments, BudgetSpent, StartMismatch, MalformedLog, Unsupported}
-use Rattle.dbl_lines.specs.declared.status.Status.TheVariants.{SourceFailed, TopicsFailed, OffsetsFailed, StdinFailed, StdoutFailed, OutOfMemory}
-use Rattle.dbl_lines.specs.declared.status.Status.TheVariants.{InvalidInput, InvalidStore, LogGone}
+use Rattle.dbl_lines.specs.declared.status.Status.TheVariants.{Done, InvalidArguments, BudgetSpent, StartMismatch, MalformedLog}
+use Rattle.dbl_lines.specs.declared.status.Status.TheVariants.{Unsupported, SourceFailed, TopicsFailed, OffsetsFailed, StdinFailed}
+use Rattle.dbl_lines.specs.declared.status.Status.TheVariants.{StdoutFailed, OutOfMemory, InvalidInput, InvalidStore, LogGone}
 
 -- the exit status with which the process ends
 abbrev pub code_of : Status → ℕ

@@ -25,9 +25,9 @@ use Rattle.dbl_model_commit.specs.Stated.{captured_at, target, has_some, row_sta
 use Rattle.dbl_model_commit.specs.BegunCommits.{BeginsCommit, EndedCommitsWereBegun, BegunCommitsWereBegun}
 use Rattle.dbl_model_commit.proofs.MarkedLemmas.{was_ok, first_none, marked_bare}
 
--- ---- the mark of a transaction stays
+-- ---- the watermark of a transaction stays
 
--- a change of a transaction that has a mark already is of another table than the watermark's
+-- a change of a transaction that has a watermark already is of another table than the watermark's
 stays_by : (infos : List TableInfo) (mark : Option (List ℕ)) (changed : Bool) (r : Relation) (change : RowChange) (cs : List Change) (t : Bool) → IsSome mark
     → row_stated infos mark changed r change (if t then Watermark else captured_at (number_of infos r.name)) ≡ Ok cs → t ≡ false
 unfolding row_stated

@@ -1,4 +1,4 @@
--- A table that is learnt behind messages without a Relation of it changes nothing of what they state.
+-- A table that is learnt after messages without a Relation of it changes nothing of what they state.
 use Rattle.std.proofs.Common.{◌≡◌, ◌≢◌, ◌<◌, ℕ, zero, suc, ◌+◌, List, [], ◌∷◌, ◌++◌, length, refl, sym, ◌∙◌, ap, ap₂, subst, arith}
 use Rattle.std.specs.Bool.{Decides}
 use Rattle.std.proofs.lemmas.Slice.Eq.{bytes_eq-Decides}

@@ -1,4 +1,4 @@
--- An accepted transaction that has a mark states no change.
+-- An accepted transaction that has a watermark states no change.
 use Rattle.std.proofs.Common.{◌≡◌, ◌∙◌, ℕ, List, [], ◌∷◌, ◌++◌, refl, sym, ap, append-nil}
 use Rattle.std.specs.Prelude.{Bool, true, false, not, ◌&&◌, ◌||◌, if◌then◌else◌, Option, Some, None, is_some, IsSome, Result, Ok, Err}
 use Rattle.std.specs.List.{list_any}
@@ -33,7 +33,7 @@ none_there : {A : Type 0} (xs : List A) → has_some xs ≡ false → xs ≡ []
 none_there [] none = refl
 none_there (x ∷ xs) none = cc
 
--- what is left of a transaction with a mark: nothing but changes of tables that aren't captured
+-- what is left of a transaction with a watermark: nothing but changes of tables that aren't captured
 target_bare : (infos : List TableInfo) (mark : Option (List ℕ)) (so_far cs : List Change) (r : Relation) (change : RowChange) (o : Option ℕ) → (IsSome mark → so_far ≡ []) → IsSome mark
     → row_stated infos mark (has_some so_far) r change (captured_at o) ≡ Ok cs → so_far ++ cs ≡ []
 unfolding row_stated

@@ -61,13 +61,15 @@ changes_in infos before (m ∷ ms) = ok_or_none (stated infos m before) ++ chang
 
 -- The commit of a transaction after its Begin.
 abbrev pub commit_in : List TableInfo → List Message → Block → Commit
-commit_in infos before b = commit_of b.lsn b.end_lsn (open_mark (onto before b.inner)) (changes_in infos before b.inner) (record { lsn = b.lsn; time = b.time; xid = b.xid })
+commit_in infos before b = commit_of b.lsn b.end_lsn (open_mark (onto before b.inner)) (changes_in infos before b.inner)
+    (record { lsn = b.lsn; time = b.time; xid = b.xid })
 
 -- The commits of some parts: one for each transaction.
 abbrev pub commits_in : List TableInfo → List Message → List Part → List Commit
 commits_in infos before [] = []
 commits_in infos before (Between m ∷ parts) = commits_in infos (m ∷ before) parts
-commits_in infos before (Whole b ∷ parts) = commit_in infos (says.Begin b.lsn b.time b.xid ∷ before) b ∷ commits_in infos (onto before (messages_of (Whole b))) parts
+commits_in infos before (Whole b ∷ parts) =
+    commit_in infos (says.Begin b.lsn b.time b.xid ∷ before) b ∷ commits_in infos (onto before (messages_of (Whole b))) parts
 
 -- Whether messages, in order, are transactions and messages between them, which state these commits, followed by an unfinished transaction,
 -- or nothing, `rest`.
@@ -86,7 +88,8 @@ AreWithoutFault infos after (m ∷ ms) = (transaction_fault infos after m ms ≡
 -- The first error of messages in order, after others.
 abbrev pub first_transaction_fault : List TableInfo → Lsn → List Message → List Message → Option TxnError
 first_transaction_fault infos after before [] = None
-first_transaction_fault infos after before (m ∷ ms) = first_of (transaction_fault infos after m before) (first_transaction_fault infos after (m ∷ before) ms)
+first_transaction_fault infos after before (m ∷ ms) =
+    first_of (transaction_fault infos after m before) (first_transaction_fault infos after (m ∷ before) ms)
 
 -- Every division of messages into transactions states the commits found by looking back.
 abbrev pub BlocksStateOneList : Type 0
@@ -124,4 +127,5 @@ FaultlessAreBlocks = (infos : List TableInfo) (after : Lsn) (ms : List Message) 
 pub record LaterTablesChangeNothing (infos : List TableInfo) (info : TableInfo) : Type 0 where
   pub commits : (ms : List Message) → HasNoRelation info.name ms → commits_of (infos ++ info ∷ []) ms ≡ commits_of infos ms
   pub changes : (ms : List Message) → HasNoRelation info.name ms → open_changes (infos ++ info ∷ []) ms ≡ open_changes infos ms
-  pub faults : (after : Lsn) (m : Message) (ms : List Message) → HasNoRelation info.name (m ∷ ms) → transaction_fault (infos ++ info ∷ []) after m ms ≡ transaction_fault infos after m ms
+  pub faults : (after : Lsn) (m : Message) (ms : List Message) → HasNoRelation info.name (m ∷ ms)
+      → transaction_fault (infos ++ info ∷ []) after m ms ≡ transaction_fault infos after m ms

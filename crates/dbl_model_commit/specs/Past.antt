@@ -29,7 +29,8 @@ described namespace name identity columns = record { name = table_named namespac
 -- The table that the last Relation with this OID describes.
 abbrev pub relation_of : ℕ → List Message → Option Relation
 relation_of oid [] = None
-relation_of oid (says.Relation given namespace name identity columns ∷ ms) = if given == oid then Some (described namespace name identity columns) else relation_of oid ms
+relation_of oid (says.Relation given namespace name identity columns ∷ ms) = if given == oid
+    then Some (described namespace name identity columns) else relation_of oid ms
 relation_of oid (m ∷ ms) = relation_of oid ms
 
 -- A Begin: the LSN of the commit to come, the commit's time and the transaction's number.

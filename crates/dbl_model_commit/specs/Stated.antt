@@ -1,6 +1,7 @@
 -- The commits that the messages of a log state, and the first error among them. Lists of messages have the newest first. PostgreSQL's
 -- "Logical Streaming Replication Protocol" and "Logical Replication Message Formats".
-use Rattle.std.specs.Prelude.{ℕ, ◌==◌, ◌&&◌, ◌||◌, nat_lt, not, Bool, true, false, if◌then◌else◌, bytes_eq, Option, Some, None, is_some, option_map, Result, Ok, Err, List, [], ◌∷◌, ◌++◌, length, slice_get}
+use Rattle.std.specs.Prelude.{ℕ, ◌==◌, ◌&&◌, ◌||◌, nat_lt, not, Bool, true, false, if◌then◌else◌, bytes_eq, Option}
+use Rattle.std.specs.Prelude.{Some, None, is_some, option_map, Result, Ok, Err, List, [], ◌∷◌, ◌++◌, length, slice_get}
 use Rattle.std.specs.List.{list_any, list_all, zip}
 use Rattle.dbl_base.specs.declared.lsn.Lsn.{Lsn}
 use Rattle.dbl_pgmsg.specs.declared.messages.Message.{Message}
@@ -129,7 +130,8 @@ body_of None changes = Changes changes
 
 -- The commit with the LSNs of its Commit, and the time and transaction number of its Begin.
 abbrev pub commit_of : Lsn → Lsn → Option (List ℕ) → List Change → Begun → Commit
-commit_of lsn end_lsn mark changes begun = record { lsn = lsn; end_lsn = end_lsn; time = begun.time; xid = begun.xid; body = body_of mark changes }
+commit_of lsn end_lsn mark changes
+    begun = record { lsn = lsn; end_lsn = end_lsn; time = begun.time; xid = begun.xid; body = body_of mark changes }
 
 -- The commit with these changes that a message ends after these messages.
 abbrev pub ended_with : Message → List Message → List Change → Option Commit
@@ -190,9 +192,11 @@ err_of (Err e) = Some e
 
 -- The error of a message that is allowed at its position.
 abbrev pub own_fault : List TableInfo → Lsn → Message → List Message → Option TxnError
-own_fault infos after (says.Begin lsn time xid) ms = if nat_lt (last_lsn after ms).0 lsn.0 then None else Some (errors.LsnOrder (last_lsn after ms) lsn)
+own_fault infos after (says.Begin lsn time xid) ms = if nat_lt (last_lsn after ms).0 lsn.0 then None
+    else Some (errors.LsnOrder (last_lsn after ms) lsn)
 own_fault infos after (says.Commit flags lsn end_lsn time) ms = mismatch (begin_of ms) lsn
-own_fault infos after (says.Relation oid namespace name identity columns) ms = schema_fault infos (described namespace name identity columns) (target infos (table_named namespace name))
+own_fault infos after (says.Relation oid namespace name identity columns) ms =
+    schema_fault infos (described namespace name identity columns) (target infos (table_named namespace name))
 own_fault infos after m ms = err_of (stated infos m ms)
 
 -- The first of two optional errors.

@@ -11,9 +11,11 @@ use Rattle.dbl_model_commit.specs.Stated.{stated, open_changes}
 
 -- The changes that a message states after others match the captured tables if its texts are UTF-8.
 abbrev pub StatedChangesFitOneByOne : Type 0
-StatedChangesFitOneByOne = (infos : List TableInfo) (m : Message) (ms : List Message) (changes : List Change) → FitsFields m → stated infos m ms ≡ Ok changes
+StatedChangesFitOneByOne = (infos : List TableInfo) (m : Message) (ms : List Message) (changes : List Change) → FitsFields m
+    → stated infos m ms ≡ Ok changes
     → AllByRecursion (FitsInfos infos) changes
 
 -- The changes that an open transaction states so far match the captured tables if the messages' texts are UTF-8.
 abbrev pub OpenChangesFit : Type 0
-OpenChangesFit = (infos : List TableInfo) (ms : List Message) → AllByRecursion FitsFields ms → AllByRecursion (FitsInfos infos) (open_changes infos ms)
+OpenChangesFit = (infos : List TableInfo) (ms : List Message) → AllByRecursion FitsFields ms
+    → AllByRecursion (FitsInfos infos) (open_changes infos ms)

@@ -1,6 +1,7 @@
 -- How the rows of a change of a captured table are read by its columns, and which of their errors is the first. PostgreSQL's "Logical
 -- Replication Message Formats", TupleData, and "Publication", Replica Identity.
-use Rattle.std.specs.Prelude.{ℕ, ◌+◌, ◌%◌, ◌==◌, ◌&&◌, ◌||◌, nat_eq, not, Bool, true, false, if◌then◌else◌, Option, Some, None, Result, Ok, Err, List, [], ◌∷◌, length, slice_get}
+use Rattle.std.specs.Prelude.{ℕ, ◌+◌, ◌%◌, ◌==◌, ◌&&◌, ◌||◌, nat_eq, not, Bool, true, false, if◌then◌else◌}
+use Rattle.std.specs.Prelude.{Option, Some, None, Result, Ok, Err, List, [], ◌∷◌, length, slice_get}
 use Rattle.std.specs.List.{list_any, list_all, position_from}
 use Rattle.std.specs.Str.{byte}
 use Rattle.dbl_pgmsg.specs.declared.messages.RelationColumn.{RelationColumn}
@@ -86,18 +87,22 @@ filled_cell table in_key None column = if in_key then Err (errors.UnchangedCell 
 -- A cell of an Update's new row.
 unfoldable pub new_cell : TableName → Bool → Option Val → Column → TupleCell → Result Cell TxnError
 new_cell table in_key filled column cell.Null = null_cell table in_key >>= λ v. Ok (Given v)
-new_cell table in_key filled column cell.Unchanged = if is_fixed column.ty then Err (errors.UnchangedCell table column.name) else filled_cell table in_key filled column
+new_cell table in_key filled column cell.Unchanged = if is_fixed column.ty then Err (errors.UnchangedCell table column.name)
+    else filled_cell table in_key filled column
 new_cell table in_key filled column (cell.Text text) = spelled_value table column text >>= λ v. Ok (Given v)
 
 -- The results of reading cells column by column, from an index on.
-abbrev pub each_from : {A : Type 0} → (ℕ → Column → TupleCell → Result A TxnError) → ℕ → List Column → List TupleCell → Result (List A) TxnError
+abbrev pub each_from : {A : Type 0} → (ℕ → Column → TupleCell → Result A TxnError) → ℕ → List Column → List TupleCell
+    → Result (List A) TxnError
 each_from read place [] cells = Ok []
 each_from read place (column ∷ columns) [] = Ok []
-each_from read place (column ∷ columns) (c ∷ cells) = read place column c >>= λ x. each_from read (place + 1) columns cells >>= λ xs. Ok (x ∷ xs)
+each_from read place (column ∷ columns) (c ∷ cells) =
+    read place column c >>= λ x. each_from read (place + 1) columns cells >>= λ xs. Ok (x ∷ xs)
 
 -- The results of reading all columns of a table, or an error if there aren't as many cells.
 abbrev pub each : {A : Type 0} → (ℕ → Column → TupleCell → Result A TxnError) → TableInfo → List TupleCell → Result (List A) TxnError
-each read info cells = if length cells == width info then each_from read 0 info.columns cells else Err (errors.ColumnCount (width info) (length cells))
+each read info cells = if length cells == width info then each_from read 0 info.columns cells
+    else Err (errors.ColumnCount (width info) (length cells))
 
 -- Whether a column is read: each one of a whole row, only those of the replica identity in an old key.
 abbrev pub is_read : Relation → Bool → ℕ → Bool
@@ -105,7 +110,8 @@ is_read relation whole place = whole || is_flagged relation place
 
 -- The value of a cell of a whole row or an old key, Null if its column isn't read.
 abbrev pub row_cell : TableInfo → Relation → Bool → ℕ → Column → TupleCell → Result Val TxnError
-row_cell info relation whole place column c = if is_read relation whole place then given_cell info.name (is_key_place info place) column c else Ok val.Null
+row_cell info relation whole place column c = if is_read relation whole place then given_cell info.name (is_key_place info place) column c
+    else Ok val.Null
 
 -- The row of a tuple, whole or an old key.
 unfoldable pub row_of : TableInfo → Relation → Bool → List TupleCell → Result Row TxnError
@@ -134,7 +140,8 @@ filling relation whole (Some r) place = if is_read relation whole place then sli
 
 -- A cell of an Update's new row at an index.
 abbrev pub next_cell : TableInfo → Relation → Bool → Option Row → ℕ → Column → TupleCell → Result Cell TxnError
-next_cell info relation whole before place column c = new_cell info.name (is_key_place info place) (filling relation whole before place) column c
+next_cell info relation whole before place column c =
+    new_cell info.name (is_key_place info place) (filling relation whole before place) column c
 
 -- The cells of an Update's new row.
 unfoldable pub new_cells : TableInfo → Relation → Bool → Option Row → List TupleCell → Result (List Cell) TxnError

@@ -2,8 +2,9 @@
 
 ghost use Rattle.std.specs.Prelude.{List};
 ghost use Rattle.dbl_model_table.specs.declared.table.TableInfo.{TableInfo};
-ghost use Rattle.dbl_model_commit.specs.Blocks.{BlocksStateOneList, RestsAreOne, RestsAreOpen, AcceptedAreBlocks};
-ghost use Rattle.dbl_model_commit.specs.Blocks.{FaultlessAreBlocks, LaterTablesChangeNothing};
+ghost use Rattle.dbl_model_commit.specs.Blocks.{BlocksStateOneList, RestsAreOne, RestsAreOpen};
+ghost use Rattle.dbl_model_commit.specs.Blocks.{AcceptedAreBlocks, FaultlessAreBlocks};
+ghost use Rattle.dbl_model_commit.specs.Blocks.{LaterTablesChangeNothing};
 ghost use Rattle.dbl_model_commit.specs.StatedFits.{StatedChangesFit};
 
 /// Every division of messages into transactions states one list of commits: the one found by

@@ -1,6 +1,7 @@
 -- Values equal to the placeholder: a printed cell whose JSON is the placeholder's, which every consumer would take for an unsent cell.
 -- Debezium PostgreSQL connector, `unavailable.value.placeholder`.
-use Rattle.std.specs.Prelude.{ℕ, List, [], ◌∷◌, Bool, false, if◌then◌else◌, Option, Some, None, option_map, unwrap_or, slice_get, map, flat_map, bytes_eq}
+use Rattle.std.specs.Prelude.{ℕ, List, [], ◌∷◌, Bool, false, if◌then◌else◌, Option, Some, None}
+use Rattle.std.specs.Prelude.{option_map, unwrap_or, slice_get, map, flat_map, bytes_eq}
 use Rattle.std.specs.Option.{option_or}
 use Rattle.serde_json.specs.Data.{Data, null, boolean, number, string, array, object}
 use Rattle.dbl_value.specs.declared.value.Val.{Val}
@@ -72,7 +73,8 @@ clash_at info column = option_map (λ name. record { table = info.name; column =
 abbrev pub notice_clash : List ℕ → Notice → Option Clash
 notice_clash placeholder n =
     let names = column_names n.info.columns in
-    clash_at n.info (option_or (clash_among placeholder names (cells_before n.content)) (clash_among placeholder names (cells_after n.content)))
+    clash_at n.info (option_or (clash_among placeholder names (cells_before n.content))
+    (clash_among placeholder names (cells_after n.content)))
 
 -- The first result found among some items.
 abbrev pub first_found : {A B : Type 0} → (A → Option B) → List A → Option B
@@ -85,8 +87,10 @@ clash_of identity infos commit = first_found (notice_clash identity.placeholder)
 
 -- The first value equal to the placeholder in some rows of a table, row by row.
 abbrev pub rows_clash : List ℕ → TableInfo → List (Key × Row) → Option Clash
-rows_clash placeholder info rows = first_found (λ e. clash_at info (clash_among placeholder (column_names info.columns) (map Given e.1.cells))) rows
+rows_clash placeholder info rows =
+    first_found (λ e. clash_at info (clash_among placeholder (column_names info.columns) (map Given e.1.cells))) rows
 
 -- The first value equal to the placeholder in a snapshot's records.
 abbrev pub snapshot_clash : Identity → List TableInfo → Closed → Option Clash
-snapshot_clash identity infos closed = unwrap_or (option_map (λ info. rows_clash identity.placeholder info closed.rows) (slice_get infos closed.table)) None
+snapshot_clash identity infos closed =
+    unwrap_or (option_map (λ info. rows_clash identity.placeholder info closed.rows) (slice_get infos closed.table)) None

@@ -66,7 +66,8 @@ event_data source now before op after =
 -- The value of an event's content, where `event` builds it from `before`, `op` and `after`; a tombstone has none.
 abbrev pub content_data : Identity → TableInfo → (Data → List ℕ → Data → Data) → Content → Option Data
 content_data identity info event (Created row) = Some (event null (codes "c") (row_data info row.cells))
-content_data identity info event (Updated old cells) = Some (event (old_data info old) (codes "u") (row_data info (map (sent identity.placeholder) cells)))
+content_data identity info event (Updated old cells) =
+    Some (event (old_data info old) (codes "u") (row_data info (map (sent identity.placeholder) cells)))
 content_data identity info event (Deleted old) = Some (event (old_data info old) (codes "d") null)
 content_data identity info event Tombstone = None
 content_data identity info event Truncated = Some (event null (codes "t") null)

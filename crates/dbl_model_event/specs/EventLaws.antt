@@ -21,7 +21,8 @@ AreNumbered position records = (i : ℕ) (r : Record) → slice_get records i �
 
 -- The records of each commit are numbered.
 abbrev pub CommitsAreNumbered : Type 0
-CommitsAreNumbered = (identity : Identity) (infos : List TableInfo) (commit : Commit) (now : ℤ) → AreNumbered commit.lsn.0 (envelopes identity infos commit now)
+CommitsAreNumbered = (identity : Identity) (infos : List TableInfo) (commit : Commit) (now : ℤ)
+    → AreNumbered commit.lsn.0 (envelopes identity infos commit now)
 
 -- The JSON of a row of the number `id` and the text `name`, written out.
 abbrev pub small_row_text : ℤ → List ℕ → List ℕ
@@ -50,7 +51,8 @@ pub record IsSmallInsert (info : TableInfo) (commit : Commit) (id : ℤ) (name :
 
 -- An insert into a table of the columns `id` and `name` has one record, with this JSON.
 abbrev pub SmallInsertsAre : Type 0
-SmallInsertsAre = (identity : Identity) (info : TableInfo) (commit : Commit) (now : ℤ) (id : ℤ) (name : List ℕ) → IsSmallInsert info commit id name
+SmallInsertsAre = (identity : Identity) (info : TableInfo) (commit : Commit) (now : ℤ) (id : ℤ) (name : List ℕ)
+    → IsSmallInsert info commit id name
     → envelopes identity (info ∷ []) commit now ≡ record {
       topic = topic_of identity info;
       key = Some (codes "{\"id\":" ++ signed_decimal id ++ codes "}");

@@ -1,6 +1,7 @@
 -- The change events of a commit, before they are encoded: the table and key of each, and its content. Debezium PostgreSQL connector, "Data
 -- change events".
-use Rattle.std.specs.Prelude.{ℕ, ◌+◌, List, [], ◌∷◌, Bool, true, false, if◌then◌else◌, Option, Some, None, option_map, unwrap_or, slice_get, map, flat_map}
+use Rattle.std.specs.Prelude.{ℕ, ◌+◌, List, [], ◌∷◌, Bool, true, false, if◌then◌else◌, Option}
+use Rattle.std.specs.Prelude.{Some, None, option_map, unwrap_or, slice_get, map, flat_map}
 use Rattle.dbl_model_table.specs.declared.row.Key.{Key}
 use Rattle.dbl_model_table.specs.declared.row.Row.{Row}
 use Rattle.dbl_model_table.specs.declared.table.TableInfo.{TableInfo}
@@ -61,7 +62,8 @@ change_notices table info (Insert _ row) = notice table info (Some (key_of info 
 change_notices table info (Update _ key old cells) =
     if same_key key (new_key_of info cells) then notice table info (Some key) (Updated old cells) ∷ []
     else move_notices table info key (new_key_of info cells) old (record { cells = map given_or_null cells })
-change_notices table info (Delete _ key old) = notice table info (Some key) (Deleted (Some old)) ∷ notice table info (Some key) Tombstone ∷ []
+change_notices table info (Delete _ key old) =
+    notice table info (Some key) (Deleted (Some old)) ∷ notice table info (Some key) Tombstone ∷ []
 change_notices table info (Clear _) = notice table info None Truncated ∷ []
 
 -- The events of a change, none if no table is captured at its index.

@@ -15,7 +15,8 @@ use Rattle.dbl_model_event.specs.Snapshots.{AreInKeyOrder, snapshot, FitsChunk}
 
 -- Whether records are those of one closed window of a captured table, made at `now` in the commit of its high watermark, with rows that
 -- match the table, in key order, followed by the progress record.
-pub record IsSnapshot (identity : Identity) (infos : List TableInfo) (closed : Closed) (commit : Commit) (now : ℤ) (records : List Record) : Type 0 where
+pub record IsSnapshot (identity : Identity) (infos : List TableInfo) (closed : Closed) (commit : Commit) (now : ℤ)
+    (records : List Record) : Type 0 where
   pub info : TableInfo
   pub captured : slice_get infos closed.table ≡ Some info
   -- Each row is at its own key.
@@ -27,9 +28,12 @@ pub record IsSnapshot (identity : Identity) (infos : List TableInfo) (closed : C
 
 -- In rows in key order a later row has a greater key.
 abbrev pub KeysOfRowsRise : Type 0
-KeysOfRowsRise = (rows : List (Key × Row)) (i j : ℕ) (a b : Key × Row) → AreInKeyOrder rows → i < j → slice_get rows i ≡ Some a → slice_get rows j ≡ Some b → key_cmp a.0 b.0 ≡ Less
+KeysOfRowsRise = (rows : List (Key × Row)) (i j : ℕ) (a b : Key × Row) → AreInKeyOrder rows → i < j → slice_get rows i ≡ Some a
+    → slice_get rows j ≡ Some b → key_cmp a.0 b.0 ≡ Less
 
 -- A snapshot has at most one row at each key.
 abbrev pub SnapshotsHaveOneRowAKey : Type 0
-SnapshotsHaveOneRowAKey = (identity : Identity) (infos : List TableInfo) (closed : Closed) (commit : Commit) (now : ℤ) (records : List Record) (i j : ℕ) (a b : Key × Row)
-    → IsSnapshot identity infos closed commit now records → slice_get closed.rows i ≡ Some a → slice_get closed.rows j ≡ Some b → a.0 ≡ b.0 → i ≡ j
+SnapshotsHaveOneRowAKey = (identity : Identity) (infos : List TableInfo) (closed : Closed) (commit : Commit) (now : ℤ)
+    (records : List Record) (i j : ℕ) (a b : Key × Row)
+    → IsSnapshot identity infos closed commit now records → slice_get closed.rows i ≡ Some a → slice_get closed.rows j ≡ Some b
+    → a.0 ≡ b.0 → i ≡ j

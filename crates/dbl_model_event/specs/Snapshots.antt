@@ -1,6 +1,7 @@
 -- The records of a snapshot's chunk: the rows that were read from a table while its log was followed, and the progress of the reading.
 -- Debezium PostgreSQL connector, "Incremental snapshots"; the DBLog paper. The progress record is this connector's own.
-use Rattle.std.specs.Prelude.{◌≡◌, ℕ, ℤ, ◌+◌, Bool, true, false, Option, Some, None, option_map, unwrap_or, IfSome, IsSomeAnd, List, [], ◌∷◌, ◌++◌, length, slice_get, codes}
+use Rattle.std.specs.Prelude.{◌≡◌, ℕ, ℤ, ◌+◌, Bool, true, false, Option, Some, None, option_map, unwrap_or}
+use Rattle.std.specs.Prelude.{IfSome, IsSomeAnd, List, [], ◌∷◌, ◌++◌, length, slice_get, codes}
 use Rattle.std.specs.List.{AllByRecursion}
 use Rattle.std.specs.List.Sorted.{IsStrictlySortedBy}
 use Rattle.std.specs.Map.{keys_of}
@@ -30,7 +31,9 @@ abbrev pub read_record : Identity → TableInfo → Commit → ℤ → ℕ → K
 read_record identity info commit now ordinal entry = record {
   topic = topic_of identity info;
   key = Some (key_text info entry.0);
-  value = Some (compact_text (event_data (source_data identity info.name commit (codes "incremental")) now null (codes "r") (row_data info entry.1.cells)));
+  value =
+      Some (compact_text
+      (event_data (source_data identity info.name commit (codes "incremental")) now null (codes "r") (row_data info entry.1.cells)));
   position = commit.lsn.0;
   ordinal = ordinal;
   last = false;
@@ -85,7 +88,8 @@ chunk_records identity info rows through done commit now =
 -- The records of a closed window, made at `now`; none if no table is captured at its index.
 abbrev pub snapshot : Identity → List TableInfo → Closed → Commit → ℤ → List Record
 snapshot identity infos closed commit now =
-    unwrap_or (option_map (λ info. chunk_records identity info closed.rows closed.through closed.done commit now) (slice_get infos closed.table)) []
+    unwrap_or (option_map (λ info. chunk_records identity info closed.rows closed.through closed.done commit now)
+    (slice_get infos closed.table)) []
 
 -- Whether the rows of a window match their table, each at its own key.
 pub record FitsChunk (info : TableInfo) (closed : Closed) : Type 0 where

@@ -1,4 +1,5 @@
-ghost use Rattle.dbl_model_event.specs.EventLaws.{CommitsAreNumbered, SmallInsertsAre, TimesAreRoundedDown};
+ghost use Rattle.dbl_model_event.specs.EventLaws.{CommitsAreNumbered, SmallInsertsAre};
+ghost use Rattle.dbl_model_event.specs.EventLaws.{TimesAreRoundedDown};
 
 /// The records of a commit are numbered from 0, and only the last is marked as the last.
 pub fn commits_are_numbered()

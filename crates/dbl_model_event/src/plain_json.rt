@@ -8,7 +8,8 @@ ghost use Rattle.serde_json.specs.Written.{compact_text, has_float};
 ghost use Rattle.dbl_model_table.specs.Tables.{column_names};
 ghost use Rattle.dbl_model_table.specs.Infos.{key_names};
 ghost use Rattle.dbl_model_history.specs.Image.{members_of, key_data, key_text};
-ghost use Rattle.dbl_model_event.specs.EventJson.{sent, row_data, old_data, source_data, event_data};
+ghost use Rattle.dbl_model_event.specs.EventJson.{sent, row_data, old_data};
+ghost use Rattle.dbl_model_event.specs.EventJson.{source_data, event_data};
 
 use crate::milliseconds;
 use dbl_base::{Seq, Text};

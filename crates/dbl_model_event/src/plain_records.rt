@@ -1,14 +1,18 @@
 //! The records of a commit by the definition, by way of JSON trees. Only for tests.
 
-ghost use Rattle.std.specs.Prelude.{◌≡◌, ◌++◌, ℕ, map, false, IfOk, IfErr, OnOk, Option, Some, None, [], ◌∷◌, flat_map};
+ghost use Rattle.std.specs.Prelude.{◌≡◌, ◌++◌, ℕ, map, false, IfOk, IfErr, OnOk};
+ghost use Rattle.std.specs.Prelude.{Option, Some, None, [], ◌∷◌, flat_map};
 ghost use Rattle.serde_json.specs.View.{view};
 ghost use Rattle.serde_json.specs.Written.{compact_text, has_float};
 ghost use Rattle.dbl_model_table.specs.Infos.{topic_of};
 ghost use Rattle.dbl_model_history.specs.Image.{key_text};
-ghost use Rattle.dbl_model_table.specs.declared.change.Change.TheVariants.{Insert, Update, Delete, Clear};
+ghost use Rattle.dbl_model_table.specs.declared.change.Change.TheVariants.{Insert, Update};
+ghost use Rattle.dbl_model_table.specs.declared.change.Change.TheVariants.{Delete, Clear};
 ghost use Rattle.dbl_model_event.specs.Events.{Content, notices};
 ghost use Rattle.dbl_model_event.specs.EventJson.{envelopes};
-ghost use Rattle.dbl_model_event.specs.PlainEvents.{event_of, content_text, plain_texts, event_texts, AppendsEventTexts, notice_texts, placed_records};
+ghost use Rattle.dbl_model_event.specs.PlainEvents.{event_of, content_text, plain_texts};
+ghost use Rattle.dbl_model_event.specs.PlainEvents.{event_texts, AppendsEventTexts};
+ghost use Rattle.dbl_model_event.specs.PlainEvents.{notice_texts, placed_records};
 
 use crate::plain_json::{
     event_value, key_text, old_value, row_value, sent_value, source_value, text_of,
@@ -134,7 +138,8 @@ fn tell_insert(
     frame: &Frame<'_>,
     row: &Row,
 ) -> Result<(), AllocError>
-    ensures { OnOk result (AppendsEventTexts frame.now (Insert 0 row.now) out.old.items out.new.items) }
+    ensures { OnOk result
+        (AppendsEventTexts frame.now (Insert 0 row.now) out.old.items out.new.items) }
 {
     let key = key_at(alloc, frame.info.key.items().as_slice(), &row.cells)?;
     let value = created_text(alloc, frame, row)?;
@@ -212,7 +217,8 @@ fn tell_update(
     cells: &Seq<Cell>,
 ) -> Result<(), AllocError>
     ensures { OnOk result
-        (AppendsEventTexts frame.now (Update 0 from.now old.now cells.now) out.old.items out.new.items) }
+        (AppendsEventTexts frame.now (Update 0 from.now old.now cells.now) out.old.items
+        out.new.items) }
 {
     let given = given_or_nulls(alloc, cells)?;
     let row = Row { cells: given };
@@ -231,7 +237,8 @@ fn tell_delete(
     key: &Key,
     old: &Row,
 ) -> Result<(), AllocError>
-    ensures { OnOk result (AppendsEventTexts frame.now (Delete 0 key.now old.now) out.old.items out.new.items) }
+    ensures { OnOk result
+        (AppendsEventTexts frame.now (Delete 0 key.now old.now) out.old.items out.new.items) }
 {
     let before = row_value(alloc, frame.info, &old.cells)?;
     let value = event_text(alloc, frame, before, "d", Value::Null)?;

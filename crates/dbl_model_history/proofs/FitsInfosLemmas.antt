@@ -27,7 +27,7 @@ use Rattle.dbl_model_history.specs.Laws.{FitChangesFitInfos}
 use Rattle.dbl_model_history.proofs.RowKeys.{some_and}
 use Rattle.dbl_model_history.proofs.RangeLemmas.{mapped, filtered}
 
--- ---- cells of their columns' types, whatever their number
+-- ---- cells of their columns' types, of any number
 
 abbrev AreTyped : List PgType → List Val → Type 0
 AreTyped types [] = Unit {0}

@@ -37,7 +37,8 @@ pub record IsFitInsert (info : TableInfo) (rows : Key → Option (List Val)) (ro
 
 -- A valid update: one cell per column, its key cells sent, and a row just before at the old key. If it moves the key, there is no row just
 -- before at the new one, and every cell is sent.
-pub record IsFitUpdate (info : TableInfo) (rows : Key → Option (List Val)) (from : Key) (old : Option Row) (cells : List Cell) : Type 0 where
+pub record IsFitUpdate (info : TableInfo) (rows : Key → Option (List Val)) (from : Key) (old : Option Row)
+    (cells : List Cell) : Type 0 where
   pub wide : length cells ≡ width info
   pub old_wide : IfSome old (λ row. length row.cells ≡ width info)
   pub old_key : IsKeyOf info from
@@ -85,6 +86,7 @@ pub record IsFitHistory (history : History) : Type 0 where
   -- The catalogue has at most one entry for a table.
   pub distinct : IsTrue (are_distinct same_name (map (λ raw. raw.name) history.tables))
   -- Each change is of a table of the catalogue.
-  pub known : AllByRecursion (λ commit. AllByRecursion (λ change. IsSome (entry_of history (name_of change))) (raw_changes_of commit.body)) history.commits
+  pub known : AllByRecursion (λ commit. AllByRecursion (λ change. IsSome (entry_of history (name_of change))) (raw_changes_of commit.body))
+      history.commits
   -- For any captured tables, the changes are valid one after the other.
   pub fit : (infos : List TableInfo) → AreInfosOf history infos → AreFit infos no_rows (all_changes (typed infos history))

@@ -11,5 +11,6 @@ use Rattle.dbl_model_history.specs.FitsInfos.{FitsInfos, IsReadableChange}
 
 -- A change that is valid after the rows just before it, and whose cells are readable, matches the captured tables.
 abbrev pub FitChangesFitOneByOne : Type 0
-FitChangesFitOneByOne = (infos : List TableInfo) (rows : Rows) (raw : RawChange) (change : Change) → IsRawChangeInRange raw → IsReadableChange infos raw
+FitChangesFitOneByOne = (infos : List TableInfo) (rows : Rows) (raw : RawChange) (change : Change) → IsRawChangeInRange raw
+    → IsReadableChange infos raw
     → typed_change infos raw ≡ Some change → IsFit infos rows change → FitsInfos infos change

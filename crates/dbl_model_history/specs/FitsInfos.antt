@@ -93,10 +93,12 @@ AreReadableCells (ty ∷ types) (cell ∷ cells) = IsReadableCell ty cell × Are
 abbrev pub IsReadableChange : List TableInfo → RawChange → Type 0
 IsReadableChange infos (raw.Insert name row) = IfSome (number_of infos name) (λ table. AreReadable (types_of infos table) row.cells)
 IsReadableChange infos (raw.Update name key old cells) =
-    IfSome (number_of infos name) (λ table. IfSome old (λ row. AreReadable (types_of infos table) row.cells) × AreReadableCells (types_of infos table) cells)
+    IfSome (number_of infos name)
+    (λ table. IfSome old (λ row. AreReadable (types_of infos table) row.cells) × AreReadableCells (types_of infos table) cells)
 IsReadableChange infos (raw.Delete name key old) = IfSome (number_of infos name) (λ table. AreReadable (types_of infos table) old.cells)
 IsReadableChange infos (raw.Clear name) = Unit {0}
 
 -- Whether every change of a history is readable.
 abbrev pub IsReadableHistory : List TableInfo → History → Type 0
-IsReadableHistory infos history = AllByRecursion (λ commit. AllByRecursion (IsReadableChange infos) (raw_changes_of commit.body)) history.commits
+IsReadableHistory infos history =
+    AllByRecursion (λ commit. AllByRecursion (IsReadableChange infos) (raw_changes_of commit.body)) history.commits

@@ -47,7 +47,8 @@ pub record Names (identity : Identity) (infos : List TableInfo) (topic text : Li
   pub text_is : key_text info key ≡ text
 
 -- Whether a row of the image is at the topic and text of its table and key.
-pub record HasRow (identity : Identity) (infos : List TableInfo) (rows : Rows) (topic text : List ℕ) (texts : List ℕ → Option (List ℕ)) : Type 0 where
+pub record HasRow (identity : Identity) (infos : List TableInfo) (rows : Rows) (topic text : List ℕ)
+    (texts : List ℕ → Option (List ℕ)) : Type 0 where
   pub table : ℕ
   pub key : Key
   pub names : Names identity infos topic text table key

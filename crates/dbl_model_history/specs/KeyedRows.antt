@@ -26,7 +26,8 @@ row_left Ends row = None
 
 -- If the row that was read is the table's before a change, the part that the change keeps is the table's after it.
 abbrev pub LeftRowsAreRows : Type 0
-LeftRowsAreRows = (effect : Effect) (held row : Option (List Val)) → IfSome held (λ cells. row ≡ Some cells) → IfSome (row_left effect held) (λ cells. row_after effect row ≡ Some cells)
+LeftRowsAreRows = (effect : Effect) (held row : Option (List Val)) → IfSome held (λ cells. row ≡ Some cells)
+    → IfSome (row_left effect held) (λ cells. row_after effect row ≡ Some cells)
 
 -- If a change keeps nothing of a row, it set every cell or ended the row.
 abbrev pub LostRowsWereTouched : Type 0
@@ -44,13 +45,16 @@ last_key bound (entry ∷ rows) = last_key (Some entry.0) rows
 
 -- The first rows of a table above a bound, in key order: at most `limit`, and all of them if they are fewer. Only keys of the table's key
 -- types are considered: another key could have the JSON text of one of them.
-pub record AreFirst (info : TableInfo) (at : Key → Option (List Val)) (above : Option Key) (limit : ℕ) (rows : List (Key × Row)) : Type 0 where
+pub record AreFirst (info : TableInfo) (at : Key → Option (List Val)) (above : Option Key) (limit : ℕ)
+    (rows : List (Key × Row)) : Type 0 where
   pub keys : AllByRecursion (λ entry. IsKeyOf info entry.0) rows
   pub ordered : AreAbove above rows
   pub few : length rows ≤ limit
   -- Up to the last key, or everywhere above the bound if there are fewer rows, the list has the table's rows and no others.
-  pub right : (key : Key) → IsKeyOf info key → IsAbove above key → (length rows < limit) ⊎ IsUpTo (last_key above rows) key → row_in rows key ≡ at key
+  pub right : (key : Key) → IsKeyOf info key → IsAbove above key → (length rows < limit) ⊎ IsUpTo (last_key above rows) key
+      → row_in rows key ≡ at key
 
 -- The first rows above a bound are unique.
 abbrev pub FirstRowsAreOne : Type 0
-FirstRowsAreOne = (info : TableInfo) (at : Key → Option (List Val)) (above : Option Key) (limit : ℕ) (a b : List (Key × Row)) → AreFirst info at above limit a → AreFirst info at above limit b → a ≡ b
+FirstRowsAreOne = (info : TableInfo) (at : Key → Option (List Val)) (above : Option Key) (limit : ℕ) (a b : List (Key × Row))
+    → AreFirst info at above limit a → AreFirst info at above limit b → a ≡ b

@@ -19,8 +19,10 @@ mark_text incarnation number side = decimal incarnation ++ codes "-" ++ decimal 
 
 -- Watermarks with equal texts have the same incarnation, number and side.
 abbrev pub MarksTellNumbers : Type 0
-MarksTellNumbers = (a b n m : ℕ) (s t : Side) → a < 2 ^ 64 → b < 2 ^ 64 → n < 2 ^ 64 → m < 2 ^ 64 → mark_text a n s ≡ mark_text b m t → (a ≡ b) × (n ≡ m) × (s ≡ t)
+MarksTellNumbers = (a b n m : ℕ) (s t : Side) → a < 2 ^ 64 → b < 2 ^ 64 → n < 2 ^ 64 → m < 2 ^ 64 → mark_text a n s ≡ mark_text b m t
+    → (a ≡ b) × (n ≡ m) × (s ≡ t)
 
 -- The text of a watermark is UTF-8 of at most 43 bytes.
 abbrev pub MarksAreShort : Type 0
-MarksAreShort = (incarnation number : ℕ) (side : Side) → incarnation < 2 ^ 64 → number < 2 ^ 64 → IsUtf8 (mark_text incarnation number side) × (length (mark_text incarnation number side) ≤ 43)
+MarksAreShort = (incarnation number : ℕ) (side : Side) → incarnation < 2 ^ 64 → number < 2 ^ 64 → IsUtf8 (mark_text incarnation number side)
+    × (length (mark_text incarnation number side) ≤ 43)

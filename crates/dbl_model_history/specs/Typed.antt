@@ -60,8 +60,10 @@ typed_key infos table key = record { cells = typed_cells (key_types_of infos tab
 abbrev pub typed_change : List TableInfo → RawChange → Option Change
 typed_change infos (raw.Insert name row) = option_map (λ table. change.Insert table (typed_row infos table row)) (number_of infos name)
 typed_change infos (raw.Update name key old cells) =
-    option_map (λ table. change.Update table (typed_key infos table key) (option_map (typed_row infos table) old) (typed_update (types_of infos table) cells)) (number_of infos name)
-typed_change infos (raw.Delete name key old) = option_map (λ table. change.Delete table (typed_key infos table key) (typed_row infos table old)) (number_of infos name)
+    option_map (λ table. change.Update table (typed_key infos table key) (option_map (typed_row infos table) old)
+    (typed_update (types_of infos table) cells)) (number_of infos name)
+typed_change infos (raw.Delete name key old) =
+    option_map (λ table. change.Delete table (typed_key infos table key) (typed_row infos table old)) (number_of infos name)
 typed_change infos (raw.Clear name) = option_map (λ table. change.Clear table) (number_of infos name)
 
 -- The contents of a commit with only the changes of captured tables, typed.
@@ -71,7 +73,14 @@ typed_body infos (raw.Mark value) = body.Mark value
 
 -- A commit with only the changes of captured tables, typed. A commit without such changes is kept.
 abbrev pub typed_commit : List TableInfo → RawCommit → Commit
-typed_commit infos commit = record { lsn = commit.lsn; end_lsn = commit.end_lsn; time = commit.time; xid = commit.xid; body = typed_body infos commit.body }
+typed_commit infos
+    commit = record {
+      lsn = commit.lsn;
+      end_lsn = commit.end_lsn;
+      time = commit.time;
+      xid = commit.xid;
+      body = typed_body infos commit.body;
+    }
 
 -- The commits of a history with only the changes of captured tables, typed.
 abbrev pub typed : List TableInfo → History → List Commit

@@ -13,13 +13,15 @@ use Rattle.dbl_model_table.specs.Rows.{all_given, IsWholeFor}
 abbrev pub IsWholeByCase : List TableInfo → Change → ℕ → Key → Type 0
 IsWholeByCase infos (Insert t row) table key = (t ≡ table) × (key_at (key_places infos t) row.cells ≡ key)
 IsWholeByCase infos (Update t from old cells) table key =
-    (t ≡ table) × (((key_at (key_places infos t) (map given_or_null cells) ≡ key) × IsSome (all_given cells)) ⊎ ((key_at (key_places infos t) (map given_or_null cells) ≢ key) × (from ≡ key)))
+    (t ≡ table) × (((key_at (key_places infos t) (map given_or_null cells) ≡ key) × IsSome (all_given cells))
+    ⊎ ((key_at (key_places infos t) (map given_or_null cells) ≢ key) × (from ≡ key)))
 IsWholeByCase infos (Delete t from old) table key = (t ≡ table) × (from ≡ key)
 IsWholeByCase infos (Clear t) table key = t ≡ table
 
 -- The changes that are whole for a key are exactly those of the cases.
 abbrev pub WholeChangesAreCases : Type 0
-WholeChangesAreCases = (infos : List TableInfo) (change : Change) (table : ℕ) (key : Key) → IsWholeFor infos change table key ↔ IsWholeByCase infos change table key
+WholeChangesAreCases = (infos : List TableInfo) (change : Change) (table : ℕ) (key : Key)
+    → IsWholeFor infos change table key ↔ IsWholeByCase infos change table key
 
 -- Whether some change from one point in the history on and before another is whole for the key.
 pub record IsTouched (infos : List TableInfo) (changes : List Change) (from to : ℕ) (table : ℕ) (key : Key) : Type 0 where
@@ -32,5 +34,7 @@ pub record IsTouched (infos : List TableInfo) (changes : List Change) (from to :
 
 -- A key touched between two points in the history is touched before a point between them or from there on.
 abbrev pub TouchedKeysAreParted : Type 0
-TouchedKeysAreParted = (infos : List TableInfo) (changes : List Change) (from between to table : ℕ) (key : Key) → from ≤ between → between ≤ to
-    → IsTouched infos changes from to table key ↔ (IsTouched infos changes from between table key ⊎ IsTouched infos changes between to table key)
+TouchedKeysAreParted = (infos : List TableInfo) (changes : List Change) (from between to table : ℕ) (key : Key) → from ≤ between
+    → between ≤ to
+    → IsTouched infos changes from to table key ↔
+    (IsTouched infos changes from between table key ⊎ IsTouched infos changes between to table key)

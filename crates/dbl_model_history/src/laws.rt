@@ -1,5 +1,7 @@
-ghost use Rattle.dbl_model_history.specs.Laws.{PositionsAreMoments, MomentsAreChanges, KeyTextsNameKeys, RowsHaveOneImage};
-ghost use Rattle.dbl_model_history.specs.Laws.{FitRowsAreRows, TypedCommitsAreInRange, InfosAreInRange, FitChangesFitInfos};
+ghost use Rattle.dbl_model_history.specs.Laws.{PositionsAreMoments, MomentsAreChanges};
+ghost use Rattle.dbl_model_history.specs.Laws.{KeyTextsNameKeys, RowsHaveOneImage};
+ghost use Rattle.dbl_model_history.specs.Laws.{FitRowsAreRows, TypedCommitsAreInRange};
+ghost use Rattle.dbl_model_history.specs.Laws.{InfosAreInRange, FitChangesFitInfos};
 
 /// If LSNs rise, the LSN of a commit is the position of the point after it, and 0 that of the
 /// history's start.

@@ -1,6 +1,7 @@
 //! The image's texts at a point in the history, computed by the definition. Only for tests.
 
-ghost use Rattle.std.specs.Prelude.{◌≡◌, IfOk, IfErr, Option, None, option_map, option_and_then, slice_get};
+ghost use Rattle.std.specs.Prelude.{◌≡◌, IfOk, IfErr, Option, None};
+ghost use Rattle.std.specs.Prelude.{option_map, option_and_then, slice_get};
 ghost use Rattle.dbl_value.specs.Values.{json_of};
 ghost use Rattle.dbl_model_table.specs.Infos.{column_of, columns_of};
 ghost use Rattle.dbl_model_table.specs.Rows.{rows};

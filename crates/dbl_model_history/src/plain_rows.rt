@@ -1,12 +1,14 @@
 //! Rows at a point in the history by a plain walk over all changes, for one key at a time. Only for
 //! tests.
 
-ghost use Rattle.std.specs.Prelude.{◌≡◌, ◌-◌, IfOk, Option, Some, None, map, take, length, slice_get};
+ghost use Rattle.std.specs.Prelude.{◌≡◌, ◌-◌, IfOk, Option, Some, None};
+ghost use Rattle.std.specs.Prelude.{map, take, length, slice_get};
 ghost use Rattle.std.specs.List.{list_all};
 ghost use Rattle.std.specs.Option.{option_copied};
 ghost use Rattle.dbl_model_table.specs.Infos.{key_places};
 ghost use Rattle.dbl_model_table.specs.Keys.{same_key, key_at, cell_or_null, given_or_null};
-ghost use Rattle.dbl_model_table.specs.Rows.{all_given, updated, at_key, at_keys, overlay, effect_of, row_after, changes_of, rows};
+ghost use Rattle.dbl_model_table.specs.Rows.{all_given, updated, at_key, at_keys, overlay};
+ghost use Rattle.dbl_model_table.specs.Rows.{effect_of, row_after, changes_of, rows};
 ghost use Rattle.dbl_model_history.specs.PlainRows.{plain_row_cells, is_sent, over, row_from};
 
 use dbl_base::Seq;
@@ -125,7 +127,8 @@ fn row_updated(
     row: Option<Row>,
 ) -> Result<Option<Row>, AllocError>
     ensures { IfOk result
-        (λ new. plain_row_cells new ≡ row_after (updated (all_given cells.now) cells.now) (plain_row_cells row)) }
+        (λ new. plain_row_cells new ≡ row_after (updated (all_given cells.now) cells.now)
+        (plain_row_cells row)) }
 {
     if are_sent(cells) {
         return Ok(Some(Row {

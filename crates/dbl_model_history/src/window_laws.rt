@@ -1,6 +1,7 @@
 //! Theorems about rows that are read in windows, as contracts of empty functions.
 
-ghost use Rattle.dbl_model_history.specs.KeyedRows.{FirstRowsAreOne, LeftRowsAreRows, LostRowsWereTouched};
+ghost use Rattle.dbl_model_history.specs.KeyedRows.{FirstRowsAreOne, LeftRowsAreRows};
+ghost use Rattle.dbl_model_history.specs.KeyedRows.{LostRowsWereTouched};
 ghost use Rattle.dbl_model_history.specs.WholeChanges.{WholeChangesAreCases, TouchedKeysAreParted};
 ghost use Rattle.dbl_model_history.specs.ImageNames.{NamesAreOne};
 ghost use Rattle.dbl_model_history.specs.FitChanges.{FitChangesFitOneByOne};

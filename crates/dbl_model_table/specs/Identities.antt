@@ -10,4 +10,5 @@ default_placeholder = codes "__debezium_unavailable_value"
 -- Whether a connector may use the identity: its prefix and database name need no escaping in topics and records, and its placeholder has 1
 -- to 255 bytes.
 abbrev pub is_good_identity : Identity → Bool
-is_good_identity identity = is_name identity.prefix && is_name identity.db && nat_lt 0 (length identity.placeholder) && nat_le (length identity.placeholder) 255
+is_good_identity identity = is_name identity.prefix && is_name identity.db && nat_lt 0 (length identity.placeholder)
+    && nat_le (length identity.placeholder) 255

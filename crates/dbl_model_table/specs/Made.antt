@@ -1,5 +1,6 @@
 -- The catalogue entries that can be captured, and the errors of the others.
-use Rattle.std.specs.Prelude.{ℕ, ◌&&◌, nat_lt, not, Bool, false, if◌then◌else◌, Option, Some, None, option_map, option_and_then, slice_get, List, [], ◌∷◌, ◌++◌, length, map, bytes_eq}
+use Rattle.std.specs.Prelude.{ℕ, ◌&&◌, nat_lt, not, Bool, false, if◌then◌else◌, Option, Some, None, option_map}
+use Rattle.std.specs.Prelude.{option_and_then, slice_get, List, [], ◌∷◌, ◌++◌, length, map, bytes_eq}
 use Rattle.std.specs.List.{find, list_any, list_all, position_from}
 use Rattle.dbl_value.specs.declared.column_type.PgType.{PgType}
 use Rattle.dbl_value.specs.Types.{is_float, type_of}
@@ -29,7 +30,8 @@ first_float columns = option_map (λ column. column.name) (find (λ column. is_f
 
 -- Whether the key names at least one column of the table, only columns of the table, and none twice.
 abbrev pub has_key : RawTable → Bool
-has_key raw = nat_lt 0 (length raw.key) && list_all (λ name. list_any (bytes_eq name) (raw_names raw.columns)) raw.key && are_distinct bytes_eq raw.key
+has_key raw = nat_lt 0 (length raw.key) && list_all (λ name. list_any (bytes_eq name) (raw_names raw.columns)) raw.key
+    && are_distinct bytes_eq raw.key
 
 -- Whether a type is known and allowed in a key.
 abbrev pub may_be_key : Option PgType → Bool

@@ -1,5 +1,6 @@
 -- The rows of a source at a point in its history. A point is a number of changes, counted from the start of the history.
-use Rattle.std.specs.Prelude.{ℕ, ◌+◌, ◌==◌, nat_le, if◌then◌else◌, Bool, true, false, Option, Some, None, option_map, option_and_then, List, [], ◌∷◌, ◌++◌, length, map, take, slice_get}
+use Rattle.std.specs.Prelude.{ℕ, ◌+◌, ◌==◌, nat_le, if◌then◌else◌, Bool, true, false, Option, Some, None}
+use Rattle.std.specs.Prelude.{option_map, option_and_then, List, [], ◌∷◌, ◌++◌, length, map, take, slice_get}
 use Rattle.dbl_value.specs.declared.value.Val.{Val}
 use Rattle.dbl_model_table.specs.declared.row.Key.{Key}
 use Rattle.dbl_model_table.specs.declared.change.Cell.{Cell}
@@ -47,7 +48,8 @@ at_keys false new old effect = Stays
 abbrev pub effect_of : List TableInfo → Change → ℕ → Key → Effect
 effect_of infos (Insert t row) table key = at_key (t == table) (same_key (key_at (key_places infos t) row.cells) key) (Whole row.cells)
 effect_of infos (Update t old_key old cells) table key =
-    at_keys (t == table) (same_key (key_at (key_places infos t) (map given_or_null cells)) key) (same_key old_key key) (updated (all_given cells) cells)
+    at_keys (t == table) (same_key (key_at (key_places infos t) (map given_or_null cells)) key) (same_key old_key key)
+    (updated (all_given cells) cells)
 effect_of infos (Delete t old_key old) table key = at_key (t == table) (same_key old_key key) Ends
 effect_of infos (Clear t) table key = at_key (t == table) true Ends
 

@@ -1,5 +1,6 @@
 -- Tables that can be captured.
-use Rattle.std.specs.Prelude.{ℕ, ◌==◌, ◌&&◌, ◌||◌, nat_eq, nat_lt, nat_le, not, Bool, true, false, option_map, unwrap_or, List, [], ◌∷◌, ◌++◌, length, map, slice_get, codes, bytes_eq}
+use Rattle.std.specs.Prelude.{ℕ, ◌==◌, ◌&&◌, ◌||◌, nat_eq, nat_lt, nat_le, not, Bool, true, false, option_map}
+use Rattle.std.specs.Prelude.{unwrap_or, List, [], ◌∷◌, ◌++◌, length, map, slice_get, codes, bytes_eq}
 use Rattle.std.specs.List.{list_any, list_all}
 use Rattle.std.specs.Char.{is_ascii_digit, is_ascii_lowercase, is_ascii_uppercase}
 use Rattle.dbl_value.specs.declared.column_type.PgType.{PgType}
@@ -23,7 +24,8 @@ is_watermark table = bytes_eq table.schema (codes "public") && bytes_eq table.na
 -- Whether a captured table may have this name: not `dblog-progress`, since topics that end in `.dblog-progress` have progress records, and
 -- not the watermark table.
 abbrev pub is_good_name : TableName → Bool
-is_good_name table = is_name table.schema && is_name table.name && not (bytes_eq table.name (codes "dblog-progress")) && not (is_watermark table)
+is_good_name table = is_name table.schema && is_name table.name && not (bytes_eq table.name (codes "dblog-progress"))
+    && not (is_watermark table)
 
 -- Whether two table names are equal.
 abbrev pub same_name : TableName → TableName → Bool
@@ -62,7 +64,8 @@ is_unfit columns place = not (is_key_type (type_at columns place))
 
 -- Whether the indices are a valid key: at least one, all of columns of the table, none twice, each of a type allowed in a key.
 abbrev pub is_key : List Column → List ℕ → Bool
-is_key columns key = nat_lt 0 (length key) && list_all (λ place. nat_lt place (length columns)) key && are_distinct nat_eq key && list_all (λ place. is_key_type (type_at columns place)) key
+is_key columns key = nat_lt 0 (length key) && list_all (λ place. nat_lt place (length columns)) key && are_distinct nat_eq key
+    && list_all (λ place. is_key_type (type_at columns place)) key
 
 -- Whether each column has a type that a column can have.
 abbrev pub are_typed : List Column → Bool

@@ -1,4 +1,5 @@
-ghost use Rattle.std.specs.Prelude.{◌≡◌, ◌⊎◌, ℕ, IfOk, IfErr, OnOk, MatchResult, None, Some, List, [], map, option_map, true, false};
+ghost use Rattle.std.specs.Prelude.{◌≡◌, ◌⊎◌, ℕ, IfOk, IfErr, OnOk, MatchResult, None};
+ghost use Rattle.std.specs.Prelude.{Some, List, [], map, option_map, true, false};
 ghost use Rattle.std.specs.List.{find};
 ghost use Rattle.std.specs.Ordering.{nat_cmp};
 ghost use Rattle.std.specs.Cmp.Lexicographic.{slice_cmp};
@@ -6,8 +7,8 @@ ghost use Rattle.std.specs.BTreeMap.{IsEmpty, get_by};
 ghost use Rattle.dbl_model_table.specs.declared.error.ModelError.TheVariants.{FloatColumn};
 ghost use Rattle.dbl_model_table.specs.Tables.{type_at, is_key_type, are_typed, is_unfit};
 ghost use Rattle.dbl_model_table.specs.Infos.{raw_column, name_at, IsInfoOf};
-ghost use Rattle.dbl_model_table.specs.Made.{raw_names, place_of, first_repeated, first_float, has_key, column_fault};
-ghost use Rattle.dbl_model_table.specs.Made.{key_type_fault, table_fault};
+ghost use Rattle.dbl_model_table.specs.Made.{raw_names, place_of, first_repeated, first_float};
+ghost use Rattle.dbl_model_table.specs.Made.{has_key, column_fault, key_type_fault, table_fault};
 
 use crate::ModelError;
 use crate::table::{Column, RawColumn, RawTable, TableInfo, TableName};

@@ -1,4 +1,5 @@
-ghost use Rattle.dbl_model_table.specs.Laws.{KeysAreOrdered, EntriesHaveOneInfo, CapturableEntriesHaveAnInfo, TopicsNameTables};
+ghost use Rattle.dbl_model_table.specs.Laws.{KeysAreOrdered, EntriesHaveOneInfo};
+ghost use Rattle.dbl_model_table.specs.Laws.{CapturableEntriesHaveAnInfo, TopicsNameTables};
 
 /// Keys are totally ordered, and equal if and only if they compare as equal.
 pub fn keys_are_ordered()

@@ -1,7 +1,9 @@
-ghost use Rattle.std.specs.Prelude.{◌≡◌, ◌<◌, IfOk, IfSome, IfNone, IsTrue, false, true, length, nat_eq, nat_lt};
+ghost use Rattle.std.specs.Prelude.{◌≡◌, ◌<◌, IfOk, IfSome, IfNone, IsTrue};
+ghost use Rattle.std.specs.Prelude.{false, true, length, nat_eq, nat_lt};
 ghost use Rattle.std.specs.List.{list_all};
 ghost use Rattle.std.specs.Str.{bytes_eq};
-ghost use Rattle.dbl_model_table.specs.Tables.{are_distinct, are_typed, column_names, is_key, is_table, is_unfit};
+ghost use Rattle.dbl_model_table.specs.Tables.{are_distinct, are_typed, column_names};
+ghost use Rattle.dbl_model_table.specs.Tables.{is_key, is_table, is_unfit};
 
 use crate::capturing::first_unfit;
 use crate::table::{Column, TableInfo, TableName};

@@ -1,6 +1,7 @@
 ghost use Rattle.std.specs.Prelude.{◌≡◌, IsTrue, IfOk};
 ghost use Rattle.std.specs.List.{list_all};
-ghost use Rattle.dbl_model_table.specs.Tables.{is_name_byte, is_name, is_watermark, is_good_name, is_table};
+ghost use Rattle.dbl_model_table.specs.Tables.{is_name_byte, is_name, is_watermark};
+ghost use Rattle.dbl_model_table.specs.Tables.{is_good_name, is_table};
 
 use dbl_base::{DeepCopy, Seq, Text};
 use dbl_value::PgType;

@@ -1,4 +1,4 @@
--- What is read is what was written, and what was written is read again: bytes, and items behind their number.
+-- What is read is what was written, and what was written is read again: bytes, and items after their number.
 use Rattle.std.proofs.Common.{◌≡◌, ℕ, ◌^◌, ◌<◌, List, [], ◌∷◌, ◌++◌, length, Option, Some, None, Ok, refl, sym, subst, append_assoc, arith}
 use Rattle.std.specs.Int.{w32}
 use Rattle.std.specs.List.{flat_map, AllByRecursion}

@@ -60,10 +60,10 @@ weaker a s t c F G same said p = record { long = p.long ∙ ap (λ (n : ℕ). ca
 pub plain : (a s c : ℕ) → c ≡ capped (a + s) → Measures a s (Unit {0}) c
 plain a s c h = record { long = h; fits = λ le. tt }
 
--- ---- items one behind the other
+-- ---- items one after the other
 
 module _ {A : Type 0} (form : A → List ℕ) (Held : A → Type 0) where
-  -- what the items from i on come to behind what was counted, all of them come to behind what stood before
+  -- what the items from i on amount to after what was counted, all of them amount to after what stood before
   abbrev pub Rest : (before now : ℕ) (items : List A) (i : ℕ) → Type 0
   Rest before now items i = (r : ℕ) → Measures now (length (flat_map form (drop i items))) (AllByRecursion Held (drop i items)) r → Measures before (length (flat_map form items)) (AllByRecursion Held items) r
 
@@ -136,7 +136,7 @@ zip_at xs ys i x y long lt first second = λ j. sym (get_or-zip xs ys i (x, y) l
 pub zip_long : {A B : Type 0} (xs : List A) (ys : List B) → length ys ≡ length xs → length (zip xs ys) ≡ length xs
 zip_long xs ys long = omega (arith, length-zip xs ys, long)
 
--- the fields behind the format's number
+-- the fields after the format's number
 pub spelling_size : (o : Offset) → length (offset_bytes_form o) ≡ 1 + length (names o.identity) + 36 + length (flat_map entry (tables_with_cursors o))
 unfolding offset_bytes_form
 spelling_size o = simp (length-append, number64_size, counted_size) (omega arith)
@@ -162,7 +162,7 @@ offset_measured a b c o of_names of_numbers of_tables =
 pub held_at : {A : Type 0} (P : A → Type 0) (xs : List A) (i : ℕ) (x : A) → AllByRecursion P xs → i < length xs → x ≡ get_or xs i x → P x
 held_at P xs i x all lt is = subst P (sym is) (All-get_or P xs i x lt (All-from_recursion P xs all))
 
--- the parts of an offset, each written behind the others and what stood there
+-- the parts of an offset, each written after the others and what stood there
 pub written_whole : (offset : Offset) (old a b c d e f g h : List ℕ) → a ≡ old ++ 1 ∷ [] → b ≡ a ++ names offset.identity → c ≡ b ++ number64 offset.incarnation → d ≡ c ++ number64 offset.start.0 → e ≡ d ++ number64 offset.lsn.0 → f ≡ e ++ number64 offset.end_lsn.0
     → g ≡ f ++ number32 (length (tables_with_cursors offset)) → h ≡ g ++ flat_map entry (tables_with_cursors offset) → h ≡ old ++ offset_bytes_form offset
 unfolding offset_bytes_form counted

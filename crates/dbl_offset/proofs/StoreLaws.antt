@@ -102,11 +102,11 @@ leaves model disk entries entry old offset each last spells left crashed may =
       )
     ]
 
--- how many bytes are taken where an offset is stored behind the entries
+-- how many bytes are taken where an offset is stored after the entries
 pub roomy : (entries : List (List ℕ)) (entry spelled : List ℕ) (gate old new : ℕ) → gate ≡ length (up_to_gate entries) → entry ≡ spelled → new ≤ max old (size (entries ++ entry ∷ [])) → new ≤ max old (gate + 6 + length spelled)
 roomy entries entry spelled gate old new gate_is is most = omega (arith, most, gate_is, ap length is, length-up_to_gate-push entries entry)
 
--- ---- stores that come of one another
+-- ---- stores that extend one another
 
 pub count_one : (bytes : List ℕ) (first second : ℕ) → Counts bytes first → Counts bytes second → first ≡ second
 count_one bytes first second a b = a.is ∙ ap size (one_journal bytes a.entries b.entries a.journal b.journal) ∙ sym b.is
@@ -124,7 +124,7 @@ store_grown model old new offset before after count comes held was told counts =
     let first = count_one before count (size held.entries) counts here in
     (size far.entries, record { entries = far.entries; journal = far.journal; is = refl }, omega (arith, first, far.on), omega (arith, far.short))
 
--- ---- entries as they are read, one behind the other
+-- ---- entries as they are read, one after the other
 
 module _ (entries : List (List ℕ)) (i : ℕ) (entry : List ℕ) (there : slice_get entries i ≡ Some entry) where
   one_more : take (i + 1) entries ≡ take i entries ++ entry ∷ []

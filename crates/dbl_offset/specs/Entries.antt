@@ -56,7 +56,9 @@ tables_with_cursors offset = zip offset.infos offset.cursors
 
 -- The bytes of an offset: the format's number, and the fields.
 unfoldable pub offset_bytes_form : Offset → List ℕ
-offset_bytes_form offset = 1 ∷ (names offset.identity ++ number64 offset.incarnation ++ number64 offset.start.0 ++ number64 offset.lsn.0 ++ number64 offset.end_lsn.0 ++ counted entry (tables_with_cursors offset))
+offset_bytes_form offset =
+    1 ∷ (names offset.identity ++ number64 offset.incarnation ++ number64 offset.start.0 ++ number64 offset.lsn.0
+    ++ number64 offset.end_lsn.0 ++ counted entry (tables_with_cursors offset))
 
 -- ---- the format's limits: texts are UTF-8, and numbers and lengths have the format's number of bits
 

@@ -1,6 +1,7 @@
 -- Reading an entry from left to right: the step between the format and the code. Fields are read as dbl_record reads them. The position of
 -- an error is never reported, so 0 is passed for the number of all bytes.
-use Rattle.std.specs.Prelude.{◌≡◌, ℕ, ℤ, ◌==◌, ◌&&◌, ◌^◌, nat_lt, nat_le, Bool, true, false, List, [], ◌∷◌, length, map, Option, Some, None, Result, Ok, Err, if◌then◌else◌}
+use Rattle.std.specs.Prelude.{◌≡◌, ℕ, ℤ, ◌==◌, ◌&&◌, ◌^◌, nat_lt, nat_le, Bool, true, false, List, []}
+use Rattle.std.specs.Prelude.{◌∷◌, length, map, Option, Some, None, Result, Ok, Err, if◌then◌else◌}
 use Rattle.std.specs.Int.{w32, w64, cast_signed}
 use Rattle.dbl_value.specs.declared.column_type.PgType.{PgType}
 use Rattle.dbl_value.specs.declared.column_type.PgType.TheVariants as type
@@ -54,7 +55,8 @@ offset_column_at bytes = do
   Ok (record { name = name.0; ty = ty }, oid.1)
 
 -- The table of these parts if they are a table's, or else the error.
-abbrev pub made : (name : TableName) (columns : List Column) (key : List ℕ) (b : Bool) → is_table name columns key ≡ b → Result TableInfo RecordError
+abbrev pub made : (name : TableName) (columns : List Column) (key : List ℕ) (b : Bool) → is_table name columns key ≡ b
+    → Result TableInfo RecordError
 made name columns key true sound = Ok (record { name = name; columns = columns; key = key; sound = sound })
 made name columns key false sound = Err no_offset
 
@@ -177,7 +179,8 @@ numbers_at bytes = do
   start ← number_at w64 0 incarnation.1
   lsn ← number_at w64 0 start.1
   end_lsn ← number_at w64 0 lsn.1
-  if nat_lt 0 incarnation.0 && nat_le incarnation.0 (2 ^ 63) && nat_le start.0 lsn.0 then Ok ((incarnation.0, start.0, lsn.0, end_lsn.0), end_lsn.1) else Err no_offset
+  if nat_lt 0 incarnation.0 && nat_le incarnation.0 (2 ^ 63) && nat_le start.0 lsn.0
+      then Ok ((incarnation.0, start.0, lsn.0, end_lsn.0), end_lsn.1) else Err no_offset
 
 -- The value, or the error if bytes are left.
 unfoldable pub ended : {X : Type 0} → X × List ℕ → Result X RecordError

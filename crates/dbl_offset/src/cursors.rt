@@ -4,7 +4,9 @@ ghost use Rattle.std.specs.Prelude.{◌≡◌, map};
 ghost use Rattle.dbl_record.specs.GroupReading.{Gives};
 ghost use Rattle.dbl_model_table.specs.Tables.{type_at};
 ghost use Rattle.dbl_model_table.specs.Infos.{key_types};
-ghost use Rattle.dbl_offset.specs.Reading.{offset_cell_at, cells_at, cursor_at, table_cursor_at, integer_at, is_integer_of, offset_key_at, last_at, word_at};
+ghost use Rattle.dbl_offset.specs.Reading.{offset_cell_at, cells_at, cursor_at};
+ghost use Rattle.dbl_offset.specs.Reading.{table_cursor_at, integer_at, is_integer_of};
+ghost use Rattle.dbl_offset.specs.Reading.{offset_key_at, last_at, word_at};
 
 use crate::reading::{NO_OFFSET, byte};
 use crate::tables::read_table;

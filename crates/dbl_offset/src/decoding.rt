@@ -6,7 +6,8 @@ ghost use Rattle.dbl_record.specs.GroupReading.{Gives, many_at};
 ghost use Rattle.dbl_model_table.specs.Tables.{are_distinct, same_name};
 ghost use Rattle.dbl_offset.specs.declared.offset.Offset.{Offset};
 ghost use Rattle.dbl_offset.specs.Offsets.{IsOffsetEntry, EncodesOffset};
-ghost use Rattle.dbl_offset.specs.Reading.{table_cursor_at, identity_at, numbers_at, offset_at, tables_at, version_at, whole};
+ghost use Rattle.dbl_offset.specs.Reading.{table_cursor_at, identity_at, numbers_at};
+ghost use Rattle.dbl_offset.specs.Reading.{offset_at, tables_at, version_at, whole};
 
 use crate::cursors::read_entry;
 use crate::offset::Offset;
@@ -181,7 +182,8 @@ fn read_whole(alloc: Global, bytes: &[u8]) -> Result<Offset, RecordError>
 /// The offset that the bytes encode.
 pub(crate) fn decode(alloc: Global, bytes: &[u8]) -> Result<Offset, RecordError>
     ensures read { IfOk result (λ offset. EncodesOffset bytes.now offset) }
-    ensures refused { (at : ℕ) → result ≡ Err (RecordError.BadRecord at) → ¬ IsOffsetEntry bytes.now }
+    ensures refused { (at : ℕ) → result ≡ Err (RecordError.BadRecord at)
+        → ¬ IsOffsetEntry bytes.now }
 {
     read_whole(alloc, bytes)
 }

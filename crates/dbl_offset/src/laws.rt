@@ -4,7 +4,8 @@ ghost use Rattle.std.specs.Prelude.{◌≡◌, ◌⊎◌, ℕ, ◌+◌, ◌≤�
 ghost use Rattle.dbl_offset.specs.declared.offset.Offset.{Offset};
 ghost use Rattle.dbl_offset.specs.Entries.{FitsOffset, offset_bytes_form};
 ghost use Rattle.dbl_offset.specs.Offsets.{IsOffset, EncodesOffset};
-ghost use Rattle.dbl_offset.specs.Stores.{ExtendsOffsets, Counts, HasBadOffset, HoldsOffset, IsNoStoreAt, IsStore, LeavesOffset};
+ghost use Rattle.dbl_offset.specs.Stores.{ExtendsOffsets, Counts, HasBadOffset};
+ghost use Rattle.dbl_offset.specs.Stores.{HoldsOffset, IsNoStoreAt, IsStore, LeavesOffset};
 ghost use Rattle.dbl_offset.specs.Stores.{MayLeaveOffset, StoreOn, disk_of};
 ghost use Rattle.dbl_journal.specs.Growth.{growth_room};
 

@@ -4,8 +4,9 @@ ghost use Rattle.std.specs.Prelude.{◌≡◌, ◌<◌, ◌^◌, length, FitsSig
 ghost use Rattle.std.specs.Int.{w64};
 ghost use Rattle.std.specs.List.{AllByRecursion, flat_map, zip};
 ghost use Rattle.dbl_record.specs.Fields.{IsStored, number32, text_form};
-ghost use Rattle.dbl_offset.specs.Entries.{FitsOffset, FitsKeyCell, FitsTableColumn, FitsCursor, FitsTableCursor, FitsNames, FitsTable};
-ghost use Rattle.dbl_offset.specs.Entries.{cell, column, counted, cursor, entry, names, offset_bytes_form, table};
+ghost use Rattle.dbl_offset.specs.Entries.{FitsOffset, FitsKeyCell, FitsTableColumn, FitsCursor};
+ghost use Rattle.dbl_offset.specs.Entries.{FitsTableCursor, FitsNames, FitsTable, cell, column};
+ghost use Rattle.dbl_offset.specs.Entries.{counted, cursor, entry, names, offset_bytes_form, table};
 ghost use Rattle.dbl_offset.specs.Measures.{Measures};
 
 use crate::offset::Offset;

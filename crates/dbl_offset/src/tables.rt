@@ -50,7 +50,8 @@ fn read_each_column(
 
 #[tactic(auto, unfolding(crate::specs::Reading::offset_items_at))]
 fn read_columns(alloc: Global, bytes: &[u8]) -> Result<(Vec<Column>, &[u8]), RecordError>
-    ensures { Gives (λ x. (x.0.items, x.1.now)) result (offset_items_at offset_column_at bytes.now) }
+    ensures { Gives (λ x. (x.0.items, x.1.now)) result
+        (offset_items_at offset_column_at bytes.now) }
 {
     let (count, rest) = read_number32(0, bytes)?;
     read_each_column(alloc, count as usize, rest)
@@ -75,7 +76,8 @@ fn read_each_place(
 
 #[tactic(auto, unfolding(crate::specs::Reading::offset_items_at))]
 fn read_places(alloc: Global, bytes: &[u8]) -> Result<(Vec<u32>, &[u8]), RecordError>
-    ensures { Gives (λ x. (x.0.items, x.1.now)) result (offset_items_at (number_at w32 0) bytes.now) }
+    ensures { Gives (λ x. (x.0.items, x.1.now)) result
+        (offset_items_at (number_at w32 0) bytes.now) }
 {
     let (count, rest) = read_number32(0, bytes)?;
     read_each_place(alloc, count as usize, rest)

@@ -3,8 +3,10 @@
 ghost use Rattle.std.specs.Prelude.{◌≡◌, ◌<◌, ◌≤◌, ◌^◌, length, drop, IfOk, OnOk};
 ghost use Rattle.std.specs.List.{AllByRecursion, flat_map, zip};
 ghost use Rattle.dbl_record.specs.Fields.{Extends, number32};
-ghost use Rattle.dbl_offset.specs.Entries.{FitsOffset, FitsKeyCell, FitsTableColumn, FitsCursor, FitsTableCursor, FitsNames, FitsTable};
-ghost use Rattle.dbl_offset.specs.Entries.{cell, column, counted, cursor, entry, last_key_form, names, offset_bytes_form, table};
+ghost use Rattle.dbl_offset.specs.Entries.{FitsOffset, FitsKeyCell, FitsTableColumn};
+ghost use Rattle.dbl_offset.specs.Entries.{FitsCursor, FitsTableCursor, FitsNames};
+ghost use Rattle.dbl_offset.specs.Entries.{FitsTable, cell, column, counted, cursor, entry};
+ghost use Rattle.dbl_offset.specs.Entries.{last_key_form, names, offset_bytes_form, table};
 ghost use Rattle.dbl_journal.specs.Form.{entry_limit};
 
 use crate::decoding::VERSION;

@@ -44,7 +44,7 @@ whole_again bytes m spells =
     let read : message_at (length (spelling m)) (spelling m) ≡ Ok (m, []) = ap (message_at (length (spelling m))) (sym (append-nil (spelling m))) ∙ message_again (length (spelling m)) m [] spells.fits.fields in
     ap whole spells.spelled ∙ rw (short, read) refl
 
--- no field is wanted behind a message
+-- no field is wanted after a message
 pub none_at : (error : MsgError) (at : ℕ) (bytes : List ℕ) → FaultAt error at [] bytes → ⊥
 none_at error at bytes h = elim h [ ]
 

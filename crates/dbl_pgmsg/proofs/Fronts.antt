@@ -7,8 +7,8 @@ use Rattle.dbl_pgmsg.specs.Room.{Begins}
 pub begins_same : (old new : List ℕ) → new ≡ old → Begins old new
 begins_same old new e = record { subsequent = []; parts = e ∙ sym (append-nil old) }
 
-pub begins_batch : (old bytes mid new : List ℕ) → mid ≡ old ++ bytes → Begins mid new → Begins old new
-begins_batch old bytes mid new e b = record { subsequent = bytes ++ b.subsequent; parts = b.parts ∙ ap (λ (w : List ℕ). w ++ b.subsequent) e ∙ append_assoc old bytes b.subsequent }
+pub begins_front : (old bytes mid new : List ℕ) → mid ≡ old ++ bytes → Begins mid new → Begins old new
+begins_front old bytes mid new e b = record { subsequent = bytes ++ b.subsequent; parts = b.parts ∙ ap (λ (w : List ℕ). w ++ b.subsequent) e ∙ append_assoc old bytes b.subsequent }
 
 pub begins_cut : (old new : List ℕ) → Begins old new → take (length old) new ≡ old
 begins_cut old new b = ap (take (length old)) b.parts ∙ take-append_seam old b.subsequent

@@ -181,7 +181,7 @@ module _ (total : ℕ) where
       walk_next total _ (walk_int total w32 rest le) (λ oid rest le.
       walk_next total _ (walk_signed total w32 rest le) (λ modifier rest le. walk_done total _ rest le))))
 
-  -- ---- messages, behind their tags
+  -- ---- messages, after their tags
 
   begin_walk : (bytes : List ℕ) → length bytes ≤ total → Walk total (Int64 ∷ Int64 ∷ Int32 ∷ []) bytes (begin_at total bytes)
   unfolding begin_at

@@ -1,4 +1,4 @@
--- A message that is cut is truncated at its end, and bytes behind a message trail.
+-- A message that is cut is truncated at its end, and bytes after a message trail.
 use Rattle.std.proofs.Common.{◌≡◌, ◌≢◌, ◌⊎◌, ◌↔◌, ℕ, ◌+◌, ◌-◌, ◌^◌, ◌≤◌, Bool, true, false, cond, eqb, ltb, leb, List, [], ◌∷◌, ◌++◌, length, get_or, Result, Ok, Err, refl, sym, ap, subst, ◌∙◌, append_assoc, arith, inl, inr}
 use Rattle.std.specs.Int.{w16, w32, from_be_bytes}
 use Rattle.std.specs.Str.{is_utf8}
@@ -102,7 +102,7 @@ truncated_at_end bytes at (too_long lt is) = absurd cc
 truncated_at_end bytes at (in_field le h) = omega (arith, ends_at (Truncated at) 0 (Tag ∷ []) bytes at refl h)
 truncated_at_end bytes at (trailing le t) = absurd (let is = t.is in cc)
 
--- ---- trailing bytes behind a message alone
+-- ---- trailing bytes after a message alone
 
 trails_none : (error : MsgError) (at : ℕ) (fields : List Field) (bytes : List ℕ) (k : ℕ) → error ≡ TrailingBytes k → FaultAt error at fields bytes → ⊥
 trails_none error at fields bytes k is (cut is_cut e) = let same = sym is ∙ e in cc

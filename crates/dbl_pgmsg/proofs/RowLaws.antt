@@ -14,7 +14,7 @@ pub chosen : {A : Type 0} (b : Bool) (x y z : A) → cond b x y ≡ z → ((b �
 chosen true x y z e = inl (refl, e)
 chosen false x y z e = inr (refl, e)
 
--- ---- items behind their number
+-- ---- items after their number
 
 module _ {A : Type 0} {item : List ℕ → Read A} {spell : A → List ℕ} {Fits : A → Type 0} (reads : Reads item spell Fits) where
   counted_again : (total : ℕ) (xs : List A) (rest : List ℕ) → (length xs ≤ 1600) × AllByRecursion Fits xs → counted_at item total ((int16 (length xs) ++ flat_map spell xs) ++ rest) ≡ Ok (xs, rest)

@@ -55,7 +55,7 @@ column_leaves room left c None flags oid modifier sum h = λ fits. omega (arith,
 pub column_none : (room : ℕ) (c : RelationColumn) → room < 9 → room < length (column c)
 column_none room c lt = omega (arith, column_size c)
 
--- ---- items one behind the other
+-- ---- items one after the other
 
 module _ {A : Type 0} (spell : A → List ℕ) (Fits : A → Type 0) where
   -- what the items from i on leave of what is left, all of them leave of the room
@@ -85,7 +85,7 @@ module _ {A : Type 0} (spell : A → List ℕ) (Fits : A → Type 0) where
       let end : Leaves left (length (flat_map spell (drop i items))) (AllByRecursion Fits (drop i items)) (Some left) = subst (λ (xs : List A). Leaves left (length (flat_map spell xs)) (AllByRecursion Fits xs) (Some left)) (sym e) (tt, omega arith) in
       rest (Some left) end
 
--- ---- items written one behind the other
+-- ---- items written one after the other
 
 module _ {A : Type 0} (spell : A → List ℕ) where
   pub written_goes : (out new total : List ℕ) (items : List A) (i : ℕ) (x default : A) → i < length items → x ≡ get_or items i default → new ≡ out ++ spell x → out ++ flat_map spell (drop i items) ≡ total → new ++ flat_map spell (drop (i + 1) items) ≡ total

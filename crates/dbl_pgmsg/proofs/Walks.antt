@@ -14,7 +14,7 @@ use Rattle.dbl_pgmsg.proofs.FieldLaws.{before_zero_again}
 
 -- ---- a field is whole in one way at most, and cut in none
 
--- the content of a field and what stands behind it
+-- the content of a field and what is after it
 abbrev split : Option ℕ → List ℕ → Option (List ℕ × List ℕ)
 split (Some n) bytes = cond (ltb (length bytes) n) None (Some (take n bytes, drop n bytes))
 split None bytes = before_zero bytes
@@ -71,7 +71,7 @@ first_cut error at field others bytes is_cut (later content rest more whole e h)
 -- ---- reading, where these fields are wanted
 
 module _ (total : ℕ) where
-  -- the fault that is left when this was read and these fields are wanted behind it
+  -- the fault that is left when this was read and these fields are wanted after it
   abbrev pub After : {A : Type 0} → List Field → Read A → MsgError → Type 0
   After others (Ok x) error = FaultAt error (total - length x.1) others x.1
   After others (Err e) error = e ≡ error
@@ -105,7 +105,7 @@ module _ (total : ℕ) where
         back = λ others error h. subst (λ (fs : List Field). FaultAt error (total - length bytes) fs bytes) (sym (append_assoc fields more others)) (first.back (more ++ others) error h);
       }
 
-  -- a first field, and what is read behind it
+  -- a first field, and what is read after it
   pub walk_next : {A B : Type 0} {field : Field} {more : List Field} {bytes : List ℕ} {read : Read A} (next : A × List ℕ → Read B) → Walk (field ∷ []) bytes read → ((x : A) (rest : List ℕ) → length rest ≤ total → Walk more rest (next (x, rest)))
       → Walk (field ∷ more) bytes (read >>= next)
   walk_next {field = field} {more = more} {bytes = bytes} {read = read} next first second = walk_then (field ∷ []) more bytes read next first second
@@ -117,7 +117,7 @@ module _ (total : ℕ) where
 
   -- ---- one field
 
-  -- what is read behind a field agrees with what stands behind it
+  -- what is read after a field agrees with what is after it
   abbrev pub Agrees : {A : Type 0} → Result (List Field) MsgError → List ℕ → Read A → Type 0
   Agrees (Ok more) rest read = Walk more rest read
   Agrees (Err e) rest read = read ≡ Err e

@@ -10,9 +10,12 @@ use Rattle.dbl_pgmsg.specs.Fields.{Field, Tag, width, fields_after, form, IsWhol
 -- The fault of bytes from the offset `at` on, where these fields are expected: a truncated field, reported at the end of the bytes; an
 -- invalid value; or, after a valid field, the fault of the rest.
 pub data FaultAt (error : MsgError) : ℕ → List Field → List ℕ → Type 0 where
-  cut : {at : ℕ} {field : Field} {fields : List Field} {bytes : List ℕ} → IsCut (width field) bytes → error ≡ Truncated (at + length bytes) → FaultAt error at (field ∷ fields) bytes
-  wrong : {at : ℕ} {field : Field} {fields : List Field} {bytes : List ℕ} (content rest : List ℕ) → IsWhole field content rest bytes → fields_after field at content ≡ Err error → FaultAt error at (field ∷ fields) bytes
-  later : {at : ℕ} {field : Field} {fields : List Field} {bytes : List ℕ} (content rest : List ℕ) (more : List Field) → IsWhole field content rest bytes → fields_after field at content ≡ Ok more
+  cut : {at : ℕ} {field : Field} {fields : List Field} {bytes : List ℕ} → IsCut (width field) bytes → error ≡ Truncated (at + length bytes)
+      → FaultAt error at (field ∷ fields) bytes
+  wrong : {at : ℕ} {field : Field} {fields : List Field} {bytes : List ℕ} (content rest : List ℕ) → IsWhole field content rest bytes
+      → fields_after field at content ≡ Err error → FaultAt error at (field ∷ fields) bytes
+  later : {at : ℕ} {field : Field} {fields : List Field} {bytes : List ℕ} (content rest : List ℕ) (more : List Field)
+      → IsWhole field content rest bytes → fields_after field at content ≡ Ok more
       → FaultAt error (at + length (form (width field) content)) (more ++ fields) rest → FaultAt error at (field ∷ fields) bytes
 
 -- bytes follow a complete message, and the error reports the offset of the first

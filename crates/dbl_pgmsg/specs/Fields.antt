@@ -1,10 +1,12 @@
 -- The sequence of fields of the messages: PostgreSQL's "Logical Replication Message Formats", protocol version 1, without the values.
-use Rattle.std.specs.Prelude.{◌≡◌, ◌≢◌, ◌<◌, ◌^◌, ◌==◌, ℕ, zero, suc, List, [], ◌∷◌, ◌++◌, length, get_or, Option, Some, None, Result, Ok, Err, nat_lt, nat_le, if◌then◌else◌}
+use Rattle.std.specs.Prelude.{◌≡◌, ◌≢◌, ◌<◌, ◌^◌, ◌==◌, ℕ, zero, suc, List, [], ◌∷◌, ◌++◌, length, get_or}
+use Rattle.std.specs.Prelude.{Option, Some, None, Result, Ok, Err, nat_lt, nat_le, if◌then◌else◌}
 use Rattle.std.specs.List.{AllByRecursion}
 use Rattle.std.specs.Str.{byte, is_utf8}
 use Rattle.std.specs.Int.{w16, w32, from_be_bytes}
 use Rattle.dbl_pgmsg.specs.declared.error.MsgError.{MsgError}
-use Rattle.dbl_pgmsg.specs.declared.error.MsgError.TheVariants.{UnknownTag, BadIdentity, BadTupleTag, BadNewTag, NotUtf8, NegativeLength, BinaryColumn, TooManyColumns}
+use Rattle.dbl_pgmsg.specs.declared.error.MsgError.TheVariants.{UnknownTag, BadIdentity, BadTupleTag, BadNewTag}
+use Rattle.dbl_pgmsg.specs.declared.error.MsgError.TheVariants.{NotUtf8, NegativeLength, BinaryColumn, TooManyColumns}
 use Rattle.dbl_pgmsg.specs.Grammar.{string, is_identity}
 
 -- a kind of field in a message
@@ -125,7 +127,8 @@ fields_after (Characters n) at content = utf8_fields at content
 fields_after ContentLength at content = let n = from_be_bytes w32 content in sized at n (Raw n ∷ [])
 fields_after New at content = new_fields at (get_or content 0 0)
 fields_after Old at content = old_fields at (get_or content 0 0) []
-fields_after OldOrNew at content = if get_or content 0 0 == byte "N" then Ok (CellCount ∷ []) else old_fields at (get_or content 0 0) (New ∷ [])
+fields_after OldOrNew at content = if get_or content 0 0 == byte "N" then Ok (CellCount ∷ [])
+    else old_fields at (get_or content 0 0) (New ∷ [])
 
 -- ---- fields among bytes
 

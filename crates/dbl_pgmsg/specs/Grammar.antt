@@ -1,10 +1,12 @@
 -- The messages as bytes: PostgreSQL's "Logical Replication Message Formats", protocol version 1.
-use Rattle.std.specs.Prelude.{◌≡◌, ◌≢◌, ◌<◌, ◌≤◌, ◌^◌, ℕ, ℤ, ◌==◌, ◌||◌, Bool, IsTrue, Option, Some, None, List, [], ◌∷◌, ◌++◌, length, flat_map, IsUtf8, FitsSigned}
+use Rattle.std.specs.Prelude.{◌≡◌, ◌≢◌, ◌<◌, ◌≤◌, ◌^◌, ℕ, ℤ, ◌==◌, ◌||◌, Bool, IsTrue, Option, Some}
+use Rattle.std.specs.Prelude.{None, List, [], ◌∷◌, ◌++◌, length, flat_map, IsUtf8, FitsSigned}
 use Rattle.std.specs.List.{AllByRecursion}
 use Rattle.std.specs.Str.{byte}
 use Rattle.std.specs.Int.{w16, w32, w64, to_be_bytes, cast_unsigned}
 use Rattle.dbl_pgmsg.specs.declared.messages.Message.{Message}
-use Rattle.dbl_pgmsg.specs.declared.messages.Message.TheVariants.{Begin, Commit, Origin, TypeName, Relation, Insert, Update, Delete, Truncate, Logical}
+use Rattle.dbl_pgmsg.specs.declared.messages.Message.TheVariants.{Begin, Commit, Origin, TypeName, Relation}
+use Rattle.dbl_pgmsg.specs.declared.messages.Message.TheVariants.{Insert, Update, Delete, Truncate, Logical}
 use Rattle.dbl_pgmsg.specs.declared.messages.RelationColumn.{RelationColumn}
 use Rattle.dbl_pgmsg.specs.declared.messages.Tuple.{Tuple}
 use Rattle.dbl_pgmsg.specs.declared.messages.OldTuple.{OldTuple}
@@ -66,7 +68,8 @@ spelling (Begin lsn time xid) = byte "B" ∷ [] ++ int64 lsn.0 ++ signed64 time 
 spelling (Commit flags lsn end_lsn time) = byte "C" ∷ flags ∷ [] ++ int64 lsn.0 ++ int64 end_lsn.0 ++ signed64 time
 spelling (Origin lsn name) = byte "O" ∷ [] ++ int64 lsn.0 ++ string name
 spelling (TypeName oid namespace name) = byte "Y" ∷ [] ++ int32 oid ++ string namespace ++ string name
-spelling (Relation oid namespace name identity columns) = byte "R" ∷ [] ++ int32 oid ++ string namespace ++ string name ++ identity ∷ [] ++ int16 (length columns) ++ flat_map column columns
+spelling (Relation oid namespace name identity columns) = byte "R" ∷ [] ++ int32 oid ++ string namespace ++ string name ++ identity ∷ []
+    ++ int16 (length columns) ++ flat_map column columns
 spelling (Insert oid row) = byte "I" ∷ [] ++ int32 oid ++ byte "N" ∷ [] ++ tuple row
 spelling (Update oid before row) = byte "U" ∷ [] ++ int32 oid ++ optional_tuple before ++ byte "N" ∷ [] ++ tuple row
 spelling (Delete oid before) = byte "D" ∷ [] ++ int32 oid ++ old_tuple before
@@ -121,12 +124,14 @@ FitsFields (Begin lsn time xid) = (lsn.0 < 2 ^ 64) × FitsSigned w64 time × (xi
 FitsFields (Commit flags lsn end_lsn time) = (flags < 2 ^ 8) × (lsn.0 < 2 ^ 64) × (end_lsn.0 < 2 ^ 64) × FitsSigned w64 time
 FitsFields (Origin lsn name) = (lsn.0 < 2 ^ 64) × IsString name
 FitsFields (TypeName oid namespace name) = (oid < 2 ^ 32) × IsString namespace × IsString name
-FitsFields (Relation oid namespace name identity columns) = (oid < 2 ^ 32) × IsString namespace × IsString name × IsTrue (is_identity identity) × (length columns ≤ 1600) × AllByRecursion FitsColumn columns
+FitsFields (Relation oid namespace name identity columns) = (oid < 2 ^ 32) × IsString namespace × IsString name
+    × IsTrue (is_identity identity) × (length columns ≤ 1600) × AllByRecursion FitsColumn columns
 FitsFields (Insert oid row) = (oid < 2 ^ 32) × FitsTuple row
 FitsFields (Update oid before row) = (oid < 2 ^ 32) × FitsOptional before × FitsTuple row
 FitsFields (Delete oid before) = (oid < 2 ^ 32) × FitsOld before
 FitsFields (Truncate options oids) = (options < 2 ^ 8) × (length oids < 2 ^ 31) × AllByRecursion (λ oid. oid < 2 ^ 32) oids
-FitsFields (Logical flags lsn prefix content) = (flags < 2 ^ 8) × (lsn.0 < 2 ^ 64) × IsString prefix × (length content < 2 ^ 31) × AllByRecursion (λ b. b < 2 ^ 8) content
+FitsFields (Logical flags lsn prefix content) = (flags < 2 ^ 8) × (lsn.0 < 2 ^ 64) × IsString prefix × (length content < 2 ^ 31)
+    × AllByRecursion (λ b. b < 2 ^ 8) content
 
 -- the maximum length of a message in bytes
 abbrev pub message_limit : ℕ

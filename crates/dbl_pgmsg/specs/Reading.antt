@@ -1,11 +1,14 @@
 -- Reading a message from left to right, up to the first fault; `total` is the length of the message, and `bytes` what is left of it.
-use Rattle.std.specs.Prelude.{◌≡◌, ◌⊎◌, ℕ, ℤ, zero, suc, ◌-◌, ◌^◌, ◌==◌, List, [], ◌∷◌, length, take, drop, Option, Some, None, Result, Ok, Err, nat_lt, nat_le, option_map, if◌then◌else◌}
+use Rattle.std.specs.Prelude.{◌≡◌, ◌⊎◌, ℕ, ℤ, zero, suc, ◌-◌, ◌^◌, ◌==◌, List, [], ◌∷◌, length, take, drop}
+use Rattle.std.specs.Prelude.{Option, Some, None, Result, Ok, Err, nat_lt, nat_le, option_map, if◌then◌else◌}
 use Rattle.std.specs.Str.{byte, is_utf8}
 use Rattle.std.specs.Int.{Width, w16, w32, w64, byte_len, from_be_bytes, cast_signed}
 use Rattle.dbl_pgmsg.specs.declared.error.MsgError.{MsgError}
-use Rattle.dbl_pgmsg.specs.declared.error.MsgError.TheVariants.{UnknownTag, Truncated, TrailingBytes, BadIdentity, BadTupleTag, BadNewTag, NotUtf8, NegativeLength, BinaryColumn, TooLong, TooManyColumns, Memory}
+use Rattle.dbl_pgmsg.specs.declared.error.MsgError.TheVariants.{UnknownTag, Truncated, TrailingBytes, BadIdentity, BadTupleTag, BadNewTag}
+use Rattle.dbl_pgmsg.specs.declared.error.MsgError.TheVariants.{NotUtf8, NegativeLength, BinaryColumn, TooLong, TooManyColumns, Memory}
 use Rattle.dbl_pgmsg.specs.declared.messages.Message.{Message}
-use Rattle.dbl_pgmsg.specs.declared.messages.Message.TheVariants.{Begin, Commit, Origin, TypeName, Relation, Insert, Update, Delete, Truncate, Logical}
+use Rattle.dbl_pgmsg.specs.declared.messages.Message.TheVariants.{Begin, Commit, Origin, TypeName, Relation}
+use Rattle.dbl_pgmsg.specs.declared.messages.Message.TheVariants.{Insert, Update, Delete, Truncate, Logical}
 use Rattle.dbl_pgmsg.specs.declared.messages.RelationColumn.{RelationColumn}
 use Rattle.dbl_pgmsg.specs.declared.messages.Tuple.{Tuple}
 use Rattle.dbl_pgmsg.specs.declared.messages.OldTuple.{OldTuple}
@@ -42,7 +45,8 @@ byte_at total (b ∷ rest) = Ok (b, rest)
 
 -- a big-endian number
 unfoldable pub number_at : Width → ℕ → List ℕ → Read ℕ
-number_at w total bytes = if nat_lt (length bytes) (byte_len w) then Err (Truncated total) else Ok (from_be_bytes w (take (byte_len w) bytes), drop (byte_len w) bytes)
+number_at w total bytes = if nat_lt (length bytes) (byte_len w) then Err (Truncated total)
+    else Ok (from_be_bytes w (take (byte_len w) bytes), drop (byte_len w) bytes)
 
 -- a signed big-endian number in two's complement
 unfoldable pub signed_at : Width → ℕ → List ℕ → Read ℤ

@@ -1,12 +1,13 @@
 //! Which messages can be encoded, checked without writing; `room` is the number of bytes that the
 //! encoding may still take.
 
-ghost use Rattle.std.specs.Prelude.{◌≡◌, ◌<◌, ◌≤◌, ◌↔◌, ◌+◌, ◌*◌, ◌^◌, List, IsTrue, length, flat_map};
+ghost use Rattle.std.specs.Prelude.{◌≡◌, ◌<◌, ◌≤◌, ◌↔◌, ◌+◌, ◌*◌, ◌^◌};
+ghost use Rattle.std.specs.Prelude.{List, IsTrue, length, flat_map};
 ghost use Rattle.std.specs.List.{AllByRecursion};
 ghost use Rattle.std.specs.Option.{SomeIff};
-ghost use Rattle.dbl_pgmsg.specs.Grammar.{string, cell, tuple, old_tuple, optional_tuple, column, spelling};
-ghost use Rattle.dbl_pgmsg.specs.Grammar.{is_identity, IsString, FitsCell, FitsTuple, FitsOld, FitsOptional};
-ghost use Rattle.dbl_pgmsg.specs.Grammar.{FitsColumn, FitsFields, Fits};
+ghost use Rattle.dbl_pgmsg.specs.Grammar.{string, cell, tuple, old_tuple, optional_tuple, column};
+ghost use Rattle.dbl_pgmsg.specs.Grammar.{spelling, is_identity, IsString, FitsCell, FitsTuple};
+ghost use Rattle.dbl_pgmsg.specs.Grammar.{FitsOld, FitsOptional, FitsColumn, FitsFields, Fits};
 ghost use Rattle.dbl_pgmsg.specs.Room.{Leaves};
 
 use crate::decoding::LIMIT;

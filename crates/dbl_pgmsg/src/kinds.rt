@@ -3,9 +3,9 @@
 ghost use Rattle.std.specs.Prelude.{◌≡◌, length};
 ghost use Rattle.std.specs.Int.{w32};
 ghost use Rattle.dbl_pgmsg.specs.declared.messages.Message.{Message};
-ghost use Rattle.dbl_pgmsg.specs.Reading.{Gives, begin_at, commit_at, origin_at, type_name_at, identity_at};
-ghost use Rattle.dbl_pgmsg.specs.Reading.{relation_at, insert_at, update_at, delete_at, number_at, many_at};
-ghost use Rattle.dbl_pgmsg.specs.Reading.{truncate_at, logical_at};
+ghost use Rattle.dbl_pgmsg.specs.Reading.{Gives, begin_at, commit_at, origin_at, type_name_at};
+ghost use Rattle.dbl_pgmsg.specs.Reading.{identity_at, relation_at, insert_at, update_at};
+ghost use Rattle.dbl_pgmsg.specs.Reading.{delete_at, number_at, many_at, truncate_at, logical_at};
 
 use crate::reading::{content, int8, int32, int64, signed64, size, string};
 use crate::rows::{read_before, read_columns, read_new, read_old};

@@ -3,8 +3,8 @@
 
 ghost use Rattle.std.specs.Prelude.{◌≡◌, ◌-◌, length, option_map};
 ghost use Rattle.std.specs.Int.{w16, w32, w64};
-ghost use Rattle.dbl_pgmsg.specs.Reading.{Gives, byte_at, number_at, signed_at, size_at, count_at, utf8_of};
-ghost use Rattle.dbl_pgmsg.specs.Reading.{before_zero, string_at, text_at, content_at};
+ghost use Rattle.dbl_pgmsg.specs.Reading.{Gives, byte_at, number_at, signed_at, size_at, count_at};
+ghost use Rattle.dbl_pgmsg.specs.Reading.{utf8_of, before_zero, string_at, text_at, content_at};
 
 use crate::MsgError;
 use dbl_base::{Bytes, Text};

@@ -1,7 +1,8 @@
 //! Readers of rows and columns.
 
 ghost use Rattle.std.specs.Prelude.{◌≡◌, length};
-ghost use Rattle.dbl_pgmsg.specs.Reading.{Gives, cell_at, many_at, tuple_at, new_at, old_at, before_at, column_at, counted_at};
+ghost use Rattle.dbl_pgmsg.specs.Reading.{Gives, cell_at, many_at, tuple_at, new_at};
+ghost use Rattle.dbl_pgmsg.specs.Reading.{old_at, before_at, column_at, counted_at};
 
 use crate::reading::{count, int8, int32, place, signed32, string, text};
 use crate::{MsgError, OldTuple, RelationColumn, Tuple, TupleCell};

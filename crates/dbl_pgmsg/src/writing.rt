@@ -2,8 +2,9 @@
 
 ghost use Rattle.std.specs.Prelude.{◌≡◌, ◌≤◌, ◌++◌, List, length, flat_map, OnOk, OnErr};
 ghost use Rattle.std.specs.List.{AllByRecursion};
-ghost use Rattle.dbl_pgmsg.specs.Grammar.{int16, int32, int64, signed32, signed64, string, cell, tuple, old_tuple};
-ghost use Rattle.dbl_pgmsg.specs.Grammar.{optional_tuple, column, FitsCell, FitsTuple, FitsOld, FitsOptional};
+ghost use Rattle.dbl_pgmsg.specs.Grammar.{int16, int32, int64, signed32, signed64, string};
+ghost use Rattle.dbl_pgmsg.specs.Grammar.{cell, tuple, old_tuple, optional_tuple, column};
+ghost use Rattle.dbl_pgmsg.specs.Grammar.{FitsCell, FitsTuple, FitsOld, FitsOptional};
 ghost use Rattle.dbl_pgmsg.specs.Room.{Appends, Begins};
 
 use crate::{OldTuple, RelationColumn, Tuple, TupleCell};
@@ -11,7 +12,7 @@ use dbl_base::Text;
 use std::alloc::AllocError;
 
 /// Appends a big-endian 16-bit number.
-#[tactic(auto, using(crate::proofs::Fronts::begins_same, crate::proofs::Fronts::begins_batch), unfolding(crate::specs::Grammar::int16))]
+#[tactic(auto, using(crate::proofs::Fronts::begins_same, crate::proofs::Fronts::begins_front), unfolding(crate::specs::Grammar::int16))]
 pub fn int16(out: &mut Vec<u8>, number: u16) -> Result<(), AllocError>
     ensures written { OnOk result (Appends out.old.items (int16 number) out.new.items) }
     ensures kept { OnErr result (Begins out.old.items out.new.items) }
@@ -20,7 +21,7 @@ pub fn int16(out: &mut Vec<u8>, number: u16) -> Result<(), AllocError>
 }
 
 /// Appends a big-endian 32-bit number.
-#[tactic(auto, using(crate::proofs::Fronts::begins_same, crate::proofs::Fronts::begins_batch), unfolding(crate::specs::Grammar::int32))]
+#[tactic(auto, using(crate::proofs::Fronts::begins_same, crate::proofs::Fronts::begins_front), unfolding(crate::specs::Grammar::int32))]
 pub fn int32(out: &mut Vec<u8>, number: u32) -> Result<(), AllocError>
     ensures written { OnOk result (Appends out.old.items (int32 number) out.new.items) }
     ensures kept { OnErr result (Begins out.old.items out.new.items) }
@@ -29,7 +30,7 @@ pub fn int32(out: &mut Vec<u8>, number: u32) -> Result<(), AllocError>
 }
 
 /// Appends a big-endian 64-bit number.
-#[tactic(auto, using(crate::proofs::Fronts::begins_same, crate::proofs::Fronts::begins_batch), unfolding(crate::specs::Grammar::int64))]
+#[tactic(auto, using(crate::proofs::Fronts::begins_same, crate::proofs::Fronts::begins_front), unfolding(crate::specs::Grammar::int64))]
 pub fn int64(out: &mut Vec<u8>, number: u64) -> Result<(), AllocError>
     ensures written { OnOk result (Appends out.old.items (int64 number) out.new.items) }
     ensures kept { OnErr result (Begins out.old.items out.new.items) }
@@ -38,7 +39,7 @@ pub fn int64(out: &mut Vec<u8>, number: u64) -> Result<(), AllocError>
 }
 
 /// Appends a signed 32-bit number in two's complement.
-#[tactic(auto, using(crate::proofs::Fronts::begins_same, crate::proofs::Fronts::begins_batch))]
+#[tactic(auto, using(crate::proofs::Fronts::begins_same, crate::proofs::Fronts::begins_front))]
 pub fn signed32(out: &mut Vec<u8>, number: &i32) -> Result<(), AllocError>
     ensures written { OnOk result (Appends out.old.items (signed32 number.now) out.new.items) }
     ensures kept { OnErr result (Begins out.old.items out.new.items) }
@@ -47,7 +48,7 @@ pub fn signed32(out: &mut Vec<u8>, number: &i32) -> Result<(), AllocError>
 }
 
 /// Appends a signed 64-bit number in two's complement.
-#[tactic(auto, using(crate::proofs::Fronts::begins_same, crate::proofs::Fronts::begins_batch))]
+#[tactic(auto, using(crate::proofs::Fronts::begins_same, crate::proofs::Fronts::begins_front))]
 pub fn signed64(out: &mut Vec<u8>, number: &i64) -> Result<(), AllocError>
     ensures written { OnOk result (Appends out.old.items (signed64 number.now) out.new.items) }
     ensures kept { OnErr result (Begins out.old.items out.new.items) }
@@ -56,7 +57,7 @@ pub fn signed64(out: &mut Vec<u8>, number: &i64) -> Result<(), AllocError>
 }
 
 /// Appends a zero-terminated text.
-#[tactic(auto, using(crate::proofs::Fronts::begins_same, crate::proofs::Fronts::begins_batch), unfolding(crate::specs::Grammar::string))]
+#[tactic(auto, using(crate::proofs::Fronts::begins_same, crate::proofs::Fronts::begins_front), unfolding(crate::specs::Grammar::string))]
 pub fn string(out: &mut Vec<u8>, text: &Text) -> Result<(), AllocError>
     ensures written { OnOk result (Appends out.old.items (string text.now) out.new.items) }
     ensures kept { OnErr result (Begins out.old.items out.new.items) }
@@ -66,7 +67,7 @@ pub fn string(out: &mut Vec<u8>, text: &Text) -> Result<(), AllocError>
     Ok(())
 }
 
-#[tactic(auto, using(crate::proofs::Fronts::begins_same, crate::proofs::Fronts::begins_batch), unfolding(crate::specs::Grammar::cell))]
+#[tactic(auto, using(crate::proofs::Fronts::begins_same, crate::proofs::Fronts::begins_front), unfolding(crate::specs::Grammar::cell))]
 fn write_cell(out: &mut Vec<u8>, item: &TupleCell) -> Result<(), AllocError>
     requires { FitsCell item.now }
     ensures written { OnOk result (Appends out.old.items (cell item.now) out.new.items) }
@@ -84,7 +85,7 @@ fn write_cell(out: &mut Vec<u8>, item: &TupleCell) -> Result<(), AllocError>
     }
 }
 
-#[tactic(auto, using(crate::proofs::Fronts::begins_same, crate::proofs::Fronts::begins_batch))]
+#[tactic(auto, using(crate::proofs::Fronts::begins_same, crate::proofs::Fronts::begins_front))]
 fn write_cells(out: &mut Vec<u8>, cells: &[TupleCell]) -> Result<(), AllocError>
     requires { AllByRecursion FitsCell cells.now }
     ensures written { OnOk result (Appends out.old.items (flat_map cell cells.now) out.new.items) }
@@ -97,7 +98,7 @@ fn write_cells(out: &mut Vec<u8>, cells: &[TupleCell]) -> Result<(), AllocError>
 }
 
 /// Appends the cells of a row, preceded by their number.
-#[tactic(auto, using(crate::proofs::Fronts::begins_same, crate::proofs::Fronts::begins_batch), unfolding(crate::specs::Grammar::tuple))]
+#[tactic(auto, using(crate::proofs::Fronts::begins_same, crate::proofs::Fronts::begins_front), unfolding(crate::specs::Grammar::tuple))]
 pub fn write_tuple(out: &mut Vec<u8>, row: &Tuple) -> Result<(), AllocError>
     requires { FitsTuple row.now }
     ensures written { OnOk result (Appends out.old.items (tuple row.now) out.new.items) }
@@ -109,7 +110,7 @@ pub fn write_tuple(out: &mut Vec<u8>, row: &Tuple) -> Result<(), AllocError>
 }
 
 /// Appends the old key or the old row, with its tag.
-#[tactic(auto, using(crate::proofs::Fronts::begins_same, crate::proofs::Fronts::begins_batch), unfolding(crate::specs::Grammar::old_tuple))]
+#[tactic(auto, using(crate::proofs::Fronts::begins_same, crate::proofs::Fronts::begins_front), unfolding(crate::specs::Grammar::old_tuple))]
 pub fn write_old(out: &mut Vec<u8>, old: &OldTuple) -> Result<(), AllocError>
     requires { FitsOld old.now }
     ensures written { OnOk result (Appends out.old.items (old_tuple old.now) out.new.items) }
@@ -128,7 +129,7 @@ pub fn write_old(out: &mut Vec<u8>, old: &OldTuple) -> Result<(), AllocError>
 }
 
 /// Appends the old key or row of an Update, if it has one.
-#[tactic(auto, using(crate::proofs::Fronts::begins_same, crate::proofs::Fronts::begins_batch))]
+#[tactic(auto, using(crate::proofs::Fronts::begins_same, crate::proofs::Fronts::begins_front))]
 pub fn write_before(out: &mut Vec<u8>, before: &Option<OldTuple>) -> Result<(), AllocError>
     requires { FitsOptional before.now }
     ensures written { OnOk result
@@ -141,7 +142,7 @@ pub fn write_before(out: &mut Vec<u8>, before: &Option<OldTuple>) -> Result<(), 
     }
 }
 
-#[tactic(auto, using(crate::proofs::Fronts::begins_same, crate::proofs::Fronts::begins_batch), unfolding(crate::specs::Grammar::column))]
+#[tactic(auto, using(crate::proofs::Fronts::begins_same, crate::proofs::Fronts::begins_front), unfolding(crate::specs::Grammar::column))]
 fn write_column(out: &mut Vec<u8>, item: &RelationColumn) -> Result<(), AllocError>
     ensures written { OnOk result (Appends out.old.items (column item.now) out.new.items) }
     ensures kept { OnErr result (Begins out.old.items out.new.items) }
@@ -153,7 +154,7 @@ fn write_column(out: &mut Vec<u8>, item: &RelationColumn) -> Result<(), AllocErr
 }
 
 /// Appends the columns of a Relation.
-#[tactic(auto, using(crate::proofs::Fronts::begins_same, crate::proofs::Fronts::begins_batch))]
+#[tactic(auto, using(crate::proofs::Fronts::begins_same, crate::proofs::Fronts::begins_front))]
 pub fn write_columns(out: &mut Vec<u8>, columns: &[RelationColumn]) -> Result<(), AllocError>
     ensures written { OnOk result
         (Appends out.old.items (flat_map column columns.now) out.new.items) }
@@ -166,7 +167,7 @@ pub fn write_columns(out: &mut Vec<u8>, columns: &[RelationColumn]) -> Result<()
 }
 
 /// Appends the OIDs of a Truncate.
-#[tactic(auto, using(crate::proofs::Fronts::begins_same, crate::proofs::Fronts::begins_batch))]
+#[tactic(auto, using(crate::proofs::Fronts::begins_same, crate::proofs::Fronts::begins_front))]
 pub fn write_oids(out: &mut Vec<u8>, oids: &[u32]) -> Result<(), AllocError>
     ensures written { OnOk result (Appends out.old.items (flat_map int32 oids.now) out.new.items) }
     ensures kept { OnErr result (Begins out.old.items out.new.items) }

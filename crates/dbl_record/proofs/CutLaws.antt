@@ -96,7 +96,7 @@ cut_apart (x ∷ xs) (y ∷ ys) parted = part_behind (x ∷ []) xs y ys (parted_
 
 -- ---- a group of a cut of which some first records are left
 
--- no group begins at any of the items behind the group
+-- no group begins at any of the items after the group
 abbrev Together : List Record → List Record → Type 0
 Together group [] = Unit {0}
 Together group (item ∷ items) = (begins_batch group item ≡ false) × Together (group ++ item ∷ []) items
@@ -141,7 +141,7 @@ torn_here start more group (suc n) t e some =
           ∙ ap (λ (g : List Record). g ∷ []) (sym first);
     }
 
--- the torn group stands behind the first one
+-- the torn group is after the first one
 torn_later : (start : Record) (more : List Record) (item : Record) (groups : List (List Record)) (group : List Record) (n : ℕ) (head : List Record) → Together (start ∷ []) more → begins_batch (start ∷ more) item ≡ true → start ∷ more ≡ head
     → Torn item groups group n → Torn start (head ∷ groups) group n
 torn_later start more item groups group n head t begins e torn = record {

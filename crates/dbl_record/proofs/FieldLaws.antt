@@ -67,7 +67,7 @@ pub record Reads {A : Type 0} (read : List ℕ → Read A) (spell : A → List �
   pub again : (x : A) (rest : List ℕ) → Fits x → read (spell x ++ rest) ≡ Ok (x, rest)
   pub takes : (bytes : List ℕ) (x : A) (rest : List ℕ) → IsBytes bytes → read bytes ≡ Ok (x, rest) → Takes bytes (spell x) rest × Fits x
 
--- what a first step took behind what was taken before, and that the next did not fail
+-- what a first step took after what was taken before, and that the next did not fail
 pub record Took {A B : Type 0} (spell : A → List ℕ) (Fits : A → Type 0) (bytes before : List ℕ) (next : A × List ℕ → Result B RecordError) (y : B) : Type 0 where
   pub value : A
   pub rest : List ℕ

@@ -41,7 +41,7 @@ first_cut place at field others bytes lt (later content rest more whole e h) = a
 -- ---- reading, where these fields are wanted
 
 module _ (total : ℕ) where
-  -- the place that is left when this was read and these fields are wanted behind it
+  -- the place that is left when this was read and these fields are wanted after it
   abbrev pub After : {A : Type 0} → List Field → Read A → ℕ → Type 0
   After others (Ok x) place = DiffersAt place (total - length x.1) others x.1
   After others (Err e) place = e ≡ BadRecord place
@@ -75,7 +75,7 @@ module _ (total : ℕ) where
         back = λ others place h. subst (λ (fs : List Field). DiffersAt place (total - length bytes) fs bytes) (sym (append_assoc fields more others)) (first.back (more ++ others) place h);
       }
 
-  -- a first field, and what is read behind it
+  -- a first field, and what is read after it
   pub walk_next : {A B : Type 0} {field : Field} {more : List Field} {bytes : List ℕ} {read : Read A} (next : A × List ℕ → Read B) → Walk (field ∷ []) bytes read → ((x : A) (rest : List ℕ) → length rest ≤ total → Walk more rest (next (x, rest)))
       → Walk (field ∷ more) bytes (read >>= next)
   walk_next {field = field} {more = more} {bytes = bytes} {read = read} next first second = walk_then (field ∷ []) more bytes read next first second
@@ -87,7 +87,7 @@ module _ (total : ℕ) where
 
   -- ---- one field
 
-  -- what is read behind a field at this place agrees with what stands behind it
+  -- what is read after a field at this place agrees with what is after it
   abbrev pub Agrees : {A : Type 0} → ℕ → Option (List Field) → List ℕ → Read A → Type 0
   Agrees at (Some more) rest read = Walk more rest read
   Agrees at None rest read = read ≡ Err (BadRecord at)

@@ -150,7 +150,7 @@ is_false : (b : Bool) → (b ≡ true → ⊥) → b ≡ false
 is_false true h = absurd (h refl)
 is_false false h = refl
 
--- what stands behind a group
+-- what is after a group
 trailing : (place at : ℕ) (bytes : List ℕ) → DiffersAt place at [] bytes → (bytes ≢ []) × (place ≡ at)
 trailing place at bytes (trails some is) = (some, is)
 

@@ -13,7 +13,7 @@ both {a} {b} {c} {x} {y} p q = record {
   utf8 = IsUtf8-append x y p.utf8 q.utf8;
 }
 
--- the headers as they are appended, `o` and `e` the brackets, `k` and `j` the keys behind their names, and as an object
+-- the headers as they are appended, `o` and `e` the brackets, `k` and `j` the keys after their names, and as an object
 no_key : (o l m u q r p e : List ℕ) → ((o ++ []) ++ []) ++ ((((l ++ m) ++ (u ++ q)) ++ (r ++ p)) ++ e) ≡ (o ++ ((l ++ m) ++ ((u ++ q) ++ (r ++ p)))) ++ e
 no_key o l m u q r p e = simp append_assoc
 

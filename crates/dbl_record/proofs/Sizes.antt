@@ -1,4 +1,4 @@
--- How long forms are, and how a loop writes items one behind the other.
+-- How long forms are, and how a loop writes items one after the other.
 use Rattle.std.proofs.Common.{◌≡◌, ℕ, suc, ◌+◌, ◌<◌, ◌≤◌, List, [], ◌∷◌, ◌++◌, length, get_or, drop, Some, None, refl, sym, ap, ◌∙◌, append_assoc, arith, Option, ◌^◌}
 use Rattle.std.specs.Prelude.{min}
 use Rattle.std.specs.List.{flat_map, AllByRecursion}
@@ -36,7 +36,7 @@ pub group_size : (group : List Record) → length (group_form group) ≡ 4 + len
 unfolding group_form
 group_size group = omega (arith, number32_size (length group), length-append (number32 (length group)) (flat_map record_form group))
 
--- ---- items one behind the other
+-- ---- items one after the other
 
 module _ {A : Type 0} (spell : A → List ℕ) where
   pub next_item : (items : List A) (i : ℕ) (x default : A) → i < length items → x ≡ get_or items i default → drop i items ≡ x ∷ drop (i + 1) items

@@ -1,6 +1,7 @@
 -- The effect of a record on a consumer's tables: Debezium's PostgreSQL connector manual, "Data change events" and "Tombstone events"; the
 -- crate dbl_consume computes it.
-use Rattle.std.specs.Prelude.{ℕ, ◌==◌, ◌||◌, ◌&&◌, List, [], ◌∷◌, Bool, false, if◌then◌else◌, Option, Some, None, is_some, is_none, option_and_then, option_map, unwrap_or, Result, Ok, Err, codes, nat_eq}
+use Rattle.std.specs.Prelude.{ℕ, ◌==◌, ◌||◌, ◌&&◌, List, [], ◌∷◌, Bool, false, if◌then◌else◌, Option, Some, None}
+use Rattle.std.specs.Prelude.{is_some, is_none, option_and_then, option_map, unwrap_or, Result, Ok, Err, codes, nat_eq}
 use Rattle.std.specs.List.{ends_with}
 use Rattle.std.specs.Str.{bytes_eq}
 use Rattle.serde_json.specs.Data.{Data, null, boolean, number, string, array, object, Members, no_members, member}
@@ -33,7 +34,8 @@ is_progress topic = ends_with nat_eq topic (codes ".dblog-progress")
 
 -- the object `payload` of an object that consists of `schema` and `payload`
 abbrev pub payload_of : Members → Option Members
-payload_of ms = if (members_len ms == 2) && is_some (get_member (codes "schema") ms) then option_and_then as_object (get_member (codes "payload") ms) else None
+payload_of ms = if (members_len ms == 2) && is_some (get_member (codes "schema") ms)
+    then option_and_then as_object (get_member (codes "payload") ms) else None
 
 -- a key or a value without the schema envelope that Kafka Connect's JSON converter may add
 abbrev pub bare_value : Data → Data
@@ -43,7 +45,8 @@ bare_value d = unwrap_or (option_map object (option_and_then payload_of (as_obje
 abbrev pub operation_of : List ℕ → Option Operation
 operation_of op =
     if bytes_eq op (codes "c") || bytes_eq op (codes "r") || bytes_eq op (codes "u") then Some Put
-    else (if bytes_eq op (codes "d") then Some Delete else (if bytes_eq op (codes "t") then Some Truncate else (if bytes_eq op (codes "m") then Some Message else None)))
+    else (if bytes_eq op (codes "d") then Some Delete
+    else (if bytes_eq op (codes "t") then Some Truncate else (if bytes_eq op (codes "m") then Some Message else None)))
 
 -- the operation of a value
 abbrev pub operation_in : Data → Result Operation ConsumeError
@@ -88,7 +91,8 @@ set_of placeholder key ms (Some error) = Err error
 
 -- the effect of putting the row `after` under the key's text
 abbrev pub put_of : List ℕ → Data → List ℕ → Result Act ConsumeError
-put_of placeholder value key = or_error BadAfter (λ ms. set_of placeholder key ms (first_error ms)) (option_and_then as_object (get (codes "after") value))
+put_of placeholder value key =
+    or_error BadAfter (λ ms. set_of placeholder key ms (first_error ms)) (option_and_then as_object (get (codes "after") value))
 
 -- the effect of an operation with this key and value
 abbrev pub act_by : List ℕ → Data → Data → Operation → Result Act ConsumeError
@@ -99,7 +103,8 @@ act_by placeholder key value Message = Ok Nothing
 
 -- the effect of a key and a value without schema envelopes; a null value is a tombstone, which follows its delete and has no effect
 abbrev pub act_of_data : List ℕ → Data → Data → Result Act ConsumeError
-act_of_data placeholder key value = if is_some (as_null value) then Ok Nothing else and_go (act_by placeholder key value) (operation_in value)
+act_of_data placeholder key value = if is_some (as_null value) then Ok Nothing
+    else and_go (act_by placeholder key value) (operation_in value)
 
 -- the JSON data of a text (RFC 8259), as parsed by serde_json
 unfoldable pub json_in : List ℕ → Option Data
@@ -119,7 +124,8 @@ reading_of line = record { topic = line.topic; key = json_in line.key; value = j
 unfoldable pub act_of : List ℕ → Reading → Result Act ConsumeError
 act_of placeholder reading =
     if is_progress reading.topic then Ok Nothing
-    else or_error BadJson (λ key. or_error BadJson (λ value. act_of_data placeholder (bare_value key) (bare_value value)) reading.value) reading.key
+    else or_error BadJson (λ key. or_error BadJson (λ value. act_of_data placeholder (bare_value key) (bare_value value)) reading.value)
+    reading.key
 
 -- the effect of a record given by its texts
 abbrev pub act : List ℕ → Line → Result Act ConsumeError

@@ -46,7 +46,8 @@ row_after_result (Err error) key row = row
 
 -- the row at a topic and a key text after one more record
 abbrev pub row_after : List ℕ → List ℕ → List ℕ → Option HeldCells → Reading → Option HeldCells
-row_after placeholder topic key row reading = if bytes_eq reading.topic topic then row_after_result (act_of placeholder reading) key row else row
+row_after placeholder topic key row reading = if bytes_eq reading.topic topic
+    then row_after_result (act_of placeholder reading) key row else row
 
 -- The row at a topic and a key text in the state of the consumer of these records, if there is one.
 abbrev pub consumer_of : List ℕ → List Reading → List ℕ → List ℕ → Option HeldCells

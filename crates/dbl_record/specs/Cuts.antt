@@ -1,5 +1,6 @@
 -- The batches, or groups, in which a list of records is delivered to a sink.
-use Rattle.std.specs.Prelude.{◌≡◌, ◌≢◌, ◌⊎◌, ℕ, ◌≤◌, ◌+◌, ◌==◌, ◌||◌, Bool, not, false, if◌then◌else◌, List, [], ◌∷◌, ◌++◌, length, take, nat_lt}
+use Rattle.std.specs.Prelude.{◌≡◌, ◌≢◌, ◌⊎◌, ℕ, ◌≤◌, ◌+◌, ◌==◌, ◌||◌, Bool, not, false}
+use Rattle.std.specs.Prelude.{if◌then◌else◌, List, [], ◌∷◌, ◌++◌, length, take, nat_lt}
 use Rattle.std.specs.List.{AllByRecursion, flat_map}
 use Rattle.dbl_record.specs.declared.record.Record.{Record}
 use Rattle.dbl_record.specs.Groups.{group_form}
@@ -19,12 +20,14 @@ stands_elsewhere (first ∷ (second ∷ more)) item = stands_elsewhere (second �
 -- A new batch begins at a record if its position differs from the previous record's, or if the batch with it would exceed 1,000 records or
 -- 16,777,216 encoded bytes.
 unfoldable pub begins_batch : List Record → Record → Bool
-begins_batch group item = stands_elsewhere group item || nat_lt 1000 (length group + 1) || nat_lt 16777216 (length (group_form (group ++ item ∷ [])))
+begins_batch group item = stands_elsewhere group item || nat_lt 1000 (length group + 1)
+    || nat_lt 16777216 (length (group_form (group ++ item ∷ [])))
 
 -- the batches of an unfinished batch and the records after it
 abbrev pub batches_after : List Record → List Record → List (List Record)
 batches_after group [] = group ∷ []
-batches_after group (item ∷ items) = if begins_batch group item then group ∷ batches_after (item ∷ []) items else batches_after (group ++ item ∷ []) items
+batches_after group (item ∷ items) = if begins_batch group item then group ∷ batches_after (item ∷ []) items
+    else batches_after (group ++ item ∷ []) items
 
 -- the batches of the records
 abbrev pub cut : List Record → List (List Record)

@@ -1,5 +1,6 @@
 -- The first offset at which bytes that encode no group differ from every encoding.
-use Rattle.std.specs.Prelude.{◌≡◌, ◌≢◌, ◌<◌, ◌+◌, ◌==◌, ℕ, zero, suc, List, [], ◌∷◌, ◌++◌, length, get_or, Option, Some, None, if◌then◌else◌}
+use Rattle.std.specs.Prelude.{◌≡◌, ◌≢◌, ◌<◌, ◌+◌, ◌==◌, ℕ, zero, suc, List, [], ◌∷◌}
+use Rattle.std.specs.Prelude.{◌++◌, length, get_or, Option, Some, None, if◌then◌else◌}
 use Rattle.std.specs.Int.{w32, from_be_bytes}
 use Rattle.std.specs.Str.{is_utf8}
 
@@ -60,9 +61,12 @@ pub record IsWhole (field : Field) (content rest bytes : List ℕ) : Type 0 wher
 -- The offset at which bytes from offset `at` on differ from every encoding, where these fields are expected: the end of truncated bytes,
 -- the first byte of an invalid field, or the first byte after the last field.
 pub data DiffersAt (place : ℕ) : ℕ → List Field → List ℕ → Type 0 where
-  ends : {at : ℕ} {field : Field} {fields : List Field} {bytes : List ℕ} → length bytes < width field → place ≡ at + length bytes → DiffersAt place at (field ∷ fields) bytes
-  wrong : {at : ℕ} {field : Field} {fields : List Field} {bytes : List ℕ} (content rest : List ℕ) → IsWhole field content rest bytes → fields_after field content ≡ None → place ≡ at → DiffersAt place at (field ∷ fields) bytes
-  later : {at : ℕ} {field : Field} {fields : List Field} {bytes : List ℕ} (content rest : List ℕ) (more : List Field) → IsWhole field content rest bytes → fields_after field content ≡ Some more
+  ends : {at : ℕ} {field : Field} {fields : List Field} {bytes : List ℕ} → length bytes < width field → place ≡ at + length bytes
+      → DiffersAt place at (field ∷ fields) bytes
+  wrong : {at : ℕ} {field : Field} {fields : List Field} {bytes : List ℕ} (content rest : List ℕ) → IsWhole field content rest bytes
+      → fields_after field content ≡ None → place ≡ at → DiffersAt place at (field ∷ fields) bytes
+  later : {at : ℕ} {field : Field} {fields : List Field} {bytes : List ℕ} (content rest : List ℕ) (more : List Field)
+      → IsWhole field content rest bytes → fields_after field content ≡ Some more
       → DiffersAt place (at + width field) (more ++ fields) rest → DiffersAt place at (field ∷ fields) bytes
   trails : {at : ℕ} {bytes : List ℕ} → bytes ≢ [] → place ≡ at → DiffersAt place at [] bytes
 

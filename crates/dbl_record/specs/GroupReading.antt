@@ -1,5 +1,6 @@
 -- Reading from left to right: the fields of stored formats, and a group of records.
-use Rattle.std.specs.Prelude.{◌≡◌, ◌⊎◌, ◌-◌, ℕ, zero, suc, ◌==◌, Bool, true, false, List, [], ◌∷◌, length, take, drop, Option, Some, None, Result, Ok, Err, nat_lt, if◌then◌else◌}
+use Rattle.std.specs.Prelude.{◌≡◌, ◌⊎◌, ◌-◌, ℕ, zero, suc, ◌==◌, Bool, true, false, List, [], ◌∷◌, length}
+use Rattle.std.specs.Prelude.{take, drop, Option, Some, None, Result, Ok, Err, nat_lt, if◌then◌else◌}
 use Rattle.std.specs.Int.{Width, w32, w64, byte_len, from_be_bytes}
 use Rattle.std.specs.Str.{is_utf8}
 use Rattle.dbl_record.specs.declared.error.RecordError.{RecordError}
@@ -27,7 +28,8 @@ Gives view (Err e) read = Fails e read
 
 -- a big-endian number
 unfoldable pub number_at : Width → ℕ → List ℕ → Read ℕ
-number_at w total bytes = if nat_lt (length bytes) (byte_len w) then Err (BadRecord total) else Ok (from_be_bytes w (take (byte_len w) bytes), drop (byte_len w) bytes)
+number_at w total bytes = if nat_lt (length bytes) (byte_len w) then Err (BadRecord total)
+    else Ok (from_be_bytes w (take (byte_len w) bytes), drop (byte_len w) bytes)
 
 -- a truth value: a byte 1 or 0
 unfoldable pub truth_at : ℕ → List ℕ → Read Bool
@@ -82,7 +84,19 @@ record_at total bytes = do
   topic ← text_at total place.1
   event ← pair_at total topic.1
   moved ← pair_at total event.1
-  Ok (record { topic = topic.0; key = event.0.0; value = event.0.1; position = place.0.0; ordinal = place.0.1; last = place.0.2; newkey = moved.0.0; oldkey = moved.0.1 }, moved.1)
+  Ok (
+    record {
+      topic = topic.0;
+      key = event.0.0;
+      value = event.0.1;
+      position = place.0.0;
+      ordinal = place.0.1;
+      last = place.0.2;
+      newkey = moved.0.0;
+      oldkey = moved.0.1;
+    },
+    moved.1,
+  )
 
 -- this many items in sequence
 unfoldable pub many_at : {A : Type 0} → (List ℕ → Read A) → ℕ → List ℕ → Read (List A)

@@ -2,7 +2,8 @@
 use Rattle.std.specs.Prelude.{◌≡◌, ◌<◌, ◌^◌, ℕ, List, ◌++◌, length}
 use Rattle.std.specs.List.{flat_map, AllByRecursion}
 use Rattle.dbl_record.specs.declared.record.Record.{Record}
-use Rattle.dbl_record.specs.Fields.{number32, number64, truth_form, text_form, optional_form, IsShort, IsShortOrAbsent, IsStored, IsStoredOrAbsent}
+use Rattle.dbl_record.specs.Fields.{number32, number64, truth_form, text_form, optional_form}
+use Rattle.dbl_record.specs.Fields.{IsShort, IsShortOrAbsent, IsStored, IsStoredOrAbsent}
 
 -- an encoded record: its position, its ordinal, whether it is the last of its commit, its topic, and its optional texts
 unfoldable pub record_form : Record → List ℕ

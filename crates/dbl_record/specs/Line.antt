@@ -34,12 +34,14 @@ key_header name (Some key) = (name, key) ∷ []
 abbrev pub headers_of : Record → List Part
 headers_of item =
     key_header (codes "__debezium.newkey") item.newkey ++ key_header (codes "__debezium.oldkey") item.oldkey
-    ++ (codes "dblog.last", truth_text item.last) ∷ (codes "dblog.ordinal", decimal item.ordinal) ∷ (codes "dblog.position", decimal item.position) ∷ []
+    ++ (codes "dblog.last", truth_text item.last) ∷ (codes "dblog.ordinal", decimal item.ordinal)
+    ∷ (codes "dblog.position", decimal item.position) ∷ []
 
 -- a record's line, without its newline: an object of the headers, the key, the topic and the value
 unfoldable pub line_of : Record → List ℕ
 line_of item =
-    object_text ((codes "headers", object_text (headers_of item)) ∷ (codes "key", text_or_null item.key) ∷ (codes "topic", quoted item.topic) ∷ (codes "value", text_or_null item.value) ∷ [])
+    object_text ((codes "headers", object_text (headers_of item)) ∷ (codes "key", text_or_null item.key)
+    ∷ (codes "topic", quoted item.topic) ∷ (codes "value", text_or_null item.value) ∷ [])
 
 -- the piece, which is UTF-8, was appended
 pub record Appends (old new piece : List ℕ) : Type 0 where
@@ -55,11 +57,13 @@ key_piece name (Some key) = (name ++ key) ++ codes ","
 
 -- the members of the headers that give the record's log position
 unfoldable pub place_pieces : Record → List ℕ
-place_pieces item = codes "\"dblog.last\":" ++ truth_text item.last ++ (codes ",\"dblog.ordinal\":" ++ decimal item.ordinal) ++ (codes ",\"dblog.position\":" ++ decimal item.position) ++ codes "}"
+place_pieces item = codes "\"dblog.last\":" ++ truth_text item.last ++ (codes ",\"dblog.ordinal\":" ++ decimal item.ordinal)
+    ++ (codes ",\"dblog.position\":" ++ decimal item.position) ++ codes "}"
 
 -- the headers object
 unfoldable pub headers_pieces : Record → List ℕ
-headers_pieces item = codes "{" ++ key_piece (codes "\"__debezium.newkey\":") item.newkey ++ key_piece (codes "\"__debezium.oldkey\":") item.oldkey ++ place_pieces item
+headers_pieces item = codes "{" ++ key_piece (codes "\"__debezium.newkey\":") item.newkey
+    ++ key_piece (codes "\"__debezium.oldkey\":") item.oldkey ++ place_pieces item
 
 -- the line up to the topic
 unfoldable pub head_pieces : Record → List ℕ

@@ -16,7 +16,8 @@ IsBefore a b = (a.0 < b.0) ⊎ ((a.0 ≡ b.0) × (a.1 < b.1))
 
 -- the record at index i exists, and its log position is after that of every earlier record
 abbrev pub IsFresh : List Record → ℕ → Type 0
-IsFresh records i = (item : Record) × (slice_get records i ≡ Some item) × All (λ earlier. IsBefore (place_of earlier) (place_of item)) (take i records)
+IsFresh records i = (item : Record) × (slice_get records i ≡ Some item)
+    × All (λ earlier. IsBefore (place_of earlier) (place_of item)) (take i records)
 
 -- the greatest log position of the records
 pub record IsTop (records : List Record) (top : Place) : Type 0 where

@@ -54,10 +54,12 @@ LinesTellRecords = (text : List ℕ) (line : Line) → IsReadFrom text line → 
 
 -- at most one record is read from a line if the numbers of its key and value are 64-bit integers
 abbrev pub LinesReadOnce : Type 0
-LinesReadOnce = (text : List ℕ) (whole : Data) (a b : Line) → json_in text ≡ Some whole → has_float (part_in (codes "key") whole) ≡ false → has_float (part_in (codes "value") whole) ≡ false
+LinesReadOnce = (text : List ℕ) (whole : Data) (a b : Line) → json_in text ≡ Some whole → has_float (part_in (codes "key") whole) ≡ false
+    → has_float (part_in (codes "value") whole) ≡ false
     → IsReadFrom text a → IsReadFrom text b → a ≡ b
 
 -- a record's key and value that are compact texts of well-formed data are parsed as those data
 abbrev pub RecordsTellData : Type 0
-RecordsTellData = (item : Record) (key value : Data) → IsTextOf 127 (text_or_null item.key) key → IsTextOf 127 (text_or_null item.value) value
+RecordsTellData = (item : Record) (key value : Data) → IsTextOf 127 (text_or_null item.key) key
+    → IsTextOf 127 (text_or_null item.value) value
     → reading_of (as_line item) ≡ record { topic = item.topic; key = Some key; value = Some value }

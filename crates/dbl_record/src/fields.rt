@@ -3,9 +3,11 @@
 
 ghost use Rattle.std.specs.Prelude.{◌≡◌, ◌≢◌, ◌-◌, length, Err, OnOk};
 ghost use Rattle.std.specs.Int.{w32, w64};
-ghost use Rattle.dbl_record.specs.Fields.{Extends, IsShort, IsShortOrAbsent, IsStored, IsStoredOrAbsent, number32};
-ghost use Rattle.dbl_record.specs.Fields.{number64, optional_form, text_form, truth_form};
-ghost use Rattle.dbl_record.specs.GroupReading.{Gives, number_at, optional_at, text_at, truth_at, utf8_of};
+ghost use Rattle.dbl_record.specs.Fields.{Extends, IsShort, IsShortOrAbsent, IsStored};
+ghost use Rattle.dbl_record.specs.Fields.{IsStoredOrAbsent, number32, number64};
+ghost use Rattle.dbl_record.specs.Fields.{optional_form, text_form, truth_form};
+ghost use Rattle.dbl_record.specs.GroupReading.{Gives, number_at, optional_at};
+ghost use Rattle.dbl_record.specs.GroupReading.{text_at, truth_at, utf8_of};
 
 use crate::RecordError;
 use dbl_base::Text;

@@ -1,12 +1,15 @@
 //! Groups of records as bytes, the entries of a topic log.
 
-ghost use Rattle.std.specs.Prelude.{◌≡◌, ◌≢◌, ◌⊎◌, ◌-◌, ◌^◌, ℕ, List, length, min, Ok, Err, OnOk, OnErr, IfOk, IfErr, MatchResult};
+ghost use Rattle.std.specs.Prelude.{◌≡◌, ◌≢◌, ◌⊎◌, ◌-◌, ◌^◌, ℕ, List, length, min};
+ghost use Rattle.std.specs.Prelude.{Ok, Err, OnOk, OnErr, IfOk, IfErr, MatchResult};
 ghost use Rattle.std.specs.List.{flat_map, AllByRecursion};
 ghost use Rattle.dbl_record.specs.declared.record.Record.{Record};
 ghost use Rattle.dbl_record.specs.Fields.{Extends, text_form, optional_form};
-ghost use Rattle.dbl_record.specs.Groups.{FitsGroup, FitsRecord, HasForm, IsGroup, IsNarrow, group_form, record_form};
+ghost use Rattle.dbl_record.specs.Groups.{FitsGroup, FitsRecord, HasForm, IsGroup};
+ghost use Rattle.dbl_record.specs.Groups.{IsNarrow, group_form, record_form};
 ghost use Rattle.dbl_record.specs.GroupFaults.{IsBadAt};
-ghost use Rattle.dbl_record.specs.GroupReading.{Gives, group_at, many_at, pair_at, place_at, record_at, whole};
+ghost use Rattle.dbl_record.specs.GroupReading.{Gives, group_at, many_at, pair_at};
+ghost use Rattle.dbl_record.specs.GroupReading.{place_at, record_at, whole};
 
 use crate::fields::{
     append_number32, append_number64, append_optional, append_text, append_truth, place,

@@ -1,9 +1,11 @@
-ghost use Rattle.std.specs.Prelude.{◌≡◌, ◌≢◌, ◌≤◌, ◌⊎◌, Some, None, IfOk, IfErr, option_and_then, codes};
+ghost use Rattle.std.specs.Prelude.{◌≡◌, ◌≢◌, ◌≤◌, ◌⊎◌, Some, None, IfOk};
+ghost use Rattle.std.specs.Prelude.{IfErr, option_and_then, codes};
 ghost use Rattle.serde_json.specs.Data.{null, depth};
 ghost use Rattle.serde_json.specs.View.{view};
 ghost use Rattle.dbl_record.specs.declared.error.RecordError.TheVariants.{BadRecord, Memory};
 ghost use Rattle.dbl_record.specs.Acts.{json_in};
-ghost use Rattle.dbl_record.specs.Reading.{topic_in, reading_in, part_in, parsed_as, Retells, IsReadFrom};
+ghost use Rattle.dbl_record.specs.Reading.{topic_in, reading_in, part_in};
+ghost use Rattle.dbl_record.specs.Reading.{parsed_as, Retells, IsReadFrom};
 
 use crate::error::RecordError;
 use crate::parsed::ParsedLine;

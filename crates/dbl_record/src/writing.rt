@@ -2,8 +2,8 @@ ghost use Rattle.std.specs.Prelude.{◌≡◌, ◌++◌, OnOk, IfOk, IfErr, deci
 ghost use Rattle.std.specs.Str.{IsUtf8};
 ghost use Rattle.json.specs.Print.{quoted};
 ghost use Rattle.dbl_record.specs.declared.error.RecordError.TheVariants.{Memory};
-ghost use Rattle.dbl_record.specs.Line.{Appends, line_of, truth_text, text_or_null, key_piece, place_pieces};
-ghost use Rattle.dbl_record.specs.Line.{headers_pieces, head_pieces, tail_pieces};
+ghost use Rattle.dbl_record.specs.Line.{Appends, line_of, truth_text, text_or_null, key_piece};
+ghost use Rattle.dbl_record.specs.Line.{place_pieces, headers_pieces, head_pieces, tail_pieces};
 
 use crate::error::RecordError;
 use crate::record::Record;

@@ -28,7 +28,7 @@ key_cond : (b : Bool) (w : ColumnWord) (ws : List ColumnWord) → map (λ (v : C
 key_cond true w ws = refl
 key_cond false w ws = refl
 
--- the key of words that stand one behind the other
+-- the key of words that stand one after the other
 pub key_in-append : (xs ys : List ColumnWord) → key_in (xs ++ ys) ≡ key_in xs ++ key_in ys
 key_in-append [] ys = refl
 key_in-append (x ∷ xs) ys = key_cond x.is_key x (xs ++ ys) ∙ ap (λ k. cond x.is_key (x.column.name ∷ k) k) (key_in-append xs ys) ∙ key_step x.is_key x (key_in xs) (key_in ys) ∙ ap (λ k. k ++ key_in ys) (sym (key_cond x.is_key x xs))

@@ -18,7 +18,7 @@ filter_map-append : {A B : Type 0} (f : A → Option B) (xs ys : List A) → fil
 filter_map-append f [] ys = refl
 filter_map-append f (x ∷ xs) ys = ap (cons_option (f x)) (filter_map-append f xs ys) ∙ cons_option-append (f x) (filter_map f xs) (filter_map f ys)
 
--- what one more line says stands behind what the others say
+-- what one more line says is after what the others say
 said_more : (n m : ℕ) (before : List (List ℕ)) (line : List ℕ) → m ≡ n + length before → said n (before ++ line ∷ []) ≡ said n before ++ cons_option (line_at m line) []
 said_more n m [] line is = let same : m ≡ n = omega arith in ap (λ k. cons_option (line_at k line) []) (sym same)
 said_more n m (first ∷ before) line is = ap (cons_option (line_at n first)) (said_more (n + 1) m before line (omega arith)) ∙ cons_option-append (line_at n first) (said (n + 1) before) (cons_option (line_at m line) [])

@@ -1,4 +1,4 @@
--- The words before `set`, and those behind it.
+-- The words before `set`, and those after it.
 use Rattle.std.proofs.Common.{◌≡◌, ◌∙◌, ℕ, true, false, List, [], ◌∷◌, refl, ap}
 use Rattle.dbl_script.specs.Grammar.{is_set, before_set, words_after_set}
 

@@ -1,5 +1,6 @@
 -- The content of a workload's line.
-use Rattle.std.specs.Prelude.{ℕ, ◌==◌, Bool, true, false, if◌then◌else◌, Option, Some, None, option_map, List, [], ◌∷◌, length, bytes_eq, codes}
+use Rattle.std.specs.Prelude.{ℕ, ◌==◌, Bool, true, false, if◌then◌else◌, Option, Some}
+use Rattle.std.specs.Prelude.{None, option_map, List, [], ◌∷◌, length, bytes_eq, codes}
 use Rattle.dbl_base.specs.Lines.{is_passed_over}
 use Rattle.dbl_model_table.specs.declared.named_cell.NamedCell.{NamedCell}
 use Rattle.dbl_script.specs.declared.script.ScriptTable.{ScriptTable}

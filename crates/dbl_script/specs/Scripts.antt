@@ -1,5 +1,6 @@
 -- The script of a workload's lines.
-use Rattle.std.specs.Prelude.{ℕ, ◌+◌, ◌==◌, ◌&&◌, not, nat_lt, Bool, true, false, if◌then◌else◌, Option, Some, None, List, [], ◌∷◌, ◌++◌, length}
+use Rattle.std.specs.Prelude.{ℕ, ◌+◌, ◌==◌, ◌&&◌, not, nat_lt, Bool, true, false, if◌then◌else◌}
+use Rattle.std.specs.Prelude.{Option, Some, None, List, [], ◌∷◌, ◌++◌, length}
 use Rattle.std.specs.List.{filter_map, list_any, cons_option}
 use Rattle.dbl_model_table.specs.Tables.{same_name}
 use Rattle.dbl_script.specs.declared.script.ScriptTable.{ScriptTable}
@@ -32,7 +33,8 @@ step_said _ = None
 
 -- the script of the lines: their tables, rows and steps, in order
 abbrev pub script_of : List (List ℕ) → Script
-script_of lines = let all = said 1 lines in record { tables = filter_map table_said all; rows = filter_map row_said all; steps = filter_map step_said all }
+script_of lines = let all = said 1 lines in
+    record { tables = filter_map table_said all; rows = filter_map row_said all; steps = filter_map step_said all }
 
 -- the list is empty
 abbrev pub is_empty : {A : Type 0} → List A → Bool
@@ -41,7 +43,8 @@ is_empty xs = length xs == 0
 -- The line may follow those of the script: at least one and at most 64 tables of different names come first, then rows, then steps.
 unfoldable pub may_follow : Script → Line → Bool
 may_follow before Passed = true
-may_follow before (Table table) = is_empty before.rows && is_empty before.steps && nat_lt (length before.tables) 64 && not (list_any (λ (other : ScriptTable). same_name other.raw.name table.raw.name) before.tables)
+may_follow before (Table table) = is_empty before.rows && is_empty before.steps && nat_lt (length before.tables) 64
+    && not (list_any (λ (other : ScriptTable). same_name other.raw.name table.raw.name) before.tables)
 may_follow before (Row row) = not (is_empty before.tables) && is_empty before.steps
 may_follow before (Act step) = not (is_empty before.tables)
 
@@ -58,7 +61,8 @@ is_good before line = follows (script_of before) (line_at (length before + 1) li
 -- table.
 abbrev pub first_bad_after : List (List ℕ) → List (List ℕ) → Option ℕ
 first_bad_after before [] = if is_empty (script_of before).tables then Some (length before + 1) else None
-first_bad_after before (line ∷ lines) = if is_good before line then first_bad_after (before ++ line ∷ []) lines else Some (length before + 1)
+first_bad_after before (line ∷ lines) = if is_good before line then first_bad_after (before ++ line ∷ []) lines
+    else Some (length before + 1)
 
 -- the number of the first bad line, or of the missing table; none for a valid script
 abbrev pub first_bad : List (List ℕ) → Option ℕ

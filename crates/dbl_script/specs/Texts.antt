@@ -1,5 +1,6 @@
 -- The words of the workload language: names, numbers, types and texts.
-use Rattle.std.specs.Prelude.{ℕ, ◌+◌, ◌*◌, ◌==◌, ◌&&◌, ◌||◌, not, nat_eq, nat_lt, nat_le, Bool, if◌then◌else◌, Option, Some, None, is_none, List, [], ◌∷◌, ◌++◌, length, drop, bytes_eq, codes}
+use Rattle.std.specs.Prelude.{ℕ, ◌+◌, ◌*◌, ◌==◌, ◌&&◌, ◌||◌, not, nat_eq, nat_lt, nat_le, Bool, if◌then◌else◌}
+use Rattle.std.specs.Prelude.{Option, Some, None, is_none, List, [], ◌∷◌, ◌++◌, length, drop, bytes_eq, codes}
 use Rattle.std.specs.Char.{is_ascii_digit, is_ascii_lowercase, digit_value}
 use Rattle.std.specs.List.{list_all, starts_with}
 use Rattle.std.specs.Str.{is_utf8}
@@ -52,7 +53,8 @@ column_name_of word = if nat_lt 0 (length word) && nat_le (length word) 63 && li
 
 -- a number of 1 to 9 decimal digits
 unfoldable pub number_of : List ℕ → Option ℕ
-number_of word = if nat_lt 0 (length word) && nat_le (length word) 9 && list_all is_ascii_digit word then Some (digits_value 10 word) else None
+number_of word = if nat_lt 0 (length word) && nat_le (length word) 9 && list_all is_ascii_digit word
+    then Some (digits_value 10 word) else None
 
 -- the OID of a PostgreSQL type of truth values, numbers, dates or times (catalog `pg_type`), by name; float columns can't be captured
 unfoldable pub measured_oid_of : List ℕ → Option ℕ
@@ -91,7 +93,8 @@ oid_of word = if starts_with nat_eq word (codes "oid") then number_of (drop 3 wo
 unfoldable pub escape_of : List ℕ → Option (List ℕ)
 escape_of [] = None
 escape_of (high ∷ []) = None
-escape_of (high ∷ low ∷ rest) = if nat_lt (digit_value high) 16 && nat_lt (digit_value low) 16 then Some ((digit_value high * 16 + digit_value low) ∷ rest) else None
+escape_of (high ∷ low ∷ rest) = if nat_lt (digit_value high) 16 && nat_lt (digit_value low) 16
+    then Some ((digit_value high * 16 + digit_value low) ∷ rest) else None
 
 -- the bytes of parts, each of which follows a `%`
 unfoldable pub escapes_of : List (List ℕ) → Option (List ℕ)

@@ -5,7 +5,8 @@ use Rattle.std.specs.List.{slice_split}
 -- the bytes before the first separator, and those after it
 abbrev pub cut_at : ℕ → List ℕ → Option (List ℕ × List ℕ)
 cut_at separator [] = None
-cut_at separator (b ∷ bs) = if b == separator then Some ([], bs) else option_map (λ (p : List ℕ × List ℕ). (b ∷ p.0, p.1)) (cut_at separator bs)
+cut_at separator (b ∷ bs) = if b == separator then Some ([], bs)
+    else option_map (λ (p : List ℕ × List ℕ). (b ∷ p.0, p.1)) (cut_at separator bs)
 
 -- the parts of the bytes between separators, at least one
 abbrev pub parts_at : ℕ → List ℕ → List (List ℕ)

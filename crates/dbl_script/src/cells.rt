@@ -2,7 +2,8 @@
 
 ghost use Rattle.std.specs.Prelude.{◌≡◌, OnOk};
 ghost use Rattle.dbl_script.specs.Reads.{Reads, Gives, all_of};
-ghost use Rattle.dbl_script.specs.Grammar.{cell_of, cells_of, before_set, words_after_set, null_cell_of, value_cell_of};
+ghost use Rattle.dbl_script.specs.Grammar.{cell_of, cells_of, before_set, words_after_set};
+ghost use Rattle.dbl_script.specs.Grammar.{null_cell_of, value_cell_of};
 ghost use Rattle.dbl_script.specs.Words.{cut_at};
 
 use crate::NamedCell;

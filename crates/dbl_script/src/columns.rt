@@ -3,8 +3,8 @@
 ghost use Rattle.std.specs.Prelude.{◌≡◌, ◌++◌, ◌∷◌, [], OnOk, option_map};
 ghost use Rattle.dbl_script.specs.Reads.{Reads, Gives, all_of};
 ghost use Rattle.dbl_script.specs.Words.{cut_at};
-ghost use Rattle.dbl_script.specs.Columns.{columns_in, key_in, named_column, typed_column, column_with, column_of};
-ghost use Rattle.dbl_script.specs.Columns.{columns_of, split_columns};
+ghost use Rattle.dbl_script.specs.Columns.{columns_in, key_in, named_column, typed_column};
+ghost use Rattle.dbl_script.specs.Columns.{column_with, column_of, columns_of, split_columns};
 ghost use Rattle.dbl_script.specs.Grammar.{identity_of, toast_of, table_in};
 
 use crate::ScriptTable;

@@ -1,6 +1,7 @@
 //! From bytes to scripts.
 
-ghost use Rattle.std.specs.Prelude.{◌≡◌, ◌≢◌, ◌<◌, ◌≤◌, ◌↔◌, ◌==◌, ℕ, [], not, true, false, None, Some, Err, length, IfOk, OnOk};
+ghost use Rattle.std.specs.Prelude.{◌≡◌, ◌≢◌, ◌<◌, ◌≤◌, ◌↔◌, ◌==◌, ℕ, [], not, true};
+ghost use Rattle.std.specs.Prelude.{false, None, Some, Err, length, IfOk, OnOk};
 ghost use Rattle.std.specs.List.{list_any};
 ghost use Rattle.dbl_base.specs.Lines.{lines_of};
 ghost use Rattle.dbl_model_table.specs.Tables.{same_name};
@@ -35,7 +36,8 @@ impl Model for Building {
 
     ghost Value = { Script };
 
-    ghost view = { λ b. record { tables = b.tables.items; rows = b.rows.items; steps = b.steps.items } };
+    ghost view = { λ b.
+        record { tables = b.tables.items; rows = b.rows.items; steps = b.steps.items } };
 }
 
 impl Building {

@@ -3,7 +3,8 @@
 ghost use Rattle.std.specs.Prelude.{◌≡◌, ◌∷◌};
 ghost use Rattle.dbl_script.specs.Reads.{Reads, Gives, all_of};
 ghost use Rattle.dbl_script.specs.Texts.{table_name_of};
-ghost use Rattle.dbl_script.specs.Grammar.{row_in, alone, insert_in, update_in, delete_in, truncate_in, verb_in, step_in};
+ghost use Rattle.dbl_script.specs.Grammar.{row_in, alone, insert_in, update_in};
+ghost use Rattle.dbl_script.specs.Grammar.{delete_in, truncate_in, verb_in, step_in};
 
 use crate::cells::{cells, key_cells};
 use crate::fault::Fault;

@@ -1,14 +1,16 @@
 //! Readers of the parts of a line: names, numbers, types and texts.
 
-ghost use Rattle.std.specs.Prelude.{◌≡◌, ◌≤◌, ◌<◌, ◌∷◌, ◌++◌, Some, length, codes, bytes_eq, option_map, true};
+ghost use Rattle.std.specs.Prelude.{◌≡◌, ◌≤◌, ◌<◌, ◌∷◌, ◌++◌, Some, length};
+ghost use Rattle.std.specs.Prelude.{codes, bytes_eq, option_map, true};
 ghost use Rattle.std.specs.List.{list_all};
 ghost use Rattle.std.specs.Char.{is_ascii_digit};
 ghost use Rattle.std.specs.Str.Parse.{digits_value};
 ghost use Rattle.dbl_script.specs.Words.{parts_at};
 ghost use Rattle.dbl_script.specs.Reads.{Reads, Gives};
-ghost use Rattle.dbl_script.specs.Texts.{utf8_text, name_of, table_name_of, is_session_byte, session_of};
-ghost use Rattle.dbl_script.specs.Texts.{is_column_byte, column_name_of, number_of, measured_oid_of, listed_oid_of};
-ghost use Rattle.dbl_script.specs.Texts.{oid_of, escape_of, escapes_of, unescaped_bytes, text_of};
+ghost use Rattle.dbl_script.specs.Texts.{utf8_text, name_of, table_name_of, is_session_byte};
+ghost use Rattle.dbl_script.specs.Texts.{session_of, is_column_byte, column_name_of, number_of};
+ghost use Rattle.dbl_script.specs.Texts.{measured_oid_of, listed_oid_of, oid_of, escape_of};
+ghost use Rattle.dbl_script.specs.Texts.{escapes_of, unescaped_bytes, text_of};
 
 use crate::fault::Fault;
 use crate::parts::{Parts, cut};

@@ -1,4 +1,4 @@
--- A played source to whose log a call adds, by its states before and behind.
+-- A played source to whose log a call adds, by its states before and after.
 use Rattle.std.proofs.Common.{◌≡◌, ◌∙◌, ◌+◌, ◌<◌, ℕ, Option, Some, List, [], ◌∷◌, ◌++◌, length, map, refl, ap, subst, arith, length-append}
 use Rattle.std.specs.Prelude.{slice_get}
 use Rattle.std.proofs.lemmas.List.{length-map}
@@ -15,7 +15,7 @@ use Rattle.dbl_source.specs.Steps.{KeepsPlayed, WasFair}
 use Rattle.dbl_source.proofs.PlayLemmas.{WereAsked, fair_before, fair_same}
 use Rattle.dbl_source.proofs.CallLemmas.{WentOn, messages_stay, went_placed}
 
--- behind the commits before a call there is room for its own
+-- after the commits before a call there is room for its own
 pub room_left : (mid new : Played) (before : List (List Message)) (own : ℕ) → new ≡ committed before (with_counted_call mid) → HasRoom (length mid.log) (length before) own → length new.log + own < commit_limit
 room_left mid new before own is room = omega (arith, ap (λ (p : Played). length p.log) is, length-append mid.log (map Changes before), length-map before Changes, room)
 
@@ -51,7 +51,7 @@ select_fair old mid table above limit from inside w kept fair =
     let question : Asked = question_of table above limit from (length mid.log + length inside) in
     fair_before mid.tables mid.tables mid.log (map Changes inside) (mid.log ++ map Changes inside) mid.asked (question ∷ []) (mid.asked ++ question ∷ []) mid.rows mid.rows refl refl refl refl (went_asked old mid w kept) fair
 
--- ---- a mark
+-- ---- a watermark
 
 pub mark_read : (old mid : Played) (value : List ℕ) → WentOn old mid → KeepsPlayed old → played_messages (with_mark value mid) ≡ played_messages mid
 mark_read old mid value w kept = messages_stay mid.tables mid.log (Mark value ∷ []) mid.place (went_placed old mid w kept)

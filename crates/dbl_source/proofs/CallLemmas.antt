@@ -47,7 +47,7 @@ pub record WentOn (old new : Played) : Type 0 where
   pub last : new.last ≡ old.last
   pub ended : new.ended ≡ old.ended
 
--- so it stands for its old parts over the longer log
+-- so it represents its old parts over the longer log
 pub standing_went : (old new : Played) (w : WentOn old new) → standing_of new ≡ played_state old.tables (old.log ++ map Changes w.more) old.confirmed old.place
 standing_went old new w =
     ap (λ (ts : List LogTable). played_state ts new.log new.confirmed new.place) w.tables
@@ -60,7 +60,7 @@ went_moved old new s w kept stands =
     subst (λ (u : SourceState). Moved u (standing_of new)) (sym stands.1)
     (subst (Moved (standing_of old)) (sym (standing_went old new w)) (moved old.tables old.log old.confirmed w.more old.place kept.placed))
 
--- whatever it answered, a crash leaves what other clients committed
+-- for every answer, a crash leaves what other clients committed
 pub went_follows : (old new : Played) (s : SourceState) (l : CrashState) → WentOn old new → KeepsPlayed old → HasPlayedState old s → MayLeavePlayed new l → MayFollow s l
 went_follows old new s l w kept stands may = moved_follows s (standing_of new) l may (went_moved old new s w kept stands)
 
@@ -80,14 +80,14 @@ went_read old new w kept =
     ∙ ap (λ (p : Option ReaderPosition). unwrap_or (option_map (told_at old.tables (old.log ++ map Changes w.more)) p) []) w.place
     ∙ messages_stay old.tables old.log (map Changes w.more) old.place kept.placed)
 
--- what holds at any rate holds behind an error
+-- what holds at any rate holds after an error
 pub on_err : {T E P : Type 0} (r : Result T E) → P → OnErr r P
 on_err (Ok x) holds = tt
 on_err (Err e) holds = holds
 
 -- ---- what each call leads to
 
--- a source that can be used stands for what its parts say
+-- a source that can be used represents what its parts say
 pub stood : (new : Played) (P : SourceState → Type 0) → IsTrue new.live → P (standing_of new) → HasState HasPlayedState new P
 stood new P live holds = record { standing = standing_of new; is = (live, refl); holds = holds }
 
@@ -102,7 +102,7 @@ pub went_placed : (old mid : Played) → WentOn old mid → KeepsPlayed old → 
 went_placed old mid w kept p is =
     subst (λ (l : List Logged). IsPlaceIn l p) (sym w.log) (placed_on old.log (map Changes w.more) p (kept.placed p (sym w.place ∙ is)))
 
--- the history that the source stood for is no longer than the log behind the call
+-- the history that the source represented is no longer than the log after the call
 went_length : (mid : Played) (s : SourceState) → Moved s (standing_of mid) → length s.history.commits ≤ length mid.log
 went_length mid s m = omega (arith, grown_length s.history (history_of mid.tables mid.log) m.grows, length-history mid.tables mid.log)
 
@@ -211,7 +211,7 @@ module _ (old mid : Played) (s : SourceState) (w : WentOn old mid) (kept : Keeps
       let new : Played = with_select table above limit (length old.log) inside mid in
       moved_follows s (standing_of new) l may (moved_on s (standing_of mid) (standing_of new) before (moved mid.tables mid.log mid.confirmed inside mid.place (went_placed old mid w kept)))
 
--- ---- where the source behind the call is told by an equation
+-- ---- where the source after the call is told by an equation
 
 pub stood_to : (new after : Played) (P : SourceState → Type 0) → new ≡ after → HasState HasPlayedState after P → HasState HasPlayedState new P
 stood_to new after P is stood = subst (λ (n : Played). HasState HasPlayedState n P) (sym is) stood

@@ -193,7 +193,7 @@ read_at_end old new None a none place at =
     let unmoved : new ≡ with_read None (with_release old) = a.is ∙ ap (with_read None) a.has.is in
     subst (λ (p : Played). IsAtEnd p.log place) (sym unmoved) (a.has.ends place (sym (ap (λ (p : Played). p.place) unmoved) ∙ at))
 
--- ---- whatever it answers
+-- ---- for every answer
 
 pub describe_held : (name : TableName) (old new : Played) (r : Result (Option RawTable) SourceError) → Plays 0 ⊥ (before_of old) (AnswersPlayedEntry name old) old new r
     → Held (λ entry s. HasState HasPlayedState new (IsDescribed name entry s)) MayFollow Described (λ entry. SameRead old new) (λ entry. SameReader old new) old new r

@@ -100,7 +100,7 @@ pub record Ends (G : SourceState → Type 0) (Follows : SourceState → CrashSta
   pub taken : K
   pub reading : R
 
--- ---- whatever it answered
+-- ---- for every answer
 
 pub record Held {T : Type 0} (G : T → SourceState → Type 0) (Follows : SourceState → CrashState → Type 0) (answer : T → Answer) (K R : T → Type 0) (old new : Played) (result : Result T SourceError) : Type 0 where
   pub leads : (s : SourceState) → HasPlayedState old s → IfOk result (λ x. G x s)
@@ -159,7 +159,7 @@ held {T = T} G Follows answer K R own more commits done old new (Err e) p weaker
       unread = ap (λ (o : Option ReaderPosition). is_some o) d.went.place;
     }
 
--- what holds of an answer and behind an error holds
+-- what holds of an answer and after an error holds
 pub both : {T E P : Type 0} (r : Result T E) → OnOk r P → OnErr r P → P
 both (Ok x) holds other = holds
 both (Err e) other holds = holds

@@ -1,4 +1,4 @@
--- The played source of the example was fair, and isn't behind another select.
+-- The played source of the example was fair, and isn't after another select.
 use Rattle.std.proofs.Common.{◌≡◌, ◌⊎◌, inl, inr, ◌+◌, ◌<◌, ◌^◌, ◌≤◌, ℕ, zero, suc, negsuc, Bool, true, false, cond, List, [], ◌∷◌, length, map, Some, None, refl, sym, ap, subst, arith, length-append, FitsSigned, w32}
 use Rattle.std.specs.Prelude.{IsTrue, IsSomeAnd, IfSome, if◌then◌else◌, slice_get, slice_index_or, codes}
 use Rattle.std.specs.List.{flat_map}
@@ -196,7 +196,7 @@ change_of_table text plain single = record {
   known = (refl, tt);
 }
 
--- whatever is captured, an insert states its row
+-- for every list of captured tables, an insert states its row
 abbrev Stands : List ℕ → List TableInfo → Type 0
 Stands text infos = MayStand (err_of (stated_in infos (inserted text) (onto_relations tables (oids_of (inserted text)) []) None false))
 
@@ -218,7 +218,7 @@ fair_log = record {
   changes = (tt, (((change_of_table (codes "a") plain_a refl, few_faults (codes "a")), tt), (((change_of_table (codes "b") plain_b refl, few_faults (codes "b")), tt), tt)));
 }
 
--- ---- the rows of its select are those of a position of the call: before the inserts, between them, and behind them
+-- ---- the rows of its select are those of a position of the call: before the inserts, between them, and after them
 
 abbrev keyed : List ℕ → Key
 keyed text = record { cells = val.Text text ∷ [] }
@@ -253,7 +253,7 @@ empty = record {
   first = λ above. record { keys = tt; ordered = tt; few = omega arith; right = λ key is_key subsequent range. refl };
 }
 
--- both behind the second one: no key is that of both
+-- both after the second one: no key is that of both
 apart : (key : Key) → same_key (keyed (codes "a")) key ≡ true → same_key (keyed (codes "b")) key ≡ true → ⊥
 apart key first second =
     let other : false ≡ true = subst (λ (k : Key). same_key (keyed (codes "b")) k ≡ true) (sym (same_key-is (keyed (codes "a")) key first)) second in
@@ -321,7 +321,7 @@ was_fair_last = record {
   selects = answered (row_of (codes "a") ∷ row_of (codes "b") ∷ []) [] (at_place 3 (row_of (codes "a") ∷ row_of (codes "b") ∷ []) (omega arith) (omega arith) both_rows);
 }
 
--- ---- behind the next select b has a row, which isn't answered
+-- ---- after the next select b has a row, which isn't answered
 
 is_stale : WasFair stale_example → ⊥
 is_stale fair =

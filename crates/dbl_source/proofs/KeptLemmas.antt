@@ -1,4 +1,4 @@
--- What is kept of a played source when other clients commit, when a mark is written, and when a select was answered.
+-- What is kept of a played source when other clients commit, when a watermark is written, and when a select was answered.
 use Rattle.std.proofs.Common.{◌≡◌, ◌+◌, ◌<◌, ℕ, Option, Some, List, [], ◌∷◌, ◌++◌, length, map, sym, ap, subst, arith, length-append}
 use Rattle.std.specs.Prelude.{slice_get}
 use Rattle.std.proofs.lemmas.List.{length-map}

@@ -1,4 +1,4 @@
--- A mark behind a fair log leaves it fair.
+-- A watermark after a fair log leaves it fair.
 use Rattle.std.specs.Prelude.{[], slice_index_or}
 use Rattle.dbl_source_log.proofs.MarkLemmas.{fit_marked, fair_marked, answered_marked}
 use Rattle.dbl_source.specs.Laws.{MarksKeepFair}

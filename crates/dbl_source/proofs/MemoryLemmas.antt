@@ -12,7 +12,7 @@ use Rattle.dbl_source.specs.Laws.{FirstCommitsAreFair}
 use Rattle.dbl_source.proofs.PlayLemmas.{fair_same}
 use Rattle.dbl_source.specs.Steps.{HasPlayed, WasFair, HasCountedCall, AddedFirst}
 
--- these commits stand behind the log, and nothing else changed but the plan
+-- these commits are after the log, and nothing else changed but the plan
 abbrev pub HasAdded : List (List Message) → Played → Played → Type 0
 HasAdded commits old new = new ≡ record old { log = old.log ++ map Changes commits; plan = new.plan }
 
@@ -24,7 +24,7 @@ added_so old new commits front count few first counts is = record {
   is = is ∙ ap (λ (l : List (List Message)). record old { log = old.log ++ map Changes l; plan = new.plan }) (sym first);
 }
 
--- the plan behind a call that was counted
+-- the plan after a call that was counted
 pub counted_so : {T E : Type 0} (old : Played) (plan : Plan) (r : Result T E) → (IsErr r ↔ IsPlannedToFail old) → OnOk r (plan ≡ (with_counted_call old).plan) → OnErr r (plan ≡ (with_fault (with_counted_call old)).plan) → HasCountedCall old plan
 counted_so old plan (Ok x) listed ok err = inl (λ it. (let never : false ≡ true = listed.1 it in cc), ok)
 counted_so old plan (Err e) listed ok err = inr (listed.0 refl, err)
@@ -77,7 +77,7 @@ added_both old new unlisted is =
       is = ap (λ (p : Played). p.log) is ∙ ap (λ (l : List (List Message)). (with_release old).log ++ map Changes l) (sym (take_all (length (inside_of old)) (inside_of old) (omega arith)));
     })
 
--- ---- honesty
+-- ---- a conforming source
 
 pub first_fair : FirstCommitsAreFair
 first_fair commits old new returned added fair =

@@ -7,7 +7,7 @@ use Rattle.dbl_source_log.specs.declared.error.SourceError.TheVariants.{Failed, 
 use Rattle.dbl_source.specs.Played.{Played, before_of, IsPlannedToFail, IsFullBy, past_move, with_counted_call, committed, with_release, FailsAsPlanned}
 use Rattle.dbl_source.specs.Steps.{HasFailed}
 
--- behind what other clients commit before the call
+-- after what other clients commit before the call
 pub released_so : (old mid new : Played) (before : List (List Message)) → mid ≡ past_move old → before ≡ before_of old → new ≡ committed before (with_counted_call mid) → new ≡ with_release old
 released_so old mid new before past items is =
     is ∙ ap (λ (b : List (List Message)). committed b (with_counted_call mid)) items ∙ ap (λ (m : Played). committed (before_of old) (with_counted_call m)) past
@@ -52,7 +52,7 @@ planned_on own old mid new u r planned never = record {
   failed = λ told. absurd (never told);
 }
 
--- what holds of an answer, and behind an error
+-- what holds of an answer, and after an error
 
 pub on_ok : {T : Type 0} (P Q : Type 0) (r : Result T SourceError) → (P → Q) → OnOk r P → OnOk r Q
 on_ok P Q (Ok x) gives holds = gives holds

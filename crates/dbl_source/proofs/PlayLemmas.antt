@@ -1,4 +1,4 @@
--- What a call of a played source does to what it stands for, by its log before and after, and that a fair script was fair before.
+-- What a call of a played source does to what it represents, by its log before and after, and that a fair script was fair before.
 use Rattle.std.proofs.Common.{◌≡◌, ◌∙◌, ◌+◌, ◌<◌, ◌≤◌, inl, inr, ℕ, Option, Some, None, List, [], ◌∷◌, ◌++◌, length, map, take, drop, reverse, refl, sym, ap, subst, arith, append_assoc, length-append, length-drop, get_or}
 use Rattle.std.specs.Prelude.{false, nat_lt, option_map, slice_get, slice_index_or}
 use Rattle.std.proofs.lemmas.Bool.{cases_eq}
@@ -46,7 +46,7 @@ module _ (tables : List LogTable) (log : List Logged) (confirmed : Lsn) where
   pub moved : (more : List (List Message)) (place : Option ReaderPosition) → IsAtPlace log place → Moved (played_state tables log confirmed place) (played_state tables (log ++ map Changes more) confirmed place)
   moved more place at = record { grows = log_grows tables log more; confirmed = refl; reading = reading_stays (map Changes more) place at }
 
-  -- a mark was written
+  -- a watermark was written
   pub marked_at : (value : List ℕ) (place : Option ReaderPosition) → IsAtPlace log place → IsMarked value (played_state tables log confirmed place) (played_state tables (log ++ Mark value ∷ []) confirmed place)
   marked_at value place at = record { marks = log_marks tables value log; confirmed = refl; reading = reading_stays (Mark value ∷ []) place at }
 

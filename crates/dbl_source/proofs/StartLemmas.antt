@@ -18,7 +18,7 @@ started_gone after s low = ap (λ (b : Bool). if b then Gone s.confirmed else Re
 pub started_ready : (after : Lsn) (s : Played) → s.confirmed.0 ≤ after.0 → started_at after s ≡ Ready
 started_ready after s high = ap (λ (b : Bool). if b then Gone s.confirmed else Ready) (le-ltb after.0 s.confirmed.0 high)
 
--- behind a start nothing has been read
+-- after a start nothing has been read
 pub nothing_read : (tables : List LogTable) (log : List Logged) (after : Lsn) (started : Started) → unwrap_or (option_map (told_at tables log) (place_of after started)) [] ≡ []
 nothing_read tables log after Ready = told_waiting tables log (record { after = after; commits = 0; begun = false; change = 0; table = 0 }) refl
 nothing_read tables log after (Gone first) = refl

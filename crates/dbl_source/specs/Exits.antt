@@ -14,12 +14,14 @@ use Rattle.dbl_source.specs.declared.asked.Last.{Last}
 use Rattle.dbl_source.specs.declared.asked.Last.TheVariants as answers
 use Rattle.dbl_source_log.specs.declared.error.SourceError.{SourceError}
 use Rattle.dbl_source_log.specs.declared.error.SourceError.TheVariants.{Memory}
-use Rattle.dbl_source.specs.Played.{Played, entry_at, inside_of, past_move, with_release, FailsAsPlanned, with_answer, started_at, with_start, with_head, next_rows, with_select}
+use Rattle.dbl_source.specs.Played.{Played, entry_at, inside_of, past_move, with_release, FailsAsPlanned}
+use Rattle.dbl_source.specs.Played.{with_answer, started_at, with_start, with_head, next_rows, with_select}
 use Rattle.dbl_source.specs.Steps.{KeepsPlayed, AddedFirst, IsReadBy, IsUnmoved}
 
 -- Whether a call fails as planned, has added some first ones of its commits if memory runs out, and otherwise relates its answer and the
 -- source by `done`. `own` of the commits are its own, and `more` is a further reason to fail.
-pub record Plays {T : Type 0} (own : ℕ) (more : Type 0) (commits : List (List Message)) (done : T → Played → Type 0) (old new : Played) (result : Result T SourceError) : Type 0 where
+pub record Plays {T : Type 0} (own : ℕ) (more : Type 0) (commits : List (List Message)) (done : T → Played → Type 0) (old new : Played)
+    (result : Result T SourceError) : Type 0 where
   pub kept : KeepsPlayed old
   pub later : old.plan.faults ≤ new.plan.faults
   pub planned : FailsAsPlanned own more old new result
@@ -65,6 +67,7 @@ pub record AnswersRead (old : Played) (read : Option (List ℕ)) (new : Played) 
   pub is : new ≡ with_read read here
 
 -- Whether the answer has the script's rows for this select.
-pub record AnswersPlayedRows (table : TableName) (above : Option Key) (limit : ℕ) (old : Played) (rows : List RawRow) (new : Played) : Type 0 where
+pub record AnswersPlayedRows (table : TableName) (above : Option Key) (limit : ℕ) (old : Played) (rows : List RawRow)
+    (new : Played) : Type 0 where
   pub told : rows ≡ next_rows old
   pub is : new ≡ with_select table above limit (length old.log) (inside_of old) (with_release old)

@@ -59,7 +59,9 @@ selected_example = selected marked_example
 
 -- The state after all three commits were read.
 abbrev pub read_example : Played
-read_example = with_answer answers.Nothing (record selected_example { place = Some (record { after = record { 0 = 0 }; commits = 3; begun = false; change = 0; table = 0 }); ended = true })
+read_example = with_answer answers.Nothing
+    (record selected_example
+    { place = Some (record { after = record { 0 = 0 }; commits = 3; begun = false; change = 0; table = 0 }); ended = true })
 
 -- The state with other rows as the answer of the select: none, as the table was at the call, or both, as it was at the return.
 abbrev pub answered_by : List RawRow → Played

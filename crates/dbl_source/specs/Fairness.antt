@@ -11,7 +11,8 @@ use Rattle.dbl_source.specs.declared.asked.Asked.{Asked}
 
 -- Whether the rows are those of one position between the call and the return of the select with these arguments.
 abbrev pub IsAnswered : List LogTable → List Logged → Asked → List RawRow → Type 0
-IsAnswered tables log question rows = AreAnswered (history_of tables log) question.from question.upto question.table question.above question.limit rows
+IsAnswered tables log question rows =
+    AreAnswered (history_of tables log) question.from question.upto question.table question.above question.limit rows
 
 -- Whether what was committed so far is valid, and such as a server sends, and the script's rows for each select so far are correct. After
 -- the script's end a select has no rows, which has to be correct too.

@@ -22,7 +22,8 @@ use Rattle.dbl_source.specs.Steps.{WasFair, AddedFirst}
 
 -- A source before its first call was fair so far, for any script, if its tables have distinct names and Relations with an encoding.
 abbrev pub NewSourcesAreFair : Type 0
-NewSourcesAreFair = (raws : List RawTable) (moves : List Move) (rows : List (List RawRow)) (fails : List ℕ) → AllByRecursion IsEntryInRange (catalogue (map keyed_table raws)) → AreNamed (map keyed_table raws)
+NewSourcesAreFair = (raws : List RawTable) (moves : List Move) (rows : List (List RawRow)) (fails : List ℕ)
+    → AllByRecursion IsEntryInRange (catalogue (map keyed_table raws)) → AreNamed (map keyed_table raws)
     → AllByRecursion Fits (all_relations (map keyed_table raws)) → WasFair (new_played raws moves rows fails)
 
 -- Whether each select so far returned when there were no more commits than now, as it has in every source that was made
@@ -33,25 +34,33 @@ HaveReturned s = (n : ℕ) (question : Asked) → slice_get s.asked n ≡ Some q
 -- If memory runs out in a call, a source that all its commits would keep fair is fair with the first ones, if each select returned before
 -- them.
 abbrev pub FirstCommitsAreFair : Type 0
-FirstCommitsAreFair = (commits : List (List Message)) (old new : Played) → HaveReturned old → AddedFirst commits old new → WasFair (committed commits old) → WasFair new
+FirstCommitsAreFair = (commits : List (List Message)) (old new : Played) → HaveReturned old → AddedFirst commits old new
+    → WasFair (committed commits old) → WasFair new
 
 -- A watermark of UTF-8 text keeps a source fair, if its history has room for it.
 abbrev pub MarksKeepFair : Type 0
-MarksKeepFair = (value : List ℕ) (s : Played) → IsUtf8 value → length s.log + 1 < commit_limit → HaveReturned s → WasFair s → WasFair (with_mark value s)
+MarksKeepFair = (value : List ℕ) (s : Played) → IsUtf8 value → length s.log + 1 < commit_limit → HaveReturned s → WasFair s
+    → WasFair (with_mark value s)
 
 -- Other clients' commits keep a source fair if its history stays valid and they are such as a server sends.
 abbrev pub CommitsKeepFair : Type 0
-CommitsKeepFair = (commits : List (List Message)) (s : Played) → HaveReturned s → IsFitHistory (history_of s.tables (committed commits s).log) → IsFairLog s.tables (committed commits s).log → WasFair s → WasFair (committed commits s)
+CommitsKeepFair = (commits : List (List Message)) (s : Played) → HaveReturned s
+    → IsFitHistory (history_of s.tables (committed commits s).log) → IsFairLog s.tables (committed commits s).log → WasFair s
+    → WasFair (committed commits s)
 
 -- A select keeps a source fair if its rows are those of one position between its call and its return, the commits inside of it are such as
 -- a server sends, and the history stays valid.
 abbrev pub SelectsKeepFair : Type 0
-SelectsKeepFair = (table : TableName) (above : Option Key) (limit from : ℕ) (inside : List (List Message)) (s : Played) → HaveReturned s → IsFitHistory (history_of s.tables (committed inside s).log) → IsFairLog s.tables (committed inside s).log
-    → IsAnswered s.tables (committed inside s).log (question_of table above limit from (length s.log + length inside)) (next_rows s) → WasFair s → WasFair (with_select table above limit from inside s)
+SelectsKeepFair = (table : TableName) (above : Option Key) (limit from : ℕ) (inside : List (List Message)) (s : Played) → HaveReturned s
+    → IsFitHistory (history_of s.tables (committed inside s).log) → IsFairLog s.tables (committed inside s).log
+    → IsAnswered s.tables (committed inside s).log (question_of table above limit from (length s.log + length inside)) (next_rows s)
+    → WasFair s → WasFair (with_select table above limit from inside s)
 
 -- Each select has returned in a source before its first call, and after adding other clients' commits, a watermark or a select.
 pub record SelectsHaveReturned : Type 0 where
-  pub first : (raws : List RawTable) (moves : List Move) (rows : List (List RawRow)) (fails : List ℕ) → HaveReturned (new_played raws moves rows fails)
+  pub first : (raws : List RawTable) (moves : List Move) (rows : List (List RawRow)) (fails : List ℕ)
+      → HaveReturned (new_played raws moves rows fails)
   pub commits : (commits : List (List Message)) (s : Played) → HaveReturned s → HaveReturned (committed commits s)
   pub mark : (value : List ℕ) (s : Played) → HaveReturned s → HaveReturned (with_mark value s)
-  pub select : (table : TableName) (above : Option Key) (limit from : ℕ) (inside : List (List Message)) (s : Played) → HaveReturned s → HaveReturned (with_select table above limit from inside s)
+  pub select : (table : TableName) (above : Option Key) (limit from : ℕ) (inside : List (List Message)) (s : Played) → HaveReturned s
+      → HaveReturned (with_select table above limit from inside s)

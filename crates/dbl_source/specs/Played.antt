@@ -1,5 +1,7 @@
 -- A source that is played from a script: its fields, its state as a source, and the effect of each call.
-use Rattle.std.specs.Prelude.{◌≡◌, ◌⊎◌, ℕ, ◌+◌, ◌≤◌, nat_lt, max, Bool, true, false, if◌then◌else◌, Contains, Option, Some, None, option_map, option_and_then, unwrap_or, Result, Err, IsErr, slice_get, slice_index_or, List, [], ◌∷◌, ◌++◌, length, map, drop}
+use Rattle.std.specs.Prelude.{◌≡◌, ◌⊎◌, ℕ, ◌+◌, ◌≤◌, nat_lt, max, Bool, true, false, if◌then◌else◌}
+use Rattle.std.specs.Prelude.{Contains, Option, Some, None, option_map, option_and_then, unwrap_or, Result}
+use Rattle.std.specs.Prelude.{Err, IsErr, slice_get, slice_index_or, List, [], ◌∷◌, ◌++◌, length, map, drop}
 use Rattle.dbl_base.specs.declared.lsn.Lsn.{Lsn}
 use Rattle.dbl_base.specs.Streams.{incremented}
 use Rattle.dbl_base.specs.Memory.{Plan, new_plan}
@@ -71,7 +73,8 @@ reading_at tables log place = record { after = place.after; messages = told_at t
 
 -- The state of a source with this log, confirmed position and reader.
 abbrev pub played_state : List LogTable → List Logged → Lsn → Option ReaderPosition → SourceState
-played_state tables log confirmed place = record { history = history_of tables log; confirmed = confirmed; reading = option_map (reading_at tables log) place }
+played_state tables log confirmed
+    place = record { history = history_of tables log; confirmed = confirmed; reading = option_map (reading_at tables log) place }
 
 -- The state as a source.
 abbrev pub standing_of : Played → SourceState
@@ -154,7 +157,9 @@ pub record FailsAsPlanned {T : Type 0} (own : ℕ) (more : Type 0) (old new : Pl
   pub listed : IsPlannedToFail old → IsErr result
   pub also : more → IsErr result
   pub failed : result ≡ Err Failed
-      → (IsFull own old × (new ≡ with_fault (called old))) ⊎ (IsPlannedToFail old × (¬ IsFull own old) × (new ≡ with_fault (with_release old))) ⊎ (more × (¬ IsPlannedToFail old) × (¬ IsFull own old) × (new ≡ with_fault (with_release old)))
+      → (IsFull own old × (new ≡ with_fault (called old)))
+      ⊎ (IsPlannedToFail old × (¬ IsFull own old) × (new ≡ with_fault (with_release old)))
+      ⊎ (more × (¬ IsPlannedToFail old) × (¬ IsFull own old) × (new ≡ with_fault (with_release old)))
 
 -- The state after an answer.
 abbrev pub with_answer : Last → Played → Played
@@ -179,7 +184,8 @@ place_of after (Gone first) = None
 
 -- The state after a start.
 abbrev pub with_start : Lsn → Played → Played
-with_start after s = with_answer (answers.Began (started_at after s)) (record s { place = place_of after (started_at after s); ended = false })
+with_start after s = with_answer (answers.Began (started_at after s))
+    (record s { place = place_of after (started_at after s); ended = false })
 
 -- The state after the head is answered.
 abbrev pub with_head : Played → Played
@@ -197,4 +203,7 @@ question_of table above limit from upto = record { table = table; above = above;
 abbrev pub with_select : TableName → Option Key → ℕ → ℕ → List (List Message) → Played → Played
 with_select table above limit from inside s =
     with_answer (answers.Rows (length s.asked))
-    (record s { log = s.log ++ map Changes inside; asked = s.asked ++ question_of table above limit from (length s.log + length inside) ∷ [] })
+    (record s {
+      log = s.log ++ map Changes inside;
+      asked = s.asked ++ question_of table above limit from (length s.log + length inside) ∷ [];
+    })

@@ -39,13 +39,16 @@ rising_so source s a = subst (λ (t : SourceState). IsRising t.history) (sym a.1
 pub fit_so : (source : Played) (l : CrashState) → MayLeavePlayed source l → WasFair source → IsFitHistory l.history
 fit_so source l may fair = subst (λ (x : CrashState). IsFitHistory x.history) (sym may) fair.fit
 
-right_at : (source : Played) (place : Option ReaderPosition) (r : Reading) → WasFair source → option_map (reading_at source.tables source.log) place ≡ Some r → IsReadRight (standing_of source).history r
+right_at : (source : Played) (place : Option ReaderPosition) (r : Reading) → WasFair source
+    → option_map (reading_at source.tables source.log) place ≡ Some r → IsReadRight (standing_of source).history r
 right_at source None r fair is = cc
 right_at source (Some place) r fair is =
     let same : reading_at source.tables source.log place ≡ r = cc in
     subst (IsReadRight (standing_of source).history) same (read_right source.tables source.log place fair.changes)
 
 -- The messages read of a fair source are correct.
-pub right_so : (source : Played) (s : SourceState) (r : Reading) → HasPlayedState source s → WasFair source → s.reading ≡ Some r → IsReadRight s.history r
+pub right_so : (source : Played) (s : SourceState) (r : Reading) → HasPlayedState source s → WasFair source → s.reading ≡ Some r
+    → IsReadRight s.history r
 right_so source s r a fair is =
-    subst (λ (t : SourceState). IsReadRight t.history r) (sym a.1) (right_at source source.place r fair (ap (λ (t : SourceState). t.reading) (sym a.1) ∙ is))
+    subst (λ (t : SourceState). IsReadRight t.history r) (sym a.1)
+    (right_at source source.place r fair (ap (λ (t : SourceState). t.reading) (sym a.1) ∙ is))

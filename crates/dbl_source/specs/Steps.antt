@@ -41,7 +41,8 @@ IsUnfit s = (place : ReaderPosition) × (s.place ≡ Some place) × IsSomeAnd (n
 
 -- Whether the plan is that after a call: the call is counted, and a fault if and only if it was planned to fail.
 abbrev pub HasCountedCall : Played → Plan → Type 0
-HasCountedCall old plan = ((¬ IsPlannedToFail old) × (plan ≡ (with_counted_call old).plan)) ⊎ (IsPlannedToFail old × (plan ≡ (with_fault (with_counted_call old)).plan))
+HasCountedCall old plan = ((¬ IsPlannedToFail old) × (plan ≡ (with_counted_call old).plan))
+    ⊎ (IsPlannedToFail old × (plan ≡ (with_fault (with_counted_call old)).plan))
 
 -- Whether memory ran out in a call that was to add these commits: some first ones of them are in the log, and nothing else changed but the
 -- counts of the plan.
@@ -70,7 +71,8 @@ pub record HasPlayed (commits : List (List Message)) (old new : List Logged) : T
 -- full, otherwise after these commits if it was planned to fail.
 abbrev pub HasFailed : List (List Message) → ℕ → Played → Played → Type 0
 HasFailed before own old new =
-    (IsFullBy (length before) own old × (new ≡ with_fault (with_counted_call old))) ⊎ (IsPlannedToFail old × (¬ IsFullBy (length before) own old) × (new ≡ with_fault (committed before (with_counted_call old))))
+    (IsFullBy (length before) own old × (new ≡ with_fault (with_counted_call old)))
+    ⊎ (IsPlannedToFail old × (¬ IsFullBy (length before) own old) × (new ≡ with_fault (committed before (with_counted_call old))))
 
 -- Whether a reader at this position has no more messages.
 abbrev pub IsAtEnd : List Logged → ReaderPosition → Type 0
@@ -103,7 +105,8 @@ abbrev pub FailsToRead : Played → Played → SourceError → Type 0
 FailsToRead old new e = ((e ≡ Memory) × (new ≡ old)) ⊎ ((e ≡ Failed) × (new ≡ with_fault old) × IsUnfit old)
 
 -- The invariant of the parts of each played source.
-pub record IsPlayed (tables : List LogTable) (log : List Logged) (asked : List Asked) (place : Option ReaderPosition) (described : BTreeSet ℕ) : Type 0 where
+pub record IsPlayed (tables : List LogTable) (log : List Logged) (asked : List Asked) (place : Option ReaderPosition)
+    (described : BTreeSet ℕ) : Type 0 where
   pub few : length log < commit_limit
   pub before : (n : ℕ) (question : Asked) → slice_get asked n ≡ Some question → question.upto ≤ length log
   pub placed : (p : ReaderPosition) → place ≡ Some p → IsPlaceIn log p

@@ -3,8 +3,8 @@
 ghost use Rattle.std.specs.Prelude.{◌↔◌};
 ghost use Rattle.dbl_source.specs.Played.{Played};
 ghost use Rattle.dbl_source.specs.Steps.{WasFair};
-ghost use Rattle.dbl_source.specs.Laws.{NewSourcesAreFair, FirstCommitsAreFair, MarksKeepFair, CommitsKeepFair};
-ghost use Rattle.dbl_source.specs.Laws.{SelectsKeepFair, SelectsHaveReturned};
+ghost use Rattle.dbl_source.specs.Laws.{NewSourcesAreFair, FirstCommitsAreFair, MarksKeepFair};
+ghost use Rattle.dbl_source.specs.Laws.{CommitsKeepFair, SelectsKeepFair, SelectsHaveReturned};
 ghost use Rattle.dbl_source.specs.FairExample.{FairSourcesStand};
 
 use crate::{ScriptedSource, Source};

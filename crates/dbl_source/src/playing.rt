@@ -1,19 +1,24 @@
 //! How a source plays its script: the begin of a call, its effect and its answer. The contracts of
 //! these functions name the resulting state.
 
-ghost use Rattle.std.specs.Prelude.{◌≡◌, ◌+◌, ◌≤◌, ◌<◌, ◌++◌, ◌∷◌, [], false, length, max, Option, option_copied, Err};
-ghost use Rattle.std.specs.Prelude.{IsErr, IfOk, IfErr, OnOk, OnErr};
+ghost use Rattle.std.specs.Prelude.{◌≡◌, ◌+◌, ◌≤◌, ◌<◌, ◌++◌, ◌∷◌, [], false, length, max, Option};
+ghost use Rattle.std.specs.Prelude.{option_copied, Err, IsErr, IfOk, IfErr, OnOk, OnErr};
 ghost use Rattle.dbl_source_model.specs.ModelHistory.History.{entry_of};
 ghost use Rattle.dbl_source_log.specs.declared.logged.Logged.TheVariants.{Mark};
 ghost use Rattle.dbl_source_log.specs.Histories.{history_of};
 ghost use Rattle.dbl_source_log.specs.Numbers.{lsn_of, commit_limit};
 ghost use Rattle.dbl_source_log.specs.declared.error.SourceError.TheVariants.{Failed, Memory};
-ghost use Rattle.dbl_source.specs.Exits.{Plays, AnswersPlayedEntry, AnswersPlayedHead, AnswersPlayedStart, HasReadNext, AnswersRead, AnswersPlayedRows};
+ghost use Rattle.dbl_source.specs.Exits.{Plays, AnswersPlayedEntry, AnswersPlayedHead};
+ghost use Rattle.dbl_source.specs.Exits.{AnswersPlayedStart, HasReadNext, AnswersRead};
+ghost use Rattle.dbl_source.specs.Exits.{AnswersPlayedRows};
 ghost use Rattle.dbl_source.specs.Moves.{HasRoom};
-ghost use Rattle.dbl_source.specs.Played.{entry_at, before_of, inside_of, IsPlannedToFail, IsFullBy, past_move, with_counted_call};
-ghost use Rattle.dbl_source.specs.Played.{committed, with_release, with_fault, FailsAsPlanned, with_answer, with_mark};
-ghost use Rattle.dbl_source.specs.Played.{with_confirmed, started_at, place_of, next_rows, question_of};
-ghost use Rattle.dbl_source.specs.Steps.{KeepsPlayed, HasPlayed, AddedFirst, HasFailed, IsUnfit, ReadsNextMessage, IsReadBy, FailsToRead};
+ghost use Rattle.dbl_source.specs.Played.{entry_at, before_of, inside_of, IsPlannedToFail};
+ghost use Rattle.dbl_source.specs.Played.{IsFullBy, past_move, with_counted_call, committed};
+ghost use Rattle.dbl_source.specs.Played.{with_release, with_fault, FailsAsPlanned};
+ghost use Rattle.dbl_source.specs.Played.{with_answer, with_mark, with_confirmed, started_at};
+ghost use Rattle.dbl_source.specs.Played.{place_of, next_rows, question_of};
+ghost use Rattle.dbl_source.specs.Steps.{KeepsPlayed, HasPlayed, AddedFirst, HasFailed};
+ghost use Rattle.dbl_source.specs.Steps.{IsUnfit, ReadsNextMessage, IsReadBy, FailsToRead};
 
 use crate::asked::{Last, question, rows_at};
 use crate::catalogue::{entry_at, place_of};
@@ -317,7 +322,8 @@ impl ScriptedSource {
     }
 
     pub(crate) fn play_head(&mut self) -> Result<Lsn, SourceError>
-        ensures { Plays 0 ⊥ (before_of self.old) (AnswersPlayedHead self.old) self.old self.new result }
+        ensures { Plays 0 ⊥ (before_of self.old) (AnswersPlayedHead self.old) self.old
+            self.new result }
     {
         self.release(0)?;
         let lsn = self.last_lsn();
@@ -336,7 +342,8 @@ impl ScriptedSource {
     }
 
     pub(crate) fn play_read(&mut self) -> Result<Option<Bytes>, SourceError>
-        ensures { Plays 0 (IsUnfit (with_release self.old)) (before_of self.old) (AnswersRead self.old)
+        ensures { Plays 0 (IsUnfit (with_release self.old)) (before_of self.old)
+            (AnswersRead self.old)
             self.old self.new result }
     {
         self.release(0)?;
@@ -360,7 +367,8 @@ impl ScriptedSource {
     ) -> Result<Vec<RawRow>, SourceError>
         ensures plays { Plays (length (inside_of self.old)) ⊥
             (before_of self.old ++ inside_of self.old)
-            (λ rows. AnswersPlayedRows table.now (option_copied above.entry) limit self.old rows.items)
+            (λ rows. AnswersPlayedRows table.now (option_copied above.entry) limit
+            self.old rows.items)
             self.old self.new result }
         ensures listed { IsPlannedToFail self.old → result ≡ Err Memory
             → AddedFirst (before_of self.old) (past_move self.old) self.new }

@@ -1,6 +1,6 @@
-ghost use Rattle.std.specs.Prelude.{◌≡◌, ◌≢◌, ◌+◌, ◌≤◌, ◌<◌, ◌++◌, ◌∷◌, [], ℕ, length, map, Option, Some, None, false};
-ghost use Rattle.std.specs.Prelude.{is_some, is_none, option_copied, Err, IsTrue, IfSome, IfOk, IfErr, OnOk, OnErr};
-ghost use Rattle.std.specs.Prelude.{MatchOption};
+ghost use Rattle.std.specs.Prelude.{◌≡◌, ◌≢◌, ◌+◌, ◌≤◌, ◌<◌, ◌++◌, ◌∷◌, [], ℕ, length, map};
+ghost use Rattle.std.specs.Prelude.{Option, Some, None, false, is_some, is_none, option_copied};
+ghost use Rattle.std.specs.Prelude.{Err, IsTrue, IfSome, IfOk, IfErr, OnOk, OnErr, MatchOption};
 ghost use Rattle.std.specs.List.{AllByRecursion};
 ghost use Rattle.dbl_base.specs.Streams.{FailsOnlyIfCounted};
 ghost use Rattle.dbl_pgmsg.specs.declared.messages.Message.{Message};
@@ -9,16 +9,21 @@ ghost use Rattle.dbl_model_table.specs.Tables.{same_name, are_distinct};
 ghost use Rattle.dbl_source_model.specs.ModelHistory.Ranges.{IsEntryInRange};
 ghost use Rattle.dbl_source_model.specs.Standings.{SourceState, HasState, MovesTo};
 ghost use Rattle.dbl_source_model.specs.Answered.{IsDescribed, IsHeaded, IsSelectAnswer};
-ghost use Rattle.dbl_source_model.specs.Calls.{Moved, IsMarked, Starts, HasReadOneMore, HasReadAll, IsConfirmed};
-ghost use Rattle.dbl_source_model.specs.Leaves.{Leaves, LeavesSome, MayFollow, MayFollowMark, MayFollowConfirm};
-ghost use Rattle.dbl_source_model.specs.Trace.{Described, Head, Began, Read, Selected, Done, IsTakenBy, IsTakenAnew, LastAnswerIs, is_ready};
+ghost use Rattle.dbl_source_model.specs.Calls.{Moved, IsMarked, Starts, HasReadOneMore};
+ghost use Rattle.dbl_source_model.specs.Calls.{HasReadAll, IsConfirmed};
+ghost use Rattle.dbl_source_model.specs.Leaves.{Leaves, LeavesSome, MayFollow};
+ghost use Rattle.dbl_source_model.specs.Leaves.{MayFollowMark, MayFollowConfirm};
+ghost use Rattle.dbl_source_model.specs.Trace.{Described, Head, Began, Read, Selected, Done};
+ghost use Rattle.dbl_source_model.specs.Trace.{IsTakenBy, IsTakenAnew, LastAnswerIs, is_ready};
 ghost use Rattle.dbl_source_log.specs.Relations.{catalogue, all_relations, oid_limit};
 ghost use Rattle.dbl_source.specs.declared.asked.Last.TheVariants as answers;
 ghost use Rattle.dbl_source_log.specs.declared.error.SourceError.TheVariants.{Failed, Memory};
-ghost use Rattle.dbl_source.specs.Played.{keyed_table, new_played, trace_of, before_of, inside_of, IsPlannedToFail, past_move};
-ghost use Rattle.dbl_source.specs.Played.{with_release, FailsAsPlanned, with_answer, with_mark, with_confirmed, started_at};
+ghost use Rattle.dbl_source.specs.Played.{keyed_table, new_played, trace_of, before_of, inside_of};
+ghost use Rattle.dbl_source.specs.Played.{IsPlannedToFail, past_move, with_release, FailsAsPlanned};
+ghost use Rattle.dbl_source.specs.Played.{with_answer, with_mark, with_confirmed, started_at};
 ghost use Rattle.dbl_source.specs.Played.{with_start, with_head, next_rows, with_select};
-ghost use Rattle.dbl_source.specs.Steps.{AddedFirst, HasPlayedState, MayLeavePlayed, WasFair, IsUnfit, IsAtEnd};
+ghost use Rattle.dbl_source.specs.Steps.{AddedFirst, HasPlayedState};
+ghost use Rattle.dbl_source.specs.Steps.{MayLeavePlayed, WasFair, IsUnfit, IsAtEnd};
 
 use crate::asked::{Asked, Last};
 use crate::catalogue::keyed_tables;
@@ -125,7 +130,8 @@ impl Source for ScriptedSource {
     ghost use Rattle.std.specs.Prelude.{◌≡◌, IsTrue, Some, is_some};
     ghost use Rattle.dbl_source.specs.Played.{Played, trace_of};
     ghost use Rattle.dbl_source.specs.Steps.{HasPlayedState, MayLeavePlayed, WasFair};
-    ghost use Rattle.dbl_source.specs.ScriptLaws.{one_standing, only_left, may_leave_so, reads_so, rising_so, fit_so, right_so};
+    ghost use Rattle.dbl_source.specs.ScriptLaws.{one_standing, only_left, may_leave_so};
+    ghost use Rattle.dbl_source.specs.ScriptLaws.{reads_so, rising_so, fit_so, right_so};
 
     ghost stands = { HasPlayedState };
 
@@ -174,7 +180,8 @@ impl Source for ScriptedSource {
         ensures named { IfOk result (λ entry. IfSome entry (λ raw. raw.name ≡ name.now)) }
         ensures left { Leaves HasPlayedState MayLeavePlayed self.old self.new MayFollow }
         ensures some { LeavesSome HasPlayedState MayLeavePlayed self.old self.new }
-        ensures told { IfOk result (λ entry. LastAnswerIs (Some (trace_of self.new)) (Described entry)) }
+        ensures told { IfOk result
+            (λ entry. LastAnswerIs (Some (trace_of self.new)) (Described entry)) }
         ensures taken { IsTakenBy [] (Some (trace_of self.old)) (Some (trace_of self.new)) }
         ensures reading { is_some self.new.place ≡ is_some self.old.place }
         ensures ended { self.new.ended ≡ self.old.ended }
@@ -182,7 +189,8 @@ impl Source for ScriptedSource {
         ensures dead { OnErr result (self.new.live ≡ false) }
         ensures honest { WasFair self.new → WasFair self.old }
         ensures comes { Unit {0} }
-        ensures cause { FailsOnlyIfCounted (result ≡ Err Failed) self.old.plan.faults self.new.plan.faults }
+        ensures cause { FailsOnlyIfCounted (result ≡ Err Failed)
+            self.old.plan.faults self.new.plan.faults }
         ensures planned { FailsAsPlanned 0 ⊥ self.old self.new result }
         ensures memory { result ≡ Err Memory
             → AddedFirst (before_of self.old) (past_move self.old) self.new }
@@ -205,7 +213,8 @@ impl Source for ScriptedSource {
         ensures dead { OnErr result (self.new.live ≡ false) }
         ensures honest { WasFair self.new → WasFair self.old }
         ensures comes { Unit {0} }
-        ensures cause { FailsOnlyIfCounted (result ≡ Err Failed) self.old.plan.faults self.new.plan.faults }
+        ensures cause { FailsOnlyIfCounted (result ≡ Err Failed)
+            self.old.plan.faults self.new.plan.faults }
         ensures planned { FailsAsPlanned 0 ⊥ self.old self.new result }
         ensures memory { result ≡ Err Memory
             → AddedFirst (before_of self.old) (past_move self.old) self.new }
@@ -220,7 +229,8 @@ impl Source for ScriptedSource {
         ensures started { MovesTo HasPlayedState self.old self.new result (Starts after) }
         ensures left { Leaves HasPlayedState MayLeavePlayed self.old self.new MayFollow }
         ensures some { LeavesSome HasPlayedState MayLeavePlayed self.old self.new }
-        ensures told { IfOk result (λ started. LastAnswerIs (Some (trace_of self.new)) (Began started)) }
+        ensures told { IfOk result
+            (λ started. LastAnswerIs (Some (trace_of self.new)) (Began started)) }
         ensures taken { OnOk result
             (IsTakenAnew (Some (trace_of self.old)) (Some (trace_of self.new))) }
         ensures untaken { OnErr result
@@ -233,7 +243,8 @@ impl Source for ScriptedSource {
         ensures dead { OnErr result (self.new.live ≡ false) }
         ensures honest { WasFair self.new → WasFair self.old }
         ensures comes { Unit {0} }
-        ensures cause { FailsOnlyIfCounted (result ≡ Err Failed) self.old.plan.faults self.new.plan.faults }
+        ensures cause { FailsOnlyIfCounted (result ≡ Err Failed)
+            self.old.plan.faults self.new.plan.faults }
         ensures planned { FailsAsPlanned 0 ⊥ self.old self.new result }
         ensures memory { result ≡ Err Memory
             → AddedFirst (before_of self.old) (past_move self.old) self.new }
@@ -247,15 +258,19 @@ impl Source for ScriptedSource {
     fn read(&mut self) -> Result<Option<Bytes>, SourceError>
         requires live { IsTrue self.old.live }
         requires reading { IsTrue (is_some self.old.place) }
-        ensures took { (s : SourceState) → HasPlayedState self.old s → IfOk result (λ read. MatchOption read
-            (HasState HasPlayedState self.new (λ t. Moved s t × (WasFair self.new → HasReadAll s t)))
-            (λ bytes. (m : Message) × Spells bytes m × HasState HasPlayedState self.new (HasReadOneMore m s))) }
+        ensures took { (s : SourceState) → HasPlayedState self.old s
+            → IfOk result (λ read. MatchOption read
+            (HasState HasPlayedState self.new
+            (λ t. Moved s t × (WasFair self.new → HasReadAll s t)))
+            (λ bytes. (m : Message) × Spells bytes m
+            × HasState HasPlayedState self.new (HasReadOneMore m s))) }
         ensures left { Leaves HasPlayedState MayLeavePlayed self.old self.new MayFollow }
         ensures some { LeavesSome HasPlayedState MayLeavePlayed self.old self.new }
         ensures told { IfOk result (λ read. LastAnswerIs (Some (trace_of self.new)) (Read read)) }
         ensures taken { IfOk result (λ read. MatchOption read
             (IsTakenBy [] (Some (trace_of self.old)) (Some (trace_of self.new)))
-            (λ bytes. IsTakenBy (bytes ∷ []) (Some (trace_of self.old)) (Some (trace_of self.new)))) }
+            (λ bytes. IsTakenBy (bytes ∷ []) (Some (trace_of self.old))
+            (Some (trace_of self.new)))) }
         ensures untaken { OnErr result
             (IsTakenBy [] (Some (trace_of self.old)) (Some (trace_of self.new))) }
         ensures reading { is_some self.new.place ≡ is_some self.old.place }
@@ -265,8 +280,10 @@ impl Source for ScriptedSource {
         ensures dead { OnErr result (self.new.live ≡ false) }
         ensures honest { WasFair self.new → WasFair self.old }
         ensures comes { Unit {0} }
-        ensures cause { FailsOnlyIfCounted (result ≡ Err Failed) self.old.plan.faults self.new.plan.faults }
-        ensures planned { FailsAsPlanned 0 (IsUnfit (with_release self.old)) self.old self.new result }
+        ensures cause { FailsOnlyIfCounted (result ≡ Err Failed)
+            self.old.plan.faults self.new.plan.faults }
+        ensures planned { FailsAsPlanned 0 (IsUnfit (with_release self.old)) self.old
+            self.new result }
         ensures memory { result ≡ Err Memory
             → AddedFirst (before_of self.old) (past_move self.old) self.new }
         ensures played { IfOk result (λ read. (place : ReaderPosition) × (what : Last)
@@ -287,10 +304,12 @@ impl Source for ScriptedSource {
         requires live { IsTrue self.old.live }
         requires positive { 1 ≤ limit }
         ensures selected { MovesTo HasPlayedState self.old self.new result (λ rows.
-            IsSelectAnswer (WasFair self.new) table.now (option_copied above.entry) limit rows.items) }
+            IsSelectAnswer (WasFair self.new) table.now (option_copied above.entry) limit
+            rows.items) }
         ensures left { Leaves HasPlayedState MayLeavePlayed self.old self.new MayFollow }
         ensures some { LeavesSome HasPlayedState MayLeavePlayed self.old self.new }
-        ensures told { IfOk result (λ rows. LastAnswerIs (Some (trace_of self.new)) (Selected rows.items)) }
+        ensures told { IfOk result
+            (λ rows. LastAnswerIs (Some (trace_of self.new)) (Selected rows.items)) }
         ensures taken { IsTakenBy [] (Some (trace_of self.old)) (Some (trace_of self.new)) }
         ensures reading { is_some self.new.place ≡ is_some self.old.place }
         ensures ended { self.new.ended ≡ self.old.ended }
@@ -298,7 +317,8 @@ impl Source for ScriptedSource {
         ensures dead { OnErr result (self.new.live ≡ false) }
         ensures honest { WasFair self.new → WasFair self.old }
         ensures comes { Unit {0} }
-        ensures cause { FailsOnlyIfCounted (result ≡ Err Failed) self.old.plan.faults self.new.plan.faults }
+        ensures cause { FailsOnlyIfCounted (result ≡ Err Failed)
+            self.old.plan.faults self.new.plan.faults }
         ensures planned { FailsAsPlanned (length (inside_of self.old)) ⊥ self.old self.new result }
         ensures memory { result ≡ Err Memory
             → AddedFirst (before_of self.old ++ inside_of self.old) (past_move self.old) self.new }
@@ -314,8 +334,10 @@ impl Source for ScriptedSource {
     fn mark(&mut self, value: &Text) -> Result<(), SourceError>
         requires live { IsTrue self.old.live }
         requires short { length value.now ≤ 64 }
-        ensures marked { MovesTo HasPlayedState self.old self.new result (λ done. IsMarked value.now) }
-        ensures left { Leaves HasPlayedState MayLeavePlayed self.old self.new (MayFollowMark value.now) }
+        ensures marked { MovesTo HasPlayedState self.old self.new result
+            (λ done. IsMarked value.now) }
+        ensures left { Leaves HasPlayedState MayLeavePlayed self.old self.new
+            (MayFollowMark value.now) }
         ensures some { LeavesSome HasPlayedState MayLeavePlayed self.old self.new }
         ensures unmarked { result ≡ Err Memory
             → Leaves HasPlayedState MayLeavePlayed self.old self.new MayFollow }
@@ -327,7 +349,8 @@ impl Source for ScriptedSource {
         ensures dead { OnErr result (self.new.live ≡ false) }
         ensures honest { WasFair self.new → WasFair self.old }
         ensures comes { Unit {0} }
-        ensures cause { FailsOnlyIfCounted (result ≡ Err Failed) self.old.plan.faults self.new.plan.faults }
+        ensures cause { FailsOnlyIfCounted (result ≡ Err Failed)
+            self.old.plan.faults self.new.plan.faults }
         ensures planned { FailsAsPlanned 1 ⊥ self.old self.new result }
         ensures memory { result ≡ Err Memory
             → AddedFirst (before_of self.old) (past_move self.old) self.new }
@@ -338,8 +361,10 @@ impl Source for ScriptedSource {
 
     fn confirm(&mut self, upto: Lsn) -> Result<(), SourceError>
         requires { IsTrue self.old.live }
-        ensures confirmed { MovesTo HasPlayedState self.old self.new result (λ done. IsConfirmed upto) }
-        ensures left { Leaves HasPlayedState MayLeavePlayed self.old self.new (MayFollowConfirm upto) }
+        ensures confirmed { MovesTo HasPlayedState self.old self.new result
+            (λ done. IsConfirmed upto) }
+        ensures left { Leaves HasPlayedState MayLeavePlayed self.old self.new
+            (MayFollowConfirm upto) }
         ensures some { LeavesSome HasPlayedState MayLeavePlayed self.old self.new }
         ensures unconfirmed { result ≡ Err Memory
             → Leaves HasPlayedState MayLeavePlayed self.old self.new MayFollow }
@@ -351,7 +376,8 @@ impl Source for ScriptedSource {
         ensures dead { OnErr result (self.new.live ≡ false) }
         ensures honest { WasFair self.new → WasFair self.old }
         ensures comes { Unit {0} }
-        ensures cause { FailsOnlyIfCounted (result ≡ Err Failed) self.old.plan.faults self.new.plan.faults }
+        ensures cause { FailsOnlyIfCounted (result ≡ Err Failed)
+            self.old.plan.faults self.new.plan.faults }
         ensures planned { FailsAsPlanned 0 ⊥ self.old self.new result }
         ensures memory { result ≡ Err Memory
             → AddedFirst (before_of self.old) (past_move self.old) self.new }

@@ -1,17 +1,22 @@
-ghost use Rattle.std.specs.Prelude.{◌≡◌, ◌≤◌, ℕ, List, [], ◌∷◌, length, Bool, false, is_some, is_none, IsTrue, Option};
-ghost use Rattle.std.specs.Prelude.{None, Some, option_copied, IfSome, IfOk, OnOk, OnErr, MatchOption};
+ghost use Rattle.std.specs.Prelude.{◌≡◌, ◌≤◌, ℕ, List, [], ◌∷◌, length, Bool, false};
+ghost use Rattle.std.specs.Prelude.{is_some, is_none, IsTrue, Option, None, Some};
+ghost use Rattle.std.specs.Prelude.{option_copied, IfSome, IfOk, OnOk, OnErr, MatchOption};
 ghost use Rattle.dbl_base.specs.Streams.{FailsOnlyIfCounted};
 ghost use Rattle.dbl_pgmsg.specs.declared.messages.Message.{Message};
 ghost use Rattle.dbl_pgmsg.specs.Grammar.{Spells};
 ghost use Rattle.dbl_source_model.specs.ModelHistory.History.{IsRising};
 ghost use Rattle.dbl_source_model.specs.ModelHistory.Fit.{IsFitHistory};
 ghost use Rattle.dbl_source_log.specs.declared.error.SourceError.TheVariants.{Failed, Memory};
-ghost use Rattle.dbl_source_model.specs.Standings.{Reading, SourceState, CrashState, left_of, HasState, MovesTo};
+ghost use Rattle.dbl_source_model.specs.Standings.{Reading, SourceState, CrashState};
+ghost use Rattle.dbl_source_model.specs.Standings.{left_of, HasState, MovesTo};
 ghost use Rattle.dbl_source_model.specs.Answered.{IsDescribed, IsHeaded, IsSelectAnswer};
 ghost use Rattle.dbl_source_model.specs.Stated.{IsReadRight};
-ghost use Rattle.dbl_source_model.specs.Calls.{Moved, IsMarked, Starts, HasReadOneMore, HasReadAll, IsConfirmed};
-ghost use Rattle.dbl_source_model.specs.Leaves.{Leaves, LeavesSome, MayFollow, MayFollowMark, MayFollowConfirm};
-ghost use Rattle.dbl_source_model.specs.Trace.{Described, Head, Began, Read, Selected, Done, Trace, IsTakenBy, IsTakenAnew, LastAnswerIs, is_ready};
+ghost use Rattle.dbl_source_model.specs.Calls.{Moved, IsMarked, Starts, HasReadOneMore};
+ghost use Rattle.dbl_source_model.specs.Calls.{HasReadAll, IsConfirmed};
+ghost use Rattle.dbl_source_model.specs.Leaves.{Leaves, LeavesSome, MayFollow};
+ghost use Rattle.dbl_source_model.specs.Leaves.{MayFollowMark, MayFollowConfirm};
+ghost use Rattle.dbl_source_model.specs.Trace.{Described, Head, Began, Read, Selected, Done, Trace};
+ghost use Rattle.dbl_source_model.specs.Trace.{IsTakenBy, IsTakenAnew, LastAnswerIs, is_ready};
 
 use crate::SourceError;
 use dbl_base::{Bytes, Lsn, Text};
@@ -71,7 +76,8 @@ pub trait Source {
         ensures dead { OnErr result (is_live self.new ≡ false) }
         ensures honest { honest self.new → honest self.old }
         ensures comes { comes_of self.old self.new }
-        ensures cause { FailsOnlyIfCounted (result ≡ Err Failed) (faults self.old) (faults self.new) };
+        ensures cause { FailsOnlyIfCounted (result ≡ Err Failed)
+            (faults self.old) (faults self.new) };
 
     /// The LSN of the last commit at one time during the call, 0 if there was none.
     fn head(&mut self) -> Result<Lsn, SourceError>
@@ -87,7 +93,8 @@ pub trait Source {
         ensures dead { OnErr result (is_live self.new ≡ false) }
         ensures honest { honest self.new → honest self.old }
         ensures comes { comes_of self.old self.new }
-        ensures cause { FailsOnlyIfCounted (result ≡ Err Failed) (faults self.old) (faults self.new) };
+        ensures cause { FailsOnlyIfCounted (result ≡ Err Failed)
+            (faults self.old) (faults self.new) };
 
     /// Begins reading again, with the first commit after the LSN; or answers `Gone` if the log
     /// after it was dropped, with a position above the LSN and not above the confirmed one, since
@@ -109,7 +116,8 @@ pub trait Source {
         ensures dead { OnErr result (is_live self.new ≡ false) }
         ensures honest { honest self.new → honest self.old }
         ensures comes { comes_of self.old self.new }
-        ensures cause { FailsOnlyIfCounted (result ≡ Err Failed) (faults self.old) (faults self.new) };
+        ensures cause { FailsOnlyIfCounted (result ≡ Err Failed)
+            (faults self.old) (faults self.new) };
 
     /// The bytes of the next message, or None. If the source conforms and the messages that it sent
     /// have no error, None says that every commit that existed at the call was read.
@@ -118,7 +126,8 @@ pub trait Source {
         requires reading { IsTrue (is_reading self.old) }
         ensures took { (s : SourceState) → stands self.old s → IfOk result (λ read. MatchOption read
             (HasState stands self.new (λ t. Moved s t × (honest self.new → HasReadAll s t)))
-            (λ bytes. (m : Message) × Spells bytes m × HasState stands self.new (HasReadOneMore m s))) }
+            (λ bytes. (m : Message) × Spells bytes m
+            × HasState stands self.new (HasReadOneMore m s))) }
         ensures left { Leaves stands may_leave self.old self.new MayFollow }
         ensures some { LeavesSome stands may_leave self.old self.new }
         ensures told { IfOk result (λ read. LastAnswerIs (told self.new) (Read read)) }
@@ -133,7 +142,8 @@ pub trait Source {
         ensures dead { OnErr result (is_live self.new ≡ false) }
         ensures honest { honest self.new → honest self.old }
         ensures comes { comes_of self.old self.new }
-        ensures cause { FailsOnlyIfCounted (result ≡ Err Failed) (faults self.old) (faults self.new) };
+        ensures cause { FailsOnlyIfCounted (result ≡ Err Failed)
+            (faults self.old) (faults self.new) };
 
     /// The first `limit` rows of the table with a key above `above` (all if None), in key order, at
     /// one position between the call and the return, if the source conforms. No row is above a key
@@ -147,7 +157,8 @@ pub trait Source {
         requires live { IsTrue (is_live self.old) }
         requires positive { 1 ≤ limit }
         ensures selected { MovesTo stands self.old self.new result (λ rows.
-            IsSelectAnswer (honest self.new) table.now (option_copied above.entry) limit rows.items) }
+            IsSelectAnswer (honest self.new) table.now (option_copied above.entry) limit
+            rows.items) }
         ensures left { Leaves stands may_leave self.old self.new MayFollow }
         ensures some { LeavesSome stands may_leave self.old self.new }
         ensures told { IfOk result (λ rows. LastAnswerIs (told self.new) (Selected rows.items)) }
@@ -158,7 +169,8 @@ pub trait Source {
         ensures dead { OnErr result (is_live self.new ≡ false) }
         ensures honest { honest self.new → honest self.old }
         ensures comes { comes_of self.old self.new }
-        ensures cause { FailsOnlyIfCounted (result ≡ Err Failed) (faults self.old) (faults self.new) };
+        ensures cause { FailsOnlyIfCounted (result ≡ Err Failed)
+            (faults self.old) (faults self.new) };
 
     /// Writes the watermark as a commit of its own. After `Failed` it may be in the log, after
     /// `Memory` it isn't.
@@ -178,7 +190,8 @@ pub trait Source {
         ensures dead { OnErr result (is_live self.new ≡ false) }
         ensures honest { honest self.new → honest self.old }
         ensures comes { comes_of self.old self.new }
-        ensures cause { FailsOnlyIfCounted (result ≡ Err Failed) (faults self.old) (faults self.new) };
+        ensures cause { FailsOnlyIfCounted (result ≡ Err Failed)
+            (faults self.old) (faults self.new) };
 
     /// Confirms that the log up to this LSN isn't needed any more; one that is below the confirmed
     /// position changes nothing. After `Failed` it may be confirmed, after `Memory` it isn't.
@@ -197,7 +210,8 @@ pub trait Source {
         ensures dead { OnErr result (is_live self.new ≡ false) }
         ensures honest { honest self.new → honest self.old }
         ensures comes { comes_of self.old self.new }
-        ensures cause { FailsOnlyIfCounted (result ≡ Err Failed) (faults self.old) (faults self.new) };
+        ensures cause { FailsOnlyIfCounted (result ≡ Err Failed)
+            (faults self.old) (faults self.new) };
 
     /// A source that reports a state can be used.
     ghost lives: { (source : Self) (s : SourceState) → stands source s → IsTrue (is_live source) };
@@ -209,7 +223,8 @@ pub trait Source {
     ghost only: { (source : Self) (s : SourceState) (l : CrashState) → stands source s
         → may_leave source l → l ≡ left_of s };
 
-    ghost may: { (source : Self) (s : SourceState) → stands source s → may_leave source (left_of s) };
+    ghost may: { (source : Self) (s : SourceState) → stands source s
+        → may_leave source (left_of s) };
 
     /// Reading is in progress if and only if the last start answered that reading begins.
     ghost reads: { (source : Self) (s : SourceState) → stands source s

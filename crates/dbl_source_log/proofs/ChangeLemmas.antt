@@ -1,4 +1,4 @@
--- One change message of a fair log, behind the Relations of its tables: it may stand, and it states its changes.
+-- One change message of a fair log, after the Relations of its tables: it may stand, and it states its changes.
 use Rattle.std.proofs.Common.{◌≡◌, ◌∙◌, inl, ℕ, true, false, Option, Some, None, List, [], ◌∷◌, ◌++◌, refl, sym, ap, subst}
 use Rattle.std.specs.Prelude.{is_some, filter_map, Result, Ok, Err}
 use Rattle.dbl_base.specs.declared.lsn.Lsn.{Lsn}

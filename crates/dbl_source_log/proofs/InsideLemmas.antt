@@ -61,7 +61,7 @@ right_before infos after commits (m ∷ more) past right = right_before infos af
 pub right_front : (infos : List TableInfo) (after : Lsn) (commits : List Commit) (past now : List Message) → IsOnTop past now → ReadsRight infos after commits now → ReadsRight infos after commits past
 right_front infos after commits past now top right = right_before infos after commits top.more past (subst (ReadsRight infos after commits) top.is right)
 
--- ---- the commits behind a start
+-- ---- the commits after a start
 
 lt_true : (a b : ℕ) → a < b → nat_lt a b ≡ true
 lt_true a b lt = grind (arith, nat_tests)
@@ -69,7 +69,7 @@ lt_true a b lt = grind (arith, nat_tests)
 lt_false : (a b : ℕ) → b ≤ a → nat_lt a b ≡ false
 lt_false a b le = grind (arith, nat_tests)
 
--- an LSN of the log is behind another exactly where its number is
+-- an LSN of the log is after another if and only if its number is
 behind_lsn : (after n : ℕ) → nat_lt after (256 * n) ≡ nat_lt (after / 256) n
 behind_lsn after n = elim (nat_cases (after / 256) n) [
   | inl lt ↦ lt_true after (256 * n) (omega (arith, (div-lt_iff_lt-mul {k = 256} {x = after} {y = n} (omega arith)).0 lt)) ∙ sym (lt_true (after / 256) n lt)
@@ -80,7 +80,7 @@ module _ (tables : List LogTable) (after : Lsn) where
   passed : (c : RawCommit) (cs : List RawCommit) (b : Bool) → nat_lt after.0 c.lsn.0 ≡ b → commits_after after (c ∷ cs) ≡ cond b (c ∷ commits_after after cs) (commits_after after cs)
   passed c cs b is = ap (λ (t : Bool). cond t (c ∷ commits_after after cs) (commits_after after cs)) is
 
-  -- the filter keeps the commits behind the start
+  -- the filter keeps the commits after the start
   none_before : (rows : TextRows) (n : ℕ) (log : List Logged) → commits_upto after < n → commits_after after (commits_from tables rows n log) ≡ commits_from tables rows n log
   none_before rows n [] lt = refl
   none_before rows n (entry ∷ log) lt =
@@ -104,7 +104,7 @@ module _ (tables : List LogTable) (after : Lsn) where
 abbrev pub begun_of : ℕ → Begun
 begun_of n = record { lsn = lsn_of n; time = time_of n; xid = xid_of n }
 
--- Between two transactions, behind the commits `done` and before `later`; commit n comes next.
+-- Between two transactions, after the commits `done` and before `later`; commit n comes next.
 pub record Between (tables : List LogTable) (infos : List TableInfo) (after : Lsn) (n : ℕ) (done later : List Commit) (past : List Message) : Type 0 where
   pub right : ReadsRight infos after (done ++ later) past
   pub told : AreTold tables past
@@ -112,7 +112,7 @@ pub record Between (tables : List LogTable) (infos : List TableInfo) (after : Ls
   pub below : (last_lsn after past).0 < 256 * n
   pub stated : AreWithoutFault infos after past → commits_of infos past ≡ done
 
--- Inside commit n, which states `so_far` and then `rest`, and this mark so far.
+-- Inside commit n, which states `so_far` and then `rest`, and this watermark so far.
 pub record Inside (tables : List LogTable) (infos : List TableInfo) (after : Lsn) (n : ℕ) (done : List Commit) (commit : Commit) (later : List Commit) (so_far rest : List Change) (mark : Option (List ℕ)) (past : List Message) : Type 0 where
   pub right : ReadsRight infos after (done ++ commit ∷ later) past
   pub told : AreTold tables past
@@ -126,7 +126,7 @@ pub record Inside (tables : List LogTable) (infos : List TableInfo) (after : Lsn
   pub mark_is : IfSome mark (λ value. commit.body ≡ body.Mark value)
 
 module _ (tables : List LogTable) (infos : List TableInfo) (after : Lsn) (n : ℕ) (done : List Commit) (commit : Commit) (later : List Commit) where
-  -- what is open behind messages begins the commit
+  -- what is open after messages begins the commit
   begins_it : (past : List Message) (so_far rest : List Change) (mark : Option (List ℕ)) → begin_of past ≡ Some (begun_of n) → open_mark past ≡ mark → commit.lsn ≡ lsn_of n → commit.time ≡ time_of n → commit.xid ≡ xid_of n → so_far ++ rest ≡ changes_of commit
       → IfSome mark (λ value. commit.body ≡ body.Mark value) → open_changes infos past ≡ so_far → BeginsNext infos past (commit ∷ later)
   begins_it past so_far rest mark begun marked lsn time xid parts mark_is open_is =
@@ -302,7 +302,7 @@ module _ (tables : List LogTable) (infos : List TableInfo) (after : Lsn) (n : �
   relations_step [] past so_far rest mark i = i
   relations_step (oid ∷ oids) past so_far rest mark i = relations_step oids (onto_relation tables oid past) so_far rest mark (onto_step oid past so_far rest mark i)
 
-  -- a change behind the Relations of its tables
+  -- a change after the Relations of its tables
   pub change_step : (m : Message) (past : List Message) (rows : TextRows) (so_far rest : List Change) → AreNamed tables → AreInfosOf (history_of tables []) infos → IsChangeOf tables m → HasFewFaults tables m
       → Inside tables infos after n done commit later so_far (filter_map (typed_change infos) (raw_changes tables rows m) ++ rest) None past
       → Inside tables infos after n done commit later (so_far ++ filter_map (typed_change infos) (raw_changes tables rows m)) rest None (m ∷ onto_relations tables (oids_of m) past)
@@ -332,7 +332,7 @@ module _ (tables : List LogTable) (infos : List TableInfo) (after : Lsn) (n : �
       let all = changes_step ms (m ∷ onto_relations tables (oids_of m) past) next (so_far ++ first) named_so captured fair.1 one in
       subst (λ (cs : List Change). Inside tables infos after n done commit later cs [] None (told_changes tables (m ∷ ms) past)) (append_assoc so_far first rest ∙ ap (λ (cs : List Change). so_far ++ cs) (sym split)) all
 
-  -- ---- the one Update of a mark
+  -- ---- the one Update of a watermark
 
   abbrev watermark : Relation
   watermark = described (codes "public") (codes "dblog_watermark") (byte "d") watermark_columns
@@ -340,7 +340,7 @@ module _ (tables : List LogTable) (infos : List TableInfo) (after : Lsn) (n : �
   abbrev marking : List ℕ → RowChange
   marking value = row.Update None (record { cells = cell.Text (codes "1") ∷ cell.Text value ∷ [] })
 
-  -- behind its Relation the table of the watermarks is described
+  -- after its Relation the table of the watermarks is described
   watermark_there : (past : List Message) → AreTold tables past → relation_of watermark_oid (onto_relation tables watermark_oid past) ≡ Some watermark
   watermark_there past told = by (is_some (relation_of watermark_oid past)) refl
     where
@@ -352,7 +352,7 @@ module _ (tables : List LogTable) (infos : List TableInfo) (after : Lsn) (n : �
       by true is = was_there (relation_of watermark_oid past) refl is
       by false is = refl
 
-  -- an Update of it to a text states nothing, in a transaction without a mark and without a change of a captured table
+  -- an Update of it to a text states nothing, in a transaction without a watermark and without a change of a captured table
   marking_states : (value : List ℕ) → row_stated infos None false watermark (marking value) (target infos watermark.name) ≡ Ok []
   unfolding row_stated
   marking_states value = refl

@@ -56,7 +56,7 @@ module _ (tables : List LogTable) where
   pub log_grows_to : (log new : List Logged) (more : List (List Message)) → new ≡ log ++ map Changes more → Grows (history_of tables log) (history_of tables new)
   log_grows_to log new more is = subst (λ (l : List Logged). Grows (history_of tables log) (history_of tables l)) (sym is) (log_grows log more)
 
-  -- a mark is written behind a log
+  -- a watermark is written after a log
   pub log_marks : (value : List ℕ) (log : List Logged) → Marks value (history_of tables log) (history_of tables (log ++ Mark value ∷ []))
   log_marks value log = record {
     tables = refl;

@@ -1,4 +1,4 @@
--- A mark behind a log leaves it fair and its history fit: it changes no row, and its LSN and time are in PostgreSQL's ranges.
+-- A watermark after a log leaves it fair and its history fit: it changes no row, and its LSN and time are in PostgreSQL's ranges.
 use Rattle.std.proofs.Common.{◌≡◌, ◌∙◌, ◌+◌, ◌<◌, ◌≤◌, ◌^◌, ℕ, List, [], ◌∷◌, ◌++◌, length, map, sym, ap, subst, arith}
 use Rattle.std.specs.Prelude.{Option, IsSome}
 use Rattle.std.specs.List.{AllByRecursion}
@@ -53,7 +53,7 @@ module _ (tables : List LogTable) (log : List Logged) (value : List ℕ) where
   captured_before : (infos : List TableInfo) → AreInfosOf marked infos → AreInfosOf (history_of tables log) infos
   captured_before infos captured = record { distinct = captured.distinct; each = captured.each }
 
-  -- a mark changes no row
+  -- a watermark changes no row
   same_changes : (infos : List TableInfo) → all_changes (typed infos marked) ≡ all_changes (typed infos (history_of tables log))
   same_changes infos =
       ap all_changes (map-append (typed_commit infos) commits (mark ∷ []))

@@ -28,7 +28,7 @@ module _ (tables : List LogTable) (log : List Logged) (place : ReaderPosition) w
   abbrev pub whole : List Message
   whole = told_whole tables place.after place.commits log
 
-  -- behind the Begin and so many changes
+  -- after the Begin and so many changes
   abbrev pub base : Logged → List Message
   base entry = told_changes tables (take place.change (messages_in entry)) (begin_message (index_of place + 1) ∷ whole)
 

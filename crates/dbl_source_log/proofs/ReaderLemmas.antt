@@ -90,7 +90,7 @@ read_right tables log place fair infos captured =
     commits : List Commit
     commits = to_state infos place.after (history_of tables log)
 
-    -- the commits behind the start are those of what is left of the log
+    -- the commits after the start are those of what is left of the log
     commits_are : commits ≡ map (typed_commit infos) (commits_from tables rows (first + 1) subsequent)
     commits_are = ap (map (typed_commit infos)) (commits_after-from tables place.after first no_text_rows 1 log (omega arith))
 
@@ -155,7 +155,7 @@ module _ (tables : List LogTable) (infos : List TableInfo) (after : Lsn) where
       let now : List Message = m ∷ onto_relations tables (oids_of m) past in
       still_twice infos past now (told_changes tables ms now) (change_still m past all.0) (changes_still ms now all.1)
 
-  -- a mark's message is a change too
+  -- a watermark's message is a change too
   are_changes : (entry : Logged) → AllByRecursion (λ message. IsChangeOf tables message × HasFewFaults tables message) (changes_given entry) → AllByRecursion IsChange (messages_in entry)
   are_changes (Changes ms) fair = by ms fair
     where

@@ -1,4 +1,4 @@
--- One more message is read: the next Relation that is missing, and the step to the place behind a message.
+-- One more message is read: the next Relation that is missing, and the step to the place after a message.
 use Rattle.std.proofs.Common.{◌≡◌, ◌∙◌, ◌⊎◌, inl, inr, ◌+◌, ◌<◌, ◌≤◌, ℕ, zero, suc, Bool, true, false, Option, Some, None, List, [], ◌∷◌, ◌++◌, length, take, refl, sym, ap, subst, arith}
 use Rattle.std.specs.Prelude.{is_some, if◌then◌else◌, option_map, unwrap_or, slice_get, Result, Ok, Err, IfOk, IfErr}
 use Rattle.std.specs.Ordering.{nat_cmp}
@@ -22,7 +22,7 @@ use Rattle.dbl_source_log.specs.declared.reading.Step.{Step}
 use Rattle.dbl_source_log.specs.declared.reading.Missing.{Missing}
 use Rattle.dbl_source_log.specs.Readings.{Describes, IsMissing, LeadsTo, Steps}
 
--- the step to the place behind a message reads the next one, where the reader has read the message there
+-- the step to the place after a message reads the next one, where the reader has read the message there
 pub leads_steps : (tables : List LogTable) (log : List Logged) (place next : ReaderPosition) (m : Message) (r : Result Step SourceError) → IfOk r (LeadsTo m next)
     → IfErr r (λ e. (e ≡ Memory) ⊎ ((e ≡ Failed) × (¬ Fits m))) → next.after ≡ place.after → told_at tables log next ≡ m ∷ told_at tables log place → IsPlaceIn log next → Steps tables log place r
 leads_steps tables log place next m (Ok step) leads fault same told placed = record {

@@ -1,4 +1,4 @@
--- The Relations that a reader of a log has read: each is the one that the log has of its table, and behind those of a change's tables
+-- The Relations that a reader of a log has read: each is the one that the log has of its table, and after those of a change's tables
 -- the change finds each of them.
 use Rattle.std.proofs.Common.{◌≡◌, ◌∙◌, ◌-◌, ◌⊎◌, inl, inr, ℕ, zero, suc, Bool, true, false, Option, Some, None, List, [], ◌∷◌, ◌++◌, map, refl, sym, ap, subst, arith}
 use Rattle.std.specs.Prelude.{◌≢◌, ◌==◌, is_some, IsSome, IsSomeAnd, nat_lt, if◌then◌else◌, option_map, slice_get, Result, Ok}
@@ -183,7 +183,7 @@ module _ (tables : List LogTable) where
             relation = ap (λ (l : Option Message). relation_of oid (list_of l)) message ∙ ap (λ (b : Bool). if b then Some (table_relation table) else None) (same_is_true oid);
           }
 
-  -- behind its Relation the table is described, as the log does
+  -- after its Relation the table is described, as the log does
   here_described : (oid : ℕ) (past : List Message) (k : KnownAt oid) → AreTold tables past → relation_of oid (onto_relation tables oid past) ≡ relation_in tables oid
   here_described oid past k told = by (is_some (relation_of oid past)) refl
     where
@@ -262,7 +262,7 @@ module _ (tables : List LogTable) (infos : List TableInfo) (named_so : AreNamed 
   both_described [] p q here there = tt
   both_described (oid ∷ oids) p q here there = (here.0.0 ∙ sym there.0.0, both_described oids p q here.1 there.1)
 
-  -- a change states the same and has the same fault wherever its tables are described
+  -- a change states the same and has the same fault where its tables are described
   pub stated_same : (m : Message) (p q : List Message) (changed other : Bool) → IsChange m → AllByRecursion (IsKnown tables) (oids_of m) → AreDescribed tables (oids_of m) p → AreDescribed tables (oids_of m) q
       → stated_in infos m p None changed ≡ stated_in infos m q None other
   stated_same (says.Insert oid new) p q changed other change known here there = rows_same oid (row.Insert new) p q changed other known here there
@@ -277,7 +277,7 @@ module _ (tables : List LogTable) (infos : List TableInfo) (named_so : AreNamed 
   stated_same (says.Relation o n m i c) p q changed other change known here there = absurd change
   stated_same (says.Logical f l r c) p q changed other change known here there = absurd change
 
-  -- it writes no mark
+  -- it writes no watermark
   unmarked : (oid : ℕ) (change : RowChange) (past : List Message) → AllByRecursion (IsKnown tables) (oid ∷ []) → AreDescribed tables (oid ∷ []) past → mark_by (relation_of oid past) change (open_mark past) ≡ open_mark past
   unmarked oid change past known here =
       let k = known_at tables oid known.0 in

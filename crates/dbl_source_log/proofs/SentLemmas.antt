@@ -131,7 +131,7 @@ module _ (tables : List LogTable) where
   there_more (entry ∷ log) more zero lt = refl
   there_more (entry ∷ log) more (suc i) lt = there_more log more i (omega arith)
 
-  -- as many entries behind a place as there are, of a log that grew
+  -- as many entries after a place as there are, of a log that grew
   pub behind_more : (first n : ℕ) (log more : List Logged) → n ≤ length log - first → take n (drop first (log ++ more)) ≡ take n (drop first log)
   behind_more zero n log more le = take-append-le n log more (omega (arith, le))
   behind_more (suc first) zero [] more le = refl
@@ -181,7 +181,7 @@ module _ (tables : List LogTable) where
       (subst (IsOnTop (told_part tables place entry past)) (sym all_is) (next_before place.table (slice_get ms c) (drop (suc c) ms) some))
       (on_top_one (commit_message (index_of place + 1)) all)
 
-  -- what is left of a log behind the whole commits that were read
+  -- what is left of a log after the whole commits that were read
   left_behind : (place : ReaderPosition) (o : Option Logged) (rest : List Logged) (past : List Message) → IsOnTop (told_open tables place o past) (told_from tables (index_of place + 1) (list_of o ++ rest) past)
   left_behind place None rest past = on_log (index_of place + 1) rest past
   left_behind place (Some entry) rest past =

@@ -33,7 +33,8 @@ pub record IsChangeOf (tables : List LogTable) (message : Message) : Type 0 wher
 -- watermark.
 abbrev pub HasFewFaults : List LogTable → Message → Type 0
 HasFewFaults tables message =
-    (infos : List TableInfo) → AreInfosOf (record { tables = catalogue tables; commits = [] }) infos → MayStand (err_of (stated_in infos message (onto_relations tables (oids_of message) []) None false))
+    (infos : List TableInfo) → AreInfosOf (record { tables = catalogue tables; commits = [] }) infos
+    → MayStand (err_of (stated_in infos message (onto_relations tables (oids_of message) []) None false))
 
 -- The change messages of a commit; a watermark's message is the log's own.
 abbrev pub changes_given : Logged → List Message
@@ -50,4 +51,5 @@ pub record IsFairLog (tables : List LogTable) (log : List Logged) : Type 0 where
   pub named : AreNamed tables
   -- Each table's Relation has an encoding.
   pub relations : AllByRecursion Fits (all_relations tables)
-  pub changes : AllByRecursion (λ entry. AllByRecursion (λ message. IsChangeOf tables message × HasFewFaults tables message) (changes_given entry)) log
+  pub changes : AllByRecursion
+      (λ entry. AllByRecursion (λ message. IsChangeOf tables message × HasFewFaults tables message) (changes_given entry)) log

@@ -29,13 +29,15 @@ pub record IsFitTextInsert (raw : RawTable) (rows : Key → Option Texts) (row :
 
 -- A valid update: one cell per column, and a row just before at the old key; if it moves the key, every cell is sent and the new key had no
 -- row.
-pub record IsFitTextUpdate (raw : RawTable) (rows : Key → Option Texts) (from : RawKey) (old : Option RawRow) (cells : List RawCell) : Type 0 where
+pub record IsFitTextUpdate (raw : RawTable) (rows : Key → Option Texts) (from : RawKey) (old : Option RawRow)
+    (cells : List RawCell) : Type 0 where
   pub wide : length cells ≡ length raw.columns
   pub old_wide : IfSome old (λ row. length row.cells ≡ length raw.columns)
   pub old_key : IsTextKey raw from
   pub new_key : IsTextKey raw (raw_key raw (map given_text cells))
   pub present : IsSome (rows (key_from raw from))
-  pub stays_or_moves : (key_from raw from ≡ key_in raw (map given_text cells)) ⊎ ((rows (key_in raw (map given_text cells)) ≡ None) × IsSome (all_texts cells))
+  pub stays_or_moves : (key_from raw from ≡ key_in raw (map given_text cells))
+      ⊎ ((rows (key_in raw (map given_text cells)) ≡ None) × IsSome (all_texts cells))
 
 -- A valid delete: there is a row at its key just before.
 pub record IsFitTextDelete (raw : RawTable) (rows : Key → Option Texts) (from : RawKey) (old : RawRow) : Type 0 where
@@ -53,12 +55,14 @@ IsFitText raw rows (Clear name) = Unit {0}
 -- Whether the change is of a table of the log, not the watermark table, and valid after the rows just before it.
 abbrev pub IsFitChange : List LogTable → TextRows → RawChange → Type 0
 IsFitChange tables rows change =
-    (is_watermark (name_of change) ≡ false) × IsSomeAnd (log_table_named tables (name_of change)) (λ table. IsFitText table.raw (rows (name_of change)) change)
+    (is_watermark (name_of change) ≡ false)
+    × IsSomeAnd (log_table_named tables (name_of change)) (λ table. IsFitText table.raw (rows (name_of change)) change)
 
 -- Whether each change of a list is valid after the rows just before it.
 abbrev pub AreFitChanges : List LogTable → TextRows → List RawChange → Type 0
 AreFitChanges tables rows [] = Unit {0}
-AreFitChanges tables rows (change ∷ changes) = IsFitChange tables rows change × AreFitChanges tables (text_rows_after tables change rows) changes
+AreFitChanges tables rows (change ∷ changes) = IsFitChange tables rows change
+    × AreFitChanges tables (text_rows_after tables change rows) changes
 
 -- Whether a commit's numbers and texts are in PostgreSQL's ranges, and each change is valid after the rows just before it.
 pub record IsFitEntry (tables : List LogTable) (rows : TextRows) (entry : Logged) : Type 0 where

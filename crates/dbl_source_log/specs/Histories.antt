@@ -17,7 +17,8 @@ body_at tables rows (Mark value) = raw.Mark value
 
 -- Commit n, given the rows just before it.
 abbrev pub raw_commit_at : List LogTable → TextRows → ℕ → Logged → RawCommit
-raw_commit_at tables rows n entry = record { lsn = lsn_of n; end_lsn = end_lsn_of n; time = time_of n; xid = xid_of n; body = body_at tables rows entry }
+raw_commit_at tables rows n
+    entry = record { lsn = lsn_of n; end_lsn = end_lsn_of n; time = time_of n; xid = xid_of n; body = body_at tables rows entry }
 
 -- The rows after a commit, given the rows just before it.
 abbrev pub text_rows_at : List LogTable → TextRows → Logged → TextRows
@@ -27,7 +28,8 @@ text_rows_at tables rows (Mark value) = rows
 -- The commits from n on.
 abbrev pub commits_from : List LogTable → TextRows → ℕ → List Logged → List RawCommit
 commits_from tables rows n [] = []
-commits_from tables rows n (entry ∷ log) = raw_commit_at tables rows n entry ∷ commits_from tables (text_rows_at tables rows entry) (n + 1) log
+commits_from tables rows n (entry ∷ log) =
+    raw_commit_at tables rows n entry ∷ commits_from tables (text_rows_at tables rows entry) (n + 1) log
 
 -- The rows after a log, given the rows before it.
 abbrev pub text_rows_through : List LogTable → TextRows → List Logged → TextRows

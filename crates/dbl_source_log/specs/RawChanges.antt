@@ -33,7 +33,9 @@ settled_if_moved moved (Some row) cells = if moved then settled cells row else c
 -- The change of an update from this key.
 abbrev pub update_from : LogTable → TextRows → RawKey → Option RawRow → List RawCell → RawChange
 update_from table rows from old cells =
-    Update table.raw.name from old (settled_if_moved (not (same_key (key_from table.raw from) (key_in table.raw (map given_text cells)))) (rows table.raw.name (key_from table.raw from)) cells)
+    Update table.raw.name from old
+    (settled_if_moved (not (same_key (key_from table.raw from) (key_in table.raw (map given_text cells))))
+    (rows table.raw.name (key_from table.raw from)) cells)
 
 -- The change of an update with this old row, if one was sent.
 abbrev pub update_with : LogTable → TextRows → Option RawRow → List RawCell → RawChange
@@ -42,7 +44,8 @@ update_with table rows old cells = update_from table rows (raw_key_before table.
 -- The change of an Update.
 abbrev pub update_of : LogTable → TextRows → Option OldTuple → Tuple → RawChange
 update_of table rows before new =
-    update_with table rows (option_map (old_row_in table) before) (new_texts table (is_whole before) (option_map (old_row_in table) before) 0 table.raw.columns new.cells)
+    update_with table rows (option_map (old_row_in table) before)
+    (new_texts table (is_whole before) (option_map (old_row_in table) before) 0 table.raw.columns new.cells)
 
 -- The change of a Delete.
 abbrev pub delete_of : LogTable → OldTuple → RawChange
@@ -53,13 +56,15 @@ abbrev pub raw_changes : List LogTable → TextRows → Message → List RawChan
 raw_changes tables rows (says.Insert oid new) = list_of (option_map (λ table. insert_of table new) (table_at tables oid))
 raw_changes tables rows (says.Update oid before new) = list_of (option_map (λ table. update_of table rows before new) (table_at tables oid))
 raw_changes tables rows (says.Delete oid before) = list_of (option_map (λ table. delete_of table before) (table_at tables oid))
-raw_changes tables rows (says.Truncate options oids) = filter_map (λ oid. option_map (λ table. Clear table.raw.name) (table_at tables oid)) oids
+raw_changes tables rows (says.Truncate options oids) =
+    filter_map (λ oid. option_map (λ table. Clear table.raw.name) (table_at tables oid)) oids
 raw_changes tables rows m = []
 
 -- The changes of messages, one after the other.
 abbrev pub changes_from : List LogTable → TextRows → List Message → List RawChange
 changes_from tables rows [] = []
-changes_from tables rows (m ∷ ms) = raw_changes tables rows m ++ changes_from tables (text_rows_with tables (raw_changes tables rows m) rows) ms
+changes_from tables rows (m ∷ ms) =
+    raw_changes tables rows m ++ changes_from tables (text_rows_with tables (raw_changes tables rows m) rows) ms
 
 -- The rows after the changes of messages.
 abbrev pub text_rows_from : List LogTable → TextRows → List Message → TextRows

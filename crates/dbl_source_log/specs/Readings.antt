@@ -38,7 +38,8 @@ pub record HasUnfit (tables : List LogTable) (log : List Logged) (place : Reader
 
 -- Whether one more message was read, or it has no encoding, or memory ran out.
 abbrev pub Steps : List LogTable → List Logged → ReaderPosition → Result Step SourceError → Type 0
-Steps tables log place result = MatchResult result (IsNext tables log place) (λ e. (e ≡ Memory) ⊎ ((e ≡ Failed) × HasUnfit tables log place))
+Steps tables log place result =
+    MatchResult result (IsNext tables log place) (λ e. (e ≡ Memory) ⊎ ((e ≡ Failed) × HasUnfit tables log place))
 
 -- ---- for private clauses
 
@@ -49,7 +50,8 @@ pub record IsMissing (tables : List LogTable) (oids : List ℕ) (from : ℕ) (ba
 
 -- Whether such a table was found, or none is left to be described.
 abbrev pub FindsMissingRelation : List LogTable → List ℕ → ℕ → List Message → Option Missing → Type 0
-FindsMissingRelation tables oids from base found = MatchOption found (onto_relations tables oids base ≡ onto_relations tables (take from oids) base) (IsMissing tables oids from base)
+FindsMissingRelation tables oids from base found =
+    MatchOption found (onto_relations tables oids base ≡ onto_relations tables (take from oids) base) (IsMissing tables oids from base)
 
 -- Whether the step reads this message and leads to this position.
 pub record LeadsTo (message : Message) (place : ReaderPosition) (step : Step) : Type 0 where

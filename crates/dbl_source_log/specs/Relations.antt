@@ -1,6 +1,7 @@
 -- The tables of a log, their OIDs, and the Relations that describe them. PostgreSQL's "Logical Replication Message Formats", Relation; the
 -- OIDs are this project's own.
-use Rattle.std.specs.Prelude.{◌^◌, ℕ, negsuc, ◌+◌, ◌-◌, ◌==◌, ◌||◌, nat_lt, not, Bool, if◌then◌else◌, Option, Some, None, option_map, filter, slice_get, List, [], ◌∷◌, map, codes}
+use Rattle.std.specs.Prelude.{◌^◌, ℕ, negsuc, ◌+◌, ◌-◌, ◌==◌, ◌||◌, nat_lt, not, Bool, if◌then◌else◌}
+use Rattle.std.specs.Prelude.{Option, Some, None, option_map, filter, slice_get, List, [], ◌∷◌, map, codes}
 use Rattle.std.specs.List.{list_any}
 use Rattle.std.specs.Str.{byte, bytes_eq}
 use Rattle.dbl_pgmsg.specs.declared.messages.Message.{Message}
@@ -38,7 +39,8 @@ is_in_identity table column = table.full || list_any (bytes_eq column.name) tabl
 
 -- The description of a column in a Relation.
 abbrev pub relation_column : LogTable → RawColumn → RelationColumn
-relation_column table column = record { flags = (if is_in_identity table column then 1 else 0); name = column.name; oid = column.oid; modifier = negsuc 0 }
+relation_column table
+    column = record { flags = (if is_in_identity table column then 1 else 0); name = column.name; oid = column.oid; modifier = negsuc 0 }
 
 -- The letter of a table's replica identity.
 abbrev pub identity_of : LogTable → ℕ
@@ -46,12 +48,14 @@ identity_of table = if table.full then byte "f" else byte "d"
 
 -- The Relation of the table with this OID.
 abbrev pub relation_message : ℕ → LogTable → Message
-relation_message oid table = says.Relation oid table.raw.name.schema table.raw.name.name (identity_of table) (map (relation_column table) table.raw.columns)
+relation_message oid table =
+    says.Relation oid table.raw.name.schema table.raw.name.name (identity_of table) (map (relation_column table) table.raw.columns)
 
 -- The columns of the watermark table: a key `id` of int4, and a text `value`.
 abbrev pub watermark_columns : List RelationColumn
 watermark_columns =
-    record { flags = 1; name = codes "id"; oid = 23; modifier = negsuc 0 } ∷ record { flags = 0; name = codes "value"; oid = 25; modifier = negsuc 0 } ∷ []
+    record { flags = 1; name = codes "id"; oid = 23; modifier = negsuc 0 }
+    ∷ record { flags = 0; name = codes "value"; oid = 25; modifier = negsuc 0 } ∷ []
 
 -- The Relation of the watermark table.
 abbrev pub watermark_relation : Message

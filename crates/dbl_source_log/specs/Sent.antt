@@ -1,6 +1,7 @@
 -- The messages as which a log is read. Lists of messages that were read have the newest first. PostgreSQL's "Logical Streaming Replication
 -- Protocol": a transaction is a Begin, its changes and a Commit, and a Relation precedes the first change of its table since reading began.
-use Rattle.std.specs.Prelude.{ℕ, ◌+◌, ◌-◌, ◌<◌, ◌≤◌, IsTrue, is_some, if◌then◌else◌, Option, Some, None, option_map, unwrap_or, slice_get, List, [], ◌∷◌, ◌++◌, length, take, drop, reverse}
+use Rattle.std.specs.Prelude.{ℕ, ◌+◌, ◌-◌, ◌<◌, ◌≤◌, IsTrue, is_some, if◌then◌else◌, Option, Some, None, option_map}
+use Rattle.std.specs.Prelude.{unwrap_or, slice_get, List, [], ◌∷◌, ◌++◌, length, take, drop, reverse}
 use Rattle.dbl_base.specs.declared.lsn.Lsn.{Lsn}
 use Rattle.dbl_pgmsg.specs.declared.messages.Message.{Message}
 use Rattle.dbl_pgmsg.specs.declared.messages.Message.TheVariants as says
@@ -83,7 +84,8 @@ oids_at entry change = unwrap_or (option_map oids_of (slice_get (messages_in ent
 -- The messages of an open commit: its Begin, the changes that were read, and the Relations of the checked tables of the next change.
 abbrev pub told_part : List LogTable → ReaderPosition → Logged → List Message → List Message
 told_part tables place entry past =
-    onto_relations tables (take place.table (oids_at entry place.change)) (told_changes tables (take place.change (messages_in entry)) (begin_message (index_of place + 1) ∷ past))
+    onto_relations tables (take place.table (oids_at entry place.change))
+    (told_changes tables (take place.change (messages_in entry)) (begin_message (index_of place + 1) ∷ past))
 
 -- The messages read so far with those of the open commit, if there is one and its Begin was read.
 abbrev pub told_open : List LogTable → ReaderPosition → Option Logged → List Message → List Message

@@ -27,7 +27,8 @@ updated_texts None cells was = option_map (overlaid cells) was
 abbrev pub text_row_after : RawTable → RawChange → (Key → Option Texts) → Key → Option Texts
 text_row_after raw (Insert name row) rows key = if same_key (key_in raw row.cells) key then Some row.cells else rows key
 text_row_after raw (Update name from old cells) rows key =
-    if same_key (key_in raw (map given_text cells)) key then updated_texts (all_texts cells) cells (rows key) else (if same_key (key_from raw from) key then None else rows key)
+    if same_key (key_in raw (map given_text cells)) key then updated_texts (all_texts cells) cells (rows key)
+    else (if same_key (key_from raw from) key then None else rows key)
 text_row_after raw (Delete name from old) rows key = if same_key (key_from raw from) key then None else rows key
 text_row_after raw (Clear name) rows key = None
 
@@ -42,7 +43,8 @@ log_table_named tables name = find (λ table. same_name table.raw.name name) tab
 
 -- The rows after one change.
 abbrev pub text_rows_after : List LogTable → RawChange → TextRows → TextRows
-text_rows_after tables change rows name key = if same_name (name_of change) name then text_row_in (log_table_named tables name) change (rows name) key else rows name key
+text_rows_after tables change rows name key = if same_name (name_of change) name
+    then text_row_in (log_table_named tables name) change (rows name) key else rows name key
 
 -- The rows after a list of changes.
 abbrev pub text_rows_with : List LogTable → List RawChange → TextRows → TextRows

@@ -1,6 +1,7 @@
 -- Rows and keys as texts: the row in a change message, given the row sent before it. PostgreSQL's "Logical Replication Message Formats",
 -- TupleData, and "Publication", Replica Identity.
-use Rattle.std.specs.Prelude.{ℕ, ◌+◌, ◌||◌, Bool, false, true, if◌then◌else◌, Option, Some, None, option_map, option_and_then, unwrap_or, slice_get, List, [], ◌∷◌, map}
+use Rattle.std.specs.Prelude.{ℕ, ◌+◌, ◌||◌, Bool, false, true, if◌then◌else◌, Option, Some, None}
+use Rattle.std.specs.Prelude.{option_map, option_and_then, unwrap_or, slice_get, List, [], ◌∷◌, map}
 use Rattle.dbl_pgmsg.specs.declared.messages.OldTuple.{OldTuple}
 use Rattle.dbl_pgmsg.specs.declared.messages.OldTuple.TheVariants as old
 use Rattle.dbl_pgmsg.specs.declared.messages.TupleCell.{TupleCell}
@@ -60,7 +61,8 @@ sent_text cell.Unchanged = None
 abbrev pub old_texts : LogTable → Bool → List RawColumn → List TupleCell → Texts
 old_texts table whole columns [] = []
 old_texts table whole [] (c ∷ cells) = sent_text c ∷ old_texts table whole [] cells
-old_texts table whole (column ∷ columns) (c ∷ cells) = (if whole || is_in_identity table column then sent_text c else None) ∷ old_texts table whole columns cells
+old_texts table whole (column ∷ columns) (c ∷ cells) =
+    (if whole || is_in_identity table column then sent_text c else None) ∷ old_texts table whole columns cells
 
 -- The old row of an old key or a whole old row.
 abbrev pub old_row_in : LogTable → OldTuple → RawRow
@@ -87,7 +89,8 @@ new_text filling cell.Unchanged = filled_text filling
 abbrev pub new_texts : LogTable → Bool → Option RawRow → ℕ → List RawColumn → List TupleCell → List RawCell
 new_texts table whole before place columns [] = []
 new_texts table whole before place [] (c ∷ cells) = new_text None c ∷ new_texts table whole before (place + 1) [] cells
-new_texts table whole before place (column ∷ columns) (c ∷ cells) = new_text (filling_text table whole before column place) c ∷ new_texts table whole before (place + 1) columns cells
+new_texts table whole before place (column ∷ columns) (c ∷ cells) =
+    new_text (filling_text table whole before column place) c ∷ new_texts table whole before (place + 1) columns cells
 
 -- ---- an update's cells
 

@@ -1,9 +1,11 @@
 //! Theorems about logs, about their histories and about what is read of them, as contracts of empty
 //! functions.
 
-ghost use Rattle.dbl_source_log.specs.Laws.{ChangesStateThemselves, FitLogsHaveFitHistories, FitLogsHaveTheirRows};
-ghost use Rattle.dbl_source_log.specs.Laws.{FairLogsAreReadRight, ReadersAtTheEndHaveReadAll, ReadMessagesStay};
-ghost use Rattle.dbl_source_log.specs.Laws.{LogsThatGrowHaveHistoriesThatGrow, ReadersReadWhatIsSent, SentMessagesStay};
+ghost use Rattle.dbl_source_log.specs.Laws.{ChangesStateThemselves, FitLogsHaveFitHistories};
+ghost use Rattle.dbl_source_log.specs.Laws.{FitLogsHaveTheirRows, FairLogsAreReadRight};
+ghost use Rattle.dbl_source_log.specs.Laws.{ReadersAtTheEndHaveReadAll, ReadMessagesStay};
+ghost use Rattle.dbl_source_log.specs.Laws.{LogsThatGrowHaveHistoriesThatGrow};
+ghost use Rattle.dbl_source_log.specs.Laws.{ReadersReadWhatIsSent, SentMessagesStay};
 
 /// A change message without an error states the changes that the history has for it.
 pub fn changes_state_themselves()

@@ -1,13 +1,14 @@
 //! The next message of a commit that is being read, and the position of its reader after it.
 
-ghost use Rattle.std.specs.Prelude.{◌≡◌, ◌⊎◌, ◌+◌, ◌<◌, ◌^◌, ℕ, List, ◌∷◌, take, false, true, Some, None, IfOk, IfErr};
-ghost use Rattle.std.specs.Prelude.{OnOk, OnErr, MatchOption, slice_get};
+ghost use Rattle.std.specs.Prelude.{◌≡◌, ◌⊎◌, ◌+◌, ◌<◌, ◌^◌, ℕ, List, ◌∷◌, take, false, true, Some};
+ghost use Rattle.std.specs.Prelude.{None, IfOk, IfErr, OnOk, OnErr, MatchOption, slice_get};
 ghost use Rattle.dbl_pgmsg.specs.declared.messages.Message.{Message};
 ghost use Rattle.dbl_pgmsg.specs.Grammar.{Fits, Spells};
 ghost use Rattle.dbl_source_log.specs.declared.logged.LogTable.{LogTable};
 ghost use Rattle.dbl_source_log.specs.declared.logged.Logged.{Logged};
 ghost use Rattle.dbl_source_log.specs.declared.logged.Logged.TheVariants.{Mark};
-ghost use Rattle.dbl_source_log.specs.Sent.{described_in, oids_of, messages_in, onto_relations, index_of, told_at, IsPlaceIn};
+ghost use Rattle.dbl_source_log.specs.Sent.{described_in, oids_of, messages_in};
+ghost use Rattle.dbl_source_log.specs.Sent.{onto_relations, index_of, told_at, IsPlaceIn};
 ghost use Rattle.dbl_source_log.specs.Readings.{Describes, Steps, FindsMissingRelation, LeadsTo};
 ghost use Rattle.dbl_source_log.specs.Numbers.{number_limit};
 

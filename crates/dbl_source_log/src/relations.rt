@@ -2,8 +2,9 @@
 
 ghost use Rattle.std.specs.Prelude.{◌≡◌, negsuc, IfOk, map, bytes_eq};
 ghost use Rattle.std.specs.List.{list_any};
-ghost use Rattle.dbl_source_log.specs.Relations.{is_in_identity, identity_of, relation_column, relation_message};
-ghost use Rattle.dbl_source_log.specs.Relations.{watermark_columns, watermark_relation, mark_message, relation_at};
+ghost use Rattle.dbl_source_log.specs.Relations.{is_in_identity, identity_of, relation_column};
+ghost use Rattle.dbl_source_log.specs.Relations.{relation_message, watermark_columns};
+ghost use Rattle.dbl_source_log.specs.Relations.{watermark_relation, mark_message, relation_at};
 
 use crate::LogTable;
 use dbl_base::{Seq, Text};

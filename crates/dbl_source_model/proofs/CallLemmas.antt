@@ -1,4 +1,4 @@
--- What a crash may leave behind a call that led to a standing.
+-- What a crash may leave after a call that led to a standing.
 use Rattle.std.proofs.Common.{◌≡◌, ◌∙◌, ℕ, inl, inr, List, [], ◌∷◌, length, sym, ap, subst, arith, length-append}
 use Rattle.dbl_base.specs.declared.lsn.Lsn.{Lsn}
 use Rattle.dbl_model_commit.specs.Pgmsg.declared.messages.Message.{Message}
@@ -41,11 +41,11 @@ module _ (s t : SourceState) (l : CrashState) (may : l ≡ left_of t) where
     confirmed = inr (ap (λ (x : CrashState). x.confirmed.0) may ∙ m.confirmed);
   }
 
--- a mark or a confirmed position that isn't there may be missing
+-- a watermark or a confirmed position that isn't there may be missing
 pub without_mark : (value : List ℕ) (s : SourceState) (l : CrashState) → MayFollow s l → MayFollowMark value s l
 without_mark value s l f = record { history = inl f.grows; confirmed = f.confirmed }
 
--- the mark may be there, and behind a call that only lets the history grow it isn't
+-- the watermark may be there, and after a call that only lets the history grow it isn't
 pub may_be_marked : FailedMarksMayStand
 may_be_marked value s l = record {
   unmarked = without_mark value s l;
@@ -60,7 +60,7 @@ may_be_marked value s l = record {
 pub unconfirmed : (upto : Lsn) (s : SourceState) (l : CrashState) → MayFollow s l → MayFollowConfirm upto s l
 unconfirmed upto s l f = record { grows = f.grows; confirmed = inl f.confirmed }
 
--- one call behind another
+-- one call after another
 pub moved_on : (s t u : SourceState) → Moved s t → Moved t u → Moved s u
 moved_on s t u m n = record { grows = grows_on s.history t.history u.history m.grows n.grows; confirmed = n.confirmed ∙ m.confirmed; reading = n.reading ∙ m.reading }
 

@@ -1,4 +1,4 @@
--- Of a fit history the first commits are a fit one, with the same rows behind each of them.
+-- Of a fit history the first commits are a fit one, with the same rows after each of them.
 use Rattle.std.proofs.Common.{◌≡◌, ◌∙◌, ◌≤◌, ℕ, List, [], ◌∷◌, ◌++◌, length, map, take, ap, subst, arith}
 use Rattle.std.specs.Prelude.{Option, IsSome}
 use Rattle.std.specs.List.{AllByRecursion}

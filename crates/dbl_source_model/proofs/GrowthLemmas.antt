@@ -1,4 +1,4 @@
--- Histories that grow: their marks, and their rows at the positions that stood.
+-- Histories that grow: their watermarks, and their rows at the positions that stood.
 use Rattle.std.proofs.Common.{◌≡◌, ◌∙◌, ◌+◌, ◌≤◌, ℕ, List, [], ◌∷◌, ◌++◌, length, map, take, drop, refl, sym, ap, arith, length-append, append_assoc}
 use Rattle.std.proofs.lemmas.List.{append-nil, length-map, map-append, take-append-le, take-append-drop}
 use Rattle.dbl_model_commit.specs.ModelTable.declared.table.TableInfo.{TableInfo}
@@ -28,7 +28,7 @@ grows_on a b c g h = record {
   rising = h.rising;
 }
 
--- a mark was written behind a history that had grown
+-- a watermark was written after a history that had grown
 pub marks_on : (value : List ℕ) (a b c : History) → Grows a b → Marks value b c → Marks value a c
 marks_on value a b c g m = record {
   tables = m.tables ∙ g.tables;
@@ -45,7 +45,7 @@ marks_on value a b c g m = record {
   rising = m.rising;
 }
 
--- and the history grew behind it
+-- and the history grew after it
 pub marks_grown : (value : List ℕ) (a b c : History) → Marks value a b → Grows b c → Marks value a c
 marks_grown value a b c m g = record {
   tables = g.tables ∙ m.tables;
@@ -62,7 +62,7 @@ marks_grown value a b c m g = record {
 pub grown_length : (old new : History) → Grows old new → length old.commits ≤ length new.commits
 grown_length old new g = omega (arith, ap length g.commits, length-append old.commits g.others)
 
--- ---- marks
+-- ---- watermarks
 
 marks_in-append : (xs ys : List RawCommit) → marks_in (xs ++ ys) ≡ marks_in xs ++ marks_in ys
 marks_in-append [] ys = refl

@@ -71,7 +71,8 @@ pub record HasReadOneMore (message : Message) (s t : SourceState) : Type 0 where
 -- Whether all commits after the start that existed at the call were read. Stated for messages without an error, by the number of commits
 -- that they state, which are the first ones after the start.
 pub record HasReadAll (s t : SourceState) : Type 0 where
-  pub each : (reading : Reading) → t.reading ≡ Some reading → (infos : List TableInfo) → AreInfosOf t.history infos → AreWithoutFault infos reading.after reading.messages
+  pub each : (reading : Reading) → t.reading ≡ Some reading → (infos : List TableInfo) → AreInfosOf t.history infos
+      → AreWithoutFault infos reading.after reading.messages
       → length (commits_after reading.after s.history.commits) ≤ length (commits_of infos reading.messages)
 
 -- Whether the confirmed position is the greater of the old one and the supplied one.

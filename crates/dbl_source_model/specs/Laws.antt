@@ -33,11 +33,13 @@ GrownHistoriesGrow = (a b c : History) → Grows a b → Grows b c → Grows a c
 
 -- The rows at a position stay as they are when the history grows.
 abbrev pub GrownHistoriesKeepRows : Type 0
-GrownHistoriesKeepRows = (infos : List TableInfo) (old new : History) (place : ℕ) → Grows old new → place ≤ length old.commits → rows_up_to infos new place ≡ rows_up_to infos old place
+GrownHistoriesKeepRows = (infos : List TableInfo) (old new : History) (place : ℕ) → Grows old new → place ≤ length old.commits
+    → rows_up_to infos new place ≡ rows_up_to infos old place
 
 -- The rows after a number of first commits are those at the point of the history after them.
 abbrev pub RowsUpToAreRows : Type 0
-RowsUpToAreRows = (infos : List TableInfo) (history : History) (place : ℕ) → rows_up_to infos history place ≡ rows infos (typed infos history) (moment_of (typed infos history) place 0)
+RowsUpToAreRows = (infos : List TableInfo) (history : History) (place : ℕ)
+    → rows_up_to infos history place ≡ rows infos (typed infos history) (moment_of (typed infos history) place 0)
 
 -- Other sessions write no watermark.
 abbrev pub OthersWriteNoMark : Type 0
@@ -61,50 +63,66 @@ pub record AreFirstBlocks (infos : List TableInfo) (commits : List Commit) (ms :
 
 -- Correctly read messages without an error are such transactions and a rest.
 abbrev pub ReadMessagesAreBlocks : Type 0
-ReadMessagesAreBlocks = (infos : List TableInfo) (after : Lsn) (commits : List Commit) (ms : List Message) → ReadsRight infos after commits ms → AreWithoutFault infos after ms → AreFirstBlocks infos commits ms
+ReadMessagesAreBlocks = (infos : List TableInfo) (after : Lsn) (commits : List Commit) (ms : List Message)
+    → ReadsRight infos after commits ms → AreWithoutFault infos after ms → AreFirstBlocks infos commits ms
 
 -- An LSN divides a history: the messages read after it have to state its last commits, and the commits before these are those up to the
 -- LSN.
 abbrev pub HistoriesPartAtAnLsn : Type 0
 HistoriesPartAtAnLsn = (infos : List TableInfo) (after : Lsn) (history : History) → IsRising history
-    → (before : List Commit) × (typed infos history ≡ before ++ to_state infos after history) × AllByRecursion (λ (commit : Commit). commit.lsn.0 ≤ after.0) before
+    → (before : List Commit) × (typed infos history ≡ before ++ to_state infos after history)
+    × AllByRecursion (λ (commit : Commit). commit.lsn.0 ≤ after.0) before
 
 -- Correctly read messages stay correct when the history grows.
 abbrev pub ReadersGoOn : Type 0
-ReadersGoOn = (infos : List TableInfo) (after : Lsn) (old new : History) (ms : List Message) → Grows old new → ReadsRight infos after (to_state infos after old) ms → ReadsRight infos after (to_state infos after new) ms
+ReadersGoOn = (infos : List TableInfo) (after : Lsn) (old new : History) (ms : List Message) → Grows old new
+    → ReadsRight infos after (to_state infos after old) ms → ReadsRight infos after (to_state infos after new) ms
 
 -- If all was read, the messages state every commit after the start that existed at the call, possibly followed by others.
 abbrev pub AllReadIsAllStated : Type 0
-AllReadIsAllStated = (infos : List TableInfo) (s t : SourceState) (reading : Reading) → Grows s.history t.history → t.reading ≡ Some reading → AreInfosOf t.history infos → IsReadRight t.history reading
+AllReadIsAllStated = (infos : List TableInfo) (s t : SourceState) (reading : Reading) → Grows s.history t.history → t.reading ≡ Some reading
+    → AreInfosOf t.history infos → IsReadRight t.history reading
     → AreWithoutFault infos reading.after reading.messages → HasReadAll s t
     → (more : List Commit) × (commits_of infos reading.messages ≡ to_state infos reading.after s.history ++ more)
 
 -- At one position, above one key of the table's key types or from the first on, and with one limit, a select has only one correct answer;
 -- above another key there is no row.
 abbrev pub AnswersAtAPlaceAreOne : Type 0
-AnswersAtAPlaceAreOne = (history : History) (place : ℕ) (name : TableName) (above : Option Key) (limit : ℕ) (rows others : List RawRow) (infos : List TableInfo) (table : ℕ) (info : TableInfo)
-    → AreInfosOf history infos → number_of infos name ≡ Some table → slice_get infos table ≡ Some info → AreRowsAt history place name above limit rows → AreRowsAt history place name above limit others
-    → (IfSome above (IsKeyOf info) → map (keyed_row infos table info) rows ≡ map (keyed_row infos table info) others) × ((¬ IfSome above (IsKeyOf info)) → rows ≡ others)
+AnswersAtAPlaceAreOne = (history : History) (place : ℕ) (name : TableName) (above : Option Key) (limit : ℕ) (rows others : List RawRow)
+    (infos : List TableInfo) (table : ℕ) (info : TableInfo)
+    → AreInfosOf history infos → number_of infos name ≡ Some table → slice_get infos table ≡ Some info
+    → AreRowsAt history place name above limit rows → AreRowsAt history place name above limit others
+    → (IfSome above (IsKeyOf info) → map (keyed_row infos table info) rows ≡ map (keyed_row infos table info) others)
+    × ((¬ IfSome above (IsKeyOf info)) → rows ≡ others)
 
 -- Before the first commit a captured table has no rows, so that no answer with a row is correct.
 abbrev pub NoRowsBeforeTheFirstCommit : Type 0
-NoRowsBeforeTheFirstCommit = (history : History) (from upto : ℕ) (name : TableName) (above : Option Key) (limit : ℕ) (rows : List RawRow) (infos : List TableInfo) (table : ℕ)
-    → history.commits ≡ [] → AreInfosOf history infos → number_of infos name ≡ Some table → AreAnswered history from upto name above limit rows → rows ≡ []
+NoRowsBeforeTheFirstCommit = (history : History) (from upto : ℕ) (name : TableName) (above : Option Key) (limit : ℕ) (rows : List RawRow)
+    (infos : List TableInfo) (table : ℕ)
+    → history.commits ≡ [] → AreInfosOf history infos → number_of infos name ≡ Some table
+    → AreAnswered history from upto name above limit rows → rows ≡ []
 
 -- A key without a row at any position between the call and the return has none in a correct answer: neither a row deleted before the call
 -- nor one inserted after the return.
 abbrev pub RowsOfNoPlaceAreUnanswered : Type 0
-RowsOfNoPlaceAreUnanswered = (history : History) (from upto : ℕ) (name : TableName) (above : Option Key) (limit : ℕ) (rows : List RawRow) (infos : List TableInfo) (table : ℕ) (info : TableInfo) (key : Key)
-    → AreInfosOf history infos → number_of infos name ≡ Some table → slice_get infos table ≡ Some info → AreAnswered history from upto name above limit rows
-    → ((place : ℕ) → from ≤ place → place ≤ upto → rows_up_to infos history place table key ≡ None) → row_in (map (keyed_row infos table info) rows) key ≡ None
+RowsOfNoPlaceAreUnanswered = (history : History) (from upto : ℕ) (name : TableName) (above : Option Key) (limit : ℕ) (rows : List RawRow)
+    (infos : List TableInfo) (table : ℕ) (info : TableInfo) (key : Key)
+    → AreInfosOf history infos → number_of infos name ≡ Some table → slice_get infos table ≡ Some info
+    → AreAnswered history from upto name above limit rows
+    → ((place : ℕ) → from ≤ place → place ≤ upto → rows_up_to infos history place table key ≡ None)
+    → row_in (map (keyed_row infos table info) rows) key ≡ None
 
 -- A key above the bound and within the answer's range has in a correct answer the row, or none, that it has at every position between the
 -- call and the return.
 abbrev pub StandingRowsAreAnswered : Type 0
-StandingRowsAreAnswered = (history : History) (from upto : ℕ) (name : TableName) (above : Option Key) (limit : ℕ) (rows : List RawRow) (infos : List TableInfo) (table : ℕ) (info : TableInfo) (key : Key) (row : Option (List Val))
-    → AreInfosOf history infos → number_of infos name ≡ Some table → slice_get infos table ≡ Some info → AreAnswered history from upto name above limit rows
-    → IfSome above (IsKeyOf info) → IsKeyOf info key → IsAbove above key → (length rows < limit) ⊎ IsUpTo (last_key above (map (keyed_row infos table info) rows)) key
-    → ((place : ℕ) → from ≤ place → place ≤ upto → rows_up_to infos history place table key ≡ row) → row_in (map (keyed_row infos table info) rows) key ≡ row
+StandingRowsAreAnswered = (history : History) (from upto : ℕ) (name : TableName) (above : Option Key) (limit : ℕ) (rows : List RawRow)
+    (infos : List TableInfo) (table : ℕ) (info : TableInfo) (key : Key) (row : Option (List Val))
+    → AreInfosOf history infos → number_of infos name ≡ Some table → slice_get infos table ≡ Some info
+    → AreAnswered history from upto name above limit rows
+    → IfSome above (IsKeyOf info) → IsKeyOf info key → IsAbove above key → (length rows < limit)
+    ⊎ IsUpTo (last_key above (map (keyed_row infos table info) rows)) key
+    → ((place : ℕ) → from ≤ place → place ≤ upto → rows_up_to infos history place table key ≡ row)
+    → row_in (map (keyed_row infos table info) rows) key ≡ row
 
 -- What a crash may leave of a watermark that wasn't answered: what may be left without it, possibly with the watermark, once. Calls that
 -- only read leave no watermark.

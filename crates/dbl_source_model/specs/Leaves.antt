@@ -21,7 +21,8 @@ pub record MayFollowConfirm (upto : Lsn) (s : SourceState) (l : CrashState) : Ty
   pub confirmed : (l.confirmed ≡ s.confirmed) ⊎ (l.confirmed.0 ≡ max s.confirmed.0 upto.0)
 
 -- Whether P relates the source's state before a call and all that a crash may leave after it, for every result of the call.
-abbrev pub Leaves : {S : Type 0} → (S → SourceState → Type 0) → (S → CrashState → Type 0) → S → S → (SourceState → CrashState → Type 0) → Type 0
+abbrev pub Leaves : {S : Type 0} → (S → SourceState → Type 0) → (S → CrashState → Type 0) → S → S
+    → (SourceState → CrashState → Type 0) → Type 0
 Leaves stands may_leave old new P = (s : SourceState) (l : CrashState) → stands old s → may_leave new l → P s l
 
 -- Whether a crash after a call can leave something, if the source had a state before it.

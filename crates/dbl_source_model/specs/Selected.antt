@@ -23,7 +23,8 @@ keyed_row infos table info raw = (key_of info (typed_row infos table raw).cells,
 
 -- Whether rows are the first ones above a key of the captured table with this index; if the key isn't of the table's key types, no row is
 -- above it.
-pub record AreFirstOf (infos : List TableInfo) (table : ℕ) (info : TableInfo) (at : Rows) (above : Option Key) (limit : ℕ) (rows : List RawRow) : Type 0 where
+pub record AreFirstOf (infos : List TableInfo) (table : ℕ) (info : TableInfo) (at : Rows) (above : Option Key) (limit : ℕ)
+    (rows : List RawRow) : Type 0 where
   pub captured : slice_get infos table ≡ Some info
   pub none_above : (¬ IfSome above (IsKeyOf info)) → rows ≡ []
   pub first : IfSome above (IsKeyOf info) → AreFirst info (at table) above limit (map (keyed_row infos table info) rows)
@@ -32,11 +33,14 @@ pub record AreFirstOf (infos : List TableInfo) (table : ℕ) (info : TableInfo) 
 -- that can't be captured are not restricted.
 abbrev pub AreRowsAt : History → ℕ → TableName → Option Key → ℕ → List RawRow → Type 0
 AreRowsAt history place name above limit rows =
-    (infos : List TableInfo) → AreInfosOf history infos → IfSome (number_of infos name) (λ table. (info : TableInfo) × AreFirstOf infos table info (rows_up_to infos history place) above limit rows)
+    (infos : List TableInfo) → AreInfosOf history infos
+    → IfSome (number_of infos name)
+    (λ table. (info : TableInfo) × AreFirstOf infos table info (rows_up_to infos history place) above limit rows)
 
 -- Whether the rows are those of one position, not before the last of the first `from` commits, nor after the first `upto`. A table that
 -- isn't in the catalogue has none.
-pub record AreAnswered (history : History) (from upto : ℕ) (name : TableName) (above : Option Key) (limit : ℕ) (rows : List RawRow) : Type 0 where
+pub record AreAnswered (history : History) (from upto : ℕ) (name : TableName) (above : Option Key) (limit : ℕ)
+    (rows : List RawRow) : Type 0 where
   pub absent : entry_of history name ≡ None → rows ≡ []
   pub place : ℕ
   pub not_before : from ≤ place

@@ -58,8 +58,10 @@ pub record StatesSome (infos : List TableInfo) (commits : List Commit) (ms : Lis
 abbrev pub ReadsRight : List TableInfo → Lsn → List Commit → List Message → Type 0
 ReadsRight infos after commits [] = Unit {0}
 ReadsRight infos after commits (m ∷ ms) =
-    (AreWithoutFault infos after ms → MayStand (transaction_fault infos after m ms)) × (AreWithoutFault infos after (m ∷ ms) → StatesSome infos commits (m ∷ ms)) × ReadsRight infos after commits ms
+    (AreWithoutFault infos after ms → MayStand (transaction_fault infos after m ms))
+    × (AreWithoutFault infos after (m ∷ ms) → StatesSome infos commits (m ∷ ms)) × ReadsRight infos after commits ms
 
 -- Whether, for any captured tables, the messages are correct for the history in its present state.
 abbrev pub IsReadRight : History → Reading → Type 0
-IsReadRight history reading = (infos : List TableInfo) → AreInfosOf history infos → ReadsRight infos reading.after (to_state infos reading.after history) reading.messages
+IsReadRight history reading = (infos : List TableInfo) → AreInfosOf history infos
+    → ReadsRight infos reading.after (to_state infos reading.after history) reading.messages

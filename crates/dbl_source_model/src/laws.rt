@@ -1,11 +1,13 @@
 //! Theorems about histories that grow, and about what is read of them, as contracts of empty
 //! functions.
 
-ghost use Rattle.dbl_source_model.specs.Laws.{GrownHistoriesGrow, GrownHistoriesKeepRows, RowsUpToAreRows};
-ghost use Rattle.dbl_source_model.specs.Laws.{OthersWriteNoMark, MarksAreWrittenOnce, FailedMarksMayStand};
-ghost use Rattle.dbl_source_model.specs.Laws.{ReadMessagesAreBlocks, HistoriesPartAtAnLsn, ReadersGoOn, AllReadIsAllStated};
-ghost use Rattle.dbl_source_model.specs.Laws.{AnswersAtAPlaceAreOne, NoRowsBeforeTheFirstCommit, RowsOfNoPlaceAreUnanswered};
-ghost use Rattle.dbl_source_model.specs.Laws.{StandingRowsAreAnswered};
+ghost use Rattle.dbl_source_model.specs.Laws.{GrownHistoriesGrow, GrownHistoriesKeepRows};
+ghost use Rattle.dbl_source_model.specs.Laws.{RowsUpToAreRows, OthersWriteNoMark};
+ghost use Rattle.dbl_source_model.specs.Laws.{MarksAreWrittenOnce, FailedMarksMayStand};
+ghost use Rattle.dbl_source_model.specs.Laws.{ReadMessagesAreBlocks, HistoriesPartAtAnLsn};
+ghost use Rattle.dbl_source_model.specs.Laws.{ReadersGoOn, AllReadIsAllStated};
+ghost use Rattle.dbl_source_model.specs.Laws.{AnswersAtAPlaceAreOne, NoRowsBeforeTheFirstCommit};
+ghost use Rattle.dbl_source_model.specs.Laws.{RowsOfNoPlaceAreUnanswered, StandingRowsAreAnswered};
 
 /// Growth of a history is transitive.
 pub fn grown_histories_grow()

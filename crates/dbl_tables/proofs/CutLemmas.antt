@@ -310,7 +310,7 @@ module _ (tables : List DemoTable) (past : List Accepted) (s : List ℕ) (store 
             each (n ∷ ns) [] zip = absurd zip
             each (n ∷ ns) (p ∷ ps) zip = ((let a = at_name n p zip.0 in ap is_some a.1), each ns ps zip.1)
 
--- ---- tables behind truncates are the same tables
+-- ---- tables after truncates are the same tables
 
 pub same_places : (xs ys : List Rows) → ((p : ℕ) → option_map (λ (r : Rows). r.table) (slice_get ys p) ≡ option_map (λ (r : Rows). r.table) (slice_get xs p)) → map (λ (r : Rows). r.table) ys ≡ map (λ (r : Rows). r.table) xs
 same_places [] [] same = refl

@@ -1,4 +1,4 @@
--- The whole store behind a change of rows that was taken.
+-- The whole store after a change of rows that was taken.
 use Rattle.std.proofs.Common.{◌≡◌, ◌∙◌, inl, inr, ℕ, zero, suc, Bool, true, false, Option, Some, None, List, [], ◌∷◌, ◌++◌, map, refl, sym, ap, subst}
 use Rattle.std.specs.Prelude.{◌&&◌, not, nat_eq, IfSome, if◌then◌else◌, slice_get, Ok, bytes_eq}
 use Rattle.std.specs.List.{AllByRecursion, list_any}

@@ -1,4 +1,4 @@
--- A new store: it stands behind no acts.
+-- A new store: it is after no acts.
 use Rattle.std.proofs.Common.{◌≡◌, ◌∙◌, ℕ, zero, suc, Option, Some, None, List, [], ◌∷◌, ◌++◌, map, length, refl, sym, ap, subst}
 use Rattle.std.specs.Prelude.{IfSome, option_map, option_and_then, slice_get}
 use Rattle.std.specs.List.{AllZip, list_any}

@@ -32,7 +32,7 @@ row_at es key = row_of (lookup (is_at (key_cmp key)) es)
 abbrev pub rows_of : List Entry → List RawRow
 rows_of es = filter_map (λ (e : Entry). e.1.committed) es
 
--- each key behind the one before, the first behind a bound
+-- each key after the one before, the first after a bound
 abbrev pub AreBehind : Option Key → List Entry → Type 0
 AreBehind bound [] = Unit {0}
 AreBehind bound (e ∷ es) = IsAbove bound e.0 × AreBehind (Some e.0) es
@@ -84,7 +84,7 @@ module _ (raw : RawTable) (at : Key → Option Texts) where
   first_of_slots (e ∷ es) above limit subsequent own same =
       by e.1.committed refl limit (λ later_same. first_of_slots es above limit (behind_less above e.0 es subsequent.0 subsequent.1) own.1 later_same) (λ less later_same. first_of_slots es (Some e.0) less subsequent.1 own.1 later_same)
     where
-      -- behind the first slot
+      -- after the first slot
       later : (key : Key) → key_cmp e.0 key ≡ Less → row_at es key ≡ row_at (e ∷ es) key
       later key less =
           let turned : key_cmp key e.0 ≡ Greater = key_total.antisymm key e.0 ∙ ap ordering_reverse less in

@@ -1,4 +1,4 @@
--- What a select answers: the committed rows of a table's slots behind a bound are what is shown.
+-- What a select answers: the committed rows of a table's slots after a bound are what is shown.
 use Rattle.std.proofs.Common.{◌≡◌, ◌∙◌, ◌<◌, ◌≤◌, ◌+◌, inr, ℕ, zero, suc, Bool, true, false, Option, Some, None, List, [], ◌∷◌, ◌++◌, cond, length, take, refl, sym, ap, subst, arith, append_assoc}
 use Rattle.std.specs.Prelude.{◌&&◌, IfSome, option_to_list, filter, Ok, Err, slice_get}
 use Rattle.std.specs.List.{AllByRecursion, cons_option, position_from}
@@ -227,7 +227,7 @@ pub above_is_behind : (above : Option Key) (key : Key) → IsAbove above key →
 above_is_behind None key is = refl
 above_is_behind (Some bound) key is = ap is_lt is
 
--- the slots of a range are those behind its bound
+-- the slots of a range are those after its bound
 and_yes : (b : Bool) → (b && true) ≡ b
 and_yes true = refl
 and_yes false = refl

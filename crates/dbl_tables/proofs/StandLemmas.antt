@@ -1,4 +1,4 @@
--- The whole store behind the end of a session.
+-- The whole store after the end of a session.
 use Rattle.std.proofs.Common.{◌≡◌, ◌∙◌, ℕ, zero, suc, Bool, true, false, Option, Some, None, List, [], ◌∷◌, map, refl, sym, ap, subst}
 use Rattle.std.specs.Prelude.{◌&&◌, ◌||◌, not, IfSome, if◌then◌else◌, slice_get, bytes_eq}
 use Rattle.std.specs.List.{AllByRecursion, list_any}
@@ -49,7 +49,7 @@ each_map Change keeps (o ∷ old) (n ∷ new) each =
     let rest : map table_in new ≡ map table_in old = each_map (λ place. Change (suc place)) (λ place. keeps (suc place)) old new (record { each = λ place rows there. each.each (suc place) rows there; back = λ place none. each.back (suc place) none }) in
     ap (λ (t : DemoTable). t ∷ map table_in new) (keeps zero o n (each.each zero o refl)) ∙ ap (λ (l : List DemoTable). o.table ∷ l) rest
 
--- a table that is there has come of one that was there
+-- a table that is there extends one that was there
 pub record CameOf (Change : ℕ → Rows → Rows → Type 0) (old : List Rows) (place : ℕ) (rows : Rows) : Type 0 where
   pub before : Rows
   pub there : slice_get old place ≡ Some before

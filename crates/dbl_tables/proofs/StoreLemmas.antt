@@ -35,7 +35,7 @@ use Rattle.dbl_tables.specs.Places.{PlacesFor, IsPlannedAt}
 use Rattle.dbl_tables.proofs.DoStands.{taken}
 use Rattle.dbl_tables.proofs.UntakenLemmas.{stands_untaken}
 
--- ---- the tables behind a change of one
+-- ---- the tables after a change of one
 
 tables_set : (tables : List Rows) (i : ℕ) (was new : Rows) → slice_get tables i ≡ Some was → new.table ≡ was.table → map (λ (r : Rows). r.table) (set tables i new) ≡ map (λ (r : Rows). r.table) tables
 tables_set [] i was new there same = cc

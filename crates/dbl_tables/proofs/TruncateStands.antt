@@ -1,4 +1,4 @@
--- The whole store behind a truncate that was taken.
+-- The whole store after a truncate that was taken.
 use Rattle.std.proofs.Common.{◌≡◌, ◌∙◌, ℕ, Bool, true, false, Option, Some, None, List, [], ◌∷◌, ◌++◌, map, refl, sym, ap, subst}
 use Rattle.std.specs.Prelude.{nat_eq, IfSome, IsSome, if◌then◌else◌, option_map, option_and_then, slice_get, Ok, bytes_eq}
 use Rattle.std.specs.List.{AllByRecursion, list_any}

@@ -1,4 +1,4 @@
--- The tables behind the truncates of some of them, one after the other: each that was named is truncated once, however often it was
+-- The tables after the truncates of some of them, one after the other: each that was named is truncated once, however often it was
 -- named, and the others are as they were.
 use Rattle.std.proofs.Common.{◌≡◌, ◌∙◌, ℕ, Bool, true, false, Option, Some, None, List, [], ◌∷◌, refl, sym, ap, subst}
 use Rattle.std.specs.Prelude.{◌||◌, nat_eq, slice_get}

@@ -26,7 +26,7 @@ use Rattle.dbl_tables_changes.specs.Taking.{IsSameTable, HoldsAsBefore, IsUntake
 use Rattle.dbl_tables_changes.proofs.OwnerLemmas.{owner_of}
 use Rattle.dbl_tables.proofs.DoStands.{listed_more, before_more}
 
--- ---- a table of which nothing is seen anew
+-- ---- a table of which nothing is seen again
 
 module _ (tables : List DemoTable) (past : List Accepted) (at : FoundTable) (old new : Rows) (are : AreRows tables past at old) (table : IsSameTable old new) (slots : IsInvisible old.slots new.slots) (holders : HoldsAsBefore old new) where
   committed_same : (key : Key) → committed_at new key ≡ committed_at old key
@@ -129,7 +129,7 @@ module _ (tables : List DemoTable) (past : List Accepted) (s : List ℕ) (old ne
       (subst (λ (t : DemoTable). AreRows tables past (found_at place t) changed) (sym untaken.table.table) table_now))
   rows_now p r false other is = st.rows p r (sym (elsewhere p (not_place p other)) ∙ is)
 
-  -- whatever is listed goes on so, and nobody has a new lock
+  -- all that is listed goes on so, and nobody has a new lock
   listed_at : (name : List ℕ) (x y : Session) → ((q : ℕ) (key : Key) → is_listed q key x.keys.items ≡ true → is_listed q key y.keys.items ≡ true) → get text_cmp old.sessions name ≡ Some x
       → (p : ℕ) (r : Rows) (b : Bool) → nat_eq p place ≡ b → slice_get new.tables.items p ≡ Some r → AreListed p r.slots name y.keys.items × AreListedBefore p r.cleared name y.keys.items
   listed_at name x y lists had p r true same is =

@@ -23,7 +23,8 @@ PlacesFor (Err refusal) tables (Ok place) = ⊥
 PlacesFor (Err refusal) tables (Err e) = e ≡ refusal
 
 -- A planned change of the table at an index, as the call is judged.
-pub record IsPlannedAt (tables : List DemoTable) (past : List Accepted) (call : Step) (name : List ℕ) (place : ℕ) (rows : List Rows) (planned : Planned) : Type 0 where
+pub record IsPlannedAt (tables : List DemoTable) (past : List Accepted) (call : Step) (name : List ℕ) (place : ℕ) (rows : List Rows)
+    (planned : Planned) : Type 0 where
   pub at : FoundTable
   pub begun : is_open name past ≡ true
   pub there : IsPlaceOf at place rows

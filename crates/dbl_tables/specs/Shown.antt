@@ -13,4 +13,5 @@ comes_after (Some bound) key = is_lt (key_cmp bound key)
 
 -- The first committed rows above a bound, in the order of their slots.
 abbrev pub rows_after_key : Slots → Option Key → ℕ → List RawRow
-rows_after_key slots above limit = take limit (filter_map (λ slot. slot.1.committed) (filter (λ slot. comes_after above slot.0) slots.entries))
+rows_after_key slots above limit =
+    take limit (filter_map (λ slot. slot.1.committed) (filter (λ slot. comes_after above slot.0) slots.entries))

@@ -42,7 +42,8 @@ pub record Stands (tables : List DemoTable) (past : List Accepted) (t : Tables) 
   pub tables_are : map (λ rows. rows.table) t.tables.items ≡ tables
   pub sessions : (name : List ℕ) → IsSessionAt past name (get text_cmp t.sessions name)
   pub rows : (place : ℕ) (rows : Rows) → slice_get t.tables.items place ≡ Some rows → AreRows tables past (found_at place rows.table) rows
-  pub listed : (name : List ℕ) (session : Session) (place : ℕ) (rows : Rows) → get text_cmp t.sessions name ≡ Some session → slice_get t.tables.items place ≡ Some rows
+  pub listed : (name : List ℕ) (session : Session) (place : ℕ) (rows : Rows) → get text_cmp t.sessions name ≡ Some session
+      → slice_get t.tables.items place ≡ Some rows
       → AreListed place rows.slots name session.keys.items × AreListedBefore place rows.cleared name session.keys.items
 
 -- ---- the answer and effect of a call

@@ -16,7 +16,8 @@ impl Tables {
     /// Takes no memory.
     pub fn commit(&mut self, session: &Text) -> Result<Seq<Message>, StepError>
         ensures ends { (tables : List DemoTable) (past : List Accepted) →
-            Stands tables past self.old → EndsSession tables past (Commit session.now) self.new result }
+            Stands tables past self.old
+            → EndsSession tables past (Commit session.now) self.new result }
         ensures given { (tables : List DemoTable) (past : List Accepted) →
             Stands tables past self.old → IfOk result (IsGiven past session.now) }
     {

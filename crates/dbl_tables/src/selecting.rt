@@ -1,7 +1,8 @@
 //! Selects: committed rows in key order, whichever sessions are changing them.
 
-ghost use Rattle.std.specs.Prelude.{◌≡◌, ◌++◌, ◌↔◌, List, Some, None, IfOk, IfSome, IsTrue, OnOk, option_copied};
-ghost use Rattle.std.specs.Prelude.{option_to_list, filter_map, take, length, nat_le};
+ghost use Rattle.std.specs.Prelude.{◌≡◌, ◌++◌, ◌↔◌, List, Some, None, IfOk, IfSome};
+ghost use Rattle.std.specs.Prelude.{IsTrue, OnOk, option_copied, option_to_list};
+ghost use Rattle.std.specs.Prelude.{filter_map, take, length, nat_le};
 ghost use Rattle.std.specs.BTreeMap.{IsOrdered};
 ghost use Rattle.dbl_model_table.specs.Keys.{key_cmp};
 ghost use Rattle.dbl_model_history.specs.Fit.{IsKeyOf};
@@ -69,7 +70,8 @@ fn rows_above(
     key: &Key,
     limit: u32,
 ) -> Result<Vec<RawRow>, AllocError>
-    ensures rows { IfOk result (λ rows. rows.items ≡ rows_after_key slots.now (Some key.now) limit) }
+    ensures rows { IfOk result
+        (λ rows. rows.items ≡ rows_after_key slots.now (Some key.now) limit) }
     ensures ordered { IsOrdered key_cmp slots.now }
 {
     first_rows(

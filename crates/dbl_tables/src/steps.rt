@@ -76,7 +76,8 @@ impl Tables {
         set: &Vec<NamedCell>,
     ) -> Result<(), StepError>
         ensures { (tables : List DemoTable) (past : List Accepted) → Stands tables past self.old →
-            AnswersStep tables past (Update session.now table.now key.now.items set.now.items) self.new
+            AnswersStep tables past
+            (Update session.now table.now key.now.items set.now.items) self.new
             result }
     {
         let place = self.place_for(session, table)?;

@@ -1,12 +1,14 @@
 //! Truncates, which look at the named tables only, and at no row.
 
-ghost use Rattle.std.specs.Prelude.{◌≡◌, ◌≤◌, ℕ, List, IfOk, option_copied, replicate, vec_len, length, slice_get};
+ghost use Rattle.std.specs.Prelude.{◌≡◌, ◌≤◌, ℕ, List, IfOk, option_copied};
+ghost use Rattle.std.specs.Prelude.{replicate, vec_len, length, slice_get};
 ghost use Rattle.dbl_tables_rows.specs.declared.demo_table.DemoTable.{DemoTable};
 ghost use Rattle.dbl_tables_rows.specs.Acts.{Accepted};
 ghost use Rattle.dbl_tables_rows.specs.Steps.Step.{Truncate};
 ghost use Rattle.dbl_tables.specs.Stands.{Stands, AnswersStep};
 ghost use Rattle.dbl_model_table.specs.declared.table.TableName.{TableName};
-ghost use Rattle.dbl_tables.specs.Truncates.{PlacesOf, IsHolderAt, FindsFirst, TruncatesOne, TruncatesAll, TruncatesAt, IsCut, Cuts};
+ghost use Rattle.dbl_tables.specs.Truncates.{PlacesOf, IsHolderAt, FindsFirst, TruncatesOne};
+ghost use Rattle.dbl_tables.specs.Truncates.{TruncatesAll, TruncatesAt, IsCut, Cuts};
 
 use crate::tables::{Tables, oid_of, place_of};
 use dbl_base::{Seq, Text};

@@ -1,4 +1,4 @@
--- The tables of the store behind a change of rows that was taken: the table that it is of, and the others.
+-- The tables of the store after a change of rows that was taken: the table that it is of, and the others.
 use Rattle.std.proofs.Common.{◌≡◌, ◌∙◌, inl, inr, ℕ, Bool, true, false, Option, Some, None, List, [], ◌∷◌, ◌++◌, length, refl, sym, ap, subst}
 use Rattle.std.specs.Prelude.{◌||◌, IfSome, if◌then◌else◌, bytes_eq}
 use Rattle.std.specs.List.{AllByRecursion, list_any}
@@ -40,7 +40,7 @@ use Rattle.dbl_tables_changes.proofs.SettledLemmas.{not_own}
 -- ---- some writes of a session
 
 module _ (s : List ℕ) (key : Key) where
-  -- who holds the key behind them
+  -- who holds the key after them
   lock_owner : (t : List ℕ) (writes : List Write) (h : Option Held) → AllByRecursion (λ w. w.held.by ≡ s) writes → is_owner t (owner_of (lock_written writes key h)) ≡ (if is_written writes key then bytes_eq s t else is_owner t (owner_of h))
   lock_owner t [] h own = refl
   lock_owner t (w ∷ writes) h own = by (same_key w.key key) (lock_owner t writes h own.1)
@@ -123,7 +123,7 @@ module _ (tables : List DemoTable) (past : List Accepted) (s : List ℕ) (m : Me
   pub other_seen : (t : List ℕ) → bytes_eq s t ≡ false → (name : TableName) (key : Key) → seen_rows (log_tables tables) (Did s m ∷ past) t name key ≡ seen_rows (log_tables tables) past t name key
   other_seen t apart name key = ap (λ (cs : List RawChange). text_rows_with (log_tables tables) cs (committed_rows (log_tables tables) past) name key) (other_changes t apart)
 
-  -- whatever is tested of the changes of a session
+  -- for every test of the changes of a session
   pub own_any : (p : RawChange → Bool) → list_any p (changes_by (log_tables tables) (Did s m ∷ past) s) ≡ (list_any p (changes_by (log_tables tables) past s) || list_any p done)
   own_any p = ap (list_any p) own_changes ∙ any-append p (changes_by (log_tables tables) past s) done
 

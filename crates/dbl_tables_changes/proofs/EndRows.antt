@@ -1,4 +1,4 @@
--- A table of the store behind the begin and behind the rollback of a session.
+-- A table of the store after the begin and after the rollback of a session.
 use Rattle.std.proofs.Common.{◌≡◌, ◌∙◌, ℕ, Bool, true, false, Option, Some, None, List, [], ◌∷◌, length, refl, sym, ap, subst}
 use Rattle.std.specs.Prelude.{IfSome, if◌then◌else◌, bytes_eq}
 use Rattle.std.specs.List.{list_any}
@@ -29,7 +29,7 @@ use Rattle.dbl_tables_changes.proofs.OwnerLemmas.{rolled_owner, rolled_fresh, ro
 
 -- ---- a session begins
 
--- whatever was open keeps its messages, and the new session has none
+-- all that was open keeps its messages, and the new session has none
 pub begun_messages : (tables : List DemoTable) (past : List Accepted) (s t : List ℕ) → IsOrderly tables past → is_open s past ≡ false → messages_by t (Began s ∷ past) ≡ messages_by t past
 begun_messages tables past s t orderly closed = by (bytes_eq s t) refl
   where

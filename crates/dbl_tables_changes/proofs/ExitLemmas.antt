@@ -178,7 +178,7 @@ module _ (tables : List DemoTable) (past : List Accepted) (s : List ℕ) (at : F
         blocked (lesser_if (other_than s (owner_at rows (key_given (raw_of at.table) key))) (other_than s (owner_at rows (key_set (raw_of at.table) key set)))) e update_verdict told
         (λ by held. update_locked_none tables past s at rows session asked key set readable by none held)
 
-    -- what an update of a row that is there comes to
+    -- what an update of a row that is there amounts to
     pub update_plans : (is_readable_key (raw_of at.table) key && is_readable_set (raw_of at.table) set) ≡ true → (before : Texts) → seen_at rows s (key_given (raw_of at.table) key) ≡ Some before → (r : RawRow) → r.cells ≡ row_set (raw_of at.table).columns set before
         → (result : Result Planned StepError) → UpdatePlans rows s (messages_by s past) (updating at set before) (key_given (raw_of at.table) key) (key_set (raw_of at.table) key set) r result → Plans tables past s at update_verdict result
     update_plans readable before there r cells (Err e) (inl mem) = inl mem

@@ -88,7 +88,7 @@ module _ (tables : List DemoTable) (past : List Accepted) (s : List ℕ) (orderl
         joined true false false = refl
         joined false a b = refl
 
--- ---- behind all steps
+-- ---- after all steps
 
 module _ (tables : List DemoTable) (past : List Accepted) (s : List ℕ) (orderly : IsOrderly tables past) where
   one_key : (name : TableName) (keys : List Key) (t : List ℕ) → list_any (λ key. holds_key (log_tables tables) past name key t) keys ≡ true → is_open t past ≡ true

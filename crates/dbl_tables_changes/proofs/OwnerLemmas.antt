@@ -66,7 +66,7 @@ module _ (s : List ℕ) (place : ℕ) (keys : List HeldKey) (slots new : Slots) 
       ap (λ (h : Option Held). is_owner t (owner_of h)) (releases.held key) ∙ owner_released s t (held_in slots key) (is_listed place key keys) (listed key)
   rolled_owner (Some cleared) t key releases listed before alone = by (bytes_eq cleared.by s) (bytes_eq s t) refl refl (releases.held key)
     where
-      -- behind the undone truncate nobody else has a lock
+      -- after the undone truncate nobody else has a lock
       only : (held : Option Held) → IfSome held (λ h. h.by ≡ cleared.by) → bytes_eq cleared.by s ≡ true → bytes_eq s t ≡ false → is_owner t (owner_of held) ≡ false
       only None own cs st = refl
       only (Some h) own cs st = elim (bool_case (bytes_eq h.by t)) [

@@ -66,7 +66,7 @@ module _ (s : List ℕ) (place : ℕ) (keys : List HeldKey) (slots new : Slots) 
           ∙ ap (λ (o : Option Texts). if is_owner t (owner_of (held_in slots key)) then seen_under t (held_in slots key) (committed_in slots key) else o) (sym is_now)
   settled_seen (Some cleared) t key settles listed fresh alone = by (bytes_eq cleared.by s) (bytes_eq s t) refl refl
     where
-      -- behind the done truncate nobody else has a lock
+      -- after the done truncate nobody else has a lock
       theirs : bytes_eq cleared.by s ≡ true → IfSome (held_in slots key) (λ h. bytes_eq h.by s ≡ true)
       theirs cs = named (held_in slots key) (alone key).0
         where

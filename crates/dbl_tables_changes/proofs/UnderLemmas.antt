@@ -104,7 +104,7 @@ module _ (s : List ℕ) (place : ℕ) (keys : List HeldKey) (slots new : Slots) 
       ∙ under_released s t (held_in slots key) (is_listed place key keys) (committed_in slots key) (listed key)
   rolled_seen (Some cleared) t key releases listed before alone = by (bytes_eq cleared.by s) (bytes_eq s t) refl refl (releases.committed key) (releases.held key)
     where
-      -- behind the undone truncate nobody else has a lock
+      -- after the undone truncate nobody else has a lock
       only : (held : Option Held) → IfSome held (λ h. h.by ≡ cleared.by) → bytes_eq cleared.by s ≡ true → bytes_eq s t ≡ false → (c : Option Texts) → seen_under t held c ≡ c
       only None own cs st c = refl
       only (Some h) own cs st c = elim (bool_case (bytes_eq h.by t)) [

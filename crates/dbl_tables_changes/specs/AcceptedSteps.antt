@@ -19,7 +19,8 @@ use Rattle.dbl_tables_rows.specs.Locks.{holds_key, holds_some}
 use Rattle.dbl_tables_rows.specs.Sending.{log_tables, entry_size}
 use Rattle.dbl_tables_rows.specs.Steps.{FoundTable, seen}
 use Rattle.dbl_tables_rows.specs.Listed.{is_listed}
-use Rattle.dbl_tables_rows.specs.Views.{Slots, committed_in, held_in, committed_at, owner_at, is_owner, seen_at, is_holder, IsAlone, AreWide}
+use Rattle.dbl_tables_rows.specs.Views.{Slots, committed_in, held_in, committed_at, owner_at}
+use Rattle.dbl_tables_rows.specs.Views.{is_owner, seen_at, is_holder, IsAlone, AreWide}
 
 -- ---- sessions
 
@@ -57,7 +58,8 @@ pub record AreRows (tables : List DemoTable) (past : List Accepted) (at : FoundT
   pub places : (name : List ℕ) → get text_cmp rows.places name ≡ place_of (column_names at.table.info.columns) name
   pub committed : (key : Key) → committed_at rows key ≡ committed_rows (log_tables tables) past at.table.info.name key
   pub sees : (session : List ℕ) (key : Key) → seen_at rows session key ≡ seen tables past session at key
-  pub holds : (session : List ℕ) (key : Key) → is_owner session (owner_at rows key) ≡ holds_key (log_tables tables) past at.table.info.name key session
+  pub holds : (session : List ℕ) (key : Key)
+      → is_owner session (owner_at rows key) ≡ holds_key (log_tables tables) past at.table.info.name key session
   pub holders : (session : List ℕ) → is_holder rows session ≡ holds_some (log_tables tables) past at.table.info.name session
   pub fresh : HasNothingCommitted rows.cleared rows.slots
   pub alone : IsAlone rows.cleared rows.slots

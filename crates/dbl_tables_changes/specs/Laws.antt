@@ -14,9 +14,14 @@ use Rattle.dbl_tables_rows.specs.Holders.{IsFirstPassing}
 
 -- The blocking session is the first in byte order of the others with a lock on one of the keys or tables.
 pub record AreFirstHolders (tables : List DemoTable) (past : List Accepted) (session : List ℕ) : Type 0 where
-  pub at_keys : (name : TableName) (keys : List Key) → IsFirstPassing (λ other. not (bytes_eq other session) && list_any (λ key. holds_key (log_tables tables) past name key other) keys) (key_holder (log_tables tables) past session name keys)
-  pub at_tables : (names : List TableName) → IsFirstPassing (λ other. not (bytes_eq other session) && list_any (λ name. holds_some (log_tables tables) past name other) names) (table_holder (log_tables tables) past session names)
+  pub at_keys : (name : TableName) (keys : List Key)
+      → IsFirstPassing (λ other. not (bytes_eq other session) && list_any (λ key. holds_key (log_tables tables) past name key other) keys)
+      (key_holder (log_tables tables) past session name keys)
+  pub at_tables : (names : List TableName)
+      → IsFirstPassing (λ other. not (bytes_eq other session) && list_any (λ name. holds_some (log_tables tables) past name other) names)
+      (table_holder (log_tables tables) past session names)
 
 -- After all steps the blocking sessions are the first ones in byte order.
 abbrev pub HoldersAreFirst : Type 0
-HoldersAreFirst = (tables : List DemoTable) (calls : List Step) (session : List ℕ) → AreTables tables → AreFirstHolders tables (acts_after tables [] calls) session
+HoldersAreFirst = (tables : List DemoTable) (calls : List Step) (session : List ℕ) → AreTables tables
+    → AreFirstHolders tables (acts_after tables [] calls) session

@@ -1,5 +1,6 @@
 -- A change that was planned, before the store applies it.
-use Rattle.std.specs.Prelude.{◌≡◌, ◌⊎◌, ℕ, ◌≤◌, ◌&&◌, not, Bool, true, false, if◌then◌else◌, is_some, IfSome, Option, None, Some, Result, Ok, Err, List, [], ◌∷◌, ◌++◌, length}
+use Rattle.std.specs.Prelude.{◌≡◌, ◌⊎◌, ℕ, ◌≤◌, ◌&&◌, not, Bool, true, false, if◌then◌else◌, is_some}
+use Rattle.std.specs.Prelude.{IfSome, Option, None, Some, Result, Ok, Err, List, [], ◌∷◌, ◌++◌, length}
 use Rattle.std.specs.List.{AllByRecursion, list_any}
 use Rattle.dbl_pgmsg.specs.declared.messages.Message.{Message}
 use Rattle.dbl_pgmsg.specs.Grammar.{Fits}
@@ -32,7 +33,8 @@ use Rattle.dbl_tables_rows.specs.Views.{texts_of, owner_at, seen_at}
 
 -- The size of the entry with one more change of a row, or its refusal as too large.
 abbrev pub MeasuresEntry : DemoTable → List Message → Message → Result ℕ StepError → Type 0
-MeasuresEntry table messages message (Ok size) = (is_too_large table messages message ≡ false) × (size ≡ entry_size (messages ++ message ∷ [])) × (size ≤ entry_limit) × Fits message
+MeasuresEntry table messages message (Ok size) = (is_too_large table messages message ≡ false)
+    × (size ≡ entry_size (messages ++ message ∷ [])) × (size ≤ entry_limit) × Fits message
 MeasuresEntry table messages message (Err e) = (e ≡ errors.BadRow) × (is_too_large table messages message ≡ true)
 
 -- ---- refusals
@@ -70,7 +72,8 @@ pub record IsWrite (session : List ℕ) (key : Key) (row : Option RawRow) (write
 abbrev pub IsUpdateWritten : List ℕ → Key → Key → RawRow → List Write → Type 0
 IsUpdateWritten session from to row [] = ⊥
 IsUpdateWritten session from to row (a ∷ []) = (same_key from to ≡ true) × IsWrite session to (Some row) a
-IsUpdateWritten session from to row (a ∷ b ∷ []) = (same_key from to ≡ false) × IsWrite session from None a × IsWrite session to (Some row) b
+IsUpdateWritten session from to row (a ∷ b ∷ []) = (same_key from to ≡ false) × IsWrite session from None a
+    × IsWrite session to (Some row) b
 IsUpdateWritten session from to row (a ∷ b ∷ c ∷ writes) = ⊥
 
 -- ---- blocking sessions
@@ -82,10 +85,12 @@ IsLate rows session from to e None = (e ≡ errors.RowExists) × ((not (same_key
 
 -- An update from one key to another is refused by a lock on either key, or by a row at its new key.
 abbrev pub IsUpdateLate : Rows → List ℕ → Key → Key → StepError → Type 0
-IsUpdateLate rows session from to e = IsLate rows session from to e (lesser_if (other_than session (owner_at rows from)) (other_than session (owner_at rows to)))
+IsUpdateLate rows session from to e =
+    IsLate rows session from to e (lesser_if (other_than session (owner_at rows from)) (other_than session (owner_at rows to)))
 
 -- A planned update of an existing row, which passes the tests in the order of the refusals.
-pub record IsUpdatePlanned (rows : Rows) (session : List ℕ) (messages : List Message) (message : Message) (from to : Key) (row : RawRow) (planned : Planned) : Type 0 where
+pub record IsUpdatePlanned (rows : Rows) (session : List ℕ) (messages : List Message) (message : Message) (from to : Key) (row : RawRow)
+    (planned : Planned) : Type 0 where
   pub fits : MeasuresEntry rows.table messages message (Ok planned.size)
   pub free : lesser_if (other_than session (owner_at rows from)) (other_than session (owner_at rows to)) ≡ None
   pub absent : (not (same_key from to) && is_some (seen_at rows session to)) ≡ false
@@ -93,16 +98,20 @@ pub record IsUpdatePlanned (rows : Rows) (session : List ℕ) (messages : List M
   pub writes : IsUpdateWritten session from to row planned.writes.items
 
 -- The first refusal of an update of an existing row that applies.
-pub record IsUpdateRefused (rows : Rows) (session : List ℕ) (messages : List Message) (message : Message) (from to : Key) (e : StepError) : Type 0 where
-  pub why : ((e ≡ errors.BadRow) × (is_too_large rows.table messages message ≡ true)) ⊎ ((is_too_large rows.table messages message ≡ false) × IsUpdateLate rows session from to e)
+pub record IsUpdateRefused (rows : Rows) (session : List ℕ) (messages : List Message) (message : Message) (from to : Key)
+    (e : StepError) : Type 0 where
+  pub why : ((e ≡ errors.BadRow) × (is_too_large rows.table messages message ≡ true))
+      ⊎ ((is_too_large rows.table messages message ≡ false) × IsUpdateLate rows session from to e)
 
 -- The plan of an update of an existing row, or its refusal.
 abbrev pub UpdatePlans : Rows → List ℕ → List Message → Message → Key → Key → RawRow → Result Planned StepError → Type 0
 UpdatePlans rows session messages message from to row (Ok planned) = IsUpdatePlanned rows session messages message from to row planned
-UpdatePlans rows session messages message from to row (Err e) = (e ≡ errors.Memory) ⊎ IsUpdateRefused rows session messages message from to e
+UpdatePlans rows session messages message from to row (Err e) = (e ≡ errors.Memory)
+    ⊎ IsUpdateRefused rows session messages message from to e
 
 -- A planned change that is accepted: its writes are at the keys that it locks, and leave the rows that it leaves.
-pub record IsPlanned (tables : List DemoTable) (past : List Accepted) (session : List ℕ) (at : FoundTable) (verdict : Result Accepted StepError) (planned : Planned) : Type 0 where
+pub record IsPlanned (tables : List DemoTable) (past : List Accepted) (session : List ℕ) (at : FoundTable)
+    (verdict : Result Accepted StepError) (planned : Planned) : Type 0 where
   pub accepted : verdict ≡ Ok (Did session planned.message)
   pub fits : Fits planned.message
   pub size : planned.size ≡ entry_size (messages_by session past ++ planned.message ∷ [])
@@ -110,9 +119,16 @@ pub record IsPlanned (tables : List DemoTable) (past : List Accepted) (session :
   pub own : AllByRecursion (λ write. write.held.by ≡ session) planned.writes.items
   pub apart : are_apart planned.writes.items ≡ true
   pub wide : AllByRecursion (λ write. IfSome write.held.row (λ row. length row.cells ≡ length at.table.info.columns)) planned.writes.items
-  pub locked : (name : TableName) (key : Key) → list_any (locks (log_tables tables) name key) (raw_changes (log_tables tables) (seen_rows (log_tables tables) past session) planned.message) ≡ (same_name at.table.info.name name && is_written planned.writes.items key)
-  pub of_table : (name : TableName) → list_any (is_of name) (raw_changes (log_tables tables) (seen_rows (log_tables tables) past session) planned.message) ≡ same_name at.table.info.name name
-  pub rows : (key : Key) → text_rows_with (log_tables tables) (raw_changes (log_tables tables) (seen_rows (log_tables tables) past session) planned.message) (seen_rows (log_tables tables) past session) at.table.info.name key
+  pub locked : (name : TableName) (key : Key)
+      → list_any (locks (log_tables tables) name key)
+      (raw_changes (log_tables tables) (seen_rows (log_tables tables) past session) planned.message)
+      ≡ (same_name at.table.info.name name && is_written planned.writes.items key)
+  pub of_table : (name : TableName)
+      → list_any (is_of name) (raw_changes (log_tables tables) (seen_rows (log_tables tables) past session) planned.message)
+      ≡ same_name at.table.info.name name
+  pub rows : (key : Key)
+      → text_rows_with (log_tables tables) (raw_changes (log_tables tables) (seen_rows (log_tables tables) past session) planned.message)
+      (seen_rows (log_tables tables) past session) at.table.info.name key
       ≡ row_written planned.writes.items key (seen tables past session at key)
 
 -- The plan of a change if it is accepted, or the refusal that it is judged to have.
@@ -125,7 +141,8 @@ abbrev pub found_here : ℕ → Rows → FoundTable
 found_here oid rows = record { oid = oid; table = rows.table }
 
 -- A session requests a change of a table in a store that has these acts.
-pub record IsAskedOfTable (tables : List DemoTable) (past : List Accepted) (name : List ℕ) (at : FoundTable) (rows : Rows) (session : Session) : Type 0 where
+pub record IsAskedOfTable (tables : List DemoTable) (past : List Accepted) (name : List ℕ) (at : FoundTable) (rows : Rows)
+    (session : Session) : Type 0 where
   pub can : AreTables tables
   pub standing : IsReachable tables past
   pub there : found tables at.table.info.name ≡ Some at

@@ -39,7 +39,8 @@ pub record IsSameTable (old new : Rows) : Type 0 where
 
 -- One more session has a lock in the table.
 abbrev pub HoldsToo : List ℕ → Rows → Rows → Type 0
-HoldsToo session old new = (name : List ℕ) → contains text_cmp new.holders name ≡ (bytes_eq session name || contains text_cmp old.holders name)
+HoldsToo session old new = (name : List ℕ)
+    → contains text_cmp new.holders name ≡ (bytes_eq session name || contains text_cmp old.holders name)
 
 -- The sessions with locks in the table are the same.
 abbrev pub HoldsAsBefore : Rows → Rows → Type 0

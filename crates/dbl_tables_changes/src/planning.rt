@@ -1,18 +1,22 @@
 //! Changes of rows, judged and planned before the store applies them.
 
-ghost use Rattle.std.specs.Prelude.{◌≡◌, ◌≤◌, ◌&&◌, not, is_some, List, IfOk, OnOk, length, option_copied};
+ghost use Rattle.std.specs.Prelude.{◌≡◌, ◌≤◌, ◌&&◌, not, is_some, List};
+ghost use Rattle.std.specs.Prelude.{IfOk, OnOk, length, option_copied};
 ghost use Rattle.std.specs.BTreeMap.{IsEmpty};
 ghost use Rattle.dbl_pgmsg.specs.declared.messages.Message.{Message};
 ghost use Rattle.dbl_model_table.specs.Keys.{same_key};
 ghost use Rattle.dbl_tables_rows.specs.declared.demo_table.DemoTable.{DemoTable};
 ghost use Rattle.dbl_tables_rows.specs.Acts.{Accepted};
-ghost use Rattle.dbl_tables_rows.specs.Cells.{row_given, key_texts, key_given, key_set, is_readable_key, are_readable};
+ghost use Rattle.dbl_tables_rows.specs.Cells.{row_given, key_texts, key_given, key_set};
+ghost use Rattle.dbl_tables_rows.specs.Cells.{is_readable_key, are_readable};
 ghost use Rattle.dbl_tables_rows.specs.Sending.{raw_of, entry_size, entry_limit};
 ghost use Rattle.dbl_tables_rows.specs.Steps.{insert_in, update_in, delete_in};
 ghost use Rattle.dbl_tables_rows.specs.Given.{HasCells, HasColumns, IsUtf8Change};
 ghost use Rattle.dbl_tables_rows.specs.Holders.{other_than, lesser_if};
 ghost use Rattle.dbl_tables_rows.specs.Views.{owner_at, seen_at};
-ghost use Rattle.dbl_tables_changes.specs.Planned.{MeasuresEntry, ReadsIfReadable, Blocks, IsUpdateWritten, UpdatePlans, Plans, IsAskedOfTable, found_here};
+ghost use Rattle.dbl_tables_changes.specs.Planned.{MeasuresEntry, ReadsIfReadable, Blocks};
+ghost use Rattle.dbl_tables_changes.specs.Planned.{IsUpdateWritten, UpdatePlans, Plans};
+ghost use Rattle.dbl_tables_changes.specs.Planned.{IsAskedOfTable, found_here};
 
 use crate::planned::{Planned, Write};
 use crate::sessions::Session;

@@ -5,7 +5,8 @@ ghost use Rattle.std.specs.Prelude.{OnOk, OnErr};
 ghost use Rattle.std.specs.List.{AllByRecursion};
 ghost use Rattle.dbl_tables_rows.specs.Changing.{HasSlot};
 ghost use Rattle.dbl_tables_changes.specs.Written.{WritesAll};
-ghost use Rattle.dbl_tables_changes.specs.Taking.{HasMadeRoom, AreReady, Joins, IsUnjoined, TakesChange, IsUntaken};
+ghost use Rattle.dbl_tables_changes.specs.Taking.{HasMadeRoom, AreReady, Joins};
+ghost use Rattle.dbl_tables_changes.specs.Taking.{IsUnjoined, TakesChange, IsUntaken};
 
 use crate::planned::{Planned, Write};
 use crate::sessions::Session;

@@ -15,7 +15,7 @@ use Rattle.dbl_tables_laws.proofs.JudgedLemmas.{passed}
 use Rattle.dbl_tables_laws.proofs.StandingLemmas.{stands_none, stands_begins, stands_rolls_back, stands_commits, stands_inserts, stands_updates, stands_deletes, stands_truncates}
 
 module _ (tables : List DemoTable) (past : List Accepted) (can : AreTables tables) (standing : IsReachable tables past) where
-  -- whatever is asked for
+  -- for every request
   pub stands_on : (c : Step) (r : Result Accepted StepError) → judged tables past c ≡ r → IsReachable tables (accepted_onto r past)
   stands_on c (Err e) is = standing
   stands_on (Begin s) (Ok act) is =
@@ -42,7 +42,7 @@ module _ (tables : List DemoTable) (can : AreTables tables) where
   stands_after past [] standing = standing
   stands_after past (c ∷ steps) standing = stands_after (accepted_onto (judged tables past c) past) steps (stands_on tables past can standing c (judged tables past c) refl)
 
-  -- behind all steps from the first on
+  -- after all steps from the first on
   pub stands_behind : (steps : List Step) → IsReachable tables (acts_after tables [] steps)
   stands_behind steps = stands_after [] steps (stands_none tables)
 

@@ -1,4 +1,4 @@
--- Which faults the store's messages have where they are read, whatever is captured: none, or a moved key with an unsent cell.
+-- Which faults the store's messages have where they are read, for every list of captured tables: none, or a moved key with an unsent cell.
 use Rattle.std.proofs.Common.{◌≡◌, ◌∙◌, inl, inr, ◌<◌, ℕ, zero, suc, Bool, true, false, Option, Some, None, List, [], ◌∷◌, ◌++◌, length, map, refl, sym, ap, subst, append_assoc, arith, eq-eqb}
 use Rattle.std.specs.Prelude.{◌==◌, ◌%◌, ◌&&◌, ◌||◌, not, nat_eq, nat_le, nat_lt, if◌then◌else◌, is_some, IsSome, IsSomeAnd, option_map, option_and_then, unwrap_or, slice_get, Result, Ok, bytes_eq}
 use Rattle.std.specs.List.{AllZip, list_any, list_all}

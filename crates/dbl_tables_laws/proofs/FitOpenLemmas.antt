@@ -30,7 +30,7 @@ fit-append : (tables : List LogTable) (cs ds : List RawChange) (rows : TextRows)
 fit-append tables [] ds rows first rest = rest
 fit-append tables (c ∷ cs) ds rows first rest = (first.0, fit-append tables cs ds (text_rows_after tables c rows) first.1 rest)
 
--- the rows behind some commits
+-- the rows after some commits
 abbrev pub rows_through : List LogTable → TextRows → List (List Message) → TextRows
 rows_through tables rows [] = rows
 rows_through tables rows (ms ∷ log) = rows_through tables (text_rows_from tables rows ms) log

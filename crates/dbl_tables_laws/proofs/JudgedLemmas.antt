@@ -1,4 +1,4 @@
--- What it takes that a step is accepted, and that locks stay apart behind it.
+-- What it takes that a step is accepted, and that locks stay apart after it.
 use Rattle.std.proofs.Common.{◌≡◌, ◌≢◌, ◌∙◌, ◌≤◌, inl, inr, ℕ, Bool, true, false, Option, Some, None, List, [], ◌∷◌, ◌++◌, length, refl, sym, ap, subst, arith}
 use Rattle.std.specs.Prelude.{◌||◌, ◌-◌, not, nat_lt, is_some, Result, Ok, Err}
 use Rattle.std.specs.List.{list_any}

@@ -1,4 +1,4 @@
--- A row stands at its own key, and has a cell for each column: whatever changes are fit keep it so.
+-- A row stands at its own key, and has a cell for each column: all fit changes keep it so.
 use Rattle.std.proofs.Common.{◌≡◌, ◌∙◌, ℕ, zero, suc, Bool, true, false, Option, Some, None, List, [], ◌∷◌, length, map, refl, sym, ap, subst, arith}
 use Rattle.std.specs.Prelude.{if◌then◌else◌, option_map, option_and_then, unwrap_or, slice_get, IsSome, IsSomeAnd}
 use Rattle.std.specs.List.{AllZip}
@@ -74,7 +74,7 @@ module _ (raw : RawTable) (cells : List RawCell) (row : Texts) (same : length ce
       ap (λ (x : Option (List ℕ)). x ∷ map (text_named raw (overlaid cells row)) names) (named_same name some.0 some.1)
       ∙ ap (λ (l : RawKey). text_named raw (map given_text cells) name ∷ l) (keys_same names all.1)
 
-  -- where the key's cells are given, the row behind the update has their key
+  -- where the key's cells are given, the row after the update has their key
   pub overlaid_key : IsTextKey raw (raw_key raw (map given_text cells)) → key_in raw (overlaid cells row) ≡ key_in raw (map given_text cells)
   overlaid_key is = ap (key_from raw) (keys_same raw.key is)
 
@@ -118,7 +118,7 @@ module _ (tables : List LogTable) where
       by false told = keyed key row told
   keyed_in t (Clear name) rows key row keyed fit is = cc
 
-  -- rows that are keyed stay so behind a fit change
+  -- rows that are keyed stay so after a fit change
   pub keyed_after : (c : RawChange) (rows : TextRows) → IsFitChange tables rows c → AreKeyed tables rows → AreKeyed tables (text_rows_after tables c rows)
   keyed_after c rows fit keyed name key row is = by (same_name (name_of c) name) refl is
     where

@@ -81,7 +81,7 @@ module _ (tables : List LogTable) where
 
   -- ---- changes that fit
 
-  -- the rows agree wherever one of the changes locks a key
+  -- the rows agree where one of the changes locks a key
   abbrev pub AgreeAt : List RawChange → TextRows → TextRows → Type 0
   AgreeAt cs a b = (name : TableName) (key : Key) → list_any (locks tables name key) cs ≡ true → a name key ≡ b name key
 
@@ -113,7 +113,7 @@ module _ (tables : List LogTable) where
   fit_in None c a b is same fit = fit
   fit_in (Some t) c a b is same fit = fit_same t c (a (name_of c)) (b (name_of c)) (λ key named. same key (locked_here t c key is named)) fit
 
-  -- changes that are fit for some rows are fit for others that agree with them wherever a key is locked
+  -- changes that are fit for some rows are fit for others that agree with them where a key is locked
   pub fit_for : (cs : List RawChange) (a b : TextRows) → AgreeAt cs a b → AreFitChanges tables a cs → AreFitChanges tables b cs
   fit_for [] a b agree fit = tt
   fit_for (c ∷ cs) a b agree fit =

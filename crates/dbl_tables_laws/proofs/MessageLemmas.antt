@@ -31,7 +31,7 @@ some_one a b is = cc
 
 -- ---- the table that was found
 
--- it is there, so many places behind the first
+-- it is there, so many places after the first
 pub record IsThere (oid : ℕ) (tables : List DemoTable) (name : TableName) (at : FoundTable) : Type 0 where
   pub subsequent : oid ≤ at.oid
   pub there : slice_get (log_tables tables) (at.oid - oid) ≡ Some (log_table at.table)

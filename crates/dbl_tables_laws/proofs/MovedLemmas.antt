@@ -1,4 +1,4 @@
--- Behind every list of steps each text spells a value of its column's type. So the messages of open sessions and of commits have no
+-- After every list of steps each text spells a value of its column's type. So the messages of open sessions and of commits have no
 -- fault where they are read, or a moved key with an unsent cell.
 use Rattle.std.proofs.Common.{◌≡◌, ◌≢◌, ◌∙◌, ℕ, Bool, true, false, Option, Some, None, List, [], ◌∷◌, ◌++◌, map, refl, sym, ap, subst}
 use Rattle.std.specs.Prelude.{◌||◌, not, is_some, if◌then◌else◌, option_map, filter_map, Result, Ok, Err, bytes_eq}

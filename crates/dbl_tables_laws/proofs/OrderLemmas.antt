@@ -29,7 +29,7 @@ order_none tables = record { apart = λ a b name key held too. (let contra : fal
 pub none_held : (tables : List LogTable) (past : List Accepted) (name : TableName) (key : Key) (session : List ℕ) → messages_by session past ≡ [] → holds_key tables past name key session ≡ false
 none_held tables past name key session none = ap (λ (ms : List Message). list_any (locks tables name key) (changes_from tables (committed_rows tables past) ms)) none
 
--- a list of acts behind which each session has what it had, or nothing
+-- a list of acts after which each session has what it had, or nothing
 record Shrinks (tables : List DemoTable) (past new : List Accepted) : Type 0 where
   holds : (name : TableName) (key : Key) (session : List ℕ) → (messages_by session new ≡ []) ⊎ (holds_key (log_tables tables) new name key session ≡ holds_key (log_tables tables) past name key session)
   messages : (session : List ℕ) → (messages_by session new ≡ []) ⊎ (messages_by session new ≡ messages_by session past)
@@ -61,7 +61,7 @@ module _ (tables : List DemoTable) (past : List Accepted) (orderly : IsOrderly t
       small session (inl none) = subst (λ (ms : List Message). entry_size ms ≤ entry_limit) (sym none) (lit≤ tt)
       small session (inr same) = subst (λ (ms : List Message). entry_size ms ≤ entry_limit) (sym same) (orderly.sized session)
 
-  -- the messages behind a begin or an end
+  -- the messages after a begin or an end
   cut : (s t : List ℕ) (b : Bool) → bytes_eq s t ≡ b → ((if b then [] else messages_by t past) ≡ []) ⊎ ((if b then [] else messages_by t past) ≡ messages_by t past)
   cut s t true is = inl refl
   cut s t false is = inr refl

@@ -1,4 +1,4 @@
--- Texts that are given are UTF-8, and so is whatever is made of them: rows, messages and the log. And a commit has few changes.
+-- Texts that are given are UTF-8, and so is all that is made of them: rows, messages and the log. And a commit has few changes.
 use Rattle.std.proofs.Common.{◌≡◌, ◌∙◌, ◌+◌, ◌<◌, ◌≤◌, ◌^◌, ℕ, zero, suc, Bool, true, false, cond, Option, Some, None, List, [], ◌∷◌, ◌++◌, length, map, refl, subst, arith}
 use Rattle.std.specs.Prelude.{not, if◌then◌else◌, IfSome, option_map, option_and_then, unwrap_or, slice_get, filter_map, fold, sum, bytes_eq}
 use Rattle.std.specs.List.{AllByRecursion, cons_option}
@@ -88,7 +88,7 @@ raw_key_ranged raw row range = each raw.key
     each [] = tt
     each (name ∷ names) = (one (place_of (raw_names raw.columns) name), each names)
 
--- ---- rows behind changes
+-- ---- rows after changes
 
 abbrev pub AreRowsInRange : TextRows → Type 0
 AreRowsInRange rows = (name : TableName) (key : Key) (row : Texts) → rows name key ≡ Some row → AreTextsInRange row

@@ -1,4 +1,4 @@
--- Behind every list of steps of UTF-8 texts all that was changed is of UTF-8 texts, and so the serial run is a fit log.
+-- After every list of steps of UTF-8 texts all that was changed is of UTF-8 texts, and so the serial run is a fit log.
 use Rattle.std.proofs.Common.{◌≡◌, ◌≢◌, ◌∙◌, ◌⊎◌, inl, inr, ◌<◌, ◌^◌, ℕ, Bool, true, false, Option, Some, List, [], ◌∷◌, ◌++◌, length, map, refl, sym, ap, subst}
 use Rattle.std.specs.Prelude.{not, if◌then◌else◌, option_map, filter_map, Result, Ok, Err, bytes_eq}
 use Rattle.std.specs.List.{AllByRecursion, cons_option}

@@ -106,7 +106,7 @@ module _ (tables : List LogTable) (distinct : are_distinct same_name (names_in t
   raw_same (says.Relation o n m i c) a b agree = refl
   raw_same (says.Logical f l p c) a b agree = refl
 
-  -- messages say the same beside rows that agree wherever one of their changes locks a key
+  -- messages say the same beside rows that agree where one of their changes locks a key
   pub changes_same : (ms : List Message) (a b : TextRows) → AgreeAt tables (changes_from tables a ms) a b → changes_from tables a ms ≡ changes_from tables b ms
   changes_same [] a b agree = refl
   changes_same (m ∷ ms) a b agree =

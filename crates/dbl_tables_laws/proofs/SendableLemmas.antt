@@ -1,4 +1,4 @@
--- Behind every list of steps of UTF-8 texts each message is a change that has a spelling. So the serial run is a log whose messages are
+-- After every list of steps of UTF-8 texts each message is a change that has a spelling. So the serial run is a log whose messages are
 -- read right.
 use Rattle.std.proofs.Common.{◌≡◌, ◌-◌, ◌<◌, ◌≤◌, ◌^◌, ℕ, Bool, true, false, Option, Some, None, List, [], ◌∷◌, ◌++◌, length, map, refl, sym, subst, arith}
 use Rattle.std.specs.Prelude.{◌||◌, not, nat_lt, if◌then◌else◌, IfSome, Result, Ok, Err}

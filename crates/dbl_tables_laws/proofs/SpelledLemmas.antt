@@ -1,4 +1,4 @@
--- Each text that a step gives spells a value of its column's type, and so does whatever is made of it: rows, and the changes of open
+-- Each text that a step gives spells a value of its column's type, and so does all that is made of it: rows, and the changes of open
 -- sessions.
 use Rattle.std.proofs.Common.{◌≡◌, ◌∙◌, inl, inr, ◌<◌, ℕ, zero, suc, Bool, true, false, Option, Some, None, List, [], ◌∷◌, length, map, refl, sym, ap, subst}
 use Rattle.std.specs.Prelude.{if◌then◌else◌, is_some, option_map, option_and_then, unwrap_or, slice_get, bytes_eq}
@@ -152,7 +152,7 @@ module _ (info : TableInfo) where
   pub row_set_spelled : (set : List NamedCell) (row : Texts) → list_all (is_readable (catalogue_of info)) set ≡ true → AreSpelled (catalogue_of info).columns row → AreSpelled (catalogue_of info).columns (row_set (catalogue_of info).columns set row)
   row_set_spelled set row all was = set_spelled (catalogue_of info) set (catalogue_of info).columns row (λ p c at. (own_type info p c at).0) all was
 
--- ---- rows behind changes
+-- ---- rows after changes
 
 -- the texts of a change
 abbrev pub IsSpelledIn : RawTable → RawChange → Type 0

@@ -1,4 +1,4 @@
--- Behind every list of acts locks are apart, what each session has changed is fit, and each committed row stands at its key: step
+-- After every list of acts locks are apart, what each session has changed is fit, and each committed row stands at its key: step
 -- by step, and so for all steps.
 use Rattle.std.proofs.Common.{◌≡◌, ◌∙◌, ◌⊎◌, inl, inr, ℕ, Bool, true, false, Option, Some, None, List, [], ◌∷◌, length, map, refl, sym, ap, subst}
 use Rattle.std.specs.Prelude.{◌||◌, ◌&&◌, not, is_some, IsSome, IsSomeAnd, option_map, filter_map, Ok}

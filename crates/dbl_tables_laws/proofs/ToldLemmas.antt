@@ -1,4 +1,4 @@
--- A change of tables of the store, behind their Relations: which faults it has where it is read.
+-- A change of tables of the store, after their Relations: which faults it has where it is read.
 use Rattle.std.proofs.Common.{◌≡◌, ◌≢◌, ◌∙◌, inl, ℕ, Bool, true, false, Option, Some, None, List, [], ◌∷◌, refl, sym, ap, subst}
 use Rattle.std.specs.Prelude.{◌&&◌, ◌||◌, not, if◌then◌else◌, slice_get, IsSomeAnd, Result, Ok, bytes_eq, codes}
 use Rattle.std.specs.List.{AllByRecursion, list_any}

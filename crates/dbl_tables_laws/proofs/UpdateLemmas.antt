@@ -1,4 +1,4 @@
--- The change that the message of an update is: from the key of the row before it to the key of the row behind it.
+-- The change that the message of an update is: from the key of the row before it to the key of the row after it.
 use Rattle.std.proofs.Common.{◌≡◌, ◌∙◌, ◌+◌, ◌<◌, inl, inr, ℕ, zero, suc, Bool, true, false, Option, Some, None, List, [], ◌∷◌, ◌++◌, length, map, refl, sym, ap, subst, append_assoc, arith}
 use Rattle.std.specs.Prelude.{◌⊎◌, ◌&&◌, ◌||◌, not, nat_le, if◌then◌else◌, IfSome, IsSome, option_map, option_and_then, unwrap_or, slice_get, bytes_eq}
 use Rattle.std.specs.List.{AllByRecursion, list_any, list_all}
@@ -179,7 +179,7 @@ all_settled (Unchanged ∷ cells) (x ∷ row) same = still (all_texts (settled c
     still None some = some
     still (Some r) some = refl
 
--- ---- the cells beside the row before and the row behind
+-- ---- the cells beside the row before and the row after
 
 -- the new text, or none where the text stays
 abbrev pub IsCellOf : Option (List ℕ) → Option (List ℕ) → RawCell → Type 0
@@ -445,7 +445,7 @@ module _ (table : DemoTable) (before row : Texts) (wo : length before ≡ length
       ap (λ (k : Key). not (same_key k (key_in (raw_of table) (map given_text cells_of)))) key_was
       ∙ ap (λ (k : RawKey). not (same_key (key_in (raw_of table) before) (key_from (raw_of table) k))) sent_key
 
-  -- the row at the key behind it
+  -- the row at the key after it
   row_behind : (b : Bool) (was : Option Texts) → (b ≡ true) ⊎ (was ≡ Some before) → updated_texts (all_texts (settled_if_moved b (Some before) cells_of)) (settled_if_moved b (Some before) cells_of) was ≡ Some row
   row_behind true was why = ap (λ (o : Option Texts). updated_texts o (settled cells_of before) was) (settled_is cells_of before row cells_match)
   row_behind false was (inl moved) = cc

@@ -75,12 +75,14 @@ OpenChangesAreFit = (tables : List DemoTable) (steps : List Step) → AreTables 
 
 -- The serial run of all steps is a log whose changes are valid, one commit after the other.
 abbrev pub SerialRunsAreFit : Type 0
-SerialRunsAreFit = (tables : List DemoTable) (rows : List InitialRow) (steps : List Step) → AreTables tables → AllByRecursion IsEntryInRange (catalogue (log_tables tables)) → AllByRecursion IsRowInRange rows → AllByRecursion IsStepInRange steps
+SerialRunsAreFit = (tables : List DemoTable) (rows : List InitialRow) (steps : List Step) → AreTables tables
+    → AllByRecursion IsEntryInRange (catalogue (log_tables tables)) → AllByRecursion IsRowInRange rows → AllByRecursion IsStepInRange steps
     → length (serial tables rows steps) < commit_limit → AreFitLog (log_tables tables) (map Changes (serial tables rows steps))
 
 -- A reader of the serial run of all steps reads it correctly.
 abbrev pub SerialRunsAreFair : Type 0
-SerialRunsAreFair = (tables : List DemoTable) (rows : List InitialRow) (steps : List Step) → AreDescribable tables → AllByRecursion IsRowInRange rows → AllByRecursion IsStepInRange steps
+SerialRunsAreFair = (tables : List DemoTable) (rows : List InitialRow) (steps : List Step) → AreDescribable tables
+    → AllByRecursion IsRowInRange rows → AllByRecursion IsStepInRange steps
     → IsFairLog (log_tables tables) (map Changes (serial tables rows steps))
 
 -- The error is none, or a moved key with an unsent cell.
@@ -100,7 +102,8 @@ pub record AreMovedAtMost (tables : List LogTable) (past : List Accepted) : Type
 
 -- After all steps the messages have no error but a moved key with an unsent cell.
 abbrev pub SentChangesMoveAtMost : Type 0
-SentChangesMoveAtMost = (tables : List DemoTable) (steps : List Step) → AreTables tables → AreMovedAtMost (log_tables tables) (acts_after tables [] steps)
+SentChangesMoveAtMost = (tables : List DemoTable) (steps : List Step) → AreTables tables
+    → AreMovedAtMost (log_tables tables) (acts_after tables [] steps)
 
 -- ---- what sessions see
 
@@ -111,11 +114,13 @@ pub record IsPrivate (tables : List LogTable) (past : List Accepted) (session : 
 
 -- After every list of acts a change is private to its session.
 abbrev pub StepsArePrivate : Type 0
-StepsArePrivate = (tables : List LogTable) (past : List Accepted) (session : List ℕ) (message : Message) → IsPrivate tables past session message
+StepsArePrivate = (tables : List LogTable) (past : List Accepted) (session : List ℕ) (message : Message)
+    → IsPrivate tables past session message
 
 -- What a session sees is what is committed once it commits.
 abbrev pub CommitsShowWhatWasSeen : Type 0
-CommitsShowWhatWasSeen = (tables : List LogTable) (past : List Accepted) (session : List ℕ) → committed_rows tables (Committed session ∷ past) ≡ seen_rows tables past session
+CommitsShowWhatWasSeen = (tables : List LogTable) (past : List Accepted) (session : List ℕ)
+    → committed_rows tables (Committed session ∷ past) ≡ seen_rows tables past session
 
 -- A rollback leaves no effect, and no other session sees any.
 pub record LeavesNothing (tables : List LogTable) (past : List Accepted) (session : List ℕ) : Type 0 where
@@ -130,11 +135,13 @@ RollbacksLeaveNothing = (tables : List LogTable) (past : List Accepted) (session
 -- When another session commits, a session still sees its locked rows as they were, and its changes are the same.
 pub record GoesOnSeeing (tables : List LogTable) (past : List Accepted) (session other : List ℕ) : Type 0 where
   pub changes : changes_by tables (Committed other ∷ past) session ≡ changes_by tables past session
-  pub rows : (name : TableName) (key : Key) → holds_key tables past name key session ≡ true → seen_rows tables (Committed other ∷ past) session name key ≡ seen_rows tables past session name key
+  pub rows : (name : TableName) (key : Key) → holds_key tables past name key session ≡ true
+      → seen_rows tables (Committed other ∷ past) session name key ≡ seen_rows tables past session name key
 
 -- For every orderly list of acts the rows that a session has locked stay as it sees them.
 abbrev pub HeldRowsStay : Type 0
-HeldRowsStay = (tables : List DemoTable) (past : List Accepted) (session other : List ℕ) → AreTables tables → IsOrderly tables past → session ≢ other → GoesOnSeeing (log_tables tables) past session other
+HeldRowsStay = (tables : List DemoTable) (past : List Accepted) (session other : List ℕ) → AreTables tables → IsOrderly tables past
+    → session ≢ other → GoesOnSeeing (log_tables tables) past session other
 
 -- ---- the effect of a step on the rows that its session sees
 
@@ -143,25 +150,37 @@ abbrev pub row_put : Key → Option Texts → (Key → Option Texts) → Key →
 row_put at row rows key = if same_key at key then row else rows key
 
 -- After an act the session sees these rows of one table, and every other table as before.
-pub record Shows (tables : List DemoTable) (past : List Accepted) (session : List ℕ) (act : Accepted) (name : TableName) (rows : Key → Option Texts) : Type 0 where
+pub record Shows (tables : List DemoTable) (past : List Accepted) (session : List ℕ) (act : Accepted) (name : TableName)
+    (rows : Key → Option Texts) : Type 0 where
   pub here : (key : Key) → seen_rows (log_tables tables) (act ∷ past) session name key ≡ rows key
-  pub elsewhere : (other : TableName) (key : Key) → same_name name other ≡ false → seen_rows (log_tables tables) (act ∷ past) session other key ≡ seen_rows (log_tables tables) past session other key
+  pub elsewhere : (other : TableName) (key : Key) → same_name name other ≡ false
+      → seen_rows (log_tables tables) (act ∷ past) session other key ≡ seen_rows (log_tables tables) past session other key
 
 -- The rows that a session sees after an insert, an update, a delete or a truncate.
 pub record StepsShow (tables : List DemoTable) (past : List Accepted) (session : List ℕ) : Type 0 where
-  pub inserts : (name : TableName) (cells : List NamedCell) (at : FoundTable) (act : Accepted) → found tables name ≡ Some at → insert_judged tables past session name cells ≡ Ok act
-      → Shows tables past session act at.table.info.name (row_put (key_in (raw_of at.table) (row_given (raw_of at.table) cells)) (Some (row_given (raw_of at.table) cells)) (seen tables past session at))
-  pub updates : (name : TableName) (key set : List NamedCell) (at : FoundTable) (before : Texts) (act : Accepted) → found tables name ≡ Some at → seen tables past session at (key_given (raw_of at.table) key) ≡ Some before → update_judged tables past session name key set ≡ Ok act
+  pub inserts : (name : TableName) (cells : List NamedCell) (at : FoundTable) (act : Accepted) → found tables name ≡ Some at
+      → insert_judged tables past session name cells ≡ Ok act
       → Shows tables past session act at.table.info.name
-      (row_put (key_set (raw_of at.table) key set) (Some (row_set (raw_of at.table).columns set before)) (row_put (key_given (raw_of at.table) key) None (seen tables past session at)))
-  pub deletes : (name : TableName) (key : List NamedCell) (at : FoundTable) (act : Accepted) → found tables name ≡ Some at → delete_judged tables past session name key ≡ Ok act
+      (row_put (key_in (raw_of at.table) (row_given (raw_of at.table) cells)) (Some (row_given (raw_of at.table) cells))
+      (seen tables past session at))
+  pub updates : (name : TableName) (key set : List NamedCell) (at : FoundTable) (before : Texts) (act : Accepted)
+      → found tables name ≡ Some at → seen tables past session at (key_given (raw_of at.table) key) ≡ Some before
+      → update_judged tables past session name key set ≡ Ok act
+      → Shows tables past session act at.table.info.name
+      (row_put (key_set (raw_of at.table) key set) (Some (row_set (raw_of at.table).columns set before))
+      (row_put (key_given (raw_of at.table) key) None (seen tables past session at)))
+  pub deletes : (name : TableName) (key : List NamedCell) (at : FoundTable) (act : Accepted) → found tables name ≡ Some at
+      → delete_judged tables past session name key ≡ Ok act
       → Shows tables past session act at.table.info.name (row_put (key_given (raw_of at.table) key) None (seen tables past session at))
   pub truncates : (names : List TableName) (act : Accepted) → truncate_judged tables past session names ≡ Ok act
-      → (name : TableName) (key : Key) → seen_rows (log_tables tables) (act ∷ past) session name key ≡ (if list_any (λ n. same_name n name) names then None else seen_rows (log_tables tables) past session name key)
+      → (name : TableName) (key : Key)
+      → seen_rows (log_tables tables) (act ∷ past) session name key
+      ≡ (if list_any (λ n. same_name n name) names then None else seen_rows (log_tables tables) past session name key)
 
 -- Each step after any steps shows its rows.
 abbrev pub StepsShowTheirRows : Type 0
-StepsShowTheirRows = (tables : List DemoTable) (steps : List Step) (session : List ℕ) → AreTables tables → StepsShow tables (acts_after tables [] steps) session
+StepsShowTheirRows = (tables : List DemoTable) (steps : List Step) (session : List ℕ) → AreTables tables
+    → StepsShow tables (acts_after tables [] steps) session
 
 -- ---- the rows that a select shows are one list
 
@@ -172,4 +191,5 @@ pub record AreOneList (info : TableInfo) (above : Option Key) (a b : List RawRow
 
 -- A select shows at most one list of rows.
 abbrev pub FirstRowsAreOneList : Type 0
-FirstRowsAreOneList = (info : TableInfo) (at : Key → Option Texts) (above : Option Key) (limit : ℕ) (a b : List RawRow) → AreShown info at above limit a → AreShown info at above limit b → AreOneList info above a b
+FirstRowsAreOneList = (info : TableInfo) (at : Key → Option Texts) (above : Option Key) (limit : ℕ) (a b : List RawRow)
+    → AreShown info at above limit a → AreShown info at above limit b → AreOneList info above a b

@@ -24,18 +24,21 @@ pub record AreTables (tables : List DemoTable) : Type 0 where
 
 -- No two sessions have locked one key, a closed session has no open change, and an open one's changes fit into one entry.
 pub record IsOrderly (tables : List DemoTable) (past : List Accepted) : Type 0 where
-  pub apart : (a b : List ℕ) (name : TableName) (key : Key) → holds_key (log_tables tables) past name key a ≡ true → holds_key (log_tables tables) past name key b ≡ true → a ≡ b
+  pub apart : (a b : List ℕ) (name : TableName) (key : Key) → holds_key (log_tables tables) past name key a ≡ true
+      → holds_key (log_tables tables) past name key b ≡ true → a ≡ b
   pub closed : (session : List ℕ) → is_open session past ≡ false → messages_by session past ≡ []
   pub sized : (session : List ℕ) → entry_size (messages_by session past) ≤ entry_limit
 
 -- Each commit's changes are valid for the rows just before it.
 abbrev pub HaveFitChanges : List LogTable → TextRows → List (List Message) → Type 0
 HaveFitChanges tables rows [] = Unit {0}
-HaveFitChanges tables rows (messages ∷ log) = AreFitChanges tables rows (changes_from tables rows messages) × HaveFitChanges tables (text_rows_from tables rows messages) log
+HaveFitChanges tables rows (messages ∷ log) = AreFitChanges tables rows (changes_from tables rows messages)
+    × HaveFitChanges tables (text_rows_from tables rows messages) log
 
 -- The changes of each open session are valid for the committed rows, one by one, whichever session commits first.
 pub record IsFitAfter (tables : List DemoTable) (past : List Accepted) : Type 0 where
-  pub changes : (session : List ℕ) → AreFitChanges (log_tables tables) (committed_rows (log_tables tables) past) (changes_by (log_tables tables) past session)
+  pub changes : (session : List ℕ)
+      → AreFitChanges (log_tables tables) (committed_rows (log_tables tables) past) (changes_by (log_tables tables) past session)
   pub log : HaveFitChanges (log_tables tables) no_text_rows (log_in past)
 
 -- A row at a key has that key, a cell for each column, and a text for each column of the key.

@@ -1,7 +1,9 @@
 //! Theorems about steps. The functions do nothing: their contracts are the theorems.
 
-ghost use Rattle.dbl_tables_laws.specs.Laws.{LocksAreApart, OpenChangesAreFit, SerialRunsAreFit, SerialRunsAreFair, SentChangesMoveAtMost};
-ghost use Rattle.dbl_tables_laws.specs.Laws.{StepsArePrivate, CommitsShowWhatWasSeen, RollbacksLeaveNothing, HeldRowsStay};
+ghost use Rattle.dbl_tables_laws.specs.Laws.{LocksAreApart, OpenChangesAreFit, SerialRunsAreFit};
+ghost use Rattle.dbl_tables_laws.specs.Laws.{SerialRunsAreFair, SentChangesMoveAtMost};
+ghost use Rattle.dbl_tables_laws.specs.Laws.{StepsArePrivate, CommitsShowWhatWasSeen};
+ghost use Rattle.dbl_tables_laws.specs.Laws.{RollbacksLeaveNothing, HeldRowsStay};
 ghost use Rattle.dbl_tables_laws.specs.Laws.{StepsShowTheirRows, FirstRowsAreOneList};
 
 /// No two sessions have locked one key.

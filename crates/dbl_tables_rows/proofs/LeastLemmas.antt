@@ -194,7 +194,7 @@ owner_first session (Some owner) = by (bytes_eq owner session) refl
 
 -- ---- the first of a list in order
 
--- a name in the rest of the list is behind its head
+-- a name in the rest of the list is after its head
 behind_head : (k name : List ℕ) (keys : List (List ℕ)) → AllByRecursion (λ y. text_cmp k y ≡ Less) keys → list_any (is_at (text_cmp name)) keys ≡ true → text_cmp k name ≡ Less
 behind_head k name [] below there = cc
 behind_head k name (y ∷ keys) below there = by (text_cmp name y) refl there (λ more. behind_head k name keys below.1 more)

@@ -1,4 +1,4 @@
--- A table behind what one session does: who holds it, what it cleared, and one table of several.
+-- A table after what one session does: who holds it, what it cleared, and one table of several.
 use Rattle.std.proofs.Common.{◌≡◌, ◌∙◌, ◌+◌, ◌<◌, ◌≤◌, ℕ, zero, suc, Bool, true, false, Option, Some, None, List, [], ◌∷◌, ◌++◌, cond, length, take, drop, refl, sym, ap, subst, arith}
 use Rattle.std.specs.Prelude.{◌&&◌, ◌||◌, not, nat_eq, nat_lt, if◌then◌else◌, option_map, slice_get, bytes_eq}
 use Rattle.std.specs.Ordering.{is_eq}

@@ -1,4 +1,4 @@
--- The slots of a table behind one change of the map: what is seen of it key by key.
+-- The slots of a table after one change of the map: what is seen of it key by key.
 use Rattle.std.proofs.Common.{◌≡◌, ◌∙◌, ℕ, Bool, true, false, Option, Some, None, List, refl, sym, ap, subst}
 use Rattle.std.specs.Prelude.{if◌then◌else◌, is_some, is_none, option_and_then}
 use Rattle.std.specs.declared.cmp.Ordering.{Ordering}

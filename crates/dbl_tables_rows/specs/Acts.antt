@@ -32,7 +32,8 @@ open_in (RolledBack session ∷ past) = filter (λ other. not (bytes_eq other se
 abbrev pub messages_by : List ℕ → List Accepted → List Message
 messages_by session [] = []
 messages_by session (Began other ∷ past) = if bytes_eq other session then [] else messages_by session past
-messages_by session (Did other message ∷ past) = if bytes_eq other session then messages_by session past ++ message ∷ [] else messages_by session past
+messages_by session (Did other message ∷ past) = if bytes_eq other session then messages_by session past ++ message ∷ []
+    else messages_by session past
 messages_by session (Committed other ∷ past) = if bytes_eq other session then [] else messages_by session past
 messages_by session (RolledBack other ∷ past) = if bytes_eq other session then [] else messages_by session past
 

@@ -1,5 +1,6 @@
 -- Rows and keys of cells that name their columns, and which cells are readable.
-use Rattle.std.specs.Prelude.{ℕ, ◌&&◌, ◌||◌, not, Bool, true, Option, None, Some, is_some, option_and_then, find, List, [], ◌∷◌, map, bytes_eq}
+use Rattle.std.specs.Prelude.{ℕ, ◌&&◌, ◌||◌, not, Bool, true, Option, None, Some, is_some}
+use Rattle.std.specs.Prelude.{option_and_then, find, List, [], ◌∷◌, map, bytes_eq}
 use Rattle.std.specs.List.{list_any, list_all}
 use Rattle.dbl_value.specs.declared.column_type.PgType.{PgType}
 use Rattle.dbl_value.specs.Values.{value_of}

@@ -1,5 +1,6 @@
 -- How the slots of a table change, and a table at the end of a session.
-use Rattle.std.specs.Prelude.{◌≡◌, ◌&&◌, not, Bool, false, if◌then◌else◌, is_none, Option, None, Some, option_map, option_and_then, IsSome, ℕ, List, bytes_eq}
+use Rattle.std.specs.Prelude.{◌≡◌, ◌&&◌, not, Bool, false, if◌then◌else◌, is_none, Option, None}
+use Rattle.std.specs.Prelude.{Some, option_map, option_and_then, IsSome, ℕ, List, bytes_eq}
 use Rattle.std.specs.BTreeMap.{IsEmpty, get}
 use Rattle.std.specs.BTreeSet.{contains}
 use Rattle.dbl_base.specs.Texts.{text_cmp}
@@ -45,7 +46,9 @@ given_up session held = if held_by session held then None else held
 
 -- The session's row at one key was committed.
 pub record Settles (key : Key) (session : List ℕ) (old new : Slots) : Type 0 where
-  pub committed : (other : Key) → committed_in new other ≡ (if same_key key other then settled_row session (held_in old other) (committed_in old other) else committed_in old other)
+  pub committed : (other : Key)
+      → committed_in new other
+      ≡ (if same_key key other then settled_row session (held_in old other) (committed_in old other) else committed_in old other)
   pub held : (other : Key) → held_in new other ≡ (if same_key key other then given_up session (held_in old other) else held_in old other)
 
 -- The session's lock on one key was released.
@@ -57,7 +60,8 @@ pub record ReleasesKey (key : Key) (session : List ℕ) (old new : Slots) : Type
 
 -- A slot after the commit of the session's row.
 abbrev pub settled_slot : List ℕ → Slot → Slot
-settled_slot session slot = if held_by session slot.held then record { committed = option_and_then (λ held. held.row) slot.held; held = None } else slot
+settled_slot session slot = if held_by session slot.held
+    then record { committed = option_and_then (λ held. held.row) slot.held; held = None } else slot
 
 -- A slot after the release of the session's lock.
 abbrev pub released_slot : List ℕ → Slot → Slot

@@ -11,7 +11,9 @@ use Rattle.dbl_tables_rows.specs.Listed.{is_listed}
 
 -- The session's rows at its listed keys of the table were committed.
 pub record SettlesAll (table : ℕ) (keys : List HeldKey) (session : List ℕ) (old new : Slots) : Type 0 where
-  pub committed : (key : Key) → committed_in new key ≡ (if is_listed table key keys then settled_row session (held_in old key) (committed_in old key) else committed_in old key)
+  pub committed : (key : Key)
+      → committed_in new key
+      ≡ (if is_listed table key keys then settled_row session (held_in old key) (committed_in old key) else committed_in old key)
   pub held : (key : Key) → held_in new key ≡ (if is_listed table key keys then given_up session (held_in old key) else held_in old key)
 
 -- The session's locks on its listed keys of the table were released.

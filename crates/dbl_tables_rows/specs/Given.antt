@@ -80,8 +80,10 @@ IsUtf8Change m = ⊥
 -- The size of the entry with one more change; none if it would be too long.
 abbrev pub SizeGrown : List Message → Message → Option ℕ → Type 0
 SizeGrown messages message None = is_too_long messages message ≡ true
-SizeGrown messages message (Some size) = (is_too_long messages message ≡ false) × (size ≡ entry_size (messages ++ message ∷ [])) × (size ≤ entry_limit) × Fits message
+SizeGrown messages message (Some size) = (is_too_long messages message ≡ false) × (size ≡ entry_size (messages ++ message ∷ []))
+    × (size ≤ entry_limit) × Fits message
 
 -- The size of a commit's entry with one more message, if `size` is that without it.
 abbrev pub SizeGrows : ℕ → Message → Option ℕ → Type 0
-SizeGrows size message grown = (messages : List Message) → IsUtf8Change message → size ≤ entry_limit → size ≡ entry_size messages → SizeGrown messages message grown
+SizeGrows size message grown = (messages : List Message) → IsUtf8Change message → size ≤ entry_limit → size ≡ entry_size messages
+    → SizeGrown messages message grown

@@ -1,6 +1,7 @@
 -- Which session has locked a row or a table, until it ends. PostgreSQL's manual, "Explicit Locking", Row-Level Locks, where a writer waits;
 -- here the step is refused.
-use Rattle.std.specs.Prelude.{ℕ, ◌&&◌, ◌||◌, not, Bool, true, false, if◌then◌else◌, Option, None, Some, List, [], ◌∷◌, filter, map, bytes_eq}
+use Rattle.std.specs.Prelude.{ℕ, ◌&&◌, ◌||◌, not, Bool, true, false, if◌then◌else◌}
+use Rattle.std.specs.Prelude.{Option, None, Some, List, [], ◌∷◌, filter, map, bytes_eq}
 use Rattle.std.specs.List.{list_any}
 use Rattle.std.specs.Ordering.{is_lt}
 use Rattle.dbl_base.specs.Texts.{text_cmp}

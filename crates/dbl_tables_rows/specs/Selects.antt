@@ -38,7 +38,8 @@ pub record AreFirstRows (raw : RawTable) (at : Key → Option Texts) (above : Op
   pub ordered : AreRisingKeys raw above rows
   pub few : length rows ≤ limit
   -- Up to the last key, or everywhere above the bound, the list has the table's rows and no others.
-  pub right : (key : Key) → IsAbove above key → (length rows < limit) ⊎ IsUpTo (last_shown raw above rows) key → row_shown raw rows key ≡ at key
+  pub right : (key : Key) → IsAbove above key → (length rows < limit) ⊎ IsUpTo (last_shown raw above rows) key
+      → row_shown raw rows key ≡ at key
 
 -- The first rows above the key of an existing table, and none if the key isn't of its key types.
 pub record AreShown (info : TableInfo) (at : Key → Option Texts) (above : Option Key) (limit : ℕ) (rows : List RawRow) : Type 0 where
@@ -54,4 +55,5 @@ SelectsAt at above limit (Some there) (Err e) = e ≡ errors.Memory
 
 -- A select shows committed rows only, and no uncommitted change of any session.
 abbrev pub SelectsCommitted : List DemoTable → List Accepted → TableName → Option Key → ℕ → Result (List RawRow) StepError → Type 0
-SelectsCommitted tables past name above limit answer = SelectsAt (committed_rows (log_tables tables) past) above limit (found tables name) answer
+SelectsCommitted tables past name above limit answer =
+    SelectsAt (committed_rows (log_tables tables) past) above limit (found tables name) answer

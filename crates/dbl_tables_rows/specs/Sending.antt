@@ -1,6 +1,7 @@
 -- The message that reports a change of a row. PostgreSQL's "Logical Replication Message Formats", Insert, Update, Delete and Truncate, and
 -- "Publication", Replica Identity. Which values count as stored out of line is this project's choice.
-use Rattle.std.specs.Prelude.{ℕ, ◌+◌, ◌&&◌, ◌||◌, nat_le, nat_lt, not, Bool, false, if◌then◌else◌, Option, None, Some, unwrap_or, sum, List, [], ◌∷◌, ◌++◌, length, map, bytes_eq}
+use Rattle.std.specs.Prelude.{ℕ, ◌+◌, ◌&&◌, ◌||◌, nat_le, nat_lt, not, Bool, false, if◌then◌else◌, Option}
+use Rattle.std.specs.Prelude.{None, Some, unwrap_or, sum, List, [], ◌∷◌, ◌++◌, length, map, bytes_eq}
 use Rattle.dbl_pgmsg.specs.declared.messages.Message.{Message}
 use Rattle.dbl_pgmsg.specs.declared.messages.Message.TheVariants as says
 use Rattle.dbl_pgmsg.specs.declared.messages.OldTuple.{OldTuple}
@@ -51,7 +52,8 @@ whole_tuple row = record { cells = map sent_cell row }
 abbrev pub key_cells : RawTable → List RawColumn → Texts → List TupleCell
 key_cells raw [] row = []
 key_cells raw (column ∷ columns) [] = []
-key_cells raw (column ∷ columns) (text ∷ row) = (if is_key_name raw column.name then sent_cell text else cell.Null) ∷ key_cells raw columns row
+key_cells raw (column ∷ columns) (text ∷ row) =
+    (if is_key_name raw column.name then sent_cell text else cell.Null) ∷ key_cells raw columns row
 
 -- The tuple with the cells of a row's key.
 abbrev pub key_tuple : RawTable → Texts → Tuple
@@ -66,14 +68,16 @@ abbrev pub is_unsent_text : DemoTable → RawColumn → Option (List ℕ) → Op
 is_unsent_text table column None new = false
 is_unsent_text table column (Some before) None = false
 is_unsent_text table column (Some before) (Some new) =
-    not (is_key_name (raw_of table) column.name) && not (is_fixed (column_type column)) && bytes_eq before new && nat_le table.toast (length new)
+    not (is_key_name (raw_of table) column.name) && not (is_fixed (column_type column)) && bytes_eq before new
+    && nat_le table.toast (length new)
 
 -- The cells of an update's new row, with unsent texts omitted.
 abbrev pub new_cells : DemoTable → List RawColumn → Texts → Texts → List TupleCell
 new_cells table [] before row = []
 new_cells table (column ∷ columns) [] row = []
 new_cells table (column ∷ columns) (x ∷ before) [] = []
-new_cells table (column ∷ columns) (x ∷ before) (text ∷ row) = (if is_unsent_text table column x text then cell.Unchanged else sent_cell text) ∷ new_cells table columns before row
+new_cells table (column ∷ columns) (x ∷ before) (text ∷ row) =
+    (if is_unsent_text table column x text then cell.Unchanged else sent_cell text) ∷ new_cells table columns before row
 
 -- The old row of a delete: the whole row under full replica identity, else its key.
 abbrev pub old_tuple : DemoTable → Texts → OldTuple
@@ -96,7 +100,8 @@ insert_message oid row = says.Insert oid (whole_tuple row)
 -- The message of an update of a row.
 abbrev pub update_message : ℕ → DemoTable → Texts → Texts → Message
 update_message oid table before row =
-    says.Update oid (optional_old table (moves table before row) before) (record { cells = new_cells table (raw_of table).columns before row })
+    says.Update oid (optional_old table (moves table before row) before)
+    (record { cells = new_cells table (raw_of table).columns before row })
 
 -- The message of a delete.
 abbrev pub delete_message : ℕ → DemoTable → Texts → Message
@@ -122,7 +127,8 @@ entry_size messages = 13 + sum (map (λ message. 4 + length (spelling message)) 
 
 -- Whether one more change is too long, or makes the commit's entry too long.
 abbrev pub is_too_long : List Message → Message → Bool
-is_too_long messages message = nat_lt message_limit (length (spelling message)) || nat_lt entry_limit (entry_size (messages ++ message ∷ []))
+is_too_long messages message = nat_lt message_limit (length (spelling message))
+    || nat_lt entry_limit (entry_size (messages ++ message ∷ []))
 
 -- Whether one more change of a row is too long, alone or in the commit's entry, or has too many columns.
 abbrev pub is_too_large : DemoTable → List Message → Message → Bool

@@ -1,5 +1,6 @@
 -- The steps of sessions, and whether each is accepted: the first refusal that applies, in the order of the lines below, or else the act.
-use Rattle.std.specs.Prelude.{ℕ, ◌+◌, ◌&&◌, not, Bool, false, if◌then◌else◌, Option, None, Some, is_some, option_map, Result, Ok, List, [], ◌∷◌}
+use Rattle.std.specs.Prelude.{ℕ, ◌+◌, ◌&&◌, not, Bool, false, if◌then◌else◌, Option, None}
+use Rattle.std.specs.Prelude.{Some, is_some, option_map, Result, Ok, List, [], ◌∷◌}
 use Rattle.dbl_pgmsg.specs.declared.messages.Message.{Message}
 use Rattle.dbl_model_table.specs.declared.named_cell.NamedCell.{NamedCell}
 use Rattle.dbl_model_table.specs.declared.table.TableName.{TableName}
@@ -16,7 +17,8 @@ use Rattle.dbl_tables_rows.specs.Acts.Accepted.{Began, Did, Committed, RolledBac
 use Rattle.dbl_tables_rows.specs.Seen.{seen_rows}
 use Rattle.dbl_tables_rows.specs.Locks.{key_holder, table_holder}
 use Rattle.dbl_tables_rows.specs.Cells.{row_given, key_given, key_set, row_set, is_readable_row, is_readable_key, is_readable_set}
-use Rattle.dbl_tables_rows.specs.Sending.{raw_of, log_tables, insert_message, update_message, delete_message, truncate_message, is_too_long, is_too_large}
+use Rattle.dbl_tables_rows.specs.Sending.{raw_of, log_tables, insert_message, update_message}
+use Rattle.dbl_tables_rows.specs.Sending.{delete_message, truncate_message, is_too_long, is_too_large}
 use Rattle.dbl_tables_rows.specs.Refusals.{◌>>=◌, refuse_step_if, some_or_refuse, refuse_by}
 
 -- A step of a session, which names a row by its cells or its key, and tables by their names.
@@ -39,7 +41,8 @@ pub record FoundTable : Type 0 where
 -- The table of this name, if the first of the tables has this OID.
 abbrev pub found_from : ℕ → List DemoTable → TableName → Option FoundTable
 found_from oid [] name = None
-found_from oid (table ∷ tables) name = if same_name table.info.name name then Some (record { oid = oid; table = table }) else found_from (oid + 1) tables name
+found_from oid (table ∷ tables) name = if same_name table.info.name name then Some (record { oid = oid; table = table })
+    else found_from (oid + 1) tables name
 
 -- The table of this name, with its OID.
 abbrev pub found : List DemoTable → TableName → Option FoundTable
@@ -101,10 +104,12 @@ updating at set before = update_message at.oid at.table before (row_set (raw_of 
 
 -- The verdict on an update: its cells readable, its message not too large, neither key locked by others, the row there, and no other row
 -- with the new key.
-abbrev pub update_in : List DemoTable → List Accepted → List ℕ → FoundTable → List NamedCell → List NamedCell → Key → Key → Result Accepted StepError
+abbrev pub update_in : List DemoTable → List Accepted → List ℕ → FoundTable → List NamedCell → List NamedCell → Key → Key
+    → Result Accepted StepError
 update_in tables past session at key set from to = do
   _ ← refuse_step_if (not (is_readable_key (raw_of at.table) key && is_readable_set (raw_of at.table) set)) errors.BadRow
-  _ ← refuse_step_if (is_too_large_if at.table (messages_by session past) (option_map (updating at set) (seen tables past session at from))) errors.BadRow
+  _ ← refuse_step_if (is_too_large_if at.table (messages_by session past) (option_map (updating at set) (seen tables past session at from)))
+      errors.BadRow
   _ ← refuse_by (in_the_way tables past session at (from ∷ to ∷ []))
   before ← some_or_refuse (seen tables past session at from) errors.NoRow
   _ ← refuse_step_if (not (same_key from to) && is_some (seen tables past session at to)) errors.RowExists
@@ -120,7 +125,9 @@ update_judged tables past session name key set = do
 abbrev pub delete_in : List DemoTable → List Accepted → List ℕ → FoundTable → List NamedCell → Key → Result Accepted StepError
 delete_in tables past session at key from = do
   _ ← refuse_step_if (not (is_readable_key (raw_of at.table) key)) errors.BadRow
-  _ ← refuse_step_if (is_too_large_if at.table (messages_by session past) (option_map (delete_message at.oid at.table) (seen tables past session at from))) errors.BadRow
+  _ ← refuse_step_if
+      (is_too_large_if at.table (messages_by session past) (option_map (delete_message at.oid at.table) (seen tables past session at from)))
+      errors.BadRow
   _ ← refuse_by (in_the_way tables past session at (from ∷ []))
   before ← some_or_refuse (seen tables past session at from) errors.NoRow
   Ok (Did session (delete_message at.oid at.table before))

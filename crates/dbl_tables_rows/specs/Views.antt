@@ -1,5 +1,6 @@
 -- The state of a table in the store, key by key.
-use Rattle.std.specs.Prelude.{◌≡◌, ℕ, ◌||◌, IfSome, length, Bool, false, if◌then◌else◌, Option, None, Some, option_map, option_and_then, List, bytes_eq}
+use Rattle.std.specs.Prelude.{◌≡◌, ℕ, ◌||◌, IfSome, length, Bool, false, if◌then◌else◌, Option}
+use Rattle.std.specs.Prelude.{None, Some, option_map, option_and_then, List, bytes_eq}
 use Rattle.std.specs.BTreeMap.{BTreeMap, get}
 use Rattle.std.specs.BTreeSet.{BTreeSet, contains}
 use Rattle.dbl_base.specs.Texts.{text_cmp}
@@ -59,7 +60,8 @@ seen_under session (Some held) committed = if bytes_eq held.by session then text
 -- The row that a session sees at a key, with a truncate in progress or none.
 abbrev pub seen_in : Option Cleared → Slots → List ℕ → Key → Option Texts
 seen_in None slots session key = seen_under session (held_in slots key) (committed_in slots key)
-seen_in (Some cleared) slots session key = if bytes_eq cleared.by session then seen_under session (held_in slots key) None else committed_in cleared.slots key
+seen_in (Some cleared) slots session key = if bytes_eq cleared.by session then seen_under session (held_in slots key) None
+    else committed_in cleared.slots key
 
 -- The row that a session sees at a key of the table.
 abbrev pub seen_at : Rows → List ℕ → Key → Option Texts
@@ -82,4 +84,5 @@ pub record AreWide (rows : Rows) : Type 0 where
 -- If a session truncates, no other session has locks.
 abbrev pub IsAlone : Option Cleared → Slots → Type 0
 IsAlone None slots = Unit {0}
-IsAlone (Some cleared) slots = (key : Key) → IfSome (held_in slots key) (λ held. held.by ≡ cleared.by) × IfSome (held_in cleared.slots key) (λ held. held.by ≡ cleared.by)
+IsAlone (Some cleared) slots = (key : Key) → IfSome (held_in slots key) (λ held. held.by ≡ cleared.by)
+    × IfSome (held_in cleared.slots key) (λ held. held.by ≡ cleared.by)

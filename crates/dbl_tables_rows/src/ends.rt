@@ -1,7 +1,8 @@
 //! The ends of sessions, by commit or rollback. Neither takes memory.
 
 ghost use Rattle.dbl_tables_rows.specs.Changing.{IsEnded, IsUndone};
-ghost use Rattle.dbl_tables_rows.specs.Ends.{EachChanges, IsCommitted, IsRolledBack, SettlesOne, ReleasesOne, SettlesListed, ReleasesListed};
+ghost use Rattle.dbl_tables_rows.specs.Ends.{EachChanges, IsCommitted, IsRolledBack, SettlesOne};
+ghost use Rattle.dbl_tables_rows.specs.Ends.{ReleasesOne, SettlesListed, ReleasesListed};
 
 use crate::held::HeldKey;
 use crate::rows::{Rows, end, undo};

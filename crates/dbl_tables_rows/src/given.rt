@@ -1,13 +1,15 @@
 //! Rows and keys made from cells that name their columns.
 
-ghost use Rattle.std.specs.Prelude.{◌≡◌, ◌≢◌, false, IsTrue, IfOk, option_copied, option_and_then, is_some, bytes_eq};
+ghost use Rattle.std.specs.Prelude.{◌≡◌, ◌≢◌, false, IsTrue, IfOk, option_copied};
+ghost use Rattle.std.specs.Prelude.{option_and_then, is_some, bytes_eq};
 ghost use Rattle.std.specs.BTreeMap.{IsEmpty};
 ghost use Rattle.dbl_value.specs.Values.{value_of};
 ghost use Rattle.dbl_model_table.specs.Tables.{are_distinct};
 ghost use Rattle.dbl_model_table.specs.Infos.{catalogue_of};
-ghost use Rattle.dbl_tables_rows.specs.Cells.{cell_named, text_given, row_given, key_texts, text_set, row_set};
-ghost use Rattle.dbl_tables_rows.specs.Cells.{key_texts_set, spells_cell, is_readable, are_each_readable, are_of_key};
-ghost use Rattle.dbl_tables_rows.specs.Cells.{keep_key, has_key_texts};
+ghost use Rattle.dbl_tables_rows.specs.Cells.{cell_named, text_given, row_given, key_texts};
+ghost use Rattle.dbl_tables_rows.specs.Cells.{text_set, row_set, key_texts_set};
+ghost use Rattle.dbl_tables_rows.specs.Cells.{spells_cell, is_readable, are_each_readable};
+ghost use Rattle.dbl_tables_rows.specs.Cells.{are_of_key, keep_key, has_key_texts};
 ghost use Rattle.dbl_tables_rows.specs.Given.{HasCells, HasColumns, given_names};
 
 use crate::columns::is_key_name;

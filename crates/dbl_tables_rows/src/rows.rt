@@ -1,6 +1,7 @@
 //! A table of the store: its rows, and which session blocks another.
 
-ghost use Rattle.std.specs.Prelude.{◌≡◌, None, [], IfOk, not, find, bytes_eq, option_map, option_copied};
+ghost use Rattle.std.specs.Prelude.{◌≡◌, None, [], IfOk, not, find};
+ghost use Rattle.std.specs.Prelude.{bytes_eq, option_map, option_copied};
 ghost use Rattle.std.specs.BTreeMap.{IsEmpty};
 ghost use Rattle.std.specs.BTreeSet.{IsOrdered};
 ghost use Rattle.dbl_base.specs.Texts.{text_cmp};

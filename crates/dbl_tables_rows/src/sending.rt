@@ -1,15 +1,17 @@
 //! The messages that report changes of rows.
 
-ghost use Rattle.std.specs.Prelude.{◌≡◌, ◌≤◌, ◌&&◌, not, nat_le, true, IfOk, IfSome, if◌then◌else◌, length, map, bytes_eq};
+ghost use Rattle.std.specs.Prelude.{◌≡◌, ◌≤◌, ◌&&◌, not, nat_le, true, IfOk};
+ghost use Rattle.std.specs.Prelude.{IfSome, if◌then◌else◌, length, map, bytes_eq};
 ghost use Rattle.std.specs.List.{AllByRecursion};
 ghost use Rattle.dbl_model_table.specs.Tables.{are_typed};
 ghost use Rattle.dbl_model_table.specs.Infos.{raw_column, catalogue_of};
 ghost use Rattle.dbl_value.specs.Types.{is_column_type};
 ghost use Rattle.dbl_source_log.specs.ModelCommit.Tuples.{is_fixed};
 ghost use Rattle.dbl_tables_rows.specs.Cells.{is_key_name};
-ghost use Rattle.dbl_tables_rows.specs.Sending.{raw_of, sent_cell, whole_tuple, key_tuple, is_unsent_text, new_cells};
-ghost use Rattle.dbl_tables_rows.specs.Sending.{old_tuple, optional_old, insert_message, update_message, delete_message};
-ghost use Rattle.dbl_tables_rows.specs.Sending.{moves};
+ghost use Rattle.dbl_tables_rows.specs.Sending.{raw_of, sent_cell, whole_tuple, key_tuple};
+ghost use Rattle.dbl_tables_rows.specs.Sending.{is_unsent_text, new_cells, old_tuple};
+ghost use Rattle.dbl_tables_rows.specs.Sending.{optional_old, insert_message};
+ghost use Rattle.dbl_tables_rows.specs.Sending.{update_message, delete_message, moves};
 ghost use Rattle.dbl_tables_rows.specs.Given.{IsUtf8Cell, IsUtf8Change, old_tuple_cells};
 
 use crate::columns::{is_key_name, key_in};

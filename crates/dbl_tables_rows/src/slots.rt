@@ -5,7 +5,8 @@ ghost use Rattle.std.specs.BTreeMap.{get};
 ghost use Rattle.dbl_model_table.specs.declared.row.Key.{Key};
 ghost use Rattle.dbl_model_table.specs.Keys.{key_cmp};
 ghost use Rattle.dbl_tables_rows.specs.Views.{committed_in, held_in, is_owner};
-ghost use Rattle.dbl_tables_rows.specs.Changing.{HasSlot, IsInvisible, WritesLock, Settles, ReleasesKey, settled_slot, released_slot};
+ghost use Rattle.dbl_tables_rows.specs.Changing.{HasSlot, IsInvisible, WritesLock, Settles};
+ghost use Rattle.dbl_tables_rows.specs.Changing.{ReleasesKey, settled_slot, released_slot};
 ghost use Rattle.dbl_tables_rows.specs.Changing.{is_empty_slot, is_empty_there};
 
 use dbl_base::Text;

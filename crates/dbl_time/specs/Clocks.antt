@@ -1,5 +1,6 @@
 -- Times of day, in microseconds: PostgreSQL's manual, "Date/Time Types".
-use Rattle.std.specs.Prelude.{ℕ, ◌+◌, ◌*◌, ◌/◌, ◌%◌, ◌==◌, ◌&&◌, nat_le, Bool, if◌then◌else◌, Option, Some, None, List, [], ◌∷◌, ◌++◌, length, slice_index, take, drop, codes}
+use Rattle.std.specs.Prelude.{ℕ, ◌+◌, ◌*◌, ◌/◌, ◌%◌, ◌==◌, ◌&&◌, nat_le, Bool, if◌then◌else◌, Option}
+use Rattle.std.specs.Prelude.{Some, None, List, [], ◌∷◌, ◌++◌, length, slice_index, take, drop, codes}
 use Rattle.std.specs.List.{list_all}
 use Rattle.std.specs.Char.{is_ascii_digit}
 use Rattle.std.specs.Str.{bytes_eq}
@@ -20,7 +21,8 @@ is_fraction text = (slice_index text 0 == 46) && nat_le 2 (length text) && nat_l
 
 -- the value of a fraction in microseconds; a missing digit counts as 0
 abbrev pub fraction_micros : List ℕ → ℕ
-fraction_micros text = 100000 * digit_at text 1 + 10000 * digit_at text 2 + 1000 * digit_at text 3 + 100 * digit_at text 4 + 10 * digit_at text 5 + digit_at text 6
+fraction_micros text = 100000 * digit_at text 1 + 10000 * digit_at text 2 + 1000 * digit_at text 3 + 100 * digit_at text 4 + 10 * digit_at
+    text 5 + digit_at text 6
 
 -- the microseconds of a fraction of a second; 0 if it is absent
 unfoldable pub fraction_of : List ℕ → Option ℕ

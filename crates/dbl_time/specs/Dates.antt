@@ -1,11 +1,13 @@
 -- Dates of the Gregorian calendar: PostgreSQL's manual, "Date/Time Types" and "History of Units".
-use Rattle.std.specs.Prelude.{ℕ, zero, suc, ◌+◌, ℤ, pos, neg_ℤ, ◌-ℤ◌, ◌≤ℤ◌, int_le, ◌&&◌, nat_le, Bool, if◌then◌else◌, Option, Some, None, List, ◌++◌, unsigned_abs, codes}
+use Rattle.std.specs.Prelude.{ℕ, zero, suc, ◌+◌, ℤ, pos, neg_ℤ, ◌-ℤ◌, ◌≤ℤ◌, int_le, ◌&&◌, nat_le, Bool}
+use Rattle.std.specs.Prelude.{if◌then◌else◌, Option, Some, None, List, ◌++◌, unsigned_abs, codes}
 use Rattle.jiff_core.specs.Calendar.{days_from_civil, days_in_month}
 use Rattle.dbl_time.specs.Shapes.{has_shape, two_at, four_at, two_digits, four_digits}
 
 -- the calendar has the date, in a year from 1 to 9999
 abbrev pub is_day : ℕ → ℕ → ℕ → Bool
-is_day year month day = nat_le 1 year && nat_le year 9999 && nat_le 1 month && nat_le month 12 && nat_le 1 day && nat_le day (days_in_month (pos year) month)
+is_day year month day = nat_le 1 year && nat_le year 9999 && nat_le 1 month && nat_le month 12 && nat_le 1 day
+    && nat_le day (days_in_month (pos year) month)
 
 -- the days since 1970-01-01 of a date
 abbrev pub number_of_day : ℕ → ℕ → ℕ → Option ℤ

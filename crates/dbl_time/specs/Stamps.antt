@@ -1,5 +1,6 @@
 -- Timestamps, in microseconds since 1970-01-01: PostgreSQL's manual, "Date/Time Types".
-use Rattle.std.specs.Prelude.{◌^◌, ℕ, ◌+◌, ◌/◌, ◌%◌, ℤ, pos, neg_ℤ, ◌+ℤ◌, ◌-ℤ◌, ◌*ℤ◌, int_le, unsigned_abs, ◌==◌, ◌&&◌, ◌||◌, Bool, if◌then◌else◌, Option, Some, None, List, ◌++◌, slice_index, take, drop, codes}
+use Rattle.std.specs.Prelude.{◌^◌, ℕ, ◌+◌, ◌/◌, ◌%◌, ℤ, pos, neg_ℤ, ◌+ℤ◌, ◌-ℤ◌, ◌*ℤ◌, int_le, unsigned_abs, ◌==◌, ◌&&◌}
+use Rattle.std.specs.Prelude.{◌||◌, Bool, if◌then◌else◌, Option, Some, None, List, ◌++◌, slice_index, take, drop, codes}
 use Rattle.std.specs.Int.{int_div_euclid, int_rem_euclid}
 use Rattle.std.specs.List.{position}
 use Rattle.dbl_time.specs.Shapes.{has_shape, two_at}
@@ -91,4 +92,5 @@ stamp_text moment = date_text (day_of_stamp moment) ++ codes " " ++ clock_text (
 -- the text of an instant, `YYYY-MM-DDTHH:MM:SS.ffffffZ` (RFC 3339), with six digits of fraction
 unfoldable pub zulu_text : ℤ → List ℕ
 zulu_text instant =
-    date_text (day_of_stamp instant) ++ codes "T" ++ seconds_text (clock_of_stamp instant / 1000000) ++ codes "." ++ six_digits (clock_of_stamp instant % 1000000) ++ codes "Z"
+    date_text (day_of_stamp instant) ++ codes "T" ++ seconds_text (clock_of_stamp instant / 1000000) ++ codes "."
+    ++ six_digits (clock_of_stamp instant % 1000000) ++ codes "Z"

@@ -2,8 +2,9 @@ ghost use Rattle.std.specs.Prelude.{◌≡◌, ◌≤◌, ◌<◌, ◌++◌, ◌
 ghost use Rattle.std.specs.List.{list_all};
 ghost use Rattle.std.specs.Char.{is_ascii_digit};
 ghost use Rattle.std.specs.String.{string_bytes};
-ghost use Rattle.dbl_time.specs.Clocks.{clock_seconds, seconds_of, is_fraction, fraction_micros, fraction_of};
-ghost use Rattle.dbl_time.specs.Clocks.{joined_clock, clock_of, day_micros, time_of, short_digits, digit_units};
+ghost use Rattle.dbl_time.specs.Clocks.{clock_seconds, seconds_of, is_fraction};
+ghost use Rattle.dbl_time.specs.Clocks.{fraction_micros, fraction_of, joined_clock, clock_of};
+ghost use Rattle.dbl_time.specs.Clocks.{day_micros, time_of, short_digits, digit_units};
 ghost use Rattle.dbl_time.specs.Clocks.{fraction_text, seconds_text, clock_text, six_digits};
 
 use crate::shapes::{

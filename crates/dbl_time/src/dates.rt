@@ -1,7 +1,8 @@
 ghost use Rattle.std.specs.Prelude.{◌≡◌, ◌<◌, ◌++◌, pos, true, OnOk, IfSome};
 ghost use Rattle.std.specs.String.{string_bytes};
 ghost use Rattle.jiff_core.specs.Calendar.{IsEpochDay, days_from_civil};
-ghost use Rattle.dbl_time.specs.Dates.{is_day, number_of_day, day_of, date_parts_text, date_text, IsInYears};
+ghost use Rattle.dbl_time.specs.Dates.{is_day, number_of_day, day_of};
+ghost use Rattle.dbl_time.specs.Dates.{date_parts_text, date_text, IsInYears};
 
 use crate::shapes::{four, is_shaped, push_four, push_two, two};
 use jiff_core::civil::Date;

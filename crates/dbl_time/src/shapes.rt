@@ -2,7 +2,8 @@ ghost use Rattle.std.specs.Prelude.{◌≡◌, ◌+◌, ◌<◌, ◌++◌, ◌�
 ghost use Rattle.std.specs.List.{list_all};
 ghost use Rattle.std.specs.Char.{is_ascii_digit};
 ghost use Rattle.std.specs.String.{string_bytes};
-ghost use Rattle.dbl_time.specs.Shapes.{is_lower_hex, stands_for, has_shape, digit_at, two_at, four_at, two_digits, four_digits};
+ghost use Rattle.dbl_time.specs.Shapes.{is_lower_hex, stands_for, has_shape, digit_at};
+ghost use Rattle.dbl_time.specs.Shapes.{two_at, four_at, two_digits, four_digits};
 
 use std::alloc::AllocError;
 

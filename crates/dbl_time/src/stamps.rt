@@ -3,8 +3,9 @@ ghost use Rattle.std.specs.String.{string_bytes};
 ghost use Rattle.jiff_core.specs.Calendar.{IsEpochDay, IsWithin};
 ghost use Rattle.dbl_time.specs.Dates.{IsInYears};
 ghost use Rattle.dbl_time.specs.Clocks.{day_micros};
-ghost use Rattle.dbl_time.specs.Stamps.{joined_stamp, stamp_of, is_sign, sign_place, is_offset_size, offset_size};
-ghost use Rattle.dbl_time.specs.Stamps.{signed_offset, offset_of, joined_instant, instant_of, is_instant, day_of_stamp};
+ghost use Rattle.dbl_time.specs.Stamps.{joined_stamp, stamp_of, is_sign, sign_place};
+ghost use Rattle.dbl_time.specs.Stamps.{is_offset_size, offset_size, signed_offset, offset_of};
+ghost use Rattle.dbl_time.specs.Stamps.{joined_instant, instant_of, is_instant, day_of_stamp};
 ghost use Rattle.dbl_time.specs.Stamps.{clock_of_stamp, stamp_text, zulu_text, moment_room};
 
 use crate::clocks::{clock, push_seconds, push_six, push_time, seconds_within};

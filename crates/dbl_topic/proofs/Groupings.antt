@@ -22,7 +22,7 @@ pub sum-push : (sizes : List ℕ) (size : ℕ) → sum (sizes ++ size ∷ []) �
 sum-push [] size = refl
 sum-push (s ∷ sizes) size = omega (arith, sum-push sizes size, sum_by-cons (λ x. x) s sizes, sum_by-cons (λ x. x) s (sizes ++ size ∷ []))
 
--- a copy of a group was gathered behind the groups
+-- a copy of a group was gathered after the groups
 pub grouped_more : (sizes : List ℕ) (records : List Record) (new_sizes : List ℕ) (new_records copy group : List Record) (groups : List (List Record)) → sum sizes ≡ length records → new_sizes ≡ sizes ++ length copy ∷ [] → new_records ≡ records ++ copy → copy ≡ group
     → grouped sizes records ≡ groups → grouped new_sizes new_records ≡ groups ++ group ∷ []
 grouped_more sizes records new_sizes new_records copy group groups all sizes_are records_are same was =

@@ -72,7 +72,7 @@ some_left model may_be_left disk bytes told P leaves =
     let here = leaves bytes may in
     (here.0, (bytes, may, here.1))
 
--- what a log has become that comes of one with groups
+-- what a log has become that extends one with groups
 pub log_grown : {D : Type 0} (model : DiskModel D) (old new : OnDisk D) (groups : List (List Record)) (before after : List ℕ) → ExtendsJournal model old new → HoldsGroups model old groups
     → model.seen old.disk ≡ Some before → model.seen new.disk ≡ Some after → (entries : List (List ℕ)) × IsJournal after entries × (log_size groups ≤ size entries) × (length after ≤ max (length before) (length (up_to_gate entries) + 2 ^ 30))
 log_grown model old new groups before after comes held was told =

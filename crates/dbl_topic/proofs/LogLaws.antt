@@ -31,7 +31,7 @@ entries-push [] (g ∷ groups) entry group are is = absurd are
 entries-push (e ∷ entries) [] entry group are is = absurd are
 entries-push (e ∷ entries) (g ∷ groups) entry group are is = (are.0, entries-push entries groups entry group are.1 is)
 
--- how many bytes are taken where this group is put behind the others
+-- how many bytes are taken where this group is put after the others
 pub size_of : (entries : List (List ℕ)) (groups : List (List Record)) (entry : List ℕ) (group : List Record) → AreLogEntries entries groups → IsLogEntry entry group → size (entries ++ entry ∷ []) ≡ log_size (groups ++ group ∷ [])
 size_of entries groups entry group are is = ap size (forms_of (entries ++ entry ∷ []) (groups ++ group ∷ []) (entries-push entries groups entry group are is))
 

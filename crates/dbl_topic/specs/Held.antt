@@ -19,7 +19,8 @@ MayLeaveGroups model disk groups = (crashed : List ℕ) × model.may_leave disk 
 
 -- a crash leaves a topic log, whose groups satisfy the predicate
 abbrev pub LeavesGroups : {D : Type 0} → DiskModel D → D → (List (List Record) → Type 0) → Type 0
-LeavesGroups model disk P = (crashed : List ℕ) → model.may_leave disk crashed → (groups : List (List Record)) × IsLog crashed groups × P groups
+LeavesGroups model disk P = (crashed : List ℕ) → model.may_leave disk crashed → (groups : List (List Record))
+    × IsLog crashed groups × P groups
 
 -- a valid topic log: if it is usable it contains some groups, and a crash leaves a topic log
 pub record HasGroups {D : Type 0} (model : DiskModel D) (log : OnDisk D) : Type 0 where

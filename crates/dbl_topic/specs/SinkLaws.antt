@@ -11,7 +11,8 @@ use Rattle.dbl_topic.specs.Held.{HoldsGroups, LeavesGroups, MayLeaveGroups}
 use Rattle.dbl_topic.specs.Memory.{Gathered}
 
 -- entries encode at most one list of groups
-pub one_entries : (entries : List (List ℕ)) (first second : List (List Record)) → AreLogEntries entries first → AreLogEntries entries second → first ≡ second
+pub one_entries : (entries : List (List ℕ)) (first second : List (List Record)) → AreLogEntries entries first → AreLogEntries entries second
+    → first ≡ second
 one_entries [] [] [] a b = refl
 one_entries [] [] (h ∷ second) a b = absurd b
 one_entries [] (g ∷ first) second a b = absurd a
@@ -24,7 +25,8 @@ one_entries (entry ∷ entries) (g ∷ first) (h ∷ second) a b =
 -- bytes are a topic log of at most one list of groups
 pub one_log : (bytes : List ℕ) (first second : List (List Record)) → IsLog bytes first → IsLog bytes second → first ≡ second
 one_log bytes first second a b =
-    one_entries b.entries first second (subst (λ (es : List (List ℕ)). AreLogEntries es first) (one_journal bytes a.entries b.entries a.journal b.journal) a.are) b.are
+    one_entries b.entries first second
+    (subst (λ (es : List (List ℕ)). AreLogEntries es first) (one_journal bytes a.entries b.entries a.journal b.journal) a.are) b.are
 
 module _ {D : Type 0} (model : DiskModel D) where
   -- the contents of a log with these groups are a topic log of them
@@ -32,18 +34,25 @@ module _ {D : Type 0} (model : DiskModel D) where
   log_of log groups held = record { entries = held.entries; journal = held.lists.spelled; are = held.are }
 
   -- a crash of a log with these groups leaves no others
-  pub only_held : (log : OnDisk D) (groups left : List (List Record)) → HoldsGroups model log groups → MayLeaveGroups model log.disk left → left ≡ groups
+  pub only_held : (log : OnDisk D) (groups left : List (List Record)) → HoldsGroups model log groups → MayLeaveGroups model log.disk left
+      → left ≡ groups
   only_held log groups left held may =
-      one_log held.lists.bytes left groups (subst (λ (crashed : List ℕ). IsLog crashed left) (held.lists.only may.0 may.1) may.2) (log_of log groups held)
+      one_log held.lists.bytes left groups (subst (λ (crashed : List ℕ). IsLog crashed left) (held.lists.only may.0 may.1) may.2)
+      (log_of log groups held)
 
   -- a crash of a log with these groups may leave them
-  pub may_leave_held : ((disk : D) (bytes : List ℕ) → model.seen disk ≡ Some bytes → model.may_leave disk bytes) → (log : OnDisk D) (groups : List (List Record)) → HoldsGroups model log groups → MayLeaveGroups model log.disk groups
-  may_leave_held may_be_left log groups held = (held.lists.bytes, may_be_left log.disk held.lists.bytes held.lists.told, log_of log groups held)
+  pub may_leave_held : ((disk : D) (bytes : List ℕ) → model.seen disk ≡ Some bytes → model.may_leave disk bytes)
+      → (log : OnDisk D) (groups : List (List Record)) → HoldsGroups model log groups → MayLeaveGroups model log.disk groups
+  may_leave_held may_be_left log groups held =
+      (held.lists.bytes, may_be_left log.disk held.lists.bytes held.lists.told, log_of log groups held)
 
   -- a crash of a log with these groups leaves a topic log
-  pub leaves_held : (log : OnDisk D) (groups : List (List Record)) → HoldsGroups model log groups → LeavesGroups model log.disk (λ groups. Unit {0})
-  leaves_held log groups held crashed may = (groups, subst (λ (i : List ℕ). IsLog i groups) (sym (held.lists.only crashed may)) (log_of log groups held), tt)
+  pub leaves_held : (log : OnDisk D) (groups : List (List Record)) → HoldsGroups model log groups
+      → LeavesGroups model log.disk (λ groups. Unit {0})
+  leaves_held log groups held crashed may =
+      (groups, subst (λ (i : List ℕ). IsLog i groups) (sym (held.lists.only crashed may)) (log_of log groups held), tt)
 
 -- an in-memory sink has at most one list of groups
-pub one_gathered : (sink : Gathered) (groups left : List (List Record)) → IsTrue sink.live × (sink.groups ≡ groups) → sink.groups ≡ left → left ≡ groups
+pub one_gathered : (sink : Gathered) (groups left : List (List Record)) → IsTrue sink.live × (sink.groups ≡ groups) → sink.groups ≡ left
+    → left ≡ groups
 one_gathered sink groups left held may = sym may ∙ held.1

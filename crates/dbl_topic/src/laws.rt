@@ -1,6 +1,7 @@
 //! Theorems about topic logs; the functions have empty bodies.
 
-ghost use Rattle.std.specs.Prelude.{◌≡◌, ◌⊎◌, ◌+◌, ◌≤◌, ◌++◌, ◌∷◌, [], ℕ, Some, IsTrue, List, length, max};
+ghost use Rattle.std.specs.Prelude.{◌≡◌, ◌⊎◌, ◌+◌, ◌≤◌, ◌++◌, ◌∷◌, []};
+ghost use Rattle.std.specs.Prelude.{ℕ, Some, IsTrue, List, length, max};
 ghost use Rattle.dbl_journal.specs.Form.{IsFaultAt, IsJournal, up_to_gate};
 ghost use Rattle.dbl_journal.specs.Stored.{OnDisk, count_of, size};
 ghost use Rattle.dbl_record.specs.declared.record.Record.{Record};

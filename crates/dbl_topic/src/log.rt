@@ -1,5 +1,6 @@
-ghost use Rattle.std.specs.Prelude.{◌≡◌, ◌≢◌, ◌⊎◌, ◌↔◌, ℕ, ◌+◌, ◌<◌, ◌≤◌, ◌++◌, List, [], ◌∷◌, length, max, take, drop};
-ghost use Rattle.std.specs.Prelude.{false, Some, IsTrue, IsErr, IfOk, IfErr, OnOk, OnErr, MatchResult, slice_get};
+ghost use Rattle.std.specs.Prelude.{◌≡◌, ◌≢◌, ◌⊎◌, ◌↔◌, ℕ, ◌+◌, ◌<◌, ◌≤◌, ◌++◌, List, [], ◌∷◌};
+ghost use Rattle.std.specs.Prelude.{length, max, take, drop, false, Some, IsTrue, IsErr, IfOk};
+ghost use Rattle.std.specs.Prelude.{IfErr, OnOk, OnErr, MatchResult, slice_get};
 ghost use Rattle.dbl_base.specs.Streams.{FailsOnlyIfCounted};
 ghost use Rattle.dbl_disk.specs.Disks.{Follows, IsOnly, Torn};
 ghost use Rattle.dbl_journal.specs.Form.{IsFaultAt, IsJournal};
@@ -279,7 +280,8 @@ fn check_log<D: Disk>(
 }
 
 impl<D: Disk> Sink for TopicLog<D> {
-    ghost use Rattle.dbl_topic.specs.Held.{ExtendsTopics, HoldsGroups, LeavesGroups, MayLeaveGroups};
+    ghost use Rattle.dbl_topic.specs.Held.{ExtendsTopics, HoldsGroups};
+    ghost use Rattle.dbl_topic.specs.Held.{LeavesGroups, MayLeaveGroups};
     ghost use Rattle.dbl_topic.specs.SinkLaws.{leaves_held, may_leave_held, only_held};
 
     ghost holds = { λ log groups. HoldsGroups D.Disk log groups };

@@ -1,5 +1,5 @@
-ghost use Rattle.std.specs.Prelude.{◌≡◌, ◌≢◌, ◌↔◌, ℕ, ◌+◌, ◌<◌, ◌++◌, List, [], ◌∷◌, length, Bool, true, false, IsTrue};
-ghost use Rattle.std.specs.Prelude.{IsErr, OnOk, OnErr, Contains};
+ghost use Rattle.std.specs.Prelude.{◌≡◌, ◌≢◌, ◌↔◌, ℕ, ◌+◌, ◌<◌, ◌++◌, List, [], ◌∷◌, length};
+ghost use Rattle.std.specs.Prelude.{Bool, true, false, IsTrue, IsErr, OnOk, OnErr, Contains};
 ghost use Rattle.dbl_base.specs.Streams.{FailsOnlyIfCounted, incremented};
 ghost use Rattle.dbl_base.specs.Memory.{new_plan};
 ghost use Rattle.dbl_record.specs.declared.record.Record.{Record};
@@ -29,7 +29,11 @@ impl Model for MemSink {
 
     ghost Value = { Gathered };
 
-    ghost view = { λ s. record { groups = grouped s.sizes.items s.records.items; plan = s.plan; live = s.live } };
+    ghost view = { λ s. record {
+      groups = grouped s.sizes.items s.records.items;
+      plan = s.plan;
+      live = s.live;
+    } };
 
     ghost invariant = { λ s. sum s.sizes.items ≡ length s.records.items };
 }

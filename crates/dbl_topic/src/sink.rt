@@ -1,4 +1,5 @@
-ghost use Rattle.std.specs.Prelude.{◌≡◌, ◌≢◌, ℕ, ◌<◌, ◌++◌, List, [], ◌∷◌, length, Bool, false, IsTrue, IsErr, OnOk, OnErr};
+ghost use Rattle.std.specs.Prelude.{◌≡◌, ◌≢◌, ℕ, ◌<◌, ◌++◌, List, [], ◌∷◌, length};
+ghost use Rattle.std.specs.Prelude.{Bool, false, IsTrue, IsErr, OnOk, OnErr};
 ghost use Rattle.dbl_base.specs.Streams.{FailsOnlyIfCounted};
 ghost use Rattle.dbl_record.specs.declared.record.Record.{Record};
 ghost use Rattle.dbl_record.specs.Cuts.{IsHandful};
@@ -60,14 +61,18 @@ pub trait Sink {
             (faults self.old) (faults self.new) };
 
     /// A crash of a sink with known groups leaves exactly those.
-    ghost only: { (sink : Self) (groups left : List (List Record)) → holds sink groups → may_leave sink left → left ≡ groups };
+    ghost only: { (sink : Self) (groups left : List (List Record)) → holds sink groups
+        → may_leave sink left → left ≡ groups };
 
-    ghost may: { (sink : Self) (groups : List (List Record)) → holds sink groups → may_leave sink groups };
+    ghost may: { (sink : Self) (groups : List (List Record)) → holds sink groups
+        → may_leave sink groups };
 
-    ghost whole: { (sink : Self) (groups : List (List Record)) → holds sink groups → leaves_groups sink };
+    ghost whole: { (sink : Self) (groups : List (List Record)) → holds sink groups
+        → leaves_groups sink };
 
     /// A sink extends itself, and extension is transitive.
     ghost comes_self: { (sink : Self) → comes_of sink sink };
 
-    ghost comes_on: { (first second third : Self) → comes_of first second → comes_of second third → comes_of first third };
+    ghost comes_on: { (first second third : Self) → comes_of first second → comes_of second third
+        → comes_of first third };
 }

@@ -4,7 +4,7 @@ use Rattle.std.specs.Prelude.{Result, Ok, Err}
 use Rattle.dbl_model_commit.specs.declared.txn_error.TxnError.{TxnError}
 use Rattle.dbl_model_commit.specs.Tuples.{◌>>=◌}
 
--- what is read, behind a front
+-- what is read, after a front
 abbrev pub with_front : {A : Type 0} → List A → Result (List A) TxnError → Result (List A) TxnError
 with_front front r = r >>= λ xs. Ok (front ++ xs)
 

@@ -12,7 +12,7 @@ use Rattle.dbl_model_commit.specs.Blocks.{onto, first_transaction_fault}
 use Rattle.dbl_txn.specs.declared.assembler.Assembler.{Assembler}
 use Rattle.dbl_txn.specs.Stands.{StandsWhole, Taken}
 
--- some of a list's messages were taken, behind ms, and these are left
+-- some of a list's messages were taken, after ms, and these are left
 pub record TakenSoFar (infos : List TableInfo) (after : Lsn) (ms list left : List Message) (a : Assembler) (cs : List Commit) : Type 0 where
   pub now : List Message
   pub stands : StandsWhole infos after now a

@@ -66,7 +66,8 @@ held_after (says.Begin lsn time xid) held = []
 held_after m held = held
 
 -- for private clauses: a message that states no change was processed
-pub record TakesNoChange (infos : List TableInfo) (after : Lsn) (m : Message) (ms : List Message) (held : List Change) (a : Assembler) (o : Option Commit) : Type 0 where
+pub record TakesNoChange (infos : List TableInfo) (after : Lsn) (m : Message) (ms : List Message) (held : List Change) (a : Assembler)
+    (o : Option Commit) : Type 0 where
   pub clean : transaction_fault infos after m ms ≡ None
   pub commit : o ≡ ended_with m ms held
   pub none : stated infos m ms ≡ Ok []
@@ -78,7 +79,8 @@ Moves infos after m ms held a (Ok o) = TakesNoChange infos after m ms held a o
 Moves infos after m ms held a (Err e) = (e ≡ errors.Memory) ⊎ (transaction_fault infos after m ms ≡ Some e)
 
 -- for private clauses: a message that states changes was processed, and these aren't buffered yet
-pub record Said (infos : List TableInfo) (after : Lsn) (m : Message) (ms : List Message) (held : List Change) (a : Assembler) (changes : List Change) : Type 0 where
+pub record Said (infos : List TableInfo) (after : Lsn) (m : Message) (ms : List Message) (held : List Change) (a : Assembler)
+    (changes : List Change) : Type 0 where
   pub clean : transaction_fault infos after m ms ≡ None
   pub some : stated infos m ms ≡ Ok changes
   pub stands : Stands infos after (m ∷ ms) held a

@@ -1,5 +1,6 @@
-ghost use Rattle.std.specs.Prelude.{◌≡◌, ◌||◌, ℕ, ℤ, List, [], ◌∷◌, ◌++◌, Option, Ok, OnOk, OnErr, IfOk, IfErr, Bool};
-ghost use Rattle.std.specs.Prelude.{if◌then◌else◌, is_some, nat_eq, slice_get, not, ◌&&◌};
+ghost use Rattle.std.specs.Prelude.{◌≡◌, ◌||◌, ℕ, ℤ, List, [], ◌∷◌, ◌++◌, Option, Ok};
+ghost use Rattle.std.specs.Prelude.{OnOk, OnErr, IfOk, IfErr, Bool, if◌then◌else◌};
+ghost use Rattle.std.specs.Prelude.{is_some, nat_eq, slice_get, not, ◌&&◌};
 ghost use Rattle.std.specs.List.{list_any};
 ghost use Rattle.indexmap.specs.IndexMap.{get};
 ghost use Rattle.dbl_base.specs.declared.lsn.Lsn.{Lsn};
@@ -10,10 +11,12 @@ ghost use Rattle.dbl_model_table.specs.declared.change.Commit.{Commit};
 ghost use Rattle.dbl_model_table.specs.declared.table.TableInfo.{TableInfo};
 ghost use Rattle.dbl_model_commit.specs.Past.{Begun, begin_of, second_text, mark_in, HasNoRelation};
 ghost use Rattle.dbl_model_commit.specs.Tuples.{refuse_if};
-ghost use Rattle.dbl_model_commit.specs.Stated.{is_empty, has_some, in_table, row_stated, targets_at, is_the_watermark};
-ghost use Rattle.dbl_model_commit.specs.Stated.{clears, truncate_stated, truncated_tables, commit_of};
+ghost use Rattle.dbl_model_commit.specs.Stated.{is_empty, has_some, in_table, row_stated};
+ghost use Rattle.dbl_model_commit.specs.Stated.{targets_at, is_the_watermark, clears};
+ghost use Rattle.dbl_model_commit.specs.Stated.{truncate_stated, truncated_tables, commit_of};
 ghost use Rattle.dbl_model_commit.specs.Blocks.{onto, States};
-ghost use Rattle.dbl_txn.specs.Stands.{message_of, IsBlock, Recalls, Stands, StandsWhole, Moves, StatesChanges, Takes};
+ghost use Rattle.dbl_txn.specs.Stands.{message_of, IsBlock, Recalls, Stands};
+ghost use Rattle.dbl_txn.specs.Stands.{StandsWhole, Moves, StatesChanges, Takes};
 ghost use Rattle.dbl_txn.specs.Answers.{ReturnsAssembled};
 
 use crate::changes::change_of;
@@ -81,7 +84,8 @@ fn change_in(
     relation: &Relation,
     change: RowChange,
 ) -> Result<Seq<Change>, TxnError>
-    ensures { ReturnsAssembled result (in_table table (slice_get infos.now.items table) relation.now change) }
+    ensures { ReturnsAssembled result
+        (in_table table (slice_get infos.now.items table) relation.now change) }
 {
     let Some(info) = infos.get(table as usize) else {
         return Ok(Seq::make(Vec::new(alloc)));
@@ -223,7 +227,8 @@ fn row_at(
     block: &mut Block,
     change: RowChange,
 ) -> Result<Seq<Change>, TxnError>
-    ensures gives { ReturnsAssembled result (row_stated infos.now.items block.old.mark block.old.changed
+    ensures gives { ReturnsAssembled result
+        (row_stated infos.now.items block.old.mark block.old.changed
         known.now.relation change known.now.target) }
     ensures block { IfOk result (λ cs. block.new ≡
         record block.old {
@@ -246,7 +251,8 @@ fn truncate_at(
 ) -> Result<Seq<Change>, TxnError>
     ensures gives { (infos : List TableInfo) (ms : List Message) →
         Recalls infos ms (get nat_eq relations.now) →
-        ReturnsAssembled result (truncated_tables infos oids.now.items ms (is_some block.old.mark)) }
+        ReturnsAssembled result
+        (truncated_tables infos oids.now.items ms (is_some block.old.mark)) }
     ensures block { IfOk result
         (λ cs. block.new ≡ record block.old { changed = block.old.changed || has_some cs }) }
 {
@@ -423,7 +429,8 @@ impl Assembler {
     fn truncate(&mut self, alloc: Global, oids: &Vec<u32>) -> Result<Seq<Change>, TxnError>
         ensures { (infos : List TableInfo) (after : Lsn) (ms : List Message) (held : List Change)
             (options : ℕ) → Stands infos after ms held self.old →
-            StatesChanges infos after (says.Truncate options oids.now.items) ms held self.new result }
+            StatesChanges infos after (says.Truncate options oids.now.items) ms held
+            self.new result }
     {
         let Some(block) = &mut self.block else {
             return Err(TxnError::OutsideTransaction);

@@ -2,7 +2,8 @@
 
 ghost use Rattle.std.specs.Prelude.{◌≡◌, ◌≢◌, ◌⊎◌};
 ghost use Rattle.std.specs.Option.{option_copied};
-ghost use Rattle.dbl_model_commit.specs.Tuples.{spelled_value, null_cell, given_cell, is_fixed, filled_cell, new_cell};
+ghost use Rattle.dbl_model_commit.specs.Tuples.{spelled_value, null_cell, given_cell};
+ghost use Rattle.dbl_model_commit.specs.Tuples.{is_fixed, filled_cell, new_cell};
 ghost use Rattle.dbl_txn.specs.Answers.{ReturnsAssembled};
 
 use dbl_base::Text;
@@ -96,7 +97,8 @@ fn filled_cell(
     old: Option<&Val>,
     column: &Column,
 ) -> Result<Cell, TxnError>
-    ensures { ReturnsAssembled result (filled_cell table.now in_key (option_copied old.entry) column.now) }
+    ensures { ReturnsAssembled result
+        (filled_cell table.now in_key (option_copied old.entry) column.now) }
 {
     match old {
         Some(value) => Ok(Cell::Given(value.copy(alloc)?)),
@@ -123,7 +125,8 @@ pub fn new_cell(
     column: &Column,
     cell: TupleCell,
 ) -> Result<Cell, TxnError>
-    ensures { ReturnsAssembled result (new_cell table.now in_key (option_copied old.entry) column.now cell) }
+    ensures { ReturnsAssembled result
+        (new_cell table.now in_key (option_copied old.entry) column.now cell) }
 {
     match cell {
         TupleCell::Null => Ok(Cell::Given(null_cell(alloc, table, in_key)?)),

@@ -3,7 +3,9 @@
 ghost use Rattle.std.specs.Prelude.{◌≡◌, ◌&&◌, not, IfOk};
 ghost use Rattle.std.specs.List.{position_from};
 ghost use Rattle.dbl_model_table.specs.Infos.{name_at};
-ghost use Rattle.dbl_model_commit.specs.Tuples.{refuse_if, is_unsent, none_unsent, all_sent_if_moved, key_in_identity, is_full, change_of};
+ghost use Rattle.dbl_model_commit.specs.Tuples.{refuse_if, is_unsent, none_unsent};
+ghost use Rattle.dbl_model_commit.specs.Tuples.{all_sent_if_moved, key_in_identity};
+ghost use Rattle.dbl_model_commit.specs.Tuples.{is_full, change_of};
 ghost use Rattle.dbl_model_commit.specs.declared.message_parts.RowChange.TheVariants as row;
 ghost use Rattle.dbl_txn.specs.Answers.{ReturnsAssembled};
 
@@ -127,7 +129,8 @@ fn update_of(
     before: Option<OldTuple>,
     tuple: Tuple,
 ) -> Result<Change, TxnError>
-    ensures { ReturnsAssembled result (change_of table info.now relation.now (row.Update before tuple)) }
+    ensures { ReturnsAssembled result
+        (change_of table info.now relation.now (row.Update before tuple)) }
 {
     let whole = has_whole(&before);
     check_identity(alloc, info, relation)?;

@@ -1,8 +1,10 @@
 //! Keys of rows, and their columns.
 
 ghost use Rattle.std.specs.Prelude.{◌≡◌, IfOk, map};
-ghost use Rattle.dbl_model_table.specs.Keys.{key_of, new_key_of, cell_or_null, given_or_null, same_key};
-ghost use Rattle.dbl_model_commit.specs.Tuples.{is_key_place, is_flagged, key_in_identity, key_before};
+ghost use Rattle.dbl_model_table.specs.Keys.{key_of, new_key_of, cell_or_null};
+ghost use Rattle.dbl_model_table.specs.Keys.{given_or_null, same_key};
+ghost use Rattle.dbl_model_commit.specs.Tuples.{is_key_place, is_flagged};
+ghost use Rattle.dbl_model_commit.specs.Tuples.{key_in_identity, key_before};
 
 use dbl_base::Seq;
 use dbl_model_commit::Relation;

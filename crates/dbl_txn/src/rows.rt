@@ -3,7 +3,9 @@
 ghost use Rattle.std.specs.Prelude.{◌≡◌, ◌⊎◌, length};
 ghost use Rattle.std.specs.Option.{option_copied};
 ghost use Rattle.dbl_model_table.specs.Infos.{width};
-ghost use Rattle.dbl_model_commit.specs.Tuples.{each_from, row_cell, row_of, old_row, old_row_if_sent, is_whole, filling, next_cell, new_cells};
+ghost use Rattle.dbl_model_commit.specs.Tuples.{each_from, row_cell, row_of};
+ghost use Rattle.dbl_model_commit.specs.Tuples.{old_row, old_row_if_sent, is_whole};
+ghost use Rattle.dbl_model_commit.specs.Tuples.{filling, next_cell, new_cells};
 ghost use Rattle.dbl_txn.specs.Answers.{ReturnsAssembled};
 
 use crate::cells::{given_cell, new_cell};
@@ -161,7 +163,8 @@ fn next_cell(
     column: &Column,
     cell: TupleCell,
 ) -> Result<Cell, TxnError>
-    ensures { ReturnsAssembled result (next_cell info.now relation.now whole old.now place column.now cell) }
+    ensures { ReturnsAssembled result
+        (next_cell info.now relation.now whole old.now place column.now cell) }
 {
     new_cell(
         alloc,

@@ -4,7 +4,8 @@ ghost use Rattle.std.specs.Prelude.{◌≡◌, Ok, IfOk, Some};
 ghost use Rattle.std.specs.List.{list_all, zip};
 ghost use Rattle.dbl_model_table.specs.Infos.{number_of};
 ghost use Rattle.dbl_model_commit.specs.Past.{table_named};
-ghost use Rattle.dbl_model_commit.specs.Stated.{target, same_column, same_columns, columns_fault, schema_fault};
+ghost use Rattle.dbl_model_commit.specs.Stated.{target, same_column, same_columns};
+ghost use Rattle.dbl_model_commit.specs.Stated.{columns_fault, schema_fault};
 ghost use Rattle.dbl_txn.specs.Answers.{ReturnsAssembled, Judges};
 
 use dbl_base::Text;

@@ -45,7 +45,8 @@ pub fn take_all(
     ensures refused { (infos : List TableInfo) (after : Lsn) (ms : List Message) →
         StandsWhole infos after ms assembler.old →
         IfErr result
-        (λ e. (e ≡ TxnError.Memory) ⊎ (first_transaction_fault infos after ms messages.items ≡ Some e)) }
+        (λ e. (e ≡ TxnError.Memory)
+        ⊎ (first_transaction_fault infos after ms messages.items ≡ Some e)) }
 {
     let mut commits = Vec::new(alloc);
     for message in messages {

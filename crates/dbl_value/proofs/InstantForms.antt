@@ -109,7 +109,7 @@ first_byte : (text : List ℕ) (c : ℕ) → slice_index text 0 ≡ c → 0 < c 
 first_byte [] c e above = absurd (omega arith)
 first_byte (x ∷ xs) c e above = ap (λ y. y ∷ xs) e
 
--- what is read of the text behind a stamp
+-- what is read of the text after a stamp
 read_signed : (stamp back : List ℕ) (moment offset z : ℤ) → IsStampText stamp moment → offset_of back ≡ Some offset → moment -ℤ offset *ℤ pos 1000000 ≡ z → IsInstantText (stamp ++ back) z
 read_signed stamp back moment offset z stamp_is e same = by_size (offset_size (drop 1 back)) refl e
   where

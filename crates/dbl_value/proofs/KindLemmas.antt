@@ -33,7 +33,7 @@ kind_of type.Timestamp = 7
 kind_of type.Timestamptz = 8
 kind_of (type.Other oid) = 3
 
--- the value behind a map
+-- the value after a map
 pub mapped : {A : Type 0} (f : A → Val) (o : Option A) (v : Val) → option_map f o ≡ Some v → (x : A) × (o ≡ Some x) × (f x ≡ v)
 mapped f None v e = cc
 mapped f (Some x) v e = (x, refl, cc)

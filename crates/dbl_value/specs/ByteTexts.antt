@@ -7,7 +7,8 @@ use Rattle.dbl_time.specs.Shapes.{is_lower_hex}
 
 -- the bytes of a text that is `\x` and pairs of lower-case hexadecimal digits
 unfoldable pub bytes_of : List ℕ → Option (List ℕ)
-bytes_of text = if starts_with nat_eq text (codes "\\x") && list_all is_lower_hex (drop 2 text) then result_ok (decode_of (drop 2 text)) else None
+bytes_of text = if starts_with nat_eq text (codes "\\x") && list_all is_lower_hex (drop 2 text)
+    then result_ok (decode_of (drop 2 text)) else None
 
 -- the text of a byte string in the hex format
 abbrev pub bytes_text : List ℕ → List ℕ

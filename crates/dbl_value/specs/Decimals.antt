@@ -1,5 +1,6 @@
 -- Integers in print: PostgreSQL's manual, "Numeric Types".
-use Rattle.std.specs.Prelude.{ℕ, ℤ, pos, negsuc, ◌&&◌, ◌||◌, nat_lt, Bool, if◌then◌else◌, Option, Some, None, List, slice_index, drop, codes}
+use Rattle.std.specs.Prelude.{ℕ, ℤ, pos, negsuc, ◌&&◌, ◌||◌, nat_lt, Bool, if◌then◌else◌}
+use Rattle.std.specs.Prelude.{Option, Some, None, List, slice_index, drop, codes}
 use Rattle.std.specs.List.{list_all}
 use Rattle.std.specs.Char.{is_ascii_digit}
 use Rattle.std.specs.Str.{bytes_eq}

@@ -1,5 +1,6 @@
 -- The fault of a text that is no value of the type.
-use Rattle.std.specs.Prelude.{ℕ, ℤ, ◌==◌, ◌&&◌, ◌||◌, not, nat_eq, nat_le, Bool, false, if◌then◌else◌, Option, Some, None, is_some, List, slice_index, codes}
+use Rattle.std.specs.Prelude.{ℕ, ℤ, ◌==◌, ◌&&◌, ◌||◌, not, nat_eq, nat_le, Bool, false}
+use Rattle.std.specs.Prelude.{if◌then◌else◌, Option, Some, None, is_some, List, slice_index, codes}
 use Rattle.std.specs.List.{position, starts_with, ends_with}
 use Rattle.std.specs.Char.{is_ascii_digit}
 use Rattle.std.specs.Str.{bytes_eq}
@@ -21,7 +22,8 @@ has_long_year text = is_long_year text (position (λ c. not (is_ascii_digit c)) 
 
 -- the text is one that PostgreSQL writes for a date outside the years 1 to 9999, or has the year 0; the rest of it is ignored
 abbrev pub is_beyond : List ℕ → Bool
-is_beyond text = bytes_eq text (codes "infinity") || bytes_eq text (codes "-infinity") || ends_with nat_eq text (codes " BC") || has_long_year text || starts_with nat_eq text (codes "0000-")
+is_beyond text = bytes_eq text (codes "infinity") || bytes_eq text (codes "-infinity") || ends_with nat_eq text (codes " BC")
+    || has_long_year text || starts_with nat_eq text (codes "0000-")
 
 -- the instant, if defined, is outside the years 1 to 9999
 abbrev pub is_out : Option ℤ → Bool

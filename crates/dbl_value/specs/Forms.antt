@@ -34,11 +34,13 @@ pub record NamesOneDate (number : ℤ) : Type 0 where
   pub day : ℕ
   pub is_day : IsTrue (is_day year month day)
   pub number_is : days_from_civil (pos year) month day ≡ number
-  pub one : (y m d : ℕ) → IsTrue (Rattle.dbl_time.specs.Dates.is_day y m d) → days_from_civil (pos y) m d ≡ number → (y ≡ year) × (m ≡ month) × (d ≡ day)
+  pub one : (y m d : ℕ) → IsTrue (Rattle.dbl_time.specs.Dates.is_day y m d) → days_from_civil (pos y) m d ≡ number
+      → (y ≡ year) × (m ≡ month) × (d ≡ day)
 
 -- each day from 0001-01-01 to 9999-12-31 is that of exactly one date, and no date in these years has another day
 abbrev pub DaysAreDates : Type 0
-DaysAreDates = ((number : ℤ) → IsInYears number → NamesOneDate number) × ((y m d : ℕ) → IsTrue (is_day y m d) → IsInYears (days_from_civil (pos y) m d))
+DaysAreDates = ((number : ℤ) → IsInYears number → NamesOneDate number)
+    × ((y m d : ℕ) → IsTrue (is_day y m d) → IsInYears (days_from_civil (pos y) m d))
 
 -- a text parses as bytes if and only if it is `\x` and two lower-case hexadecimal digits for each byte
 abbrev pub ByteTextsAreHex : Type 0
@@ -96,7 +98,9 @@ pub record IsClockText (text : List ℕ) (micros : ℕ) : Type 0 where
 
 -- a text parses as a time if and only if it is `24:00:00` or a time of day before it
 abbrev pub TimeTextsAreClocks : Type 0
-TimeTextsAreClocks = (text : List ℕ) (z : ℤ) → SpellsValue type.Time text (val.Time z) ↔ (((text ≡ codes "24:00:00") × (z ≡ pos day_micros)) ⊎ ((micros : ℕ) × IsClockText text micros × (z ≡ pos micros)))
+TimeTextsAreClocks = (text : List ℕ) (z : ℤ)
+    → SpellsValue type.Time text (val.Time z) ↔
+    (((text ≡ codes "24:00:00") × (z ≡ pos day_micros)) ⊎ ((micros : ℕ) × IsClockText text micros × (z ≡ pos micros)))
 
 -- a timestamp: a date, one space and a time of day
 pub record IsStampText (text : List ℕ) (moment : ℤ) : Type 0 where
@@ -139,4 +143,5 @@ pub record IsInstantText (text : List ℕ) (instant : ℤ) : Type 0 where
 
 -- a text parses as an instant if and only if it is a timestamp and an offset, and the instant is in the years 1 to 9999
 abbrev pub InstantTextsAreInstants : Type 0
-InstantTextsAreInstants = (text : List ℕ) (z : ℤ) → SpellsValue type.Timestamptz text (val.StampTz z) ↔ (IsInstantText text z × IsTrue (is_instant z))
+InstantTextsAreInstants = (text : List ℕ) (z : ℤ)
+    → SpellsValue type.Timestamptz text (val.StampTz z) ↔ (IsInstantText text z × IsTrue (is_instant z))

@@ -26,7 +26,8 @@ oid_of (type.Other oid) = oid
 
 -- the types with a variant of their own
 abbrev pub listed : List PgType
-listed = type.Bool ∷ type.Int2 ∷ type.Int4 ∷ type.Int8 ∷ type.Text ∷ type.Varchar ∷ type.Bpchar ∷ type.Json ∷ type.Jsonb ∷ type.Numeric ∷ type.Uuid ∷ type.Bytea ∷ type.Date ∷ type.Time ∷ type.Timestamp ∷ type.Timestamptz ∷ []
+listed = type.Bool ∷ type.Int2 ∷ type.Int4 ∷ type.Int8 ∷ type.Text ∷ type.Varchar ∷ type.Bpchar ∷ type.Json ∷ type.Jsonb ∷ type.Numeric
+    ∷ type.Uuid ∷ type.Bytea ∷ type.Date ∷ type.Time ∷ type.Timestamp ∷ type.Timestamptz ∷ []
 
 -- the OID is that of float4 or float8, whose values aren't captured
 abbrev pub is_float : ℕ → Bool

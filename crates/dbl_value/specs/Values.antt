@@ -1,5 +1,6 @@
 -- The value of a text at a type, a value's text, and its JSON.
-use Rattle.std.specs.Prelude.{ℕ, ℤ, pos, ◌^◌, ◌≡◌, ◌⊎◌, Bool, true, false, if◌then◌else◌, Option, Some, None, option_map, List, [], ◌++◌, unsigned_abs, codes}
+use Rattle.std.specs.Prelude.{ℕ, ℤ, pos, ◌^◌, ◌≡◌, ◌⊎◌, Bool, true, false, if◌then◌else◌, Option}
+use Rattle.std.specs.Prelude.{Some, None, option_map, List, [], ◌++◌, unsigned_abs, codes}
 use Rattle.std.specs.Fmt.{signed_decimal}
 use Rattle.std.specs.Str.{bytes_eq, IsUtf8}
 use Rattle.base64.specs.Engines.{standard}

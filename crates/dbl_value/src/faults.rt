@@ -2,7 +2,8 @@ ghost use Rattle.std.specs.Prelude.{◌≡◌, Some, None, not};
 ghost use Rattle.std.specs.List.{position};
 ghost use Rattle.std.specs.Char.{is_ascii_digit};
 ghost use Rattle.dbl_value.specs.Values.{value_of};
-ghost use Rattle.dbl_value.specs.Faults.{has_long_year, is_beyond, is_moved_out, is_date_range, value_fault};
+ghost use Rattle.dbl_value.specs.Faults.{has_long_year, is_beyond, is_moved_out};
+ghost use Rattle.dbl_value.specs.Faults.{is_date_range, value_fault};
 
 use crate::column_type::PgType;
 use crate::error::ValueError;

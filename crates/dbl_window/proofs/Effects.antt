@@ -39,7 +39,7 @@ effect_here infos table info (Update t from old cells) key at here =
 effect_here infos table info (Delete t from old) key at here = ap (λ (b : Bool). at_key b (same_key from key) Ends) ((Decides-eqb t table).1 here)
 effect_here infos table info (Clear t) key at here = ap (λ (b : Bool). at_key b true Ends) ((Decides-eqb t table).1 here)
 
--- what a change leaves by its table's info, it leaves whatever is captured besides
+-- what a change leaves by its table's info, it leaves for every list of captured tables
 pub left_by : (table : ℕ) (info : TableInfo) (change : Change) (old new : List (Key × Row)) → table_of change ≡ table
     → ((key : Key) → row_in new key ≡ row_left (effect_at info change key) (row_in old key)) → IsLeftBy table info change old new
 left_by table info change old new here left infos at key =

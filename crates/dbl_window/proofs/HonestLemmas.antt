@@ -1,4 +1,4 @@
--- What an honest source's rows are read as, and which fault they may have.
+-- What a conforming source's rows are read as, and which fault they may have.
 use Rattle.std.proofs.Common.{◌≡◌, ◌∙◌, ◌+◌, ◌-◌, ◌<◌, ◌≤◌, ◌⊎◌, ◌&&◌, ◌||◌, inl, inr, ℕ, zero, suc, Bool, true, false, Option, Some, None, List, [], ◌∷◌, length, map, refl, sym, ap, subst, arith}
 use Rattle.std.specs.Prelude.{Result, Ok, Err, if◌then◌else◌, ◌==◌, is_some, unwrap_or, slice_get, nat_eq, nat_lt, IfSome, IsSomeAnd, find}
 use Rattle.std.specs.List.{AllByRecursion, list_any}
@@ -200,7 +200,7 @@ not_null f cells (q ∷ places) p any are at = by (nat_eq p q) refl (not_null f 
         null_spelled (f q) is.text is.spells
     by false apart rest = rest (sym (ap (λ (b : Bool). b || list_any (nat_eq p) places) apart) ∙ any) are.1 at
 
--- ---- a row of an honest source
+-- ---- a row of a conforming source
 
 -- a fault of rows that are the table's: one of them has an unreadable cell
 pub record IsUnreadable (info : TableInfo) (at : Key → Option (List Val)) (e : WindowError) : Type 0 where
@@ -263,7 +263,7 @@ typed_width types [] = refl
 typed_width [] (c ∷ cells) = ap suc (typed_width [] cells)
 typed_width (ty ∷ types) (c ∷ cells) = ap suc (typed_width types cells)
 
--- The rows of an honest source are read without a fault, but for a cell that spells apart value.
+-- The rows of a conforming source are read without a fault, but for a cell that spells apart value.
 pub bad_rows : (infos : List TableInfo) (plan : Plan) (at : Key → Option (List Val)) (number room : ℕ) (last : Option Key) (answered : List RawRow) (e : WindowError) → slice_get infos plan.table ≡ Some plan.info
     → ((key : Key) (cells : List Val) → at key ≡ Some cells → length cells ≡ width plan.info) → number + room ≤ plan.limit
     → AreFirst plan.info at last room (map (keyed_row infos plan.table plan.info) answered) → rows_read plan number last answered ≡ Err e → IsUnreadable plan.info at e
@@ -319,7 +319,7 @@ wide_rows infos history plan place fit captured key cells there =
     let info_is : row.info ≡ plan.info = cc in
     row.wide ∙ ap width info_is
 
--- a fault of the rows that an honest source answered is an unreadable cell of its history
+-- a fault of the rows that a conforming source answered is an unreadable cell of its history
 pub honest_fault : (infos : List TableInfo) (history : History) (plan : Plan) (from upto : ℕ) (answered : List RawRow) (e : WindowError) → IsFitHistory history → IsCaptured infos history plan
     → IfSome plan.above (IsKeyOf plan.info) → (are : AreAnswered history from upto plan.info.name plan.above plan.limit answered) → rows_read plan 0 plan.above answered ≡ Err e
     → IsUnreadable plan.info (rows_up_to infos history are.place plan.table) e
@@ -357,7 +357,7 @@ unreadable_cell infos history plan from upto answered name error fit captured st
       fault = bad.fault ∙ ap (λ (x : ValueError). Some x) (sym error_is);
     }
 
--- what was read of the rows that an honest source answered is what was selected
+-- what was read of the rows that a conforming source answered is what was selected
 pub selected_chunk : (infos : List TableInfo) (history : History) (from upto : ℕ) (answered : List RawRow) (chunk : Chunk) → IsCaptured infos history chunk.plan
     → IfSome chunk.plan.above (IsKeyOf chunk.plan.info) → AreAnswered history from upto chunk.plan.info.name chunk.plan.above chunk.plan.limit answered
     → chunk_read chunk.plan answered ≡ Ok chunk.rows → chunk.through ≡ last_key chunk.plan.above chunk.rows → chunk.done ≡ nat_lt (length chunk.rows) chunk.plan.limit

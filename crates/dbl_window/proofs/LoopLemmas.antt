@@ -52,6 +52,6 @@ above_by plan number last raw entry true h =
     let here = placed_by number last (with_key plan.info read.value) entry (comes_after last (with_key plan.info read.value).0) refl read.then_is in
     subst (λ (e : Key × Row). IsAbove last e.0) (sym here.same) here.above
 
--- a row that was read stands behind the last key
+-- a row that was read is after the last key
 pub row_above : (plan : Plan) (number : ℕ) (last : Option Key) (raw : RawRow) (entry : Key × Row) → row_read plan number last raw ≡ Ok entry → IsAbove last entry.0
 row_above plan number last raw entry h = above_by plan number last raw entry (nat_lt number plan.limit && (length raw.cells == width plan.info)) h

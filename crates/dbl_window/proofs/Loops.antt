@@ -4,7 +4,7 @@ use Rattle.std.specs.Prelude.{Result, Ok, Err}
 use Rattle.dbl_window.specs.declared.error.WindowError.{WindowError}
 use Rattle.dbl_window.specs.Reading.{◌>>=◌}
 
--- what is read, behind a front
+-- what is read, after a front
 abbrev pub with_front : {A : Type 0} → List A → Result (List A) WindowError → Result (List A) WindowError
 with_front front r = r >>= λ xs. Ok (front ++ xs)
 

@@ -94,7 +94,7 @@ above_all bound key (entry ∷ rows) ordered above = key_total.trans bound entry
 greater : (a b : Key) → key_cmp a b ≡ Less → key_cmp b a ≡ Greater
 greater a b less = key_total.antisymm b a ∙ ap ordering_reverse less
 
--- a row behind all others goes to the end of the map
+-- a row after all others goes to the end of the map
 pub insert_last : (bound : Option Key) (rows : List (Key × Row)) (key : Key) (row : Row) → AreAbove bound rows → IsAbove (last_key bound rows) key
     → insert_entry key_cmp rows key row ≡ rows ++ (key, row) ∷ []
 insert_last bound [] key row ordered above = refl

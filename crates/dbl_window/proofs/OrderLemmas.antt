@@ -23,7 +23,7 @@ row_past entry rows key apart = ap (λ (b : Bool). if b then Some entry.1.cells 
 
 -- ---- rows above a bound
 
--- A key that has a row among them is of the table's key types, above the bound, and not behind the last key.
+-- A key that has a row among them is of the table's key types, above the bound, and not after the last key.
 pub record IsWithin (info : TableInfo) (bound : Option Key) (rows : List (Key × Row)) (key : Key) : Type 0 where
   pub is_key : IsKeyOf info key
   pub above : IsAbove bound key
@@ -51,7 +51,7 @@ within info bound (entry ∷ rows) key cells above keys is = elim (bool_case (sa
       )
 ]
 
--- without its first one, a table's first rows are those behind it
+-- without its first one, a table's first rows are those after it
 pub first_behind : (info : TableInfo) (at : Key → Option (List Val)) (above : Option Key) (limit : ℕ) (entry : Key × Row) (rows : List (Key × Row)) → AreFirst info at above limit (entry ∷ rows)
     → AreFirst info at (Some entry.0) (limit - 1) rows
 first_behind info at above limit entry rows are = record {

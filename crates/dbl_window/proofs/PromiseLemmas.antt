@@ -1,4 +1,4 @@
--- A window that was given the changes between its marks is right at its high mark.
+-- A window that was given the changes between its watermarks is right at its high watermark.
 use Rattle.std.proofs.Common.{◌≡◌, ◌∙◌, ◌+◌, ◌-◌, ◌<◌, ◌≤◌, ◌⊎◌, inl, inr, ℕ, Option, Some, None, List, ◌++◌, length, take, drop, refl, sym, ap, ap₂, subst, arith, length-append, append_assoc}
 use Rattle.std.specs.Prelude.{option_map, slice_get, IsTrue}
 use Rattle.std.proofs.lemmas.List.{take-append-drop, take-take, take_at, drop-drop, drop-take}
@@ -65,7 +65,7 @@ between_parted commits low place high not_before not_after =
     back : drop (place - low) (drop low (take high commits)) ≡ drop place (take high commits)
     back = drop-drop (place - low) low (take high commits) ∙ ap (λ (n : ℕ). drop n (take high commits)) sum
 
--- all changes are those before two places, between them, and behind them
+-- all changes are those before two places, between them, and after them
 pub spelled : (commits : List Commit) (low high : ℕ) → low ≤ high
     → all_changes commits ≡ all_changes (take low commits) ++ (all_changes (drop low (take high commits)) ++ all_changes (drop high commits))
 spelled commits low high le =
@@ -74,7 +74,7 @@ spelled commits low high le =
     ∙ (ap (λ (l : List Change). l ++ all_changes (drop high commits)) (changes_parted commits low high le)
     ∙ append_assoc (all_changes (take low commits)) (all_changes (drop low (take high commits))) (all_changes (drop high commits))))
 
--- the moment behind some first commits has their rows
+-- the moment after some first commits has their rows
 pub rows_then : (infos : List TableInfo) (commits : List Commit) (place table : ℕ) (key : Key)
     → rows_at infos (all_changes commits) (moment_after_first commits place) table key ≡ rows_after_first infos commits place table key
 rows_then infos commits place table key = ap (λ (l : List Change). rows_from infos no_rows l table key) taken
@@ -86,8 +86,8 @@ rows_then infos commits place table key = ap (λ (l : List Change). rows_from in
 
 -- ---- one key
 
--- Where a row that was read is the table's at its place, either some change between the marks is whole for its key, or what the
--- changes leave of it is the table's row at the high mark: updates that it had already seen change nothing.
+-- Where a row that was read is the table's at its place, either some change between the watermarks is whole for its key, or what the
+-- changes leave of it is the table's row at the high watermark: updates that it had already seen change nothing.
 pub settled : (infos : List TableInfo) (commits : List Commit) (low place high : ℕ) (table : ℕ) (key : Key) (row : Option (List Val)) → low ≤ place → place ≤ high
     → row ≡ rows_after_first infos commits place table key
     → HasWhole infos table key (all_changes (drop low (take high commits)))

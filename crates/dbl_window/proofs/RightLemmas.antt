@@ -1,4 +1,4 @@
--- Windows are right: rows that were selected between two marks stay so, and then the promise speaks.
+-- Windows are right: rows that were selected between two watermarks stay so, and then the promise speaks.
 use Rattle.std.proofs.Common.{◌≡◌, ◌∙◌, ◌+◌, ◌≤◌, ℕ, suc, Some, List, ◌∷◌, ◌++◌, length, sym, ap, subst, arith, length-append, append_assoc}
 use Rattle.std.specs.Prelude.{slice_get}
 use Rattle.dbl_model_table.specs.declared.table.TableInfo.{TableInfo}
@@ -26,7 +26,7 @@ longer old new on =
     let long : length new.commits ≡ length old.commits + length on.0 = ap length on.1 ∙ length-append old.commits on.0 in
     omega (arith, long)
 
--- a mark is one of its history's commits
+-- a watermark is one of its history's commits
 counted : (value : List ℕ) (old new : History) → (marks : Marks value old new) → length old.commits + length marks.before + 1 ≤ length new.commits
 counted value old new marks =
     let front : length (old.commits ++ marks.before) ≡ length old.commits + length marks.before = length-append old.commits marks.before in
@@ -34,7 +34,7 @@ counted value old new marks =
     ap length marks.commits ∙ length-append (old.commits ++ marks.before) (marks.mark ∷ marks.after) in
     omega (arith, front, long)
 
--- ---- what was selected between the marks
+-- ---- what was selected between the watermarks
 
 widen : (infos : List TableInfo) (history : History) (from upto low high : ℕ) (chunk : Chunk) → low ≤ from → upto ≤ high
     → IsSelected infos history from upto chunk → IsSelected infos history low high chunk

@@ -1,4 +1,4 @@
--- What a select of an honest source leads to.
+-- What a select of a conforming source leads to.
 use Rattle.std.proofs.Common.{◌≡◌, ◌∙◌, inl, inr, ℕ, Bool, true, false, Option, Some, None, List, [], length, refl, sym, ap, subst}
 use Rattle.std.specs.Prelude.{IsTrue, Result, Ok, Err, IfOk, OnOk, IfSome, nat_lt}
 use Rattle.dbl_value.specs.declared.error.ValueError.{ValueError}
@@ -36,12 +36,12 @@ memory_was source.Memory is = refl
 
 -- ---- what was read of a source
 
--- a source stands for one thing, and so for what a call led to
+-- a source represents one thing, and so for what a call led to
 pub still_led : {S : Type 0} (stands : S → SourceState → Type 0) (source : S) (P : SourceState → Type 0) (s t : SourceState) → ((a b : SourceState) → stands source a → stands source b → a ≡ b) → HasState stands source P
     → ((u : SourceState) → P u → u.reading ≡ s.reading) → stands source t → t.reading ≡ s.reading
 still_led stands source P s t one stood same is = ap (λ (u : SourceState). u.reading) (one t stood.standing is stood.is) ∙ same stood.standing stood.holds
 
--- one that can't be used stands for nothing
+-- one that can't be used represents nothing
 pub still_dead : {S : Type 0} (stands : S → SourceState → Type 0) (is_live : S → Bool) (source : S) (s t : SourceState) → ((u : SourceState) → stands source u → IsTrue (is_live source)) → is_live source ≡ false → stands source t → t.reading ≡ s.reading
 still_dead stands is_live source s t lives dead is =
     let contra : false ≡ true = sym dead ∙ lives t is in
@@ -72,7 +72,7 @@ read_so plan told rows (Err e) tells read =
       ]
     ]
 
--- ---- an honest source's rows
+-- ---- a conforming source's rows
 
 moved_captured : (infos : List TableInfo) (plan : Plan) (s t : SourceState) → Moved s t → IsCaptured infos s.history plan → IsCaptured infos t.history plan
 moved_captured infos plan s t moved captured = record { are = captured_stays s.history t.history infos moved.grows.tables captured.are; here = captured.here }

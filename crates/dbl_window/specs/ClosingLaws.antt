@@ -14,4 +14,5 @@ RowsAboveAreInOrder = (above : Option Key) (rows : List (Key × Row)) → AreAbo
 
 -- A closed window that has its chunk's rows in key order keeps the chunk's promise.
 abbrev pub ClosedWindowsKeepTheirPromise : Type 0
-ClosedWindowsKeepTheirPromise = (chunk : Chunk) (closed : Closed) → IsClosedOf chunk closed → AreInKeyOrder closed.rows → KeepsPromise chunk closed
+ClosedWindowsKeepTheirPromise = (chunk : Chunk) (closed : Closed) → IsClosedOf chunk closed → AreInKeyOrder closed.rows
+    → KeepsPromise chunk closed

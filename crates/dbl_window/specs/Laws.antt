@@ -29,7 +29,8 @@ LeftRowsAreOne = (infos : List TableInfo) (table : ℕ) (selected : List (Key ×
 abbrev pub LeftRowsGoOn : Type 0
 LeftRowsGoOn = (infos : List TableInfo) (table : ℕ) (selected : List (Key × Row)) (changes more : List Change) (rows : List (Key × Row))
     → AreLeft infos table selected [] selected
-    × (AreLeft infos table selected changes rows → (others : List (Key × Row)) → AreLeft infos table rows more others → AreLeft infos table selected (changes ++ more) others)
+    × (AreLeft infos table selected changes rows → (others : List (Key × Row)) → AreLeft infos table rows more others
+    → AreLeft infos table selected (changes ++ more) others)
 
 -- Changes of other tables keep all rows, so that a window needs to see only those of its table.
 abbrev pub OtherTablesLeaveRows : Type 0
@@ -38,7 +39,8 @@ OtherTablesLeaveRows = (infos : List TableInfo) (table : ℕ) (change : Change) 
 
 -- A table's truncation keeps no row, and no rows are the only result of it.
 abbrev pub ClearsLeaveNothing : Type 0
-ClearsLeaveNothing = (infos : List TableInfo) (table : ℕ) (rows others : List (Key × Row)) → AreLeft infos table rows (Clear table ∷ []) others ↔ (others ≡ [])
+ClearsLeaveNothing = (infos : List TableInfo) (table : ℕ) (rows others : List (Key × Row))
+    → AreLeft infos table rows (Clear table ∷ []) others ↔ (others ≡ [])
 
 -- Whether rows that were read without an error are the answered ones, each cell read by its column, in key order after the window's key,
 -- and at most as many as were requested.

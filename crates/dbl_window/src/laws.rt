@@ -2,9 +2,9 @@
 
 ghost use Rattle.dbl_window.specs.ClosingLaws.{ClosedWindowsKeepTheirPromise, RowsAboveAreInOrder};
 ghost use Rattle.dbl_window.specs.RightLaws.{WindowsAreRight};
-ghost use Rattle.dbl_window.specs.Laws.{ClearsLeaveNothing, FaultsAreFirst, LeftRowsAreOne, LeftRowsGoOn};
-ghost use Rattle.dbl_window.specs.Laws.{OtherTablesLeaveRows, ReadRowsAreAnswered, SelectedRowsStay};
-ghost use Rattle.dbl_window.specs.Laws.{SelectedRowsWereGiven};
+ghost use Rattle.dbl_window.specs.Laws.{ClearsLeaveNothing, FaultsAreFirst, LeftRowsAreOne};
+ghost use Rattle.dbl_window.specs.Laws.{LeftRowsGoOn, OtherTablesLeaveRows, ReadRowsAreAnswered};
+ghost use Rattle.dbl_window.specs.Laws.{SelectedRowsStay, SelectedRowsWereGiven};
 
 /// The part of rows that changes keep is a unique list in key order.
 pub fn left_rows_are_one()

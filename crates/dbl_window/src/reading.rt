@@ -7,7 +7,8 @@ ghost use Rattle.dbl_model_table.specs.Infos.{width};
 ghost use Rattle.dbl_value.specs.Values.{IsOf, value_of};
 ghost use Rattle.dbl_model_history.specs.KeyedRows.{last_key};
 ghost use Rattle.dbl_window.specs.Plans.{plan_of};
-ghost use Rattle.dbl_window.specs.Reading.{null_read, value_read, cell_read, cells_read, placed, with_key, row_read, rows_read};
+ghost use Rattle.dbl_window.specs.Reading.{null_read, value_read, cell_read, cells_read};
+ghost use Rattle.dbl_window.specs.Reading.{placed, with_key, row_read, rows_read};
 ghost use Rattle.dbl_window.specs.Changing.{FitsRow};
 ghost use Rattle.dbl_window.specs.ReadParts.{ReadsPart, FitsColumnCell, FitCells};
 

@@ -1,7 +1,8 @@
 //! The part of a window's rows that a change keeps.
 
-ghost use Rattle.std.specs.Prelude.{◌≡◌, ◌+◌, ◌≤◌, ◌++◌, ◌∷◌, [], Option, length, slice_set, option_map, is_some};
-ghost use Rattle.std.specs.Prelude.{if◌then◌else◌, true, None, IfOk, IfSome, OnOk};
+ghost use Rattle.std.specs.Prelude.{◌≡◌, ◌+◌, ◌≤◌, ◌++◌, ◌∷◌, [], Option, length};
+ghost use Rattle.std.specs.Prelude.{slice_set, option_map, is_some, if◌then◌else◌};
+ghost use Rattle.std.specs.Prelude.{true, None, IfOk, IfSome, OnOk};
 ghost use Rattle.std.specs.List.{AllByRecursion};
 ghost use Rattle.dbl_model_table.specs.declared.row.Key.{Key as SpecKey};
 ghost use Rattle.dbl_model_table.specs.declared.table.TableInfo.{TableInfo as SpecInfo};

@@ -2,7 +2,8 @@
 //! clients' commits can't undo: a watermark in a history that grows, and rows of one position
 //! between two watermarks.
 
-ghost use Rattle.std.specs.Prelude.{◌≡◌, ◌≢◌, ◌⊎◌, ◌↔◌, ◌≤◌, ℕ, List, [], length, nat_lt, IsTrue, IfOk, IfErr, IfSome, IsOk, OnOk};
+ghost use Rattle.std.specs.Prelude.{◌≡◌, ◌≢◌, ◌⊎◌, ◌↔◌, ◌≤◌, ℕ, List, [], length};
+ghost use Rattle.std.specs.Prelude.{nat_lt, IsTrue, IfOk, IfErr, IfSome, IsOk, OnOk};
 ghost use Rattle.std.specs.List.{AllByRecursion};
 ghost use Rattle.dbl_base.specs.Streams.{FailsOnlyIfCounted};
 ghost use Rattle.dbl_value.specs.declared.error.ValueError.{ValueError as SpecValueError};
@@ -18,7 +19,8 @@ ghost use Rattle.dbl_source.specs.SourceModel.Selected.{Selects};
 ghost use Rattle.dbl_source.specs.SourceModel.Trace.{Selected, Done, IsTakenBy, LastAnswerIs};
 ghost use Rattle.dbl_window.specs.Plans.{Chunk, low_text, high_text, IsFitChunk};
 ghost use Rattle.dbl_window.specs.Changing.{FitsTableChange, IsLeftBy};
-ghost use Rattle.dbl_window.specs.Selected.{IsCaptured, SelectsChunk, HasUnreadable, IsReadAs, IsChunkReadFrom};
+ghost use Rattle.dbl_window.specs.Selected.{IsCaptured, SelectsChunk, HasUnreadable};
+ghost use Rattle.dbl_window.specs.Selected.{IsReadAs, IsChunkReadFrom};
 ghost use Rattle.dbl_window.specs.Leaving.{MayStayOrMark, MayStayOrFollow};
 ghost use Rattle.dbl_window.specs.Promise.{KeepsPromise, IsClosedOf, closed_of};
 
@@ -184,7 +186,8 @@ impl Idle {
     /// Writes the low watermark. After `Failed` it may be in the log, after `Memory` it isn't.
     pub fn low<S: Source>(self, src: &mut S) -> Result<Marked, WindowError>
         requires { IsTrue (S.is_live src.old) }
-        ensures marks { MovesTo S.stands src.old src.new result (λ marked. IsMarked (low_text self)) }
+        ensures marks { MovesTo S.stands src.old src.new result
+            (λ marked. IsMarked (low_text self)) }
         ensures same { IfOk result (λ marked. marked ≡ self) }
         ensures errors { IfErr result (λ e. (e ≡ WindowError.Failed) ⊎ (e ≡ WindowError.Memory)) }
 

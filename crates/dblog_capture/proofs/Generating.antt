@@ -1,4 +1,4 @@
--- What a run of `gen --run` comes to: where its `init` part ended it, and where a session ran behind that.
+-- What a run of `gen --run` comes to: where its `init` part ended it, and where a session ran after that.
 use Rattle.std.proofs.Common.{◌≡◌, ◌≢◌, ◌∙◌, ◌⊎◌, inl, inr, ℕ, ℤ, ◌^◌, ◌≤◌, Option, Some, Ok, Err, List, [], length, refl, sym, ap, subst, arith}
 use Rattle.dbl_lines.specs.declared.status.Status.{Status}
 use Rattle.dbl_lines.specs.declared.status.Status.TheVariants.{Done}
@@ -158,7 +158,7 @@ module _ {W T F : Type 0} (wal_model : DiskModel W) (topics_model : DiskModel T)
       offsets_short = stopped_short offsets_model store.Offsets (Err e) old.offsets mid.offsets offsets_left;
     }
 
-  -- ---- a session ran behind it
+  -- ---- a session ran after it
 
   module _ (new : Disks W T F)
       (wal_left : LeavesDisk wal_model store.Wal (Ok tt) old.wal mid.wal) (topics_left : LeavesDisk topics_model store.Topics (Ok tt) old.topics mid.topics) (offsets_left : LeavesDisk offsets_model store.Offsets (Ok tt) old.offsets mid.offsets)

@@ -1,4 +1,4 @@
--- What a capture is asked for without a word behind it is within the limits.
+-- What a capture is asked for without a word after it is within the limits.
 use Rattle.std.proofs.Common.{refl, arith}
 use Rattle.dblog_connect.specs.declared.asked.Asked.TheVariants.{First}
 use Rattle.dblog_connect.specs.Asked.{IsAskedWithinLimits}

@@ -73,7 +73,8 @@ pub record WasMade {D : Type 0} (model : DiskModel D) (Is : List ℕ → Type 0)
 -- The answer of `init` for these disks and for this workload as its input.
 abbrev pub AnswersWorkload : List ℕ → Option (List ℕ) → Option (List ℕ) → Option (List ℕ) → inits.InitEnd → Type 0
 AnswersWorkload workload told_wal told_topics told_offsets end = (given : inits.InitInput) → given.input ≡ workload
-    → told_wal ≡ Some given.wal → told_topics ≡ Some given.topics → told_offsets ≡ Some given.offsets → inits.Answers given end ⊎ inits.IsExternalInitEnd end
+    → told_wal ≡ Some given.wal → told_topics ≡ Some given.topics → told_offsets ≡ Some given.offsets → inits.Answers given end
+    ⊎ inits.IsExternalInitEnd end
 
 -- The `init` part was refused or failed, and that was reported as by `init`. A disk whose store wasn't yet to be written was only read. If
 -- only the offset's disk failed, it was only read, or the other stores were made and it has a part of its own.

@@ -8,7 +8,9 @@ use Rattle.dbl_model_table.specs.Tables.{full_name}
 use Rattle.dblog_replay.specs.declared.log_fault.LogFault.TheVariants as log
 use Rattle.dblog_replay.specs.LogFaults.{log_line, log_status}
 use Rattle.dbl_capture_work.specs.declared.halt.Halt.{Halt}
-use Rattle.dbl_capture_work.specs.declared.halt.Halt.TheVariants.{Message, Txn, Chunk, Cell, Clash, RecordTooLong, OffsetTooLong, Model, UnknownTable, Gone, WatermarkMissing, Exhausted, Source, Sink, Offsets, Memory}
+use Rattle.dbl_capture_work.specs.declared.halt.Halt.TheVariants.{Message, Txn, Chunk, Cell, Clash, RecordTooLong}
+use Rattle.dbl_capture_work.specs.declared.halt.Halt.TheVariants.{OffsetTooLong, Model, UnknownTable, Gone, WatermarkMissing}
+use Rattle.dbl_capture_work.specs.declared.halt.Halt.TheVariants.{Exhausted, Source, Sink, Offsets, Memory}
 use Rattle.dblog_capture.specs.Reports.{count_line}
 
 -- The exit status of a halt.

@@ -11,12 +11,14 @@ use Rattle.dblog_connect.specs.Promise.Kept.{AreKept}
 use Rattle.dblog_connect.specs.declared.asked.Asked.{Asked}
 use Rattle.dblog_connect.specs.Asked.{asks_in, budget_of}
 use Rattle.dblog_connect.specs.Disks.{AreKeptDisks, IsTrueAfterCrash}
-use Rattle.dblog_connect.specs.Ends.{AddsFew, ConnectEnd, EndsBefore, GainsRecords, HasBegun, HasRun, IsKeptError, IsReported, IsSpent, IsWrongSource}
+use Rattle.dblog_connect.specs.Ends.{AddsFew, ConnectEnd, EndsBefore, GainsRecords, HasBegun}
+use Rattle.dblog_connect.specs.Ends.{HasRun, IsKeptError, IsReported, IsSpent, IsWrongSource}
 use Rattle.dblog_connect.specs.Errors.{IsConnectError, IsConnectRefusal}
 use Rattle.dblog_capture.specs.Ends.{SaysSession}
 
 -- The answer for disks with these contents, by what a crash might leave before the run and may leave after it.
-pub record AnswersCapture (asked : Asked) (now : ℤ) (wals logs new_wals new_logs new_stores : List ℕ → Type 0) (w t f : List ℕ) (end : ConnectEnd) : Type 0 where
+pub record AnswersCapture (asked : Asked) (now : ℤ) (wals logs new_wals new_logs new_stores : List ℕ → Type 0) (w t f : List ℕ)
+    (end : ConnectEnd) : Type 0 where
   -- Why the session ended.
   pub told : MatchResult end (HasRun asked now new_wals new_logs new_stores w t f) (EndsBefore asked now new_wals new_logs new_stores w t f)
   -- What the topic log gained, and how few watermarks the source's log did.
@@ -24,7 +26,8 @@ pub record AnswersCapture (asked : Asked) (now : ℤ) (wals logs new_wals new_lo
   pub marks : AddsFew asked wals new_wals w t f
 
 -- The answer for crash-consistent disks: its report is right, and some errors never come.
-pub record AnswersKept (asked : Asked) (now : ℤ) (new_wals new_logs new_stores : List ℕ → Type 0) (w t f : List ℕ) (end : ConnectEnd) : Type 0 where
+pub record AnswersKept (asked : Asked) (now : ℤ) (new_wals new_logs new_stores : List ℕ → Type 0) (w t f : List ℕ)
+    (end : ConnectEnd) : Type 0 where
   pub report : IfOk end (IsReported asked now new_wals new_logs new_stores w t f)
   pub never : IfErr end (IsKeptError asked now new_wals new_logs new_stores w t f)
 
@@ -35,12 +38,15 @@ pub record WroteNothing (wals logs stores new_wals new_logs new_stores : List �
   pub offsets : (crashed : List ℕ) → new_stores crashed → stores crashed
 
 -- The session had this result, which was written, by the contents of the disks and what a crash may leave before and after.
-pub record RunsSession (asked : Asked) (now : ℤ) (told_wal told_topics told_offsets : Option (List ℕ)) (wals logs stores new_wals new_logs new_stores : List ℕ → Type 0)
+pub record RunsSession (asked : Asked) (now : ℤ) (told_wal told_topics told_offsets : Option (List ℕ))
+    (wals logs stores new_wals new_logs new_stores : List ℕ → Type 0)
     (status : Status) (before after : Option (List ℕ)) : Type 0 where
   pub end : ConnectEnd
   pub says : SaysSession end status before after
-  pub answers : (w t f : List ℕ) → told_wal ≡ Some w → told_topics ≡ Some t → told_offsets ≡ Some f → AnswersCapture asked now wals logs new_wals new_logs new_stores w t f end
-  pub kept : AreKept told_wal told_topics told_offsets wals logs stores → (w t f : List ℕ) → told_wal ≡ Some w → told_topics ≡ Some t → told_offsets ≡ Some f
+  pub answers : (w t f : List ℕ) → told_wal ≡ Some w → told_topics ≡ Some t → told_offsets ≡ Some f
+      → AnswersCapture asked now wals logs new_wals new_logs new_stores w t f end
+  pub kept : AreKept told_wal told_topics told_offsets wals logs stores → (w t f : List ℕ) → told_wal ≡ Some w → told_topics ≡ Some t
+      → told_offsets ≡ Some f
       → AnswersKept asked now new_wals new_logs new_stores w t f end
   -- If the source's disk has known contents: why it has no valid log.
   pub wal_wrong : (w : List ℕ) → told_wal ≡ Some w → IfErr end (IsWrongSource w)

@@ -4,7 +4,8 @@ ghost use Rattle.std.specs.String.{string_bytes};
 ghost use Rattle.dbl_base.specs.Lines.{lines_text};
 ghost use Rattle.dbl_base.specs.Streams.{FaultCounted};
 ghost use Rattle.dblog_connect.specs.Asked.{IsAskedWithinLimits};
-ghost use Rattle.dblog_capture.specs.Ends.{IsSessionStatus, SaysSession, connect_line, connect_status};
+ghost use Rattle.dblog_capture.specs.Ends.{IsSessionStatus, SaysSession};
+ghost use Rattle.dblog_capture.specs.Ends.{connect_line, connect_status};
 ghost use Rattle.dblog_capture.specs.Runs.{RunsConnected};
 
 use crate::{ending_status, halt_line, halt_status, report_text};

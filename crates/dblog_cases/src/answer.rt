@@ -11,7 +11,7 @@ pub struct Answer {
 }
 
 impl Answer {
-    /// With a tail, so many last lines of the text are to be told.
+    /// With a tail, so many last lines of the text are to be written.
     pub fn make(status: Status, text: Vec<u8>, tail: Option<usize>) -> Answer {
         Answer { status, text, tail }
     }
@@ -41,7 +41,7 @@ impl Answer {
         writeln!(writer, "status {code}")
     }
 
-    /// Writes the text, or its last lines behind the number of its bytes.
+    /// Writes the text, or its last lines after the number of its bytes.
     pub fn tell_text<W: Write>(&self, writer: &mut W) -> io::Result<()> {
         let Some(tail) = self.tail else {
             return writer.write_all(self.text.as_slice());

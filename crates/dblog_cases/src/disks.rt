@@ -19,7 +19,7 @@ pub struct MemDisks {
     pub offsets: MemDisk,
 }
 
-// A disk that holds these bytes, which are synced. A case has no disk of more than a million of them.
+// A disk with these bytes, which are synced. A case has no disk of more than a million of them.
 fn holding(alloc: Global, bytes: &[u8]) -> Result<MemDisk, AllocError> {
     if bytes.len() > 1_000_000 {
         return Err(AllocError);
@@ -41,7 +41,7 @@ impl MemDisks {
         }
     }
 
-    /// What a read of the disk gives.
+    /// What a read of the disk returns.
     pub fn bytes(&self, place: Place) -> &Vec<u8> {
         match place {
             Place::Wal => self.wal.bytes(),
@@ -59,7 +59,7 @@ impl MemDisks {
         })
     }
 
-    /// Puts these bytes on the disk in place of what it holds.
+    /// Puts these bytes on the disk in place of its contents.
     pub fn put(&mut self, alloc: Global, place: Place, bytes: &[u8]) -> Result<(), AllocError> {
         let disk = holding(alloc, bytes)?;
         match place {

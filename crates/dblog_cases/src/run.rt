@@ -22,7 +22,7 @@ pub struct Run {
 }
 
 impl Run {
-    /// A run on the words, with one space between two of them, and on this input. Nothing fails.
+    /// A run with these arguments, with one space between two of them, and on this input. Nothing fails.
     pub fn make(alloc: Global, words: &str, input: Vec<u8>) -> Result<Run, AllocError> {
         let mut run = Run {
             words: Vec::new(alloc),
@@ -117,7 +117,7 @@ impl Run {
         }
     }
 
-    /// What the program answers where the disks pass so many calls. It leaves them changed.
+    /// What the program answers if the disks pass so many calls. It leaves them changed.
     pub fn perform(
         &self,
         alloc: Global,

@@ -9,15 +9,15 @@ pub enum Step<'a> {
     Comment,
     /// A case begins.
     Case,
-    /// A run begins, with these words.
+    /// A run begins, with these arguments.
     Words { words: &'a str },
-    /// A run begins whose input is what the run before it wrote, with these words.
+    /// A run begins whose input is what the run before it wrote, with these arguments.
     Piped { words: &'a str },
-    /// The disk holds these bytes, in hexadecimal, from now on.
+    /// The disk has these bytes, in hexadecimal, from now on.
     Disk { place: Place, digits: &'a str },
     /// The program and the machine stop, and this is left of the disks.
     Crash { choice: Choice },
-    /// The bytes of the disk are to be told.
+    /// The bytes of the disk are to be written.
     Show { place: Place },
     /// The run has this part more.
     Part { part: Part<'a> },
@@ -26,9 +26,9 @@ pub enum Step<'a> {
 /// What a line says of the run that it belongs to.
 #[derive(Clone, Copy)]
 pub enum Part<'a> {
-    /// One word more.
+    /// One argument more.
     Word { word: &'a str },
-    /// The moment, in milliseconds since 1970.
+    /// The time, in milliseconds since 1970.
     Moment { now_ms: i64 },
     /// So many equal lines of input.
     Lines { count: u32, text: &'a str },
@@ -40,7 +40,7 @@ pub enum Part<'a> {
     FailingRead { call: u64 },
     /// This write to the output fails.
     FailingWrite { call: u64 },
-    /// The answer is to have this many last lines of the text alone.
+    /// The answer is to have only this many last lines of the text.
     Tail { lines: usize },
     /// The disk passes so many calls of this run, and fails then.
     Fuse { place: Place, calls: u64 },
@@ -48,7 +48,7 @@ pub enum Part<'a> {
     Each { sweep: Sweep },
 }
 
-/// What the line says, or none where it has no such form.
+/// What the line says, or none if it has no such form.
 pub fn read_step(line: &str) -> Option<Step<'_>> {
     if line.is_empty() || line.starts_with('#') {
         return Some(Step::Comment);

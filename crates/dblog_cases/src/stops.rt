@@ -22,7 +22,7 @@ struct Trace {
     rows: Vec<Vec<u8>>,
 }
 
-/// Makes the run with a fuse of no call, of one and so on, up to the one that stops nothing. Behind each, for each choice of what a
+/// Makes the run with a fuse of no call, of one and so on, up to the one that stops nothing. After each, for each choice of what a
 /// crash leaves, the work is ended by further runs. Writes the statuses, and what `apply` then answers.
 pub fn tell_stops<W: Write>(
     alloc: Global,

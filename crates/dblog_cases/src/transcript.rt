@@ -24,7 +24,7 @@ impl Transcript {
         }
     }
 
-    /// Takes a line, and writes what the run answers that it ends. A line of another form is written behind a question mark.
+    /// Takes a line, and writes what the run answers that it ends. A line of another form is written after a question mark.
     pub fn take<W: Write>(&mut self, line: &str, writer: &mut W) -> io::Result<()> {
         match read_step(line) {
             Some(Step::Comment) => Ok(()),
@@ -114,7 +114,7 @@ impl Transcript {
         writer.write_all(b"\n")
     }
 
-    // Ends the run, writes its status alone, and begins one on its text.
+    // Ends the run, writes only its status, and begins one on its text.
     fn pipe<W: Write>(&mut self, words: &str, line: &str, writer: &mut W) -> io::Result<()> {
         let answer = match self.run.take() {
             Some(run) => self.perform(&run)?,

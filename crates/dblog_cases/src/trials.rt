@@ -93,7 +93,7 @@ fn status_of(
 }
 
 /// Makes the runs, each on the disks as they are, and writes what they answer: of turned bits the statuses, each once; of stopped
-/// sessions what they come to in the end; and else each answer that isn't that of the run before.
+/// sessions how they end; and else each answer that isn't that of the run before.
 pub fn tell_each<W: Write>(
     alloc: Global,
     run: &Run,
@@ -138,7 +138,7 @@ fn tell_answers<W: Write>(
     Ok(())
 }
 
-// Writes what is told, where it isn't what was told last.
+// Writes an answer that isn't the one that was written last.
 fn tell_other<W: Write>(told: Vec<u8>, last: &mut Vec<u8>, writer: &mut W) -> io::Result<()> {
     if told != *last {
         writer.write_all(told.as_slice())?;
@@ -172,7 +172,7 @@ fn tell(
     tell_on(alloc, run, &mut found, sweep, number, told)
 }
 
-// Writes what it answers on the disks that it finds, and behind a fuse what a run without one then does.
+// Writes what it answers on the disks that it finds, and after a fuse what a run without one then does.
 fn tell_on(
     alloc: Global,
     run: &Run,

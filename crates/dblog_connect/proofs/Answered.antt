@@ -1,4 +1,4 @@
--- What a session comes to over opened stores, where they are kept and where not.
+-- What a session amounts to over opened stores, where they are kept and where not.
 use Rattle.std.proofs.Common.{◌≤◌, ◌≡◌, ◌∙◌, ◌⊎◌, inl, inr, ℕ, ℤ, ◌+◌, ◌==◌, Bool, false, if◌then◌else◌, arith, ◌++◌, Option, Some, None, List, length, Result, Ok, Err, refl, sym, ap, subst}
 use Rattle.std.specs.Prelude.{is_some}
 use Rattle.std.specs.List.{AllByRecursion}
@@ -86,7 +86,7 @@ own_or (halt.Gone asked first) = inr (refl, tt)
 own_or (halt.WatermarkMissing value at) = inr (refl, tt)
 own_or (halt.Exhausted incarnation) = inr (refl, tt)
 
--- behind a halt that isn't the sink's, it has what the report counts
+-- after a halt that isn't the sink's, it has what the report counts
 counted_own : {K : Type 0} (holds may : K → List (List Record) → Type 0) (groups : List (List Record)) (sink : K) (report : Report) (h : Halt)
     → IsOwnHalt h → IsCounted {A = Ending} holds may groups (Err h) sink report → HasCountedGroups holds groups sink report
 counted_own holds may groups sink report halt.Source own is = absurd own
@@ -174,7 +174,7 @@ module _ {W T F : Type 0} (wal_model : DiskModel W) (topics_model : DiskModel T)
         (here.held, here.read, here.kept));
   }
 
-  -- what the topic log gains, and how few marks are added
+  -- what the topic log gains, and how few watermarks are added
   pub gains_of : (asked : Asked) → asks_in asked old ≡ Some config → (begun : HasBegun asked w t f) → GainsRecords asked now (topics_model.may_leave lo.disk) (topics_model.may_leave ln.disk) w t f begun
   gains_of asked asks begun = record {
     stored = fn.offset;
@@ -216,7 +216,7 @@ module _ {W T F : Type 0} (wal_model : DiskModel W) (topics_model : DiskModel T)
   tallied_as r is other t stands =
       subst (λ (x : Result Ending Halt). AreTallied config now old fn.offset (wal_model.may_leave sn.journal.disk) (topics_model.may_leave ln.disk) report x) is (tallied_at other t stands)
 
-  -- ---- where it ended as it should
+  -- ---- where it ended normally
 
   abbrev pub begun_of : (asked : Asked) → asks_in asked old ≡ Some config → HasBegun asked w t f
   begun_of asked asks = record { held = old; read = read_here; config = config; asks = asks }
@@ -239,7 +239,7 @@ module _ {W T F : Type 0} (wal_model : DiskModel W) (topics_model : DiskModel T)
     are = counts.are;
   }
 
-  -- nothing but marks stands behind the reader
+  -- nothing but watermarks is after the reader
   all_read_of : (ending : Ending) (is : result ≡ Ok ending) → ending ≡ Complete → (bytes : List ℕ) (wal : Wal) (leaves : wal_model.may_leave sn.journal.disk bytes) (read : IsWal bytes wal)
       → AllByRecursion (λ commit. IsWatermark commit.body) (commits_after (last_lsn (settled_at ending is wal (demo_at ending is bytes wal leaves read)).reading.after
       (settled_at ending is wal (demo_at ending is bytes wal leaves read)).reading.messages) (history_in wal).commits)
@@ -327,7 +327,7 @@ module _ {W T F : Type 0} (wal_model : DiskModel W) (topics_model : DiskModel T)
         told_w (is_t ln.disk counts.held.lists.bytes counts.held.lists.told) (is_f (disk_of fn) stored.lists.bytes stored.lists.told) in
         subst IsKept (disks_are_read_once stands.1.running.lists.bytes counts.held.lists.bytes stored.lists.bytes here.held left here.read read_told) here.kept
 
-    -- no high mark of a window that wasn't closed
+    -- no high watermark of a window that wasn't closed
     closed_of : HasClosedSent config fo.offset fn.offset stands.0 report
     closed_of =
         let settled = settled_at ending is stands.0 stands.1 in

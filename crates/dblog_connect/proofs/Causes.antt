@@ -1,4 +1,4 @@
--- Why a session over opened stores halts: by what they held and hold.
+-- Why a session over opened stores stops with an error: by what they held and hold.
 use Rattle.std.proofs.Common.{◌≡◌, ◌∙◌, inl, inr, ℕ, ℤ, ◌<◌, ◌≤◌, ◌++◌, Option, Some, None, List, [], ◌∷◌, map, Result, Ok, Err, refl, sym, ap, subst, arith}
 use Rattle.std.specs.Prelude.{IfErr, reverse}
 use Rattle.std.specs.List.{AllByRecursion}
@@ -79,7 +79,7 @@ confirmed_beyond confirmed (Some offset) wrong = not_over confirmed.0 offset.lsn
 
 -- ---- what was read
 
--- The source stands behind these messages: they are the first ones that its log is sent as.
+-- The source is after these messages: they are the first ones that its log is sent as.
 pub sent_front : (t : SourceState) (reading : Reading) (wal : Wal) (place : Option ReaderPosition) → t ≡ standing_in wal place → t.reading ≡ Some reading
     → (rest : List Message) × (messages_sent wal reading.after ≡ reverse reading.messages ++ rest)
 sent_front t reading wal place is reads =

@@ -90,7 +90,7 @@ module _ {W T F : Type 0} (wal_model : DiskModel W) (topics_model : DiskModel T)
     pub left_of : IsKept old → LeavesGoing (SourceLeaves wal_model) (LogLeaves topics_model) offsets_model entry sn ln fn
     left_of kept = ran.faithful entry (record { config_is = refl; now_is = refl }) (found_of wal_model topics_model offsets_model w t f so lo fo src lg st config now) (own_of kept)
 
-    -- whatever a crash leaves of the three disks
+    -- for all that a crash leaves of the three disks
     pub image_of : IsKept old → (w1 t1 f1 : List ℕ) → wal_model.may_leave sn.journal.disk w1 → topics_model.may_leave ln.disk t1 → offsets_model.may_leave (disk_of fn) f1 → GoesOn config old w1 t1 f1
     image_of kept w1 t1 f1 mw mt mf =
         let wal = source_kept.crash w1 mw in
@@ -104,7 +104,7 @@ module _ {W T F : Type 0} (wal_model : DiskModel W) (topics_model : DiskModel T)
           goes = sessions_go_on config now old (held_by wal.0 groups.0 offset.0) wal.2 follows;
         }
 
-    -- ---- where it ended as it should
+    -- ---- where it ended normally
 
     pub ended_wal : (ending : Ending) → result ≡ Ok ending → (wal : Wal) × IsDemo wal_model wal sn × (wal.script ≡ src.wal.script)
     ended_wal ending is = source_kept.stands (ok_is result ending (λ e. IsTrue sn.live) ran.source_live is)

@@ -36,7 +36,7 @@ pub residual : {A E : Type 0} (r : Result A E) (e : E) (Q : Result A E → Type 
 residual (Ok x) e Q none q = absurd none
 residual {A} (Err d) e Q same q = subst (λ x. Q (Err x)) (sym same) q
 
--- ---- the words don't ask for what is stored
+-- ---- the arguments don't request what is stored
 
 pub refused_is : (asked : Asked) (stored : Option Offset) (e : ConnectError) → (e ≡ error.Memory) ⊎ Refuses asked stored e → (e ≡ error.Memory) ⊎ ((e ≡ error.AlreadyStarted) ⊎ (e ≡ error.NotStarted))
 refused_is asked stored e (inl is) = inl is

@@ -1,4 +1,4 @@
--- What a session over opened stores had read, followed and sent when it ended, by the messages behind which its source stands.
+-- What a session over opened stores had read, followed and sent when it ended, by the messages after which its source stands.
 use Rattle.std.proofs.Common.{◌≡◌, ◌∙◌, inl, inr, ℤ, ◌+◌, Option, Some, None, List, Result, sym, ap, arith}
 use Rattle.dbl_record.specs.declared.record.Record.{Record}
 use Rattle.dbl_model_table.specs.declared.config.Config.{Config}
@@ -19,7 +19,7 @@ use Rattle.dblog_promise.specs.Contents.{Contents}
 use Rattle.dblog_connect.specs.Followed.{ComesByReading, IsFollowedRead, IsTalliedRead}
 use Rattle.dblog_connect.proofs.Causes.{IsHaltOver, sent_front}
 
--- behind such a halt the source still stands
+-- after such a halt the source still stands
 pub still_stands : (config : Config) (now : ℤ) (old : Contents) (new : Option Offset) (report : Report) (stands : SourceState → Type 0) (h : Halt)
     → ComesByReading old h → IsHaltOver config now old new report stands h → (t : SourceState) × stands t
 still_stands config now old new report stands halt.Source reading over = absurd reading

@@ -1,4 +1,4 @@
--- What opened stores hold, and what a crash leaves of them: while nothing is done, and behind a session.
+-- What opened stores hold, and what a crash leaves of them: while nothing is done, and after a session.
 use Rattle.std.proofs.Common.{◌≡◌, ◌∙◌, inl, inr, ℕ, ℤ, Option, Some, None, List, length, refl, sym, ap, subst, arith}
 use Rattle.std.specs.Prelude.{IsSome}
 use Rattle.dbl_disk.specs.Model.{DiskModel}
@@ -58,7 +58,7 @@ module _ {D : Type 0} (model : DiskModel D) where
         });
   }
 
-  -- so that what comes of it is bounded
+  -- so that the result is bounded
   pub bounded_by : (old : D) (journal : OnDisk D) → ((bytes : List ℕ) → model.seen old ≡ Some bytes → HasCome model 0 (length bytes) journal) → IsBounded (model.seen old) (model.seen journal.disk)
   bounded_by old journal comes = record {
     each = λ before is. (

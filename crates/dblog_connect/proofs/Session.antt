@@ -1,4 +1,4 @@
--- What the session of a command comes to, by what its contract says of it.
+-- What the session of a command amounts to, by what its contract says of it.
 use Rattle.std.proofs.Common.{◌≡◌, ◌∙◌, ℕ, ℤ, Some, List, Result, Ok, Err, ap, subst}
 use Rattle.dbl_disk.specs.Model.{DiskModel}
 use Rattle.dbl_model_table.specs.declared.config.Config.{Config}

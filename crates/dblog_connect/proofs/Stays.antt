@@ -1,4 +1,4 @@
--- What a command comes to that began no session: each disk tells what it told, and a crash leaves nothing of it that it couldn't leave before.
+-- What a command amounts to that began no session: each disk tells what it told, and a crash leaves nothing of it that it couldn't leave before.
 use Rattle.std.proofs.Common.{◌≡◌, ◌∙◌, ◌⊎◌, inl, inr, ℕ, ℤ, Option, Some, None, List, [], Err, refl, sym, subst}
 use Rattle.std.specs.Prelude.{IsSome}
 use Rattle.dbl_disk.specs.Model.{DiskModel}
@@ -131,7 +131,7 @@ module _ {W T F : Type 0} (wal_model : DiskModel W) (topics_model : DiskModel T)
     marks = λ w t f told_w told_t told_f begun tables bytes left leaves is. inl (crash_w bytes leaves);
   }
 
-  -- so it is behind an opening: what is said of what it left is said of what was there before
+  -- so it is after an opening: what is said of what it left is said of what was there before
   before_kept : AreKeptDisks wal_model topics_model offsets_model disks0
       → AreKeptDisks wal_model topics_model offsets_model disks1
   before_kept kept = record {

@@ -16,7 +16,8 @@ use Rattle.dblog_connect.specs.declared.error.ConnectError.TheVariants.{AlreadyS
 -- The arguments are within the limits.
 abbrev pub IsAskedWithinLimits : Asked → Type 0
 IsAskedWithinLimits (First options) =
-    AreGoodNames options.prefix options.db options.placeholder × IsGoodPace options.chunk options.every options.messages × AreGoodTables options.tables
+    AreGoodNames options.prefix options.db options.placeholder × IsGoodPace options.chunk options.every options.messages
+    × AreGoodTables options.tables
 IsAskedWithinLimits (Again chunk every messages) = IsGoodPace chunk every messages
 
 -- ---- captured tables

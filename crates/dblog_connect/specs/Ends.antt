@@ -55,12 +55,14 @@ ConnectEnd = Result Summary ConnectError
 -- Why the bytes are no source's log: where they are no journal, or the first bad entry.
 abbrev pub IsNoSource : List ℕ → ConnectError → Type 0
 IsNoSource bytes e =
-    ((at : ℕ) × (e ≡ NotAStore WalStore at) × IsFaultAt bytes at) ⊎ ((index : ℕ) × (e ≡ BadEntry WalStore index) × wal_bytes.HasBadWalEntry bytes index)
+    ((at : ℕ) × (e ≡ NotAStore WalStore at) × IsFaultAt bytes at)
+    ⊎ ((index : ℕ) × (e ≡ BadEntry WalStore index) × wal_bytes.HasBadWalEntry bytes index)
 
 -- Why the bytes are no topic log: where they are no journal, or the first bad entry.
 abbrev pub IsNoTopicLog : List ℕ → ConnectError → Type 0
 IsNoTopicLog bytes e =
-    ((at : ℕ) × (e ≡ NotAStore Topics at) × IsFaultAt bytes at) ⊎ ((index : ℕ) × (e ≡ BadEntry Topics index) × log_bytes.HasBadEntry bytes index)
+    ((at : ℕ) × (e ≡ NotAStore Topics at) × IsFaultAt bytes at)
+    ⊎ ((index : ℕ) × (e ≡ BadEntry Topics index) × log_bytes.HasBadEntry bytes index)
 
 -- Why the bytes are no offset store: where they are no journal, or the first bad entry.
 abbrev pub IsNoOffset : List ℕ → ConnectError → Type 0
@@ -105,7 +107,8 @@ pub record HasReadClean (config : Config) (now : ℤ) (found stored : Option Off
   pub commits : summary.report.commits ≡ length (commits_of was.by.offset.infos reading.messages)
   pub confirmed : summary.report.position ≤ (confirmed_of wal).0
   pub all_read : summary.ending ≡ Complete
-      → AllByRecursion (λ commit. IsWatermark commit.body) (commits_after (last_lsn reading.after reading.messages) (history_in wal).commits)
+      → AllByRecursion (λ commit. IsWatermark commit.body)
+      (commits_after (last_lsn reading.after reading.messages) (history_in wal).commits)
 
 -- A crash leaves a source's log of the same workload.
 abbrev pub Stays : (List ℕ → Type 0) → Contents → Type 0
@@ -117,11 +120,13 @@ AreStores stores offset = (bytes : List ℕ) → stores bytes → IsStore bytes 
 
 -- If the offset is still the one that was found, the topic log has gained nothing.
 abbrev pub IsUngained : (List ℕ → Type 0) → Contents → Option Offset → Type 0
-IsUngained logs old stored = stored ≡ old.offset → (bytes : List ℕ) (groups : List (List Record)) → logs bytes → IsLog bytes groups → groups ≡ old.groups
+IsUngained logs old stored = stored ≡ old.offset → (bytes : List ℕ) (groups : List (List Record)) → logs bytes → IsLog bytes groups
+    → groups ≡ old.groups
 
 -- The topic log gained the records that a report counts.
 abbrev pub AreGained : (List ℕ → Type 0) → Contents → Report → Type 0
-AreGained logs old report = (bytes : List ℕ) (groups : List (List Record)) → logs bytes → IsLog bytes groups → HasGained old.groups groups report
+AreGained logs old report = (bytes : List ℕ) (groups : List (List Record)) → logs bytes → IsLog bytes groups
+    → HasGained old.groups groups report
 
 -- A session ended normally: it could begin, what it read of the source's log has no error, and the disk has the offset that it stored last.
 -- If the ending is Complete, that offset has each table done.
@@ -136,7 +141,8 @@ pub record HasRun (asked : Asked) (now : ℤ) (wals logs stores : List ℕ → T
   pub first : IsFirstStored begun.config (history_at begun.held) begun.held.offset stored
   pub ungained : IsUngained logs begun.held stored
   pub done : summary.ending ≡ Complete → IfSome stored (λ offset. AreAllDone offset.cursors)
-  pub clean : (bytes : List ℕ) (wal : Wal) → wals bytes → IsWal bytes wal → HasReadClean begun.config now begun.held.offset stored wal summary
+  pub clean : (bytes : List ℕ) (wal : Wal) → wals bytes → IsWal bytes wal
+      → HasReadClean begun.config now begun.held.offset stored wal summary
   -- The topic log gained the records of the commits that were read, of the windows that these close, and nothing else.
   pub tallied : AreTallied begun.config now begun.held stored wals logs summary.report (Ok summary.ending)
 
@@ -147,7 +153,8 @@ pub record EndsWithHalt (asked : Asked) (now : ℤ) (wals logs stores : List ℕ
   pub is : e ≡ Halted halt
   pub stays : Stays wals begun.held
   pub raised : (other : Halt) → IsExhausted begun.held.offset other → halt ≡ other
-  pub captured : begun.held.offset ≡ None → (name : TableName) → Contains begun.config.tables name → (CanBeCaptured (history_at begun.held) name → ⊥)
+  pub captured : begun.held.offset ≡ None → (name : TableName) → Contains begun.config.tables name
+      → (CanBeCaptured (history_at begun.held) name → ⊥)
       → IsTableHalt halt × IsAbsentHalt begun.config.tables (history_at begun.held) halt
   pub stored : Option Offset
   pub last : IsStoredLast begun.config begun.held.offset stored
@@ -169,11 +176,14 @@ pub record EndsWithHalt (asked : Asked) (now : ℤ) (wals logs stores : List ℕ
   pub tallied : ComesByReading begun.held halt → AreTallied begun.config now begun.held stored wals logs report (Err halt)
 
 -- Why a command stopped with an error: a failed disk, no memory, contents with which it can't begin, or a halt of its session.
-abbrev pub EndsBefore : Asked → ℤ → (List ℕ → Type 0) → (List ℕ → Type 0) → (List ℕ → Type 0) → List ℕ → List ℕ → List ℕ → ConnectError → Type 0
-EndsBefore asked now wals logs stores w t f e = IsExternalConnectError e ⊎ (IsRefused asked w t f e ⊎ EndsWithHalt asked now wals logs stores w t f e)
+abbrev pub EndsBefore : Asked → ℤ → (List ℕ → Type 0) → (List ℕ → Type 0) → (List ℕ → Type 0) → List ℕ → List ℕ → List ℕ
+    → ConnectError → Type 0
+EndsBefore asked now wals logs stores w t f e = IsExternalConnectError e
+    ⊎ (IsRefused asked w t f e ⊎ EndsWithHalt asked now wals logs stores w t f e)
 
 -- The topic log is as before, or gained the records of some commits, made at this time, and of windows of at most the requested rows.
-pub record GainsRecords (asked : Asked) (now : ℤ) (before logs : List ℕ → Type 0) (w t f : List ℕ) (begun : HasBegun asked w t f) : Type 0 where
+pub record GainsRecords (asked : Asked) (now : ℤ) (before logs : List ℕ → Type 0) (w t f : List ℕ)
+    (begun : HasBegun asked w t f) : Type 0 where
   pub stored : Option Offset
   pub last : IsStoredLast begun.config begun.held.offset stored
   pub gains : (bytes : List ℕ) (groups : List (List Record)) → logs bytes → IsLog bytes groups
@@ -222,7 +232,8 @@ pub record HasKeptHalt (asked : Asked) (now : ℤ) (wals logs stores : List ℕ 
       → IsKeptHalt halted.begun.config now halted.begun.held halted.stored halted.report left h
 
 -- An error over crash-consistent disks, none of which has an invalid store.
-abbrev pub IsKeptError : Asked → ℤ → (List ℕ → Type 0) → (List ℕ → Type 0) → (List ℕ → Type 0) → List ℕ → List ℕ → List ℕ → ConnectError → Type 0
+abbrev pub IsKeptError : Asked → ℤ → (List ℕ → Type 0) → (List ℕ → Type 0) → (List ℕ → Type 0) → List ℕ → List ℕ → List ℕ
+    → ConnectError → Type 0
 IsKeptError asked now wals logs stores w t f (Halted h) = HasKeptHalt asked now wals logs stores w t f h
 IsKeptError asked now wals logs stores w t f (NotAStore store at) = ⊥
 IsKeptError asked now wals logs stores w t f (BadEntry store index) = ⊥

@@ -11,7 +11,8 @@ use Rattle.dbl_capture.specs.CaptureWork.declared.halt.Halt.TheVariants as halt
 use Rattle.dblog_init.specs.declared.error.Store.{Store}
 use Rattle.dblog_init.specs.declared.error.Store.TheVariants.{Wal, Topics, Offsets}
 use Rattle.dblog_connect.specs.declared.error.ConnectError.{ConnectError}
-use Rattle.dblog_connect.specs.declared.error.ConnectError.TheVariants.{Failed, NotAStore, BadEntry, AlreadyStarted, NotStarted, Halted, Memory}
+use Rattle.dblog_connect.specs.declared.error.ConnectError.TheVariants.{Failed, NotAStore, BadEntry, AlreadyStarted}
+use Rattle.dblog_connect.specs.declared.error.ConnectError.TheVariants.{NotStarted, Halted, Memory}
 
 -- The error of opening a source.
 abbrev pub demo_error : DemoError → ConnectError

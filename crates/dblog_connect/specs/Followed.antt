@@ -32,7 +32,8 @@ ComesByReading held h = ⊥
 
 -- As many messages of the source's log were read as reported, without an error, and as many commits followed, except for the newest
 -- message, if it is the cause of the halt.
-pub record HasFollowedRead (config : Config) (now : ℤ) (found stored : Option Offset) (wal : Wal) (report : Report) (h : Halt) : Type 0 where
+pub record HasFollowedRead (config : Config) (now : ℤ) (found stored : Option Offset) (wal : Wal) (report : Report)
+    (h : Halt) : Type 0 where
   pub reading : Reading
   pub was : HasRead config found stored wal reading
   pub many : length reading.messages ≡ report.messages
@@ -52,8 +53,8 @@ AreFollowed config now old stored wals report h =
 
 -- The topic log has gained exactly the records of the reported commits, in order; of a watermark those of a window, or none; and of the
 -- newest message, if it is the cause of the halt, some first records of its commit.
-pub record HasTalliedRead (config : Config) (now : ℤ) (found stored : Option Offset) (wal : Wal) (old new : List (List Record)) (report : Report)
-    (result : Result Ending Halt) : Type 0 where
+pub record HasTalliedRead (config : Config) (now : ℤ) (found stored : Option Offset) (wal : Wal) (old new : List (List Record))
+    (report : Report) (result : Result Ending Halt) : Type 0 where
   pub reading : Reading
   pub was : HasRead config found stored wal reading
   pub many : length reading.messages ≡ report.messages
@@ -61,7 +62,8 @@ pub record HasTalliedRead (config : Config) (now : ℤ) (found stored : Option O
       was.by.offset.lsn (λ (read message : Message). read ≡ message) reading.messages report.commits result
 
 -- Nothing was read and gained, or the records of the reported commits.
-abbrev pub IsTalliedRead : Config → ℤ → Option Offset → Option Offset → Wal → List (List Record) → List (List Record) → Report → Result Ending Halt → Type 0
+abbrev pub IsTalliedRead : Config → ℤ → Option Offset → Option Offset → Wal → List (List Record) → List (List Record) → Report
+    → Result Ending Halt → Type 0
 IsTalliedRead config now found stored wal old new report result =
     ((report.messages ≡ 0) × (report.commits ≡ 0) × (new ≡ old)) ⊎ HasTalliedRead config now found stored wal old new report result
 

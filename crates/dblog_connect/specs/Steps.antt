@@ -13,7 +13,8 @@ use Rattle.dblog_init.specs.declared.disks.Disks.{Disks}
 use Rattle.dblog_connect.specs.declared.asked.Asked.{Asked}
 use Rattle.dblog_connect.specs.Asked.{asks_in}
 use Rattle.dblog_connect.specs.Disks.{AreKeptDisks, IsTrueAfterCrash, IsTrueOfContents}
-use Rattle.dblog_connect.specs.Ends.{AddsFew, ConnectEnd, EndsBefore, GainsRecords, HasBegun, HasRun, IsCompleteEnd, IsKeptError, IsReported}
+use Rattle.dblog_connect.specs.Ends.{AddsFew, ConnectEnd, EndsBefore, GainsRecords, HasBegun}
+use Rattle.dblog_connect.specs.Ends.{HasRun, IsCompleteEnd, IsKeptError, IsReported}
 
 -- ---- opened stores
 

@@ -5,7 +5,8 @@ ghost use Rattle.dbl_model_table.specs.Configs.{IsGoodConfig};
 ghost use Rattle.dbl_cli.specs.Limits.{AreGoodNames, AreGoodTables, IsGoodPace};
 ghost use Rattle.dbl_offset.specs.Offsets.{IsOffset};
 ghost use Rattle.dbl_demo.specs.DemoWorkload.Ready.{AreTableNames};
-ghost use Rattle.dblog_connect.specs.Asked.{IsAskedWithinLimits, Refuses, asks_of, config_again, config_of, names_of, tables_or};
+ghost use Rattle.dblog_connect.specs.Asked.{IsAskedWithinLimits, Refuses, asks_of};
+ghost use Rattle.dblog_connect.specs.Asked.{config_again, config_of, names_of, tables_or};
 
 use crate::ConnectError;
 use dbl_base::{Seq, copy_items};

@@ -7,10 +7,13 @@ ghost use Rattle.dbl_offset.specs.Stores.{IsLive, disk_of};
 ghost use Rattle.dbl_demo.specs.DemoWorkload.Ready.{AreTableNames};
 ghost use Rattle.dblog_connect.specs.Asked.{IsAskedWithinLimits, asks_in, budget_of};
 ghost use Rattle.dblog_connect.specs.Disks.{AreKeptDisks, IsTrueAfterCrash, IsTrueOfContents};
-ghost use Rattle.dblog_connect.specs.Ends.{AddsFew, CountsFaults, EndsBefore, GainsRecords, HasBegun, HasRun, IsCompleteEnd};
-ghost use Rattle.dblog_connect.specs.Ends.{IsKeptError, IsReported, IsSpent, IsWrongSource, OnlyRead};
-ghost use Rattle.dblog_connect.specs.Errors.{IsBeforeStore, IsAfterOpening, IsConnectError, IsConnectRefusal};
-ghost use Rattle.dblog_connect.specs.Steps.{AnswersConnect, disks_of, IsOpenedLog, IsOpenedSource, IsOpenedStore};
+ghost use Rattle.dblog_connect.specs.Ends.{AddsFew, CountsFaults, EndsBefore, GainsRecords};
+ghost use Rattle.dblog_connect.specs.Ends.{HasBegun, HasRun, IsCompleteEnd, IsKeptError};
+ghost use Rattle.dblog_connect.specs.Ends.{IsReported, IsSpent, IsWrongSource, OnlyRead};
+ghost use Rattle.dblog_connect.specs.Errors.{IsBeforeStore, IsAfterOpening};
+ghost use Rattle.dblog_connect.specs.Errors.{IsConnectError, IsConnectRefusal};
+ghost use Rattle.dblog_connect.specs.Steps.{AnswersConnect, disks_of, IsOpenedLog};
+ghost use Rattle.dblog_connect.specs.Steps.{IsOpenedSource, IsOpenedStore};
 
 use crate::asked::{Asked, config_for};
 use crate::{ConnectError, Summary};

@@ -1,4 +1,4 @@
--- Disks that were asked for their lengths, and what is left of them behind that.
+-- Disks that were asked for their lengths, and what is left of them after that.
 use Rattle.std.proofs.Common.{◌≡◌, ◌∙◌, ℕ, ◌≤◌, ◌^◌, Some, Err, List, length, refl, sym, subst, arith}
 use Rattle.std.specs.Prelude.{max}
 use Rattle.dblog_init.specs.declared.error.InitError.TheVariants.{Failed}
@@ -21,7 +21,7 @@ module _ {D : Type 0} (model : DiskModel D) (store : Store) where
     steady = λ none bytes is. refl;
   }
 
-  -- whatever else is told than that it failed
+  -- anything but that it failed
   pub asked_as : (first end : InitEnd) (old new : D) → (fails store first → ⊥) → (fails store end → ⊥) → IsAtMostMeasured model store first old new → IsAtMostMeasured model store end old new
   asked_as first end old new before other asked = record {
     same = asked.same;
@@ -43,7 +43,7 @@ module _ {D : Type 0} (model : DiskModel D) (store : Store) where
         subst (λ (b : List ℕ). length b ≤ max (length before) (2 ^ 30)) (sym bytes) (omega arith));
   }
 
-  -- what was left of it behind the asking
+  -- what was left of it after the asking
   pub leaves_behind : (first end : InitEnd) (old mid new : D) → (fails store first → ⊥) → IsAtMostMeasured model store first old mid → LeavesDisk model store end mid new → LeavesDisk model store end old new
   leaves_behind first end old mid new before asked left = record {
     later = omega (arith, asked.later, left.later);

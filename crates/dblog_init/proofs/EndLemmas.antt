@@ -1,4 +1,4 @@
--- How `init` ends: before the input, at the input, or behind it.
+-- How `init` ends: before the input, at the input, or after it.
 use Rattle.std.proofs.Common.{◌≡◌, ◌∙◌, ◌⊎◌, ℕ, ◌≤◌, ◌<◌, Some, Ok, Err, List, [], length, refl, sym, ap, subst, arith, inl, inr}
 use Rattle.std.specs.Prelude.{IfErr, OnOk}
 use Rattle.dbl_base.specs.Streams.{input_limit}
@@ -108,7 +108,7 @@ module _ (bytes : List ℕ) where
   by_make P memory failing script model e (inr (inl failed)) = subst P (sym failed.1) (failing failed.0)
   by_make P memory failing script model e (inr (inr other)) = subst P (sym other.2) (by_refused P script model other.0 other.1)
 
-  -- whatever it ends with, it isn't of these
+  -- it ends with none of these
   pub make_before : (end : InitEnd) → IfErr end (IsMakeEnd bytes) → IsBeforeInput end → ⊥
   make_before (Ok done) kinds before = before
   make_before (Err e) kinds before = by_make (λ (x : InitError). IsBeforeInput (Err x) → ⊥) (λ is. is) (λ store is. is) (λ s is. is) (λ m is. is) e kinds before
@@ -164,7 +164,7 @@ told_of bytes end (inr outside) = inr (inr outside)
 -- ---- the disks
 
 module _ {D : Type 0} (model : DiskModel D) (store : Store) (old mid : D) where
-  -- no disk holds a byte behind the asking
+  -- no disk holds a byte after the asking
   pub none_held : AsksOne model store (Ok tt) old mid → HoldsBytes model old → ⊥
   none_held asks holds = holds.2 (asks.empty holds.0 holds.1)
 
@@ -178,7 +178,7 @@ module _ {D : Type 0} (model : DiskModel D) (store : Store) (old mid : D) where
   pub leaves_at : (f : InitError) → (f ≡ Failed store → ⊥) → AsksOne model store (Ok tt) old mid → LeavesDisk model store (Err f) old mid
   leaves_at f spared asks = asked_leaves model store (Err f) old mid (asked_at f spared asks)
 
-  -- and behind it
+  -- and after it
   module _ (Is : List ℕ → Type 0) (end : InitEnd) (new : D) (asks : AsksOne model store (Ok tt) old mid) (makes : MakesOne model store Is end mid new) where
     pub empty_end : (bytes : List ℕ) → model.seen old ≡ Some bytes → OnOk end (bytes ≡ [])
     empty_end bytes told = by end

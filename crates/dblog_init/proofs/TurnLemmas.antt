@@ -36,7 +36,7 @@ module _ (store other : Store) (apart : store ≢ other) (e : InitError) (turn :
       by (inr there) = apart (let t = sym is ∙ there in cc)
 
   module _ {D : Type 0} (model : DiskModel D) where
-    -- a disk behind it
+    -- a disk after it
     pub asks_none : (disk : D) → AsksOne model store (Err e) disk disk
     asks_none disk = record {
       empty = λ bytes told. tt;
@@ -126,7 +126,7 @@ module _ {D : Type 0} (model : DiskModel D) (store : Store) (Is : List ℕ → T
     };
   }
 
--- whatever the one behind it ended with
+-- for every end of the one after it
 pub makes_through : {D : Type 0} (model : DiskModel D) (store : Store) (Is : List ℕ → Type 0) (other : Store) → other ≢ store → (EndsBeforeWriting store (Err (Failed other)) → ⊥) → (first end : InitEnd) → is_err first ≡ false
     → IfErr end (λ e. e ≡ Failed other) → (old new : D) → MakesOne model store Is first old new → MakesOne model store Is end old new
 makes_through model store Is other apart written (Err e) end well kind old new makes = absurd (let t = well in cc)
@@ -134,7 +134,7 @@ makes_through model store Is other apart written (Ok done) (Ok last) well kind o
 makes_through model store Is other apart written (Ok done) (Err e) well kind old new makes =
     makes_before model store Is e (λ is. apart (let t = sym kind ∙ is in cc)) old new (λ unwritten. written (subst (λ (x : InitError). EndsBeforeWriting store (Err x)) kind unwritten)) makes
 
--- a store behind one that couldn't be made
+-- a store after one that couldn't be made
 pub makes_skipped : {D : Type 0} (model : DiskModel D) (store : Store) (Is : List ℕ → Type 0) (end : InitEnd) → is_err end ≡ true → IfErr end (λ e. e ≢ Failed store) → (disk : D)
     → MakesOne model store Is end disk disk
 makes_skipped model store Is (Ok done) failed other disk = absurd (let t = failed in cc)

@@ -42,7 +42,8 @@ pub record LeavesDisk {D : Type 0} (model : DiskModel D) (store : Store) (end : 
   pub later : model.faults old ≤ model.faults new
   pub cause : end ≡ Err (Failed store) → FaultCounted (model.faults old) (model.faults new)
   pub steady : end ≢ Err (Failed store) → IsSteady model old new
-  pub short : (before after : List ℕ) → model.seen old ≡ Some before → model.seen new ≡ Some after → length after ≤ max (length before) first_room
+  pub short : (before after : List ℕ) → model.seen old ≡ Some before → model.seen new ≡ Some after
+      → length after ≤ max (length before) first_room
 
 -- The disk has known contents, and isn't empty.
 abbrev pub HoldsBytes : {D : Type 0} → DiskModel D → D → Type 0

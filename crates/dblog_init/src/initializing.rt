@@ -1,15 +1,19 @@
 //! The stores, made one after the other.
 
-ghost use Rattle.std.specs.Prelude.{◌≡◌, ◌≢◌, ◌⊎◌, ℕ, ◌≤◌, List, [], length, Some, Err, IfErr, OnOk};
+ghost use Rattle.std.specs.Prelude.{◌≡◌, ◌≢◌, ◌⊎◌, ℕ, ◌≤◌, List, []};
+ghost use Rattle.std.specs.Prelude.{length, Some, Err, IfErr, OnOk};
 ghost use Rattle.dbl_base.specs.Streams.{FaultCounted, input_limit};
 ghost use Rattle.dbl_demo.specs.DemoWorkload.declared.error.DemoError.{DemoError};
 ghost use Rattle.dbl_demo.specs.DemoWal.Workloads.{IsWorkload, Workload};
 ghost use Rattle.dbl_demo.specs.DemoLaws.Made.{IsFreshWal};
 ghost use Rattle.dbl_demo.specs.DemoWorkload.Refusals.{IsRefused};
-ghost use Rattle.dblog_init.specs.Answers.{Answers, AnswersInput, InitInput, IsBeforeInput, IsInitFault, IsExternalInitEnd, ReportsInput};
+ghost use Rattle.dblog_init.specs.Answers.{Answers, AnswersInput, InitInput, IsBeforeInput};
+ghost use Rattle.dblog_init.specs.Answers.{IsInitFault, IsExternalInitEnd, ReportsInput};
 ghost use Rattle.dbl_disk.specs.Disks.{Follows};
 ghost use Rattle.dbl_offset.specs.Stores.{BeginsTorn};
-ghost use Rattle.dblog_init.specs.Disks.{AreAtMostMeasured, EndsBeforeWriting, EndsTorn, HasStoredBytes, HoldSomeBytes, IsAtMostMeasured, LeavesDisk};
+ghost use Rattle.dblog_init.specs.Disks.{AreAtMostMeasured, EndsBeforeWriting};
+ghost use Rattle.dblog_init.specs.Disks.{EndsTorn, HasStoredBytes, HoldSomeBytes};
+ghost use Rattle.dblog_init.specs.Disks.{IsAtMostMeasured, LeavesDisk};
 ghost use Rattle.dblog_init.specs.Errors.{demo_error};
 ghost use Rattle.dblog_init.specs.Fresh.{IsEmptyLog, IsEmptyStore};
 ghost use Rattle.dblog_init.specs.Turns.{AsksOne, IsTurnFault, IsTurnOf, MakesOne, TellsFirst};

@@ -1,4 +1,4 @@
--- A resume reads no more messages than were to be sent when it began, and the workload gives behind them.
+-- A resume reads no more messages than were to be sent when it began, and the workload gives after them.
 use Rattle.std.proofs.Common.{◌≡◌, ◌∙◌, ◌⊎◌, inl, inr, ℕ, ℤ, ◌+◌, ◌*◌, ◌/◌, ◌≤◌, Option, Some, None, Ok, Err, List, ◌++◌, length, drop, sym, ap, subst, arith}
 use Rattle.dbl_lines.specs.declared.status.Status.{Status}
 use Rattle.std.specs.Prelude.{IfOk, IfSome}
@@ -60,7 +60,7 @@ own_so history confirmed records (Some offset) faithful = faithful.lags.offset_i
 
 -- ---- what is sent of a wal that grew
 
--- behind a place it is no more than what was sent before, the whole serial run behind the rows, and the marks that were added
+-- after a place it is no more than what was sent before, the whole serial run after the rows, and the watermarks that were added
 grown_size : (old_bytes new_bytes : List ℕ) (old new : Wal) (after : Lsn) (windows : ℕ) (more : List RawCommit) → IsWal old_bytes old → IsWal new_bytes new → new.workload ≡ old.workload
     → (history_in new).commits ≡ (history_in old).commits ++ more → length (marks_in (history_in new).commits) ≤ length (marks_in (history_in old).commits) + 2 * windows
     → length (messages_sent new after) ≤ length (messages_sent old after) + most_messages 1 old.workload windows

@@ -80,7 +80,7 @@ module _ (wals logs stores : List ℕ → Type 0) (w t f : List ℕ) (first : Ar
   unstored : (a b image : List ℕ) (held : Contents) → stores image → ReadAs a b image held → held.offset ≡ None
   unstored a b image held may read = one_store image held.offset None read.store (first.unstored image may)
 
--- ---- it began to read behind the rows
+-- ---- it began to read after the rows
 
 reached : (tables : List LogTable) (rows : TextRows) (n : ℕ) (log : List Logged) (p : ℕ) → 256 * n ≤ p → AllByRecursion (λ (commit : RawCommit). commit.lsn.0 ≤ p) (commits_from tables rows (n + 1) log) → 256 * (n + length log) ≤ p
 reached tables rows n [] p base all = omega (arith, base)
@@ -165,7 +165,7 @@ module _ (options : CaptureOptions) (now : ℤ) (told_wal told_topics told_offse
           omega (arith, clean, ap (λ (x : Wal). length (marks_in (history_in x).commits)) wal)
       by (inr more) = few_windows options held left pairs none (unmarked held held_kept none) (covers same) more
 
-  -- it began to read behind the rows
+  -- it began to read after the rows
   rows_behind : (offset : Offset) → left.offset ≡ Some offset → length (log_at left.wal.workload 0) ≤ commits_upto offset.start
   rows_behind offset stored =
       let promised = headline may.w may.t may.f may.wal may.topics may.offsets in

@@ -1,4 +1,4 @@
--- No commit that the messages of a log without a fault state has a clash, whatever tables are captured later.
+-- No commit that the messages of a log without a fault state has a value equal to the placeholder, for every list of tables captured later.
 use Rattle.std.proofs.Common.{◌≡◌, ◌∙◌, ◌+◌, ℕ, zero, suc, Option, Some, None, IsSome, IsSomeAnd, List, [], ◌∷◌, ◌++◌, map, flat_map, length, slice_get, refl, sym, ap, ap₂, subst}
 use Rattle.std.specs.Prelude.{option_map, unwrap_or}
 use Rattle.std.specs.Option.{option_and_then, option_or}

@@ -1,4 +1,4 @@
--- A log that grew: what is sent of it behind a place is what was sent before, and what its later commits and marks have.
+-- A log that grew: what is sent of it after a place is what was sent before, and what its later commits and watermarks have.
 use Rattle.std.proofs.Common.{◌≡◌, ◌∙◌, ℕ, zero, suc, ◌+◌, ◌*◌, ◌≤◌, List, [], ◌∷◌, ◌++◌, length, drop, refl, sym, ap, arith}
 use Rattle.std.specs.Prelude.{is_some, if◌then◌else◌, Bool, true, false}
 use Rattle.std.proofs.lemmas.List.{length-append, length-reverse}
@@ -59,7 +59,7 @@ log_commits [] = []
 log_commits (Changes messages ∷ log) = messages ∷ log_commits log
 log_commits (Mark value ∷ log) = log_commits log
 
--- commit for commit a mark stands where one did
+-- commit for commit a watermark stands where one did
 abbrev pub GrewFrom : List Logged → List Logged → Type 0
 GrewFrom [] new = Unit {0}
 GrewFrom (entry ∷ old) [] = ⊥
@@ -112,7 +112,7 @@ commits_less (suc k) [] = omega arith
 commits_less (suc k) (Changes messages ∷ log) = omega (arith, commits_less k log)
 commits_less (suc k) (Mark value ∷ log) = commits_less k log
 
--- behind a place there are no more marks than before, but for those that were added
+-- after a place there are no more watermarks than before, but for those that were added
 marks_grew : (k : ℕ) (old new : List Logged) → GrewFrom old new → count_marks (drop k new) + count_marks old ≤ count_marks (drop k old) + count_marks new
 marks_grew zero old new on = by old new
   where
@@ -172,7 +172,7 @@ commits_many (Changes messages ∷ old) (Mark value ∷ new) on = absurd on
 commits_many (Mark value ∷ old) (Changes messages ∷ new) on = absurd on
 commits_many (Mark value ∷ old) (Mark other ∷ new) on = commits_many old new on
 
--- what was added is behind the first ones, where these were there before
+-- what was added is after the first ones, where these were there before
 pub rest_behind : (first : ℕ) (old rest : List (List Message)) → first ≤ length old → commit_sizes rest ≤ commit_sizes (drop first (old ++ rest))
 rest_behind zero [] [] le = omega arith
 rest_behind zero [] (ms ∷ rest) le = omega arith

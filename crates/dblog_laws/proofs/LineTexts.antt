@@ -131,7 +131,7 @@ mutual
       (join (58 ∷ []) (compact_text d ++ members_text true ms) (written (58 ∷ []) refl)
       (join (compact_text d) (members_text true ms) (data_line d w.0 h.1) (members_line true ms w.2 h.2))))
 
--- ---- lines behind one another
+-- ---- lines after one another
 
 line_first : (line rest : List ℕ) → has_no_newline line ≡ true → lines_of (line ++ 10 ∷ rest) ≡ line ∷ lines_of rest
 line_first [] rest h = refl

@@ -1,4 +1,4 @@
--- How many messages the log of a workload is sent as, behind its rows: those of the whole serial run, and three for each mark.
+-- How many messages the log of a workload is sent as, after its rows: those of the whole serial run, and three for each watermark.
 use Rattle.std.proofs.Common.{◌≡◌, ◌∙◌, ◌⊎◌, inl, inr, ℕ, zero, suc, ◌+◌, ◌-◌, ◌*◌, ◌<◌, ◌≤◌, List, [], ◌∷◌, ◌++◌, length, drop, refl, sym, ap, arith}
 use Rattle.std.proofs.lemmas.List.{append-nil, length-append, length-map, take_all}
 use Rattle.dbl_pgmsg.specs.declared.messages.Message.{Message}
@@ -32,7 +32,7 @@ drops_less zero (entry ∷ log) = omega arith
 drops_less (suc k) [] = omega arith
 drops_less (suc k) (entry ∷ log) = omega (arith, drops_less k log)
 
--- what is left behind more of a log is no more
+-- what is left after more of a log is no more
 drops_fewer : (few many : ℕ) (log : List Logged) → few ≤ many → sizes (drop many log) ≤ sizes (drop few log)
 drops_fewer zero many [] le = drops_less many []
 drops_fewer zero many (entry ∷ log) le = drops_less many (entry ∷ log)
@@ -50,7 +50,7 @@ fronts_less zero (ms ∷ xs) more = front_less (ms ∷ xs) more
 fronts_less (suc k) [] more = omega arith
 fronts_less (suc k) (ms ∷ xs) more = fronts_less k xs more
 
--- ---- marks
+-- ---- watermarks
 
 abbrev pub count_marks : List Logged → ℕ
 count_marks [] = 0
@@ -84,7 +84,7 @@ rows_stay w steps =
     let same : length (log_at w (0 + steps)) ≡ length (log_at w steps) = ap (λ (n : ℕ). length (log_at w n)) (omega arith) in
     omega (arith, many, same, length-append (log_at w 0) longer.0)
 
--- where so many of the first commits are left out, among which there is no mark
+-- where so many of the first commits are left out, among which there is no watermark
 rest_size : (w : Workload) (before : List Entry) (k : ℕ) (entries : List Entry) → k ≡ length (log_at w 0) - length (session_commits before) → AreNext w before entries
     → sizes (drop k (logged_in entries)) ≤ commit_sizes (drop k (session_commits entries)) + 3 * count_marks (logged_in entries)
 rest_size w before zero [] is are = omega arith

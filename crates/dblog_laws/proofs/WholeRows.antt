@@ -1,4 +1,4 @@
--- The rows at each place of a log are rows at some place of the whole serial run, in which no mark stands.
+-- The rows at each place of a log are rows at some place of the whole serial run, in which no watermark stands.
 use Rattle.std.proofs.Common.{◌≡◌, ◌∙◌, ℕ, zero, suc, ◌+◌, ◌≤◌, List, [], ◌∷◌, ◌++◌, length, map, take, refl, sym, ap, arith}
 use Rattle.std.proofs.lemmas.List.{length-append, length-map}
 use Rattle.dbl_pgmsg.specs.declared.messages.Message.{Message}
@@ -27,7 +27,7 @@ use Rattle.dblog_laws.proofs.WalSizes.{wal_begins}
 abbrev commits_in : List TableInfo → List LogTable → TextRows → ℕ → List Logged → List Commit
 commits_in infos tables rows n log = map (typed_commit infos) (commits_from tables rows n log)
 
--- behind so many commits the changes are those behind some commits without marks
+-- after so many commits the changes are those after some commits without watermarks
 pub record IsSamePlace (infos : List TableInfo) (tables : List LogTable) (rows : TextRows) (m n place : ℕ) (entries : List Entry) (rest : List (List Message)) : Type 0 where
   pub place_is : ℕ
   pub within : place_is ≤ length (session_commits entries)

@@ -85,7 +85,8 @@ pub record AreUnstarted (wals logs stores : List ℕ → Type 0) (w t f : List �
 
 -- The list has each pair of a captured table and a key that had a row at some point of the whole serial run.
 abbrev pub CoverWhole : CaptureOptions → Contents → List (ℕ × Key) → Type 0
-CoverWhole options held pairs = (infos : List TableInfo) → Captures (config_of options (workload_tables held.wal)) (history_at held) None infos
+CoverWhole options held pairs = (infos : List TableInfo)
+    → Captures (config_of options (workload_tables held.wal)) (history_at held) None infos
     → CoverRows infos (whole_history held.wal) pairs
 
 -- The greatest number of windows that a capture opens, if so many pairs of a table and a key had rows.
@@ -95,11 +96,14 @@ most_windows options held pairs = length (tables_or options.tables (workload_tab
 -- A `capture` over crash-consistent disks, on which no session has run, doesn't use up a message budget above the workload's bound: by the
 -- clauses `session` and `headline` of `run`.
 abbrev pub GenerousBudgetsSuffice : ℕ → (wals logs stores new_wals new_logs new_stores : List ℕ → Type 0) → Type 0
-GenerousBudgetsSuffice more wals logs stores new_wals new_logs new_stores = (options : CaptureOptions) (now : ℤ) (told_wal told_topics told_offsets : Option (List ℕ))
-    (status : Status) (before after : Option (List ℕ))
-    → (runs : RunsSession (First options) now told_wal told_topics told_offsets wals logs stores new_wals new_logs new_stores status before after)
+GenerousBudgetsSuffice more wals logs stores new_wals new_logs new_stores =
+    (options : CaptureOptions) (now : ℤ) (told_wal told_topics told_offsets : Option (List ℕ)) (status : Status)
+    (before after : Option (List ℕ))
+    → (runs : RunsSession (First options) now told_wal told_topics told_offsets wals logs stores new_wals new_logs new_stores status
+    before after)
     → AreKept told_wal told_topics told_offsets wals logs stores
-    → ((w t f : List ℕ) → new_wals w → new_logs t → new_stores f → GuaranteesAfterCrash (IsCompleteRun (Capture options) status) (asks_by (Capture options)) wals logs stores w t f)
+    → ((w t f : List ℕ) → new_wals w → new_logs t → new_stores f
+    → GuaranteesAfterCrash (IsCompleteRun (Capture options) status) (asks_by (Capture options)) wals logs stores w t f)
     → (w t f : List ℕ) → told_wal ≡ Some w → told_topics ≡ Some t → told_offsets ≡ Some f → AreUnstarted wals logs stores w t f
     → (left : Contents) → MayLeaveContents new_wals new_logs new_stores left
     → (held : Contents) → ReadAs w t f held → (pairs : List (ℕ × Key)) → CoverWhole options held pairs
@@ -115,9 +119,11 @@ pub record AreAtRest (wals logs stores : List ℕ → Type 0) (held : Contents) 
 
 -- A `resume` over such disks doesn't use up a message budget above the workload's bound and the messages that were unsent when it began.
 abbrev pub GenerousBudgetsSufficeAgain : ℕ → (wals logs stores new_wals new_logs new_stores : List ℕ → Type 0) → Type 0
-GenerousBudgetsSufficeAgain more wals logs stores new_wals new_logs new_stores = (chunk every budget : ℕ) (now : ℤ) (told_wal told_topics told_offsets : Option (List ℕ))
-    (status : Status) (before after : Option (List ℕ))
-    → (runs : RunsSession (Again chunk every budget) now told_wal told_topics told_offsets wals logs stores new_wals new_logs new_stores status before after)
+GenerousBudgetsSufficeAgain more wals logs stores new_wals new_logs new_stores =
+    (chunk every budget : ℕ) (now : ℤ) (told_wal told_topics told_offsets : Option (List ℕ)) (status : Status)
+    (before after : Option (List ℕ))
+    → (runs : RunsSession (Again chunk every budget) now told_wal told_topics told_offsets wals logs stores new_wals new_logs new_stores
+    status before after)
     → AreKept told_wal told_topics told_offsets wals logs stores
     → ((w t f : List ℕ) → new_wals w → new_logs t → new_stores f
     → GuaranteesAfterCrash (IsCompleteRun (Resume chunk every budget) status) (asks_by (Resume chunk every budget)) wals logs stores w t f)
@@ -125,7 +131,8 @@ GenerousBudgetsSufficeAgain more wals logs stores new_wals new_logs new_stores =
     → (held : Contents) → ReadAs w t f held → AreAtRest wals logs stores held w t f
     → (left : Contents) → MayLeaveContents new_wals new_logs new_stores left → (offset : Offset) → held.offset ≡ Some offset
     → (pairs : List (ℕ × Key)) → CoverRows offset.infos (whole_history held.wal) pairs
-    → ReadsFew (length (messages_sent held.wal offset.lsn) + most_messages more held.wal.workload (length offset.infos + length pairs / chunk)) budget status runs.end
+    → ReadsFew (length (messages_sent held.wal offset.lsn) + most_messages more held.wal.workload
+    (length offset.infos + length pairs / chunk)) budget status runs.end
 
 -- ---- of a generated workload
 
@@ -141,4 +148,5 @@ GeneratedBudgetsSuffice more {W} {T} {F} wal_model topics_model offsets_model =
     → (w t f : List ℕ) → wal_model.seen captured.made.wal ≡ Some w → topics_model.seen captured.made.topics ≡ Some t
     → offsets_model.seen captured.made.offsets ≡ Some f
     → (held : Contents) → ReadAs w t f held → (pairs : List (ℕ × Key)) → CoverWhole plain_capture held pairs
-    → ReadsFew (most_messages more held.wal.workload (most_windows plain_capture held (length pairs))) plain_capture.messages status captured.runs.end
+    → ReadsFew (most_messages more held.wal.workload (most_windows plain_capture held (length pairs))) plain_capture.messages status
+    captured.runs.end

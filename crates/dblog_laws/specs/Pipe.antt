@@ -49,7 +49,8 @@ pub record IsWholeLog (options : ReplayOptions) (now : ℤ) (log lines : List (L
 
 -- The line of a table's row: its topic, its key and its values, the last two as JSON, separated by spaces.
 abbrev pub source_line : Identity → TableInfo → Key → List Val → List ℕ
-source_line identity info key values = topic_of identity info ++ codes " " ++ key_text info key ++ codes " " ++ compact_text (row_data info values)
+source_line identity info key values =
+    topic_of identity info ++ codes " " ++ key_text info key ++ codes " " ++ compact_text (row_data info values)
 
 -- The line is that of a row that the source has in a captured table.
 pub record IsSourceLine (identity : Identity) (infos : List TableInfo) (source : Rows) (line : List ℕ) : Type 0 where
@@ -65,17 +66,21 @@ pub record IsSourceLine (identity : Identity) (infos : List TableInfo) (source :
 pub record AreSourceRows (identity : Identity) (infos : List TableInfo) (source : Rows) (rows : List HeldRow) : Type 0 where
   pub ordered : IsStrictlySortedBy spot_cmp (keys_of rows)
   pub lines : AllByRecursion (IsSourceLine identity infos source) (map row_line rows)
-  pub exact : (topic text : List ℕ) (image : Option (List ℕ → Option (List ℕ))) → IsImage identity infos source topic text image → HoldsJsonTexts (lookup (is_at (spot_cmp (topic, text))) rows) image
+  pub exact : (topic text : List ℕ) (image : Option (List ℕ → Option (List ℕ))) → IsImage identity infos source topic text image
+      → HoldsJsonTexts (lookup (is_at (spot_cmp (topic, text))) rows) image
 
 -- `apply --lines` accepts each line of these bytes, its consumer has exactly the source's row for each topic and key text, and it prints
 -- the source's rows.
 pub record AppliesTo (identity : Identity) (infos : List TableInfo) (source : Rows) (bytes : List ℕ) : Type 0 where
   pub applied : (rows : List HeldRow) × IsApplied identity.placeholder (lines_of bytes) (Ok rows)
-  pub held : (topic text : List ℕ) (image : Option (List ℕ → Option (List ℕ))) → IsImage identity infos source topic text image → HoldsJsonTexts (consumer_of identity.placeholder (readings_of_lines (lines_of bytes)) topic text) image
+  pub held : (topic text : List ℕ) (image : Option (List ℕ → Option (List ℕ))) → IsImage identity infos source topic text image
+      → HoldsJsonTexts (consumer_of identity.placeholder (readings_of_lines (lines_of bytes)) topic text) image
   pub printed : (rows : List HeldRow) → IsApplied identity.placeholder (lines_of bytes) (Ok rows) → AreSourceRows identity infos source rows
   pub stands : (topic text : List ℕ) → (image : Option (List ℕ → Option (List ℕ))) × IsImage identity infos source topic text image
 
 -- `apply --lines`, with the same placeholder, applies the bytes that `replay` writes for a whole log to the source's last rows.
 abbrev pub LastRowsAreApplied : Type 0
-LastRowsAreApplied = (options : ReplayOptions) (now : ℤ) (log lines : List (List ℕ)) (history : History) → (whole : IsWholeLog options now log lines history)
-    → AppliesTo options.identity whole.replayed.infos (last_rows whole.replayed.infos (typed whole.replayed.infos history)) (lines_text lines)
+LastRowsAreApplied = (options : ReplayOptions) (now : ℤ) (log lines : List (List ℕ)) (history : History)
+    → (whole : IsWholeLog options now log lines history)
+    → AppliesTo options.identity whole.replayed.infos (last_rows whole.replayed.infos (typed whole.replayed.infos history))
+    (lines_text lines)

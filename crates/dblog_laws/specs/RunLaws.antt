@@ -30,14 +30,15 @@ use Rattle.dblog_laws.specs.Sessions.{IsDoneStatus, IsSessionDone, IsSupportedRu
 -- A supported session over crash-consistent disks ends normally, unless a disk failed or memory ran out.
 abbrev pub SupportedSessionsSucceed : (wals logs new_wals new_logs new_stores : List ℕ → Type 0) → Type 0
 SupportedSessionsSucceed wals logs new_wals new_logs new_stores = (asked : Asked) (now : ℤ) (w t f : List ℕ) (end : ConnectEnd)
-    → AnswersCapture asked now wals logs new_wals new_logs new_stores w t f end → AnswersKept asked now new_wals new_logs new_stores w t f end
+    → AnswersCapture asked now wals logs new_wals new_logs new_stores w t f end
+    → AnswersKept asked now new_wals new_logs new_stores w t f end
     → IfErr end IsConnectError → IsSupportedRun asked now new_wals new_logs new_stores w t f
     → IfErr end IsExternalConnectError
 
 -- A supported `capture` or `resume` exits with 0, 3 or 12, if no device failed: by the clause `session` of `run`.
 abbrev pub SupportedRunsSucceed : (wals logs stores new_wals new_logs new_stores : List ℕ → Type 0) → Type 0
-SupportedRunsSucceed wals logs stores new_wals new_logs new_stores = (asked : Asked) (now : ℤ) (told_wal told_topics told_offsets : Option (List ℕ))
-    (status : Status) (before after : Option (List ℕ))
+SupportedRunsSucceed wals logs stores new_wals new_logs new_stores =
+    (asked : Asked) (now : ℤ) (told_wal told_topics told_offsets : Option (List ℕ)) (status : Status) (before after : Option (List ℕ))
     → RunsSession asked now told_wal told_topics told_offsets wals logs stores new_wals new_logs new_stores status before after
     → AreKept told_wal told_topics told_offsets wals logs stores
     → (w t f : List ℕ) → told_wal ≡ Some w → told_topics ≡ Some t → told_offsets ≡ Some f
@@ -52,8 +53,8 @@ pub record EndsBy (budget : ℕ) (status : Status) (end : ConnectEnd) : Type 0 w
 
 -- The exit status of `capture` and `resume` says whether the message budget was used up.
 abbrev pub StatusesTellBudgets : (wals logs stores new_wals new_logs new_stores : List ℕ → Type 0) → Type 0
-StatusesTellBudgets wals logs stores new_wals new_logs new_stores = (asked : Asked) (now : ℤ) (told_wal told_topics told_offsets : Option (List ℕ))
-    (status : Status) (before after : Option (List ℕ))
+StatusesTellBudgets wals logs stores new_wals new_logs new_stores =
+    (asked : Asked) (now : ℤ) (told_wal told_topics told_offsets : Option (List ℕ)) (status : Status) (before after : Option (List ℕ))
     → (runs : RunsSession asked now told_wal told_topics told_offsets wals logs stores new_wals new_logs new_stores status before after)
     → EndsBy (budget_of asked) status runs.end
 
@@ -99,7 +100,9 @@ abbrev pub OtherRunsSucceed : Type 0
 OtherRunsSucceed = (words : List (List ℕ)) (command : Command) (now : ℤ) (given : RunInput)
     (input_was input_is wal_was wal_is topics_was topics_is offsets_was offsets_is : ℕ) (status : Status) (before after : Option (List ℕ))
     → Spells words command → CanRun command now given
-    → Runs words now given (OfDisk (SpellSome words uses_topics × FaultCounted topics_was topics_is) (SpellSome words uses_offsets × FaultCounted offsets_was offsets_is)) status before after
+    → Runs words now given
+    (OfDisk (SpellSome words uses_topics × FaultCounted topics_was topics_is)
+    (SpellSome words uses_offsets × FaultCounted offsets_was offsets_is)) status before after
     ⊎ (InputFails words input_was input_is status before after ⊎ WalFails words wal_was wal_is status before after)
     → NoneFailed status → IsDoneStatus status
 

@@ -37,37 +37,46 @@ pub record SaysWhy (entry : SessionStart) (stored : Option Offset) (report : Rep
 
 -- A session that could begin, and met only what is supported, stops only if a device failed or memory ran out.
 abbrev pub SupportedSessionsEnd : {S K : Type 0} → (S → SourceState → Type 0) → (K → List (List Record) → Type 0) → Type 0
-SupportedSessionsEnd {S} {K} stands holds = (entry : SessionStart) (stored : Option Offset) (report : Report) (told : Option Trace) (src : S) (sink : K)
+SupportedSessionsEnd {S} {K} stands holds =
+    (entry : SessionStart) (stored : Option Offset) (report : Report) (told : Option Trace) (src : S) (sink : K)
     (result : Result Ending Halt) → SaysWhy entry stored report told (stands src) (holds sink) result
     → CanBegin entry.config entry.history entry.offset → HasMetSupported entry (stands src) (holds sink)
     → IfErr result MayStillHalt
 
 -- The clauses `faithful`, `holds`, `halt`, `absent`, `gone`, `missing`, `own`, `content` and `counted` of a session, verbatim, for one call
 -- with this configuration and time, from these source, sink and store to the new ones.
-pub record TellsHalts {S K D : Type 0} (stands : S → SourceState → Type 0) (honest : S → Type 0) (may_source : S → CrashState → Type 0) (told : S → Option Trace)
+pub record TellsHalts {S K D : Type 0} (stands : S → SourceState → Type 0) (honest : S → Type 0) (may_source : S → CrashState → Type 0)
+    (told : S → Option Trace)
     (holds : K → List (List Record) → Type 0) (may_sink : K → List (List Record) → Type 0) (model : DiskModel D)
-    (config : Config) (now : ℤ) (src new_src : S) (sink new_sink : K) (store new_store : StoreOn D) (report : Report) (result : Result Ending Halt) : Type 0 where
-  pub faithful : (entry : SessionStart) → IsEntryOf config now entry → Found stands holds model entry src sink store → honest new_src → HadOwnTables entry
+    (config : Config) (now : ℤ) (src new_src : S) (sink new_sink : K) (store new_store : StoreOn D) (report : Report)
+    (result : Result Ending Halt) : Type 0 where
+  pub faithful : (entry : SessionStart) → IsEntryOf config now entry → Found stands holds model entry src sink store → honest new_src
+      → HadOwnTables entry
       → LeavesGoing may_source may_sink model entry new_src new_sink new_store
   pub held : CacheMatchesDisk model store new_store result
   pub halts : IfErr result (IsHalt config now store.offset new_store.offset report (told new_src))
   pub absent : (s : SourceState) → stands src s → IfErr result (IsAbsentHalt config.tables s.history)
-  pub gone : (s : SourceState) → stands src s → IsKeptAfter s.confirmed store.offset → (asked first : Lsn) → result ≡ Err (halt.Gone asked first) → ⊥
+  pub gone : (s : SourceState) → stands src s → IsKeptAfter s.confirmed store.offset → (asked first : Lsn)
+      → result ≡ Err (halt.Gone asked first) → ⊥
   pub missing : (s : SourceState) → stands src s → honest new_src → IsWithinLog s.history store.offset → (value : List ℕ) (at : Lsn)
       → result ≡ Err (halt.WatermarkMissing value at) → ⊥
   pub own : (s : SourceState) → stands src s → honest new_src → HadOwnTables (session_start_at config now s store.offset)
       → IfErr result (IsHonestHalt (session_start_at config now s store.offset) (stands new_src))
-  pub content : (entry : SessionStart) → IsEntryOf config now entry → Found stands holds model entry src sink store → honest new_src → WasFaithful entry
+  pub content : (entry : SessionStart) → IsEntryOf config now entry → Found stands holds model entry src sink store → honest new_src
+      → WasFaithful entry
       → IfErr result (IsFaithfulHalt entry new_store.offset report (stands new_src) (holds new_sink))
   pub counted : (groups : List (List Record)) → holds sink groups → ReportsGroups holds may_sink groups result new_sink report
 
 -- A session over a conforming source and faithful stores, with known contents, that could begin and met only what is supported, ends
 -- normally, unless a device failed or memory ran out.
-abbrev pub FaithfulSessionsEnd : {S K D : Type 0} → (S → SourceState → Type 0) → (S → Type 0) → (S → CrashState → Type 0) → (S → Option Trace)
+abbrev pub FaithfulSessionsEnd : {S K D : Type 0} → (S → SourceState → Type 0) → (S → Type 0) → (S → CrashState → Type 0)
+    → (S → Option Trace)
     → (K → List (List Record) → Type 0) → (K → List (List Record) → Type 0) → DiskModel D → Type 0
 FaithfulSessionsEnd {S} {K} {D} stands honest may_source told holds may_sink model =
-    (config : Config) (now : ℤ) (src new_src : S) (sink new_sink : K) (store new_store : StoreOn D) (report : Report) (result : Result Ending Halt)
+    (config : Config) (now : ℤ) (src new_src : S) (sink new_sink : K) (store new_store : StoreOn D) (report : Report)
+    (result : Result Ending Halt)
     → TellsHalts stands honest may_source told holds may_sink model config now src new_src sink new_sink store new_store report result
-    → (entry : SessionStart) → IsEntryOf config now entry → Found stands holds model entry src sink store → honest new_src → WasFaithful entry
+    → (entry : SessionStart) → IsEntryOf config now entry → Found stands holds model entry src sink store → honest new_src
+    → WasFaithful entry
     → CanBegin entry.config entry.history entry.offset → HasMetSupported entry (stands new_src) (holds new_sink)
     → IfErr result MayStillHalt

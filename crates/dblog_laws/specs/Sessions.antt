@@ -39,10 +39,12 @@ pub record MayHaveRead (old : Contents) (wal : Wal) (reading : Reading) : Type 0
 -- The source's log, as a session leaves it, is supported for the captured tables: no transaction that may be read is invalid, no cell is
 -- unreadable, no record has a value equal to the placeholder, and no record and no offset is too long.
 pub record IsSupportedOver (config : Config) (now : ℤ) (old left : Contents) : Type 0 where
-  pub messages : (infos : List TableInfo) (reading : Reading) → Captures config (history_at old) old.offset infos → MayHaveRead old left.wal reading
+  pub messages : (infos : List TableInfo) (reading : Reading) → Captures config (history_at old) old.offset infos
+      → MayHaveRead old left.wal reading
       → AreWithoutFault infos reading.after reading.messages
   pub cells : (infos : List TableInfo) → Captures config (history_at old) old.offset infos → RowsAreReadable infos (history_at left)
-  pub commits : (infos : List TableInfo) (reading : Reading) → Captures config (history_at old) old.offset infos → MayHaveRead old left.wal reading
+  pub commits : (infos : List TableInfo) (reading : Reading) → Captures config (history_at old) old.offset infos
+      → MayHaveRead old left.wal reading
       → CanSend (restart_at config now (found_in old)) (history_at left) infos reading
   pub windows : (infos : List TableInfo) → Captures config (history_at old) old.offset infos
       → WindowsAreSupported (restart_at config now (found_in old)) (standing_left left) (records_of_contents left) infos

@@ -65,7 +65,8 @@ pub record CanBeSent (identity : Identity) (infos : List TableInfo) (now : ℤ) 
 
 -- No value of a window's records is equal to the placeholder, and none of them is longer than 2^28 bytes, if the commit with this index
 -- closes the window.
-pub record CanBeClosed (identity : Identity) (infos : List TableInfo) (now : ℤ) (commits : List Commit) (place : ℕ) (closed : Closed) : Type 0 where
+pub record CanBeClosed (identity : Identity) (infos : List TableInfo) (now : ℤ) (commits : List Commit) (place : ℕ)
+    (closed : Closed) : Type 0 where
   pub clear : snapshot_clash identity infos closed ≡ None
   pub short : (commit : Commit) → slice_get commits place ≡ Some commit → AreShort (snapshot identity infos closed commit now)
 
@@ -73,7 +74,8 @@ pub record CanBeClosed (identity : Identity) (infos : List TableInfo) (now : ℤ
 
 -- The records of the commit that the newest message ends can be sent, if it is one of the history.
 abbrev pub CanSend : SessionStart → History → List TableInfo → Reading → Type 0
-CanSend entry history infos reading = (newest : IsNewest infos history reading) → CanBeSent (session_identity entry) infos entry.now newest.commit
+CanSend entry history infos reading = (newest : IsNewest infos history reading)
+    → CanBeSent (session_identity entry) infos entry.now newest.commit
 
 -- The records of each window that a session may close can be sent: those after a cursor of an offset that agrees with the stores, without
 -- those changed between the watermarks, and at most `chunk`.
@@ -95,7 +97,8 @@ OffsetsAreShort entry t records = (offset : Offset) → offset.identity ≡ sess
 pub record HasMetSupported (entry : SessionStart) (stands : SourceState → Type 0) (holds : List (List Record) → Type 0) : Type 0 where
   pub messages : (t : SourceState) (infos : List TableInfo) → stands t → IsCapturing entry infos → IsClean infos t.reading
   pub cells : (t : SourceState) (infos : List TableInfo) → stands t → IsCapturing entry infos → RowsAreReadable infos t.history
-  pub commits : (t : SourceState) (infos : List TableInfo) (reading : Reading) → stands t → IsCapturing entry infos → t.reading ≡ Some reading
+  pub commits : (t : SourceState) (infos : List TableInfo) (reading : Reading) → stands t → IsCapturing entry infos
+      → t.reading ≡ Some reading
       → CanSend entry t.history infos reading
   pub windows : (t : SourceState) (groups : List (List Record)) (infos : List TableInfo) → stands t → holds groups → IsCapturing entry infos
       → WindowsAreSupported entry t (joined groups) infos

@@ -1,12 +1,13 @@
 //! When a run must succeed: theorems, as contracts of empty functions.
 
 ghost use Rattle.dblog_run.specs.Init.declared.disks.Disks.{Disks};
-ghost use Rattle.dblog_laws.specs.Budgets.{FewMessagesAreSent, GeneratedBudgetsSuffice, GenerousBudgetsSuffice};
+ghost use Rattle.dblog_laws.specs.Budgets.{FewMessagesAreSent, GeneratedBudgetsSuffice};
+ghost use Rattle.dblog_laws.specs.Budgets.{GenerousBudgetsSuffice};
 ghost use Rattle.dblog_laws.specs.Budgets.{GenerousBudgetsSufficeAgain, SentMessagesAreFew};
-ghost use Rattle.dblog_laws.specs.RunLaws.{GeneratedInitsSucceed, GeneratedStatusesTellBudgets, OtherRunsSucceed};
-ghost use Rattle.dblog_laws.specs.RunLaws.{PrintedWorkloadsSucceed, StatusesTellBudgets};
-ghost use Rattle.dblog_laws.specs.RunLaws.{SupportedGeneratedRunsSucceed, SupportedRunsSucceed};
-ghost use Rattle.dblog_laws.specs.RunLaws.{SupportedSessionsSucceed};
+ghost use Rattle.dblog_laws.specs.RunLaws.{GeneratedInitsSucceed, GeneratedStatusesTellBudgets};
+ghost use Rattle.dblog_laws.specs.RunLaws.{OtherRunsSucceed, PrintedWorkloadsSucceed};
+ghost use Rattle.dblog_laws.specs.RunLaws.{StatusesTellBudgets, SupportedGeneratedRunsSucceed};
+ghost use Rattle.dblog_laws.specs.RunLaws.{SupportedRunsSucceed, SupportedSessionsSucceed};
 
 use dbl_disk::Disk;
 

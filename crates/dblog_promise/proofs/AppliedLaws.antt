@@ -1,4 +1,4 @@
--- What `apply` prints behind a complete run are the source's tables.
+-- What `apply` prints after a complete run are the source's tables.
 use Rattle.std.proofs.Common.{◌≡◌, ◌∙◌, ℕ, Option, Some, List, map, sym, ap, subst}
 use Rattle.dbl_record.specs.declared.record.Record.{Record}
 use Rattle.dbl_record.specs.Consumers.{HeldCells, consumer}

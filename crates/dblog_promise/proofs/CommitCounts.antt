@@ -1,4 +1,4 @@
--- Messages that were read state the commits of the history behind where reading began, up to the LSN of the last of them.
+-- Messages that were read state the commits of the history after where reading began, up to the LSN of the last of them.
 use Rattle.std.proofs.Common.{◌≡◌, ◌∙◌, ◌⊎◌, inl, inr, ℕ, suc, ◌<◌, ◌≤◌, Bool, true, false, cond, Option, Some, None, List, [], ◌∷◌, ◌++◌, length, map, filter, refl, sym, ap, subst, arith, append_assoc}
 use Rattle.std.specs.Prelude.{◌&&◌, is_some, nat_lt, nat_le, option_map}
 use Rattle.std.specs.List.{AllByRecursion}
@@ -21,7 +21,7 @@ use Rattle.dblog_promise.specs.Reports.{commits_between}
 
 -- ---- the last commit
 
--- the commits end at this LSN; where there are none it is that behind which reading began
+-- the commits end at this LSN; where there are none it is that after which reading began
 abbrev EndAt : Lsn → List Commit → Lsn → Type 0
 EndAt after commits lsn = ((commits ≡ []) × (lsn ≡ after)) ⊎ ((front : List Commit) × (last : Commit) × (commits ≡ front ++ last ∷ []) × (lsn ≡ last.lsn))
 
@@ -73,7 +73,7 @@ module _ (infos : List TableInfo) (after : Lsn) where
   abbrev subsequent : ℕ → List RawCommit → List Commit
   subsequent from commits = map (typed_commit infos) (filter (λ (c : RawCommit). nat_lt from c.lsn.0) commits)
 
-  -- where all of them stand behind it
+  -- where all of them are after it
   all_rise : (from low : ℕ) (commits : List RawCommit) → from ≤ low → AreRising low (raw_lsns commits) → AreRising low (lsns (subsequent from commits))
   all_rise from low [] le rise = tt
   all_rise from low (c ∷ commits) le rise =

@@ -1,4 +1,4 @@
--- What a session leaves wherever it stops.
+-- What a session leaves where it stops.
 use Rattle.std.proofs.Common.{Option, List}
 use Rattle.dbl_record.specs.declared.record.Record.{Record}
 use Rattle.dbl_model_history.specs.Fit.{IsFitHistory}

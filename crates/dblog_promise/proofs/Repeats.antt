@@ -47,7 +47,7 @@ module _ (entry : SessionStart) (left : CrashState) (groups : List (List Record)
   found : IsFaithfulTo entry.history entry.confirmed (joined entry.groups) old
   found = subst (λ (o : Option Offset). IsFaithful entry.history entry.confirmed (joined entry.groups) o) was faithful
 
-  -- new commits stand behind the log as it was
+  -- new commits are after the log as it was
   beyond : (more : List RawCommit) → left.history ≡ longer entry.history more → AllByRecursion (λ commit. top_position (joined entry.groups) < commit.lsn.0) more
   beyond more same =
       behind_top entry.history more (subst IsRising same fit.rising) (joined entry.groups)

@@ -1,4 +1,4 @@
--- What a consumer can rely on behind any number of sessions and crashes.
+-- What a consumer can rely on after any number of sessions and crashes.
 use Rattle.std.proofs.Common.{◌≡◌, ℕ, true, Option, Some, subst}
 use Rattle.std.specs.Prelude.{slice_get}
 use Rattle.dbl_record.specs.declared.record.Record.{Record}

@@ -37,7 +37,7 @@ use Rattle.dblog_promise.specs.Tables.{whole_log}
 
 -- ---- how far was read
 
--- a reader that has read whole commits has the LSN of the last of them, or that behind which it began
+-- a reader that has read whole commits has the LSN of the last of them, or that after which it began
 upto_from : (tables : List LogTable) (after : Lsn) (n : ℕ) (log : List Logged) (past : List Message) → 256 * n ≤ (last_lsn after past).0 → 256 * (n + length log) ≤ (last_lsn after (told_from tables (n + 1) log past)).0
 upto_from tables after n [] past base = omega (arith, base)
 upto_from tables after n (entry ∷ log) past base =
@@ -57,7 +57,7 @@ upto_place tables log place inside shut =
     let many = length_taken place log inside in
     subst (λ (ms : List Message). 256 * index_of place ≤ (last_lsn place.after ms).0) (sym (closed tables place (slice_get log (index_of place)) (told_whole tables place.after place.commits log) shut)) (omega (arith, here, many))
 
--- ---- nothing but marks behind that
+-- ---- nothing but watermarks after that
 
 not_above : (a b : ℕ) → b ≤ a → nat_lt a b ≡ false
 not_above a b le = grind (arith, le)
@@ -133,7 +133,7 @@ all_counted (c ∷ cs) more p low none =
     let sum = length-append (changes_of c) (all_changes (cs ++ more)) in
     ap (λ (b : Bool). if b then length (changes_of c) + moment_at (cs ++ more) p else 0) (le_is c.lsn.0 p low.0) ∙ omega (arith, rest, sum)
 
--- ---- marks add no change, and no change asks for its LSN
+-- ---- watermarks add no change, and no change asks for its LSN
 
 same_changes : (infos : List TableInfo) (tables : List LogTable) (rows : TextRows) (m n : ℕ) (entries : List Entry)
     → all_changes (commits_in infos tables rows m (logged_in entries)) ≡ all_changes (commits_in infos tables rows n (map Changes (session_commits entries)))

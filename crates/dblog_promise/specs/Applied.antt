@@ -17,7 +17,8 @@ use Rattle.dblog_promise.specs.Kept.{IsKept}
 use Rattle.dblog_promise.specs.Tables.{whole_rows}
 
 -- For this topic and key text, the printed rows agree with these tables: one row with every cell equal, or none.
-pub record PrintsRowAt (identity : Identity) (infos : List TableInfo) (rows : Rows) (printed : List HeldRow) (topic text : List ℕ) : Type 0 where
+pub record PrintsRowAt (identity : Identity) (infos : List TableInfo) (rows : Rows) (printed : List HeldRow)
+    (topic text : List ℕ) : Type 0 where
   pub image : Option (List ℕ → Option (List ℕ))
   pub is : IsImage identity infos rows topic text image
   pub prints : HoldsJsonTexts (lookup (is_at (spot_cmp (topic, text))) printed) image

@@ -18,7 +18,8 @@ use Rattle.dbl_journal.specs.Growth.{growth_room}
 abbrev pub GrowsByFewMarks : Config → Contents → Contents → Type 0
 GrowsByFewMarks config old new =
     (marks_in (history_at new).commits ≡ marks_in (history_at old).commits)
-    ⊎ ((infos : List TableInfo) × Captures config (history_at old) old.offset infos × HasFewMarks infos config.chunk (history_at old) (history_at new))
+    ⊎ ((infos : List TableInfo) × Captures config (history_at old) old.offset infos
+    × HasFewMarks infos config.chunk (history_at old) (history_at new))
 
 -- A session that ended normally added exactly two watermarks for each reported window, and two more if its message budget ran out while the
 -- stored offset has an unfinished table.

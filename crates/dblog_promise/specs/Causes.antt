@@ -121,13 +121,17 @@ IsCauseOf config now old stored report wal (halt.Message number error) = HasOwnT
 IsCauseOf config now old stored report wal (halt.Txn number error) =
     IsHaltByLog config now old.offset stored report wal (halt.Txn number error) × (HasOwnTables old → IsOwnTxn config old wal number error)
 IsCauseOf config now old stored report wal (halt.Chunk table row) = HasOwnTables old → ⊥
-IsCauseOf config now old stored report wal (halt.Cell table column error) = HasOwnTables old → IsCellHalt config old (history_in wal) (halt.Cell table column error)
-IsCauseOf config now old stored report wal (halt.Clash table column) = IsHaltByLog config now old.offset stored report wal (halt.Clash table column)
-IsCauseOf config now old stored report wal (halt.RecordTooLong len) = IsHaltByLog config now old.offset stored report wal (halt.RecordTooLong len)
+IsCauseOf config now old stored report wal (halt.Cell table column error) = HasOwnTables old
+    → IsCellHalt config old (history_in wal) (halt.Cell table column error)
+IsCauseOf config now old stored report wal (halt.Clash table column) =
+    IsHaltByLog config now old.offset stored report wal (halt.Clash table column)
+IsCauseOf config now old stored report wal (halt.RecordTooLong len) =
+    IsHaltByLog config now old.offset stored report wal (halt.RecordTooLong len)
 IsCauseOf config now old stored report wal (halt.OffsetTooLong len) = IsLong config old stored report wal (halt.OffsetTooLong len)
 IsCauseOf config now old stored report wal (halt.WatermarkMissing value at) =
     IsBeyondLog old × IsHaltByLog config now old.offset stored report wal (halt.WatermarkMissing value at)
-IsCauseOf config now old stored report wal (halt.Model error) = (old.offset ≡ None) × IsAbsentHalt config.tables (history_at old) (halt.Model error)
+IsCauseOf config now old stored report wal (halt.Model error) = (old.offset ≡ None)
+    × IsAbsentHalt config.tables (history_at old) (halt.Model error)
 IsCauseOf config now old stored report wal (halt.UnknownTable table) =
     (old.offset ≡ None) × IsAbsentHalt config.tables (history_at old) (halt.UnknownTable table)
 IsCauseOf config now old stored report wal (halt.Gone asked first) = IsGoneAfter config old stored asked first
@@ -149,13 +153,16 @@ IsKeptHalt config now old stored report left (halt.Chunk table row) = ⊥
 IsKeptHalt config now old stored report left (halt.Gone asked first) = ⊥
 IsKeptHalt config now old stored report left (halt.WatermarkMissing value at) = ⊥
 IsKeptHalt config now old stored report left (halt.Txn number error) = IsOwnTxn config old left.wal number error
-IsKeptHalt config now old stored report left (halt.Cell table column error) = IsCellHalt config old (history_at left) (halt.Cell table column error)
+IsKeptHalt config now old stored report left (halt.Cell table column error) =
+    IsCellHalt config old (history_at left) (halt.Cell table column error)
 IsKeptHalt config now old stored report left (halt.Clash table column) =
     (reading : Reading) × HasRead config old.offset stored left.wal reading × (length reading.messages ≡ report.messages)
-    × (offset : Offset) × (stored ≡ Some offset) × IsOwnClash (restart_at config now (found_in old)) offset report (history_at left) reading (halt.Clash table column)
+    × (offset : Offset) × (stored ≡ Some offset)
+    × IsOwnClash (restart_at config now (found_in old)) offset report (history_at left) reading (halt.Clash table column)
 IsKeptHalt config now old stored report left (halt.RecordTooLong len) =
     (reading : Reading) × HasRead config old.offset stored left.wal reading × (length reading.messages ≡ report.messages)
-    × (offset : Offset) × (stored ≡ Some offset) × IsOwnLong (restart_at config now (found_in old)) offset report (history_at left) reading (halt.RecordTooLong len)
+    × (offset : Offset) × (stored ≡ Some offset)
+    × IsOwnLong (restart_at config now (found_in old)) offset report (history_at left) reading (halt.RecordTooLong len)
 IsKeptHalt config now old stored report left (halt.OffsetTooLong len) =
     IsOwnOffset (restart_at config now (found_in old)) (standing_left left) (records_of_contents left) (halt.OffsetTooLong len)
 IsKeptHalt config now old stored report left h = Unit {0}

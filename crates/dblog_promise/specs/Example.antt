@@ -35,7 +35,8 @@ two_commits = example_history_of (example_raw_commit 1 (Changes []) ∷ (example
 
 -- The history with the low watermark that the second session wrote.
 abbrev pub marked : History
-marked = example_history_of (example_raw_commit 1 (Changes []) ∷ (example_raw_commit 2 (Changes []) ∷ (example_raw_commit 3 (Mark (mark_text 2 1 Low)) ∷ [])))
+marked = example_history_of
+    (example_raw_commit 1 (Changes []) ∷ (example_raw_commit 2 (Changes []) ∷ (example_raw_commit 3 (Mark (mark_text 2 1 Low)) ∷ [])))
 
 -- An offset of this incarnation, at this LSN.
 abbrev pub example_offset : ℕ → ℕ → Offset

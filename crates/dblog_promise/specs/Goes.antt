@@ -24,7 +24,8 @@ pub record AdvancesFrom (config : Config) (old new : Contents) : Type 0 where
   -- The appended records are in batches, each of one position, and of at most 1,000 records and 16,777,216 bytes or of one longer record.
   pub grouped : new.groups ≡ old.groups ++ cut adds.more
   -- A restart redelivers no more commits than before the run, or than `every`, the configured number of commits between two stores.
-  pub lag_is : lag (history_at new) (records_of_contents new) new.offset ≤ max config.every (lag (history_at old) (records_of_contents old) old.offset)
+  pub lag_is : lag (history_at new) (records_of_contents new) new.offset
+      ≤ max config.every (lag (history_at old) (records_of_contents old) old.offset)
 
 -- What a run may make of the old contents; nothing changes if its arguments request nothing that is possible there.
 abbrev pub Advances : Option Config → Contents → Contents → Type 0

@@ -46,15 +46,18 @@ pub record IsFirstDelivery (held : Contents) (number : ℕ) (item : Record) : Ty
 -- offset's start, up to this record's position, has every cell of its row, or deletes it.
 abbrev pub IsKnownAt : Contents → Offset → ℕ → Record → ℕ → Key → Type 0
 IsKnownAt held offset number item table key =
-    IsKnown offset.identity offset.infos (all_changes (captured_commits_at held offset)) (moment_at (captured_commits_at held offset) offset.start.0)
+    IsKnown offset.identity offset.infos (all_changes (captured_commits_at held offset))
+    (moment_at (captured_commits_at held offset) offset.start.0)
     (take (number + 1) (records_of_contents held)) (moment_at (captured_commits_at held offset) item.position) table key
 
 -- At each first delivery, a consumer has the source's row of every known key at that position, equal in each cell, or none if the source
 -- has none.
 abbrev pub HoldsSourceRows : Contents → Offset → Type 0
 HoldsSourceRows held offset = (number : ℕ) (item : Record) → IsFirstDelivery held number item
-    → (topic text : List ℕ) (table : ℕ) (key : Key) → Names offset.identity offset.infos topic text table key → IsKnownAt held offset number item table key
-    → HoldsJsonTexts (held_row offset.identity (take (number + 1) (records_of_contents held)) topic text) (image_row offset.infos (source_rows_at held offset item.position) table key)
+    → (topic text : List ℕ) (table : ℕ) (key : Key) → Names offset.identity offset.infos topic text table key
+    → IsKnownAt held offset number item table key
+    → HoldsJsonTexts (held_row offset.identity (take (number + 1) (records_of_contents held)) topic text)
+    (image_row offset.infos (source_rows_at held offset item.position) table key)
 
 -- ---- no snapshot record overwrites a later change
 
@@ -63,13 +66,15 @@ HoldsSourceRows held offset = (number : ℕ) (item : Record) → IsFirstDelivery
 pub record OverwritesNothing (held : Contents) (offset : Offset) (number : ℕ) (item : Record) : Type 0 where
   pub fresh : IsFresh (records_of_contents held) number
   pub right : IsSourceRow offset.identity offset.infos (captured_commits_at held offset) item
-  pub put_ahead : (place : ℕ) (event : ToldEvent) → slice_get (events_since offset.infos offset.start.0 (captured_commits_at held offset)) place ≡ Some event
+  pub put_ahead : (place : ℕ) (event : ToldEvent)
+      → slice_get (events_since offset.infos offset.start.0 (captured_commits_at held offset)) place ≡ Some event
       → event.event.position < item.position → IsPutAhead offset.identity (records_of_contents held) number event
 
 -- No snapshot record of the topic log overwrites a later change.
 abbrev pub SnapshotsOverwriteNothing : Contents → Offset → Type 0
 SnapshotsOverwriteNothing held offset =
-    (number : ℕ) (item : Record) → slice_get (records_of_contents held) number ≡ Some item → is_row item ≡ true → OverwritesNothing held offset number item
+    (number : ℕ) (item : Record) → slice_get (records_of_contents held) number ≡ Some item → is_row item ≡ true
+    → OverwritesNothing held offset number item
 
 -- ---- only positions above the stored offset
 
@@ -106,6 +111,7 @@ pub record Guarantees (complete : Type 0) (old new : Contents) : Type 0 where
   pub tables : complete → LeavesTablesEqual old new
 
 -- The guarantees apply to these bytes of the three disks, which a crash may leave, relative to contents that were possible before the run.
-pub record GuaranteesAfterCrash (complete : Type 0) (asks : Contents → Option Config) (wals logs stores : List ℕ → Type 0) (w t f : List ℕ) : Type 0 where
+pub record GuaranteesAfterCrash (complete : Type 0) (asks : Contents → Option Config) (wals logs stores : List ℕ → Type 0)
+    (w t f : List ℕ) : Type 0 where
   pub left : IsLeft asks wals logs stores w t f
   pub guarantees : Guarantees complete left.predecessor.old left.held

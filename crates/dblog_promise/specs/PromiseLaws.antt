@@ -48,7 +48,8 @@ pub record IsFreshly (script : List ℕ) (w t f : List ℕ) (held : Contents) : 
 
 -- New stores have such contents.
 abbrev pub FreshStoresAreKept : Type 0
-FreshStoresAreKept = (script w t f : List ℕ) → IsFreshWal script w → IsLog t [] → IsStore f None → (held : Contents) × IsFreshly script w t f held
+FreshStoresAreKept = (script w t f : List ℕ) → IsFreshWal script w → IsLog t [] → IsStore f None
+    → (held : Contents) × IsFreshly script w t f held
 
 -- ---- how runs extend them
 
@@ -87,8 +88,8 @@ CompleteRunsLeaveTablesEqual {D} model =
 -- The report of a session that ended over a source that runs the workload, and left crash-consistent contents, agrees with the disks.
 abbrev pub SettledReportsAreRight : {D : Type 0} → DiskModel D → Type 0
 SettledReportsAreRight {D} model =
-    (config : Config) (now : ℤ) (old new : Contents) (ending : Ending) (report : Report) (bytes : List ℕ) (demo : Demo D) (place : ReaderPosition)
-    (more : List (List Record))
+    (config : Config) (now : ℤ) (old new : Contents) (ending : Ending) (report : Report) (bytes : List ℕ) (demo : Demo D)
+    (place : ReaderPosition) (more : List (List Record))
     → IsKept new → IsWal bytes new.wal → IsDemo model new.wal demo → demo.place ≡ Some place
     → (ending ≡ Complete → IsTrue demo.ended × (report.messages < config.messages)) → (ending ≡ Budget → report.messages ≡ config.messages)
     → HasSettled config now old.offset new.offset report (standing_in new.wal (Some place))

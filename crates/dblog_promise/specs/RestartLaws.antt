@@ -79,7 +79,8 @@ abbrev pub OldMarksDoNothing : Type 0
 OldMarksDoNothing = (entry : SessionStart) (history : History) (first : Offset) (place number : ℕ) (raw : RawCommit) (value : List ℕ)
     (old new : Following) (commit : Commit)
     → WasFaithful entry → BeginsSession entry history first → number < 2 ^ 64
-    → slice_get history.commits place ≡ Some raw → raw.body ≡ Mark value → mark_of commit ≡ Some value → IsOwnWindow first.incarnation number old.window → Steps old commit new
+    → slice_get history.commits place ≡ Some raw → raw.body ≡ Mark value → mark_of commit ≡ Some value
+    → IsOwnWindow first.incarnation number old.window → Steps old commit new
     → (new ≡ old) × (records_by old commit entry.now ≡ [])
 
 -- ---- any number of sessions and crashes

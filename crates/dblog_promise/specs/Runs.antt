@@ -18,7 +18,8 @@ use Rattle.dbl_capture_laws.specs.Follow.Followed.{Following}
 use Rattle.dbl_capture_laws.specs.CaptureModel.Entries.{SessionStart}
 use Rattle.dbl_capture_laws.specs.CaptureModel.Stages.{Stage}
 use Rattle.dbl_capture_laws.specs.CaptureModel.Going.{BeganWith}
-use Rattle.dbl_capture_laws.specs.CaptureModel.Steps.{ReadsOneMore, begun_at, following_of, WasArmed, armed_at, WasFollowed, followed_at, stored_at}
+use Rattle.dbl_capture_laws.specs.CaptureModel.Steps.{ReadsOneMore, begun_at, following_of, WasArmed}
+use Rattle.dbl_capture_laws.specs.CaptureModel.Steps.{armed_at, WasFollowed, followed_at, stored_at}
 
 -- A valid request for a session: at least one row a window, a store after at least one commit, and a time in the supported range.
 pub record IsAsked (config : Config) (now : ℤ) : Type 0 where

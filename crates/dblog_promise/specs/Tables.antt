@@ -17,7 +17,8 @@ use Rattle.dblog_promise.specs.Contents.{Contents, captured_commits_at, records_
 
 -- The source's rows at a position of its log, after the commit with that position.
 abbrev pub source_rows_at : Contents → Offset → ℕ → Rows
-source_rows_at held offset position = rows offset.infos (captured_commits_at held offset) (moment_at (captured_commits_at held offset) position)
+source_rows_at held offset position =
+    rows offset.infos (captured_commits_at held offset) (moment_at (captured_commits_at held offset) position)
 
 -- The state of a consumer of the topic log is these rows: for each topic and key text the row with each of its cells, and nothing if there
 -- is none.

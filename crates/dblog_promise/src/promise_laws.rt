@@ -1,9 +1,11 @@
 //! Theorems on the contents of the disks, as contracts of empty functions.
 
 ghost use Rattle.dblog_promise.specs.Applied.{CompleteRunsAreApplied, KeptLogsArePrinted};
-ghost use Rattle.dblog_promise.specs.PromiseLaws.{CompleteRunsLeaveTablesEqual, DisksAreReadOnce, FreshStoresAreKept};
-ghost use Rattle.dblog_promise.specs.PromiseLaws.{KeptRunsArePromised, RunsArePromised, SessionsGoOn, SettledReportsAreRight};
-ghost use Rattle.dblog_promise.specs.PromiseLaws.{SmallLogsAreCounted, WhatStaysGoesOn, WorkloadsHaveTables};
+ghost use Rattle.dblog_promise.specs.PromiseLaws.{CompleteRunsLeaveTablesEqual, DisksAreReadOnce};
+ghost use Rattle.dblog_promise.specs.PromiseLaws.{FreshStoresAreKept, KeptRunsArePromised};
+ghost use Rattle.dblog_promise.specs.PromiseLaws.{RunsArePromised, SessionsGoOn};
+ghost use Rattle.dblog_promise.specs.PromiseLaws.{SettledReportsAreRight, SmallLogsAreCounted};
+ghost use Rattle.dblog_promise.specs.PromiseLaws.{WhatStaysGoesOn, WorkloadsHaveTables};
 
 use dbl_disk::Disk;
 

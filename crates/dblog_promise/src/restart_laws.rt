@@ -1,8 +1,9 @@
 //! Theorems on any number of sessions and crashes, as contracts of empty functions.
 
 ghost use Rattle.dblog_promise.specs.Example.{ThreeSessionsStand};
-ghost use Rattle.dblog_promise.specs.RestartLaws.{RulesKeepPromises, RestartsStayFaithful, FirstSessionsAreFaithful};
-ghost use Rattle.dblog_promise.specs.RestartLaws.{RestartsGoOn, CompletedRestartsAreImages};
+ghost use Rattle.dblog_promise.specs.RestartLaws.{RulesKeepPromises, RestartsStayFaithful};
+ghost use Rattle.dblog_promise.specs.RestartLaws.{FirstSessionsAreFaithful, RestartsGoOn};
+ghost use Rattle.dblog_promise.specs.RestartLaws.{CompletedRestartsAreImages};
 ghost use Rattle.dblog_promise.specs.Telling.{LogsTellTheSource};
 
 /// Sessions that follow the rules keep the session's guarantees.

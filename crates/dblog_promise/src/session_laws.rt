@@ -1,7 +1,8 @@
 //! Theorems on one session that begins with what others left, as contracts of empty functions.
 
-ghost use Rattle.dblog_promise.specs.RestartLaws.{FaithfulEntriesAreKnown, StoredOffsetsBeginAgain, RunsKeepGoing, StopsFollow};
-ghost use Rattle.dblog_promise.specs.RestartLaws.{RepeatsAreCounted, FewCommitsAreReadAgain, OldMarksAreOthers};
+ghost use Rattle.dblog_promise.specs.RestartLaws.{FaithfulEntriesAreKnown, StoredOffsetsBeginAgain};
+ghost use Rattle.dblog_promise.specs.RestartLaws.{RunsKeepGoing, StopsFollow, RepeatsAreCounted};
+ghost use Rattle.dblog_promise.specs.RestartLaws.{FewCommitsAreReadAgain, OldMarksAreOthers};
 ghost use Rattle.dblog_promise.specs.RestartLaws.{OldMarksDoNothing};
 
 /// A session that finds faithful stores finds what its guarantees require.

@@ -35,7 +35,7 @@ same_name-self name =
 among_new : (name : TableName) (raw : RawTable) → raw.name ≡ name → is_among name (raw ∷ []) ≡ true
 among_new name raw is = subst (λ (n : TableName). is_among n (raw ∷ []) ≡ true) is (ap (λ (b : Bool). b || false) (same_name-self raw.name))
 
--- a table that is told anew has not been told
+-- a table that is told again has not been told
 new_other : (tables : List RawTable) (raw : RawTable) (name : TableName) → is_watermark name ≡ false → is_among name tables ≡ false
     → is_among name (list_of (new_table tables raw)) ≡ false → raw.name ≡ name → ⊥
 new_other tables raw name no_mark none later is =
@@ -123,7 +123,7 @@ not_true : (b : Bool) → not b ≡ false → b ≡ true
 not_true true is = refl
 not_true false is = cc
 
--- whether the table of a Relation is told anew
+-- whether the table of a Relation is told again
 known_test : (keys : List TableKey) (ms : List Message) (infos : List TableInfo) (name : TableName) (columns : List RelationColumn) → AreCaptured keys ms infos
     → (is_watermark name || list_any (λ (info : TableInfo). same_name info.name name) infos) ≡ (is_watermark name || is_among name (tables_in keys ms))
 known_test keys ms infos name columns captured = ap (λ (b : Bool). is_watermark name || b) (among_infos keys name ms infos captured)

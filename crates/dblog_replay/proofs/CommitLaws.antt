@@ -169,7 +169,7 @@ so_far_next options now ms b m infos more lines taken so_far =
       commits = ap (λ (l : List (List ℕ)). l ++ lines_in options.identity more (list_of (ended_commit more m ms)) now) then.1 ∙ sym (lines_more options.identity more (commits_of more ms) (list_of (ended_commit more m ms)) now);
     }
 
--- what byte strings behind messages write, with the messages that stand before
+-- what byte strings after messages write, with the messages that stand before
 record IsWhole (options : ReplayOptions) (now : ℤ) (ms : List Message) (bs : List (List ℕ)) (lines : List (List ℕ)) (end : Option LogFault) : Type 0 where
   pub messages : List Message
   pub front : List (List ℕ)
@@ -244,7 +244,7 @@ clean_before options ms (m ∷ messages) clean = (clean_before options (m ∷ ms
 taken_of : (options : ReplayOptions) (ms : List Message) (b : List ℕ) (m : Message) → Spells b m → (clean : HasNoFault options m ms) → IsTaken options ms b m clean.infos
 taken_of options ms b m spells clean = record { read = record { spells = spells; capturable = clean.capturable; captured = clean.captured }; clean = clean.clean }
 
--- what messages behind others write, and how it ends
+-- what messages after others write, and how it ends
 record IsWalked (options : ReplayOptions) (now : ℤ) (ms messages : List Message) (bs before : List (List ℕ)) (end : Option LogFault) : Type 0 where
   pub lines : List (List ℕ)
   pub infos : List TableInfo

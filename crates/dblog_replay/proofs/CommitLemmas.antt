@@ -23,7 +23,7 @@ use Rattle.dblog_replay.specs.declared.log_fault.LogFault.{LogFault}
 use Rattle.dblog_replay.specs.Log.{lines_in, placeholder_fault, commit_fault}
 use Rattle.dblog_replay.specs.LogPrinting.{PutsCommit}
 
--- the fault of a clash
+-- the fault of a value equal to the placeholder
 clash_found : (o : Option Clash) (table : TableName) (column : List ℕ) → option_map clash_error o ≡ Some (PlaceholderClash table column) → option_map placeholder_fault o ≡ Some (log.Placeholder table column)
 clash_found None table column is = cc
 clash_found (Some clash) table column is = cc

@@ -28,7 +28,7 @@ pub end_cut : (fault : Option LogFault) (gathered : List ℕ) (error : PrintErro
 end_cut fault gathered print_error.OutputFailed before after fails unwritten = fails
 end_cut fault gathered print_error.Memory before after fails unwritten = unwritten refl
 
--- or the output failed behind it
+-- or the output failed after it
 pub finish_cut : (fault : Option LogFault) (gathered : List ℕ) (error : PrintError) (before after : Option (List ℕ)) → error ≡ print_error.OutputFailed
     → ((start : Option (List ℕ)) (lines : List (List ℕ)) → IsPut start before gathered lines → PrintFails (lines ++ end_lines fault) error start after) → EndFails fault gathered error before after
 finish_cut fault gathered print_error.OutputFailed before after is fails = fails

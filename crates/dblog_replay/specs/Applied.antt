@@ -9,5 +9,6 @@ use Rattle.dblog_replay.specs.Apply.{readings_of_lines, first_line_fault}
 
 -- With this placeholder the lines lead to these rows, in byte order of topics and keys, or to this error.
 abbrev pub IsApplied : List ℕ → List (List ℕ) → Result (List HeldRow) FaultAt → Type 0
-IsApplied placeholder lines (Ok rows) = (first_line_fault placeholder lines ≡ None) × AreRowsOf (consumer_of placeholder (readings_of_lines lines)) rows
+IsApplied placeholder lines (Ok rows) = (first_line_fault placeholder lines ≡ None)
+    × AreRowsOf (consumer_of placeholder (readings_of_lines lines)) rows
 IsApplied placeholder lines (Err at) = first_line_fault placeholder lines ≡ Some at

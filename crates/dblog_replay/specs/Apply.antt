@@ -43,7 +43,8 @@ or_later_line number (Some fault) later = Some (record { number = number; fault 
 -- The first line that isn't applied, if the first of these lines has this number.
 abbrev pub first_fault_from : ℕ → List ℕ → List (List ℕ) → Option FaultAt
 first_fault_from number placeholder [] = None
-first_fault_from number placeholder (line ∷ lines) = or_later_line number (fault_in placeholder line) (first_fault_from (number + 1) placeholder lines)
+first_fault_from number placeholder (line ∷ lines) =
+    or_later_line number (fault_in placeholder line) (first_fault_from (number + 1) placeholder lines)
 
 -- The first line that isn't applied, counted from 1; empty lines count too.
 abbrev pub first_line_fault : List ℕ → List (List ℕ) → Option FaultAt

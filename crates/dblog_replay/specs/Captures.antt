@@ -1,6 +1,7 @@
 -- The tables that `replay` captures: each at its first Relation, except that of the watermarks. PostgreSQL's "Logical Replication Message
 -- Formats", Relation. Lists of messages have the newest first.
-use Rattle.std.specs.Prelude.{◌≡◌, ℕ, ◌%◌, ◌==◌, ◌||◌, nat_lt, Bool, if◌then◌else◌, Option, Some, None, option_and_then, List, [], ◌∷◌, ◌++◌, length, map, filter}
+use Rattle.std.specs.Prelude.{◌≡◌, ℕ, ◌%◌, ◌==◌, ◌||◌, nat_lt, Bool, if◌then◌else◌, Option, Some}
+use Rattle.std.specs.Prelude.{None, option_and_then, List, [], ◌∷◌, ◌++◌, length, map, filter}
 use Rattle.std.specs.List.{list_any}
 use Rattle.dbl_pgmsg.specs.declared.messages.Message.{Message}
 use Rattle.dbl_pgmsg.specs.declared.messages.Message.TheVariants as says
@@ -50,7 +51,8 @@ new_table tables table = if is_watermark table.name || is_among table.name table
 
 -- The table that a message is the first to describe, after these.
 abbrev pub table_told : List TableKey → List RawTable → Message → Option RawTable
-table_told keys tables (says.Relation oid namespace name identity columns) = new_table tables (entry_of keys (table_named namespace name) columns)
+table_told keys tables (says.Relation oid namespace name identity columns) =
+    new_table tables (entry_of keys (table_named namespace name) columns)
 table_told keys tables m = None
 
 -- The tables that messages describe, in the order of their first Relations.

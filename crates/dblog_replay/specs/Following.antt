@@ -54,7 +54,8 @@ Prepares options ms m r (Ok x) = IsReplayerReady options ms m r
 Prepares options ms m r (Err e) = (e ≡ log.Memory) ⊎ (told_fault options.keys (tables_in options.keys ms) m ≡ Some e)
 
 -- The next message was processed, and ends this commit.
-pub record IsAppended (options : ReplayOptions) (infos : List TableInfo) (ms : List Message) (m : Message) (r : Replayer) (o : Option Commit) : Type 0 where
+pub record IsAppended (options : ReplayOptions) (infos : List TableInfo) (ms : List Message) (m : Message) (r : Replayer)
+    (o : Option Commit) : Type 0 where
   pub clean : transaction_fault infos log_start m ms ≡ None
   pub commit : o ≡ ended_commit infos m ms
   pub replayed : HasReplayed options infos (m ∷ ms) r
@@ -62,7 +63,8 @@ pub record IsAppended (options : ReplayOptions) (infos : List TableInfo) (ms : L
 -- The result of processing the next message, after its table was captured.
 abbrev pub AppendsMessage : ReplayOptions → List TableInfo → List Message → Message → Replayer → Result (Option Commit) LogFault → Type 0
 AppendsMessage options infos ms m r (Ok o) = IsAppended options infos ms m r o
-AppendsMessage options infos ms m r (Err e) = (e ≡ log.Memory) ⊎ (option_map (log.Transaction (length ms + 1)) (transaction_fault infos log_start m ms) ≡ Some e)
+AppendsMessage options infos ms m r (Err e) = (e ≡ log.Memory)
+    ⊎ (option_map (log.Transaction (length ms + 1)) (transaction_fault infos log_start m ms) ≡ Some e)
 
 -- Bytes were processed that are a message which may follow, and ends this commit.
 pub record IsNextMessage (options : ReplayOptions) (ms : List Message) (bytes : List ℕ) (r : Replayer) (o : Option Commit) : Type 0 where

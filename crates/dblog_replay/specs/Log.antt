@@ -1,5 +1,6 @@
 -- What `replay` makes of the messages of a log: the lines of their commits, up to the first error. Lists of messages have the newest first.
-use Rattle.std.specs.Prelude.{◌≡◌, ◌⊎◌, ℕ, ◌+◌, ℤ, Bool, true, false, Option, Some, None, is_some, option_map, option_and_then, List, [], ◌∷◌, ◌++◌, length, map, flat_map}
+use Rattle.std.specs.Prelude.{◌≡◌, ◌⊎◌, ℕ, ◌+◌, ℤ, Bool, true, false, Option, Some, None, is_some}
+use Rattle.std.specs.Prelude.{option_map, option_and_then, List, [], ◌∷◌, ◌++◌, length, map, flat_map}
 use Rattle.dbl_lines.specs.declared.status.Status.{Status}
 use Rattle.dbl_lines.specs.declared.status.Status.TheVariants.{Done}
 use Rattle.std.specs.Option.{option_or}
@@ -47,13 +48,16 @@ commit_fault identity infos commit = option_map placeholder_fault (clash_of iden
 -- The error of a message: it can't follow those before it, or ends a commit whose records can't be made. Messages are counted from 1.
 abbrev pub read_fault : Identity → List TableInfo → Message → List Message → Option LogFault
 read_fault identity infos m ms =
-    option_or (option_map (log.Transaction (length ms + 1)) (transaction_fault infos log_start m ms)) (option_and_then (commit_fault identity infos) (ended_commit infos m ms))
+    option_or (option_map (log.Transaction (length ms + 1)) (transaction_fault infos log_start m ms))
+    (option_and_then (commit_fault identity infos) (ended_commit infos m ms))
 
 -- The error of bytes after these messages: no message, a table that can't be captured, or the message's own.
 pub data IsLogFault (options : ReplayOptions) (ms : List Message) (bytes : List ℕ) (fault : LogFault) : Type 0 where
   no_message : (error : MsgError) → IsFault bytes error → fault ≡ log.Message (length ms + 1) error → IsLogFault options ms bytes fault
-  no_table : (m : Message) → Spells bytes m → told_fault options.keys (tables_in options.keys ms) m ≡ Some fault → IsLogFault options ms bytes fault
-  no_place : (m : Message) (infos : List TableInfo) → IsRead options ms bytes m infos → read_fault options.identity infos m ms ≡ Some fault → IsLogFault options ms bytes fault
+  no_table : (m : Message) → Spells bytes m → told_fault options.keys (tables_in options.keys ms) m ≡ Some fault
+      → IsLogFault options ms bytes fault
+  no_place : (m : Message) (infos : List TableInfo) → IsRead options ms bytes m infos → read_fault options.identity infos m ms ≡ Some fault
+      → IsLogFault options ms bytes fault
 
 -- Bytes after these messages have no error.
 pub record IsTaken (options : ReplayOptions) (ms : List Message) (bytes : List ℕ) (m : Message) (infos : List TableInfo) : Type 0 where
@@ -66,7 +70,8 @@ end_fault true = Some log.Unfinished
 end_fault false = None
 
 -- The first of the byte strings, after these messages, has this error, and no line is written.
-pub record IsStopped (options : ReplayOptions) (ms : List Message) (bytes : List ℕ) (lines : List (List ℕ)) (end : Option LogFault) : Type 0 where
+pub record IsStopped (options : ReplayOptions) (ms : List Message) (bytes : List ℕ) (lines : List (List ℕ))
+    (end : Option LogFault) : Type 0 where
   pub fault : LogFault
   pub is : IsLogFault options ms bytes fault
   pub none : lines ≡ []
@@ -78,7 +83,8 @@ LogWrites options now ms [] lines end = (lines ≡ []) × (end ≡ end_fault (is
 LogWrites options now ms (b ∷ bs) lines end =
     IsStopped options ms b lines end
     ⊎ ((m : Message) × (infos : List TableInfo) × (more : List (List ℕ)) × IsTaken options ms b m infos
-    × (lines ≡ lines_in options.identity infos (list_of (ended_commit infos m ms)) now ++ more) × LogWrites options now (m ∷ ms) bs more end)
+    × (lines ≡ lines_in options.identity infos (list_of (ended_commit infos m ms)) now ++ more)
+    × LogWrites options now (m ∷ ms) bs more end)
 
 -- The status of a log's end.
 abbrev pub end_status : Option LogFault → Status

@@ -13,7 +13,8 @@ use Rattle.dbl_model_commit.specs.declared.txn_error.TxnError.TheVariants as txn
 use Rattle.dbl_model_table.specs.declared.table.TableName.{TableName}
 use Rattle.dbl_model_table.specs.Tables.{full_name}
 use Rattle.dblog_replay.specs.declared.log_fault.LogFault.{LogFault}
-use Rattle.dblog_replay.specs.declared.log_fault.LogFault.TheVariants.{Message, Transaction, Table, TooManyTables, Placeholder, Unfinished, Memory}
+use Rattle.dblog_replay.specs.declared.log_fault.LogFault.TheVariants.{Message, Transaction, Table, TooManyTables}
+use Rattle.dblog_replay.specs.declared.log_fault.LogFault.TheVariants.{Placeholder, Unfinished, Memory}
 
 -- The words for bytes that are no message.
 abbrev pub message_text : MsgError → List ℕ

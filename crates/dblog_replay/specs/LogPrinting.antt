@@ -21,18 +21,21 @@ pub record IsHalted (gathered later : List ℕ) (before after : Option (List ℕ
   pub same : after ≡ before
 
 -- Not all lines of a commit were gathered, because memory ran out.
-pub data CommitFails (fault : Option LogFault) (lines : List (List ℕ)) (gathered : List ℕ) (error : PrintError) (before after : Option (List ℕ)) : Type 0 where
+pub data CommitFails (fault : Option LogFault) (lines : List (List ℕ)) (gathered : List ℕ) (error : PrintError)
+    (before after : Option (List ℕ)) : Type 0 where
   starved : error ≡ Memory → after ≡ before → CommitFails fault lines gathered error before after
   cut : fault ≡ None → PutFails lines gathered error before after → CommitFails fault lines gathered error before after
 
 -- The lines of a commit were gathered, or the commit has this error.
-abbrev pub PutsCommit : Option LogFault → List (List ℕ) → List ℕ → List ℕ → Result (Option LogFault) PrintError → Option (List ℕ) → Option (List ℕ) → Type 0
+abbrev pub PutsCommit : Option LogFault → List (List ℕ) → List ℕ → List ℕ → Result (Option LogFault) PrintError → Option (List ℕ)
+    → Option (List ℕ) → Type 0
 PutsCommit fault lines gathered later (Ok None) before after = (fault ≡ None) × Puts lines gathered later before after
 PutsCommit fault lines gathered later (Ok (Some found)) before after = (fault ≡ Some found) × IsHalted gathered later before after
 PutsCommit fault lines gathered later (Err error) before after = CommitFails fault lines gathered error before after
 
 -- Bytes without an error were processed, and the lines of the commit that they end gathered.
-pub record IsStepped (options : ReplayOptions) (now : ℤ) (ms : List Message) (bytes gathered later : List ℕ) (r : Replayer) (before after : Option (List ℕ)) : Type 0 where
+pub record IsStepped (options : ReplayOptions) (now : ℤ) (ms : List Message) (bytes gathered later : List ℕ) (r : Replayer)
+    (before after : Option (List ℕ)) : Type 0 where
   pub m : Message
   pub infos : List TableInfo
   pub taken : IsTaken options ms bytes m infos
@@ -40,27 +43,34 @@ pub record IsStepped (options : ReplayOptions) (now : ℤ) (ms : List Message) (
   pub puts : Puts (lines_in options.identity infos (list_of (ended_commit infos m ms)) now) gathered later before after
 
 -- Bytes were not processed whole, or the lines of their commit not all gathered.
-pub data StepFails (options : ReplayOptions) (now : ℤ) (ms : List Message) (bytes gathered : List ℕ) (error : PrintError) (before after : Option (List ℕ)) : Type 0 where
+pub data StepFails (options : ReplayOptions) (now : ℤ) (ms : List Message) (bytes gathered : List ℕ) (error : PrintError)
+    (before after : Option (List ℕ)) : Type 0 where
   step_starved : error ≡ Memory → after ≡ before → StepFails options now ms bytes gathered error before after
-  step_cut : (m : Message) (infos : List TableInfo) → IsTaken options ms bytes m infos → PutFails (lines_in options.identity infos (list_of (ended_commit infos m ms)) now) gathered error before after
+  step_cut : (m : Message) (infos : List TableInfo) → IsTaken options ms bytes m infos
+      → PutFails (lines_in options.identity infos (list_of (ended_commit infos m ms)) now) gathered error before after
       → StepFails options now ms bytes gathered error before after
 
 -- The result of processing bytes after these messages.
-abbrev pub StepsPrinting : ReplayOptions → ℤ → List Message → List ℕ → List ℕ → List ℕ → Replayer → Result (Option LogFault) PrintError → Option (List ℕ) → Option (List ℕ) → Type 0
+abbrev pub StepsPrinting : ReplayOptions → ℤ → List Message → List ℕ → List ℕ → List ℕ → Replayer → Result (Option LogFault) PrintError
+    → Option (List ℕ) → Option (List ℕ) → Type 0
 StepsPrinting options now ms bytes gathered later r (Ok None) before after = IsStepped options now ms bytes gathered later r before after
-StepsPrinting options now ms bytes gathered later r (Ok (Some fault)) before after = IsLogFault options ms bytes fault × IsHalted gathered later before after
+StepsPrinting options now ms bytes gathered later r (Ok (Some fault)) before after = IsLogFault options ms bytes fault
+    × IsHalted gathered later before after
 StepsPrinting options now ms bytes gathered later r (Err error) before after = StepFails options now ms bytes gathered error before after
 
 -- The lines of the byte strings' messages were gathered, up to this error.
-pub record IsLogPut (options : ReplayOptions) (now : ℤ) (bs : List (List ℕ)) (gathered later : List ℕ) (fault : Option LogFault) (before after : Option (List ℕ)) : Type 0 where
+pub record IsLogPut (options : ReplayOptions) (now : ℤ) (bs : List (List ℕ)) (gathered later : List ℕ) (fault : Option LogFault)
+    (before after : Option (List ℕ)) : Type 0 where
   pub lines : List (List ℕ)
   pub writes : LogWrites options now [] bs lines fault
   pub puts : Puts lines gathered later before after
 
 -- The result of gathering a log's lines: all of them, or some if the output failed or memory ran out.
-abbrev pub PutsLog : ReplayOptions → ℤ → List (List ℕ) → List ℕ → List ℕ → Result (Option LogFault) PrintError → Option (List ℕ) → Option (List ℕ) → Type 0
+abbrev pub PutsLog : ReplayOptions → ℤ → List (List ℕ) → List ℕ → List ℕ → Result (Option LogFault) PrintError → Option (List ℕ)
+    → Option (List ℕ) → Type 0
 PutsLog options now bs gathered later (Ok fault) before after = IsLogPut options now bs gathered later fault before after
-PutsLog options now bs gathered later (Err error) before after = (lines : List (List ℕ)) (end : Option LogFault) → LogWrites options now [] bs lines end → PutFails lines gathered error before after
+PutsLog options now bs gathered later (Err error) before after = (lines : List (List ℕ)) (end : Option LogFault)
+    → LogWrites options now [] bs lines end → PutFails lines gathered error before after
 
 -- All lines of a log were written, with that of its error.
 pub record IsLogPrinted (options : ReplayOptions) (now : ℤ) (bs : List (List ℕ)) (status : Status)
@@ -79,15 +89,19 @@ LogFails lines end Memory before after = (n : ℕ) × Wrote before after (lines_
 -- The result of printing a log: all of its lines, or a part.
 abbrev pub PrintsLog : ReplayOptions → ℤ → List (List ℕ) → Result Status PrintError → Option (List ℕ) → Option (List ℕ) → Type 0
 PrintsLog options now bs (Ok status) before after = IsLogPrinted options now bs status before after
-PrintsLog options now bs (Err error) before after = (lines : List (List ℕ)) (end : Option LogFault) → LogWrites options now [] bs lines end → LogFails lines end error before after
+PrintsLog options now bs (Err error) before after = (lines : List (List ℕ)) (end : Option LogFault) → LogWrites options now [] bs lines end
+    → LogFails lines end error before after
 
 -- The lines and the error's line were gathered, and a prefix of their text was written if the output failed.
 abbrev pub EndFails : Option LogFault → List ℕ → PrintError → Option (List ℕ) → Option (List ℕ) → Type 0
-EndFails fault gathered OutputFailed before after = (start : Option (List ℕ)) (lines : List (List ℕ)) → IsPut start before gathered lines → WrotePrefix start after (lines_text (lines ++ end_lines fault))
+EndFails fault gathered OutputFailed before after = (start : Option (List ℕ)) (lines : List (List ℕ)) → IsPut start before gathered lines
+    → WrotePrefix start after (lines_text (lines ++ end_lines fault))
 EndFails fault gathered Memory before after = after ≡ before
 
 -- The result of writing the rest of a log's lines.
 abbrev pub FinishesLog : Option LogFault → List ℕ → Result Status PrintError → Option (List ℕ) → Option (List ℕ) → Type 0
 FinishesLog fault gathered (Ok status) before after =
-    (status ≡ end_status fault) × ((start : Option (List ℕ)) (lines : List (List ℕ)) → IsPut start before gathered lines → Wrote start after (lines_text (lines ++ end_lines fault)))
+    (status ≡ end_status fault)
+    × ((start : Option (List ℕ)) (lines : List (List ℕ)) → IsPut start before gathered lines
+    → Wrote start after (lines_text (lines ++ end_lines fault)))
 FinishesLog fault gathered (Err error) before after = EndFails fault gathered error before after

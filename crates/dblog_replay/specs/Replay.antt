@@ -38,7 +38,8 @@ EndsLog options ms (b ∷ bs) end = (fault : LogFault) × IsLogFault options ms 
 
 -- The messages up to the first error, the lines of all their commits, and that error or the log's end; each of them may follow also with
 -- all their tables captured.
-pub record IsReplayed (options : ReplayOptions) (now : ℤ) (bs : List (List ℕ)) (lines : List (List ℕ)) (end : Option LogFault) : Type 0 where
+pub record IsReplayed (options : ReplayOptions) (now : ℤ) (bs : List (List ℕ)) (lines : List (List ℕ))
+    (end : Option LogFault) : Type 0 where
   pub messages : List Message
   pub front : List (List ℕ)
   pub rest : List (List ℕ)
@@ -53,4 +54,5 @@ pub record IsReplayed (options : ReplayOptions) (now : ℤ) (bs : List (List ℕ
 
 -- The lines that are written message by message are exactly those of all commits before the first error.
 abbrev pub CommitsAreWritten : Type 0
-CommitsAreWritten = (options : ReplayOptions) (now : ℤ) (bs : List (List ℕ)) (lines : List (List ℕ)) (end : Option LogFault) → LogWrites options now [] bs lines end ↔ IsReplayed options now bs lines end
+CommitsAreWritten = (options : ReplayOptions) (now : ℤ) (bs : List (List ℕ)) (lines : List (List ℕ)) (end : Option LogFault)
+    → LogWrites options now [] bs lines end ↔ IsReplayed options now bs lines end

@@ -1,12 +1,15 @@
 //! `apply --lines`: the tables that a consumer of lines of change events has.
-ghost use Rattle.std.specs.Prelude.{◌≡◌, ◌≢◌, ◌++◌, ◌∷◌, [], List, ℕ, Some, None, IfOk, IfErr, OnOk};
+ghost use Rattle.std.specs.Prelude.{◌≡◌, ◌≢◌, ◌++◌, ◌∷◌, [], List, ℕ};
+ghost use Rattle.std.specs.Prelude.{Some, None, IfOk, IfErr, OnOk};
 ghost use Rattle.std.specs.Option.{option_to_list};
 ghost use Rattle.std.specs.String.{string_bytes};
 ghost use Rattle.dbl_base.specs.Lines.{lines_of, lines_text};
 ghost use Rattle.dbl_record.specs.Acts.{Reading};
 ghost use Rattle.dbl_record.specs.Reading.{parsed_as};
 ghost use Rattle.dbl_consume.specs.Holdings.{Took, placeholder_of};
-ghost use Rattle.dblog_replay.specs.Apply.{line_fault_of, fault_in, first_line_fault, reading_of_line, readings_of_lines, refusal_text, words_of, fault_text};
+ghost use Rattle.dblog_replay.specs.Apply.{line_fault_of, fault_in, first_line_fault};
+ghost use Rattle.dblog_replay.specs.Apply.{reading_of_line, readings_of_lines};
+ghost use Rattle.dblog_replay.specs.Apply.{refusal_text, words_of, fault_text};
 
 use dbl_base::{Text, next_line};
 use dbl_consume::{ConsumeError, Consumer};

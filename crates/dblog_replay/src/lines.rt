@@ -1,9 +1,11 @@
-ghost use Rattle.std.specs.Prelude.{◌≡◌, ◌<◌, ◌++◌, ◌∷◌, ℕ, true, false, length, Some, None, Err, IfOk, OnOk};
+ghost use Rattle.std.specs.Prelude.{◌≡◌, ◌<◌, ◌++◌, ◌∷◌, ℕ, true, false};
+ghost use Rattle.std.specs.Prelude.{length, Some, None, Err, IfOk, OnOk};
 ghost use Rattle.std.specs.Option.{option_to_list};
 ghost use Rattle.std.specs.Result.{result_ok};
 ghost use Rattle.dbl_base.specs.Lines.{is_passed_over, lines_of};
 ghost use Rattle.hex.specs.Hex.{decode_of};
-ghost use Rattle.dblog_replay.specs.Lines.{without_spaces, bytes_in, message_in, is_bad, message_bytes_in, first_bad_line};
+ghost use Rattle.dblog_replay.specs.Lines.{without_spaces, bytes_in, message_in};
+ghost use Rattle.dblog_replay.specs.Lines.{is_bad, message_bytes_in, first_bad_line};
 
 use dbl_base::{Bytes, is_blank_or_comment, next_line};
 use hex::FromHexError;

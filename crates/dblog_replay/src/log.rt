@@ -1,7 +1,7 @@
 //! The loop over the messages of a log: the lines of their commits up to the first error, and its
 //! line.
-ghost use Rattle.std.specs.Prelude.{◌≡◌, ◌≢◌, Some, ◌+◌, ◌∷◌, List, [], length, map, None, option_and_then, All};
-ghost use Rattle.std.specs.Prelude.{IfSome, IfOk, IfErr, OnOk, Err};
+ghost use Rattle.std.specs.Prelude.{◌≡◌, ◌≢◌, Some, ◌+◌, ◌∷◌, List, [], length, map, None};
+ghost use Rattle.std.specs.Prelude.{option_and_then, All, IfSome, IfOk, IfErr, OnOk, Err};
 ghost use Rattle.dbl_base.specs.Streams.{FailsOnlyIfCounted};
 ghost use Rattle.dbl_lines.specs.Gathering.{PutsLines};
 ghost use Rattle.dbl_pgmsg.specs.declared.messages.Message.{Message};
@@ -16,7 +16,8 @@ ghost use Rattle.dblog_replay.specs.declared.options.ReplayOptions.{ReplayOption
 ghost use Rattle.dblog_replay.specs.Following.{FollowsMessages, IsReplaying, TakesMessage};
 ghost use Rattle.dblog_replay.specs.Log.{lines_in, commit_fault, end_fault, end_status, end_lines};
 ghost use Rattle.dblog_replay.specs.LogFaults.{log_status, log_line};
-ghost use Rattle.dblog_replay.specs.LogPrinting.{PutsCommit, StepsPrinting, PutsLog, PrintsLog, FinishesLog};
+ghost use Rattle.dblog_replay.specs.LogPrinting.{PutsCommit, StepsPrinting};
+ghost use Rattle.dblog_replay.specs.LogPrinting.{PutsLog, PrintsLog, FinishesLog};
 
 use crate::log_fault::LogFault;
 use crate::options::ReplayOptions;
@@ -125,7 +126,8 @@ fn take_bytes(
     number: u64,
     bytes: Bytes,
 ) -> Result<Option<Commit>, LogFault>
-    ensures { (options : ReplayOptions) (ms : List Message) → FollowsMessages options ms replayer.old
+    ensures { (options : ReplayOptions) (ms : List Message)
+        → FollowsMessages options ms replayer.old
         → number ≡ length ms + 1 → TakesMessage options ms bytes replayer.new result }
 {
     replayer.take(alloc, number, bytes.items().as_slice())

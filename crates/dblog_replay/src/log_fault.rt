@@ -2,8 +2,9 @@
 
 ghost use Rattle.std.specs.Prelude.{◌≡◌, IfOk};
 ghost use Rattle.std.specs.String.{string_bytes};
-ghost use Rattle.dblog_replay.specs.LogFaults.{message_text, value_words, transaction_text, table_text, log_line};
-ghost use Rattle.dblog_replay.specs.LogFaults.{is_malformed, log_status, transaction_status, transaction_line};
+ghost use Rattle.dblog_replay.specs.LogFaults.{message_text, value_words, transaction_text};
+ghost use Rattle.dblog_replay.specs.LogFaults.{table_text, log_line, is_malformed, log_status};
+ghost use Rattle.dblog_replay.specs.LogFaults.{transaction_status, transaction_line};
 
 use dbl_base::Text;
 use dbl_lines::Status;

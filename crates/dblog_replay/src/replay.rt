@@ -1,13 +1,15 @@
 //! The messages of a log, one after another: their commits, and the first error.
 
-ghost use Rattle.std.specs.Prelude.{◌≡◌, ◌+◌, ◌∷◌, ℕ, List, [], ◌++◌, length, IfOk, IfErr, OnOk, is_some};
+ghost use Rattle.std.specs.Prelude.{◌≡◌, ◌+◌, ◌∷◌, ℕ, List, [], ◌++◌};
+ghost use Rattle.std.specs.Prelude.{length, IfOk, IfErr, OnOk, is_some};
 ghost use Rattle.dbl_pgmsg.specs.declared.messages.Message.{Message};
 ghost use Rattle.dbl_pgmsg.specs.declared.messages.Message.TheVariants as says;
 ghost use Rattle.dbl_pgmsg.specs.Grammar.{Spells};
 ghost use Rattle.dbl_model_table.specs.declared.table.TableInfo.{TableInfo};
 ghost use Rattle.dbl_model_commit.specs.Past.{begin_of, HasNoRelation};
 ghost use Rattle.dblog_replay.specs.declared.options.ReplayOptions.{ReplayOptions};
-ghost use Rattle.dblog_replay.specs.Following.{HasReplayed, FollowsMessages, ReadFails, Prepares, AppendsMessage, TakesMessage};
+ghost use Rattle.dblog_replay.specs.Following.{HasReplayed, FollowsMessages, ReadFails};
+ghost use Rattle.dblog_replay.specs.Following.{Prepares, AppendsMessage, TakesMessage};
 
 use crate::capture::{capture_table, entry_of, is_new, schema_of};
 use crate::log_fault::LogFault;
@@ -69,7 +71,8 @@ impl Replayer {
 
     /// Whether a transaction is open. Takes no memory.
     pub fn inside(&self) -> bool
-        ensures { (options : ReplayOptions) (ms : List Message) → FollowsMessages options ms self.now →
+        ensures { (options : ReplayOptions) (ms : List Message) →
+            FollowsMessages options ms self.now →
             result ≡ is_some (begin_of ms) }
     {
         self.assembler.inside()
@@ -116,7 +119,8 @@ impl Replayer {
     }
 
     fn prepare(&mut self, alloc: Global, message: &Message) -> Result<(), LogFault>
-        ensures { (options : ReplayOptions) (ms : List Message) → FollowsMessages options ms self.old →
+        ensures { (options : ReplayOptions) (ms : List Message) →
+            FollowsMessages options ms self.old →
             Prepares options ms message.now self.new result }
     {
         match message {
@@ -157,7 +161,8 @@ impl Replayer {
         number: u64,
         bytes: &[u8],
     ) -> Result<Option<Commit>, LogFault>
-        ensures { (options : ReplayOptions) (ms : List Message) → FollowsMessages options ms self.old →
+        ensures { (options : ReplayOptions) (ms : List Message) →
+            FollowsMessages options ms self.old →
             number ≡ length ms + 1 → TakesMessage options ms bytes.now self.new result }
     {
         let message = decode_message(alloc, number, bytes)?;

@@ -7,7 +7,7 @@ use Rattle.dbl_lines.specs.Says.{IsCutShort}
 use Rattle.dbl_disk.specs.Model.{DiskModel}
 use Rattle.dbl_journal.specs.Calls.{Keeps}
 
--- a count that rose before others grew, or behind them
+-- a count that rose before others grew, or after them
 pub rose_before : (a b c : ℕ) → FaultCounted a b → b ≤ c → FaultCounted a c
 rose_before a b c rose later = omega (arith, rose, later)
 

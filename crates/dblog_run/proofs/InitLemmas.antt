@@ -1,4 +1,4 @@
--- How a run of `init` ends, from how `init` ended and what was written behind it.
+-- How a run of `init` ends, from how `init` ended and what was written after it.
 use Rattle.std.proofs.Common.{◌≡◌, ◌⊎◌, inl, inr, ◌∙◌, ℕ, Option, Some, Ok, Err, List, [], ◌∷◌, refl, sym, ap, subst}
 use Rattle.std.proofs.lemmas.List.{append-nil}
 use Rattle.dbl_base.specs.Lines.{lines_text}

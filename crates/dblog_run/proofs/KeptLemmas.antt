@@ -32,7 +32,7 @@ some_of : (o : Option (List ℕ)) → IsSome o → (bytes : List ℕ) × (o ≡ 
 some_of None is = absurd (switched (sym is))
 some_of (Some bytes) is = (bytes, refl)
 
--- ---- a run that stopped before it began, or asks for nothing
+-- ---- a run that stopped before it began, or requests nothing
 
 -- a run of any words has gone on to what was there
 stays_gone : (asks : Option Config) (held : Contents) → Advances asks held held

@@ -1,4 +1,4 @@
--- The statuses 4 and 14 are answered exactly where the stores tell an error.
+-- The statuses 4 and 14 are answered if and only if the stores tell an error.
 use Rattle.std.proofs.Common.{◌≡◌, ◌≢◌, ◌⊎◌, inl, inr, ◌∙◌, ℕ, ℤ, true, false, Ok, Err, List, [], map, refl, sym, ap}
 use Rattle.dbl_cli.specs.declared.commands.Command.{Command}
 use Rattle.dbl_cli.specs.declared.commands.Command.TheVariants as command

@@ -1,4 +1,4 @@
--- Which command asks for a session, and how one ends for which memory ran out.
+-- Which command requests a session, and how one ends for which memory ran out.
 use Rattle.std.proofs.Common.{◌≡◌, ◌⊎◌, inl, inr, ℕ, ℤ, Option, Some, None, Err, List, option_and_then, refl, sym, ap}
 use Rattle.dbl_cli.specs.declared.commands.Command.{Command}
 use Rattle.dbl_cli.specs.declared.commands.Command.TheVariants as command

@@ -115,7 +115,7 @@ no_entry_fault : (count : ℕ) (o : Option ModelError) → entry_fault count o �
 no_entry_fault count None is = refl
 no_entry_fault count (Some error) is = cc
 
--- the tables that are captured behind one message more
+-- the tables that are captured after one message more
 abbrev Captures : ReplayOptions → List Message → Message → Type 0
 Captures options ms m = (infos : List TableInfo) × AreCaptured options.keys (m ∷ ms) infos
 

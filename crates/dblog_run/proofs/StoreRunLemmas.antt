@@ -1,4 +1,4 @@
--- How a run of a command over the stores ends, from how the command ended and what was written behind it.
+-- How a run of a command over the stores ends, from how the command ended and what was written after it.
 use Rattle.std.proofs.Common.{◌≡◌, ◌⊎◌, inl, inr, ℕ, Option, Ok, Err, IfErr, List, [], ◌∷◌, ◌++◌, take, refl, sym, ap, subst}
 use Rattle.dbl_base.specs.Lines.{lines_text}
 use Rattle.dbl_lines.specs.declared.status.Status.{Status}
@@ -58,7 +58,7 @@ same_after : (x y : Option (List ℕ)) (P : Option (List ℕ) → Type 0) → y 
 same_after x y P is p = subst P (sym is) p
 
 module _ (failed : Store → Type 0) where
-  -- ---- behind some first lines
+  -- ---- after some first lines
 
   starved_ends : (answer : RunAnswer) (n : ℕ) (status : Status) (before middle after : Option (List ℕ)) → Wrote before middle (lines_text (take n answer.one_by_one))
       → Writes (status_of Memory) (lines_text (fault_line Memory ∷ [])) status middle after → EndsWith failed answer status before after

@@ -45,7 +45,8 @@ pub record DiskFails (failed : Store → Type 0) (answer : RunAnswer) (status : 
   pub store : Store
   pub cause : failed store
   pub count : ℕ
-  pub writes : Writes (error_status (Failed store)) (lines_text (take count answer.one_by_one) ++ lines_text (error_line (Failed store) ∷ [])) status before after
+  pub writes : Writes (error_status (Failed store))
+      (lines_text (take count answer.one_by_one) ++ lines_text (error_line (Failed store) ∷ [])) status before after
 
 -- A run with this answer ended as the answer says, or a disk failed.
 abbrev pub EndsOrFails : (Store → Type 0) → RunAnswer → Status → Option (List ℕ) → Option (List ℕ) → Type 0

@@ -62,7 +62,8 @@ pub record IsInitLeft
   pub later : model.faults old ≤ model.faults new
   pub cause : status ≡ store_status made → FaultCounted (model.faults old) (model.faults new)
   pub steady : status ≢ store_status made → ¬ IsCutShort status → IsSteady model old new
-  pub short : (before after : List ℕ) → model.seen old ≡ Some before → model.seen new ≡ Some after → length after ≤ max (length before) growth_room
+  pub short : (before after : List ℕ) → model.seen old ≡ Some before → model.seen new ≡ Some after
+      → length after ≤ max (length before) growth_room
   pub same : IsUnwritten made status → model.seen new ≡ model.seen old
   pub crash : IsUnwritten made status → (crashed : List ℕ) → model.may_leave new crashed → model.may_leave old crashed
 

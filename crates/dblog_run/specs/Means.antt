@@ -19,7 +19,8 @@ use Rattle.dblog_capture.specs.Ends.{IsSessionStatus}
 use Rattle.dblog_capture.specs.Generated.{IsGeneratedStatus}
 use Rattle.dblog_run.specs.Disks.{EndsOrFails, IsAnswerOf, IsDiskStatus}
 use Rattle.dblog_run.specs.Inits.{AnswersInit, FailsSource, IsInitAnswer, IsInitStatus}
-use Rattle.dblog_run.specs.Run.{RunAnswer, fault, Replays, Applies, FailsReading, IsExternalStatus, IsReplayAnswer, IsReplayStatus, IsApplyStatus}
+use Rattle.dblog_run.specs.Run.{RunAnswer, fault, Replays, Applies, FailsReading}
+use Rattle.dblog_run.specs.Run.{IsExternalStatus, IsReplayAnswer, IsReplayStatus, IsApplyStatus}
 use Rattle.dbl_lines.specs.Says.{IsCutShort}
 
 -- The answer of `gen`: the lines of the workload, which are written at once.
@@ -65,7 +66,8 @@ pub data Means (words : List (List ℕ)) (now : ℤ) (given : RunInput) (answer 
 pub record Runs (words : List (List ℕ)) (now : ℤ) (given : RunInput) (failed : Store → Type 0) (status : Status)
     (before after : Option (List ℕ)) : Type 0 where
   pub ended : (answer : RunAnswer) → Means words now given answer → EndsOrFails failed answer status before after
-  pub meant : IsExternalStatus status ⊎ (IsDiskStatus status ⊎ ((answer : RunAnswer) × Means words now given answer × (answer.status ≡ status)))
+  pub meant : IsExternalStatus status
+      ⊎ (IsDiskStatus status ⊎ ((answer : RunAnswer) × Means words now given answer × (answer.status ≡ status)))
 
 -- Whether the command reads the input.
 abbrev pub reads : Command → Bool
@@ -132,7 +134,8 @@ pub record ReadsGivenInput (command : Command) (input wal topics offsets : Optio
 
 -- The input and the disks have these contents, as far as the command of the arguments reads them.
 abbrev pub Tell : List (List ℕ) → Option (List ℕ) → Option (List ℕ) → Option (List ℕ) → Option (List ℕ) → RunInput → Type 0
-Tell words input wal topics offsets given = (command : Command) → Spells words command → ReadsGivenInput command input wal topics offsets given
+Tell words input wal topics offsets given = (command : Command) → Spells words command
+    → ReadsGivenInput command input wal topics offsets given
 
 -- The arguments are of a command with this property.
 abbrev pub SpellSome : List (List ℕ) → (Command → Bool) → Type 0
@@ -211,4 +214,5 @@ pub record RunsInit (given : inits.InitInput) (failed : Store → Type 0) (statu
 pub record RunsCommand (command : Command) (now : ℤ) (given : RunInput) (failed : Store → Type 0) (status : Status)
     (before after : Option (List ℕ)) : Type 0 where
   pub ended : (answer : RunAnswer) → Answers command now given answer → EndsOrFails failed answer status before after
-  pub meant : IsExternalStatus status ⊎ (IsDiskStatus status ⊎ ((answer : RunAnswer) × Answers command now given answer × (answer.status ≡ status)))
+  pub meant : IsExternalStatus status
+      ⊎ (IsDiskStatus status ⊎ ((answer : RunAnswer) × Answers command now given answer × (answer.status ≡ status)))

@@ -41,8 +41,11 @@ log_answer lines end = record { status = end_status end; lines = lines ++ end_li
 -- The answer of `replay` with these options at a time for an input with these bytes.
 pub data Replays (options : ReplayOptions) (now : ℤ) (bytes : List ℕ) (answer : RunAnswer) : Type 0 where
   too_long : input_limit < length bytes → answer ≡ fault InputTooLong → Replays options now bytes answer
-  bad_line : (number : ℕ) → length bytes ≤ input_limit → first_bad_line (lines_of bytes) ≡ Some number → answer ≡ fault (BadLine number) → Replays options now bytes answer
-  replayed : (lines : List (List ℕ)) (end : Option LogFault) → length bytes ≤ input_limit → first_bad_line (lines_of bytes) ≡ None → IsReplayed options now (message_bytes_in (lines_of bytes)) lines end → answer ≡ log_answer lines end → Replays options now bytes answer
+  bad_line : (number : ℕ) → length bytes ≤ input_limit → first_bad_line (lines_of bytes) ≡ Some number → answer ≡ fault (BadLine number)
+      → Replays options now bytes answer
+  replayed : (lines : List (List ℕ)) (end : Option LogFault) → length bytes ≤ input_limit → first_bad_line (lines_of bytes) ≡ None
+      → IsReplayed options now (message_bytes_in (lines_of bytes)) lines end → answer ≡ log_answer lines end
+      → Replays options now bytes answer
 
 -- The answer of a line that isn't applied.
 abbrev pub line_fault : FaultAt → RunAnswer
@@ -52,8 +55,10 @@ line_fault at = record { status = InvalidInput; lines = fault_text at ∷ []; on
 -- applied.
 pub data Applies (placeholder bytes : List ℕ) (answer : RunAnswer) : Type 0 where
   long_input : input_limit < length bytes → answer ≡ fault InputTooLong → Applies placeholder bytes answer
-  refused : (at : FaultAt) → length bytes ≤ input_limit → IsApplied placeholder (lines_of bytes) (Err at) → answer ≡ line_fault at → Applies placeholder bytes answer
-  applied : (rows : List HeldRow) → length bytes ≤ input_limit → IsApplied placeholder (lines_of bytes) (Ok rows) → answer ≡ done (map row_line rows) → Applies placeholder bytes answer
+  refused : (at : FaultAt) → length bytes ≤ input_limit → IsApplied placeholder (lines_of bytes) (Err at) → answer ≡ line_fault at
+      → Applies placeholder bytes answer
+  applied : (rows : List HeldRow) → length bytes ≤ input_limit → IsApplied placeholder (lines_of bytes) (Ok rows)
+      → answer ≡ done (map row_line rows) → Applies placeholder bytes answer
 
 -- The text and the status of a run with this answer, before the output may fail: the answer's own, or those of out of memory after some of
 -- the lines that are written one by one.
@@ -131,5 +136,7 @@ pub record PrintedAs (held : List ℕ → List ℕ → Option HeldCells) (status
 -- For private clauses: the end of a run of these messages.
 pub record RunsLog (options : ReplayOptions) (now : ℤ) (bs : List (List ℕ)) (status : Status)
     (before after : Option (List ℕ)) : Type 0 where
-  pub ended : (lines : List (List ℕ)) (end : Option LogFault) → LogWrites options now [] bs lines end → Ends (log_answer lines end) status before after
-  pub meant : IsExternalStatus status ⊎ ((lines : List (List ℕ)) × (end : Option LogFault) × LogWrites options now [] bs lines end × (end_status end ≡ status))
+  pub ended : (lines : List (List ℕ)) (end : Option LogFault) → LogWrites options now [] bs lines end
+      → Ends (log_answer lines end) status before after
+  pub meant : IsExternalStatus status
+      ⊎ ((lines : List (List ℕ)) × (end : Option LogFault) × LogWrites options now [] bs lines end × (end_status end ≡ status))

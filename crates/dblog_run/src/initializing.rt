@@ -1,6 +1,7 @@
 //! The command `init`: the stores of a workload, made on empty disks.
 ghost use Rattle.std.specs.Prelude.{◌≡◌, ◌⊎◌, ℕ, List, [], Some, Ok, Err};
-ghost use Rattle.dbl_lines.specs.declared.status.Status.TheVariants.{Done, StdinFailed, StdoutFailed, InvalidStore};
+ghost use Rattle.dbl_lines.specs.declared.status.Status.TheVariants.{Done, StdinFailed};
+ghost use Rattle.dbl_lines.specs.declared.status.Status.TheVariants.{StdoutFailed, InvalidStore};
 ghost use Rattle.dbl_base.specs.Streams.{FaultCounted};
 ghost use Rattle.dblog_init.specs.DemoLaws.Made.{IsFreshWal};
 ghost use Rattle.dblog_init.specs.declared.error.Store.TheVariants.{Wal, Topics, Offsets};
@@ -8,7 +9,8 @@ ghost use Rattle.dblog_init.specs.Answers.{AnswersInput, InitInput};
 ghost use Rattle.dblog_init.specs.Disks.{HasStoredBytes, HoldSomeBytes};
 ghost use Rattle.dblog_init.specs.Fresh.{IsEmptyLog, IsEmptyStore};
 ghost use Rattle.dblog_run.specs.Disks.{OfDisk};
-ghost use Rattle.dblog_run.specs.Inits.{FailsSource, FinishesInit, IsInitAnswer, IsInitLeft, IsInitStatus, AreUntouched};
+ghost use Rattle.dblog_run.specs.Inits.{FailsSource, FinishesInit, IsInitAnswer};
+ghost use Rattle.dblog_run.specs.Inits.{IsInitLeft, IsInitStatus, AreUntouched};
 ghost use Rattle.dblog_run.specs.Means.{RunsInit};
 ghost use Rattle.dblog_run.specs.Run.{FailsReading};
 

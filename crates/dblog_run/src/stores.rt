@@ -1,14 +1,17 @@
 //! The commands that only read the stores: `topics`, `offsets`, and `apply` of the topic log.
 ghost use Rattle.std.specs.Prelude.{◌≡◌, ◌≢◌, ◌⊎◌, ℕ, ◌≤◌, List, Err, Some};
-ghost use Rattle.dbl_lines.specs.declared.status.Status.TheVariants.{Done, StartMismatch, TopicsFailed, OffsetsFailed};
-ghost use Rattle.dbl_lines.specs.declared.status.Status.TheVariants.{StdinFailed, StdoutFailed, InvalidStore};
+ghost use Rattle.dbl_lines.specs.declared.status.Status.TheVariants.{Done, StartMismatch};
+ghost use Rattle.dbl_lines.specs.declared.status.Status.TheVariants.{TopicsFailed, OffsetsFailed};
+ghost use Rattle.dbl_lines.specs.declared.status.Status.TheVariants.{StdinFailed, StdoutFailed};
+ghost use Rattle.dbl_lines.specs.declared.status.Status.TheVariants.{InvalidStore};
 ghost use Rattle.dbl_base.specs.Streams.{FaultCounted};
 ghost use Rattle.dbl_record.specs.declared.record.Record.{Record};
 ghost use Rattle.dbl_topic.specs.Logs.{IsLog};
 ghost use Rattle.dblog_stores.specs.Answers.{AnswersApply, AnswersOffsets, AnswersTopics};
 ghost use Rattle.dblog_stores.specs.Ends.{IsSynced};
 ghost use Rattle.dblog_run.specs.Disks.{Finishes, IsOnlyRead, OfDisk, RunsStores, SaysError};
-ghost use Rattle.dblog_run.specs.Means.{HasOpenedTopics, IsOffsetsStatus, IsRowsStatus, IsTopicsStatus};
+ghost use Rattle.dblog_run.specs.Means.{HasOpenedTopics, IsOffsetsStatus};
+ghost use Rattle.dblog_run.specs.Means.{IsRowsStatus, IsTopicsStatus};
 
 use dbl_base::Output;
 use dbl_disk::Disk;
@@ -148,7 +151,8 @@ pub(crate) fn run_apply<O: Output, W, T: Disk, F: Disk>(
 fn finish<O: Output>(alloc: Global, end: Result<(), CommandError>, output: &mut O) -> Status
     ensures finishes { Finishes end result (O.written output.old) (O.written output.new) }
     ensures output_failed { result ≡ StdoutFailed →
-        (end ≡ Err CommandError.OutputFailed) ⊎ FaultCounted (O.faults output.old) (O.faults output.new) }
+        (end ≡ Err CommandError.OutputFailed)
+        ⊎ FaultCounted (O.faults output.old) (O.faults output.new) }
     ensures later { O.faults output.old ≤ O.faults output.new }
 {
     match end {
@@ -160,7 +164,8 @@ fn finish<O: Output>(alloc: Global, end: Result<(), CommandError>, output: &mut 
 fn end_with<O: Output>(alloc: Global, error: CommandError, output: &mut O) -> Status
     ensures finishes { Finishes (Err error) result (O.written output.old) (O.written output.new) }
     ensures output_failed { result ≡ StdoutFailed →
-        (error ≡ CommandError.OutputFailed) ⊎ FaultCounted (O.faults output.old) (O.faults output.new) }
+        (error ≡ CommandError.OutputFailed)
+        ⊎ FaultCounted (O.faults output.old) (O.faults output.new) }
     ensures later { O.faults output.old ≤ O.faults output.new }
 {
     match error {

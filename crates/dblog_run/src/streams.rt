@@ -1,5 +1,6 @@
 //! The commands that read only the input: `replay`, and `apply --lines`.
-ghost use Rattle.std.specs.Prelude.{◌≡◌, ◌≢◌, ◌⊎◌, ℕ, ◌≤◌, List, [], length, Some, Err, None, IfOk, IfErr, OnOk, ℤ};
+ghost use Rattle.std.specs.Prelude.{◌≡◌, ◌≢◌, ◌⊎◌, ℕ, ◌≤◌, List, [], length};
+ghost use Rattle.std.specs.Prelude.{Some, Err, None, IfOk, IfErr, OnOk, ℤ};
 ghost use Rattle.dbl_base.specs.Lines.{lines_of};
 ghost use Rattle.dbl_base.specs.Streams.{FaultCounted, input_limit};
 ghost use Rattle.dbl_record.specs.Acts.{Reading};
@@ -7,10 +8,12 @@ ghost use Rattle.dbl_record.specs.Consumers.{consumer_of};
 ghost use Rattle.dbl_consume.specs.Holdings.{Took, placeholder_of};
 ghost use Rattle.dblog_replay.specs.Lines.{message_bytes_in, first_bad_line};
 ghost use Rattle.dblog_replay.specs.declared.options.ReplayOptions.{ReplayOptions};
-ghost use Rattle.dblog_run.specs.Run.{RunsLog};
-ghost use Rattle.dblog_run.specs.Run.{FailsReading, HaltsReplaying, RunsReplaying, HaltsApplying, RunsApplying, EndsAs, PrintedAs};
+ghost use Rattle.dblog_run.specs.Run.{RunsLog, FailsReading, HaltsReplaying, RunsReplaying};
+ghost use Rattle.dblog_run.specs.Run.{HaltsApplying, RunsApplying, EndsAs, PrintedAs};
 ghost use Rattle.dblog_run.specs.Run.{IsReplayAnswer, IsReplayStatus, IsApplyStatus, line_fault};
-ghost use Rattle.dbl_lines.specs.declared.status.Status.TheVariants.{Done, StdinFailed, StdoutFailed, OutOfMemory, InvalidInput};
+ghost use Rattle.dbl_lines.specs.declared.status.Status.TheVariants.{Done, StdinFailed};
+ghost use Rattle.dbl_lines.specs.declared.status.Status.TheVariants.{StdoutFailed, OutOfMemory};
+ghost use Rattle.dbl_lines.specs.declared.status.Status.TheVariants.{InvalidInput};
 ghost use Rattle.dbl_lines.specs.Says.{Says};
 
 use dbl_base::{Bytes, Input, InputError, Output, Text, read_all};
@@ -34,7 +37,8 @@ fn read_input<I: Input>(alloc: Global, input: &mut I) -> Result<Bytes, RunError>
     ensures failed { result ≡ Err RunError.InputFailed →
         FaultCounted (I.faults input.old) (I.faults input.new) }
     ensures kinds { IfErr result
-        (λ halt. (halt ≡ RunError.InputFailed) ⊎ ((halt ≡ RunError.InputTooLong) ⊎ (halt ≡ RunError.Memory))) }
+        (λ halt. (halt ≡ RunError.InputFailed)
+        ⊎ ((halt ≡ RunError.InputTooLong) ⊎ (halt ≡ RunError.Memory))) }
     ensures command { IfErr result (λ halt. halt ≢ RunError.Usage) }
 {
     match read_all(alloc, input) {

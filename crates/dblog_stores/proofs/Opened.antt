@@ -1,4 +1,4 @@
--- Stores that were opened: what is told behind it, and what a crash leaves of their disks.
+-- Stores that were opened: what is told after it, and what a crash leaves of their disks.
 use Rattle.std.proofs.Common.{◌≡◌, ◌⊎◌, ◌∙◌, ℕ, Option, Ok, Err, IfErr, List, sym, ap, subst, inl, inr}
 use Rattle.dbl_disk.specs.Model.{DiskModel}
 use Rattle.dbl_journal.specs.declared.error.JournalError.TheVariants as journal
@@ -15,7 +15,7 @@ use Rattle.dblog_stores.proofs.ErrorLaws.{apart, print_kind}
 use Rattle.dblog_stores.proofs.Kept.{err_one}
 use Rattle.dbl_journal.specs.Calls.{Keeps}
 
--- ---- errors behind the opening
+-- ---- errors after the opening
 
 pub memory_behind : (error : CommandError) → error ≡ Memory → IsAfterJournalOpening error
 memory_behind error is = λ store at f. let contra : Memory ≡ NotAStore store at = sym is ∙ f in cc

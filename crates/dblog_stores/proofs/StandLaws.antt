@@ -1,4 +1,4 @@
--- Each command has an answer, whatever the bytes of the disks are.
+-- Each command has an answer, for any bytes of the disks.
 use Rattle.std.proofs.Common.{◌≡◌, ◌∙◌, ◌⊎◌, ℕ, zero, suc, ◌+◌, ◌^◌, ◌<◌, ◌≤◌, Option, Some, None, Result, Ok, Err, List, [], ◌∷◌, ◌++◌, map, length, take, drop, get_or, refl, sym, ap, subst, arith, append_assoc, inl, inr, length-append, length-drop, take-append-drop}
 use Rattle.std.specs.Prelude.{slice_get}
 use Rattle.std.specs.Int.{from_be_bytes, to_be_bytes, w32}
@@ -98,7 +98,7 @@ body_or_none bytes fit =
       ]
     ]
 
--- ---- entries, and what stands behind them
+-- ---- entries, and what is after them
 
 record Walk (bytes : List ℕ) (End : List ℕ → Type 0) : Type 0 where
   entries : List (List ℕ)

@@ -1,5 +1,6 @@
 -- The answers of the commands that only read the stores, from the contents of the disks.
-use Rattle.std.specs.Prelude.{◌≡◌, ℕ, ◌+◌, Bool, if◌then◌else◌, Option, Some, None, Result, Ok, Err, is_ok, List, [], ◌∷◌, ◌++◌, map, codes, decimal}
+use Rattle.std.specs.Prelude.{◌≡◌, ℕ, ◌+◌, Bool, if◌then◌else◌, Option, Some, None, Result}
+use Rattle.std.specs.Prelude.{Ok, Err, is_ok, List, [], ◌∷◌, ◌++◌, map, codes, decimal}
 use Rattle.std.specs.List.{list_all, zip}
 use Rattle.dbl_record.specs.declared.record.Record.{Record}
 use Rattle.dbl_record.specs.Acts.{act}
@@ -61,7 +62,8 @@ table_line table = full_name table.0.name ++ codes " " ++ state_text table.0 tab
 -- The lines of an offset's numbers.
 abbrev pub number_lines : Offset → List (List ℕ)
 number_lines offset =
-    (codes "incarnation " ++ decimal offset.incarnation) ∷ (codes "start " ++ decimal offset.start.0) ∷ (codes "position " ++ decimal offset.lsn.0) ∷ []
+    (codes "incarnation " ++ decimal offset.incarnation) ∷ (codes "start " ++ decimal offset.start.0)
+    ∷ (codes "position " ++ decimal offset.lsn.0) ∷ []
 
 -- The lines of an offset: its numbers, and a line for each table.
 abbrev pub offset_lines : Offset → List (List ℕ)
@@ -92,7 +94,8 @@ takes placeholder group = list_all (accepts placeholder) group
 -- The number of the first group that the consumer doesn't accept, if the first one has this number.
 abbrev pub first_refused_from : ℕ → List ℕ → List (List Record) → Option ℕ
 first_refused_from number placeholder [] = None
-first_refused_from number placeholder (group ∷ groups) = if takes placeholder group then first_refused_from (number + 1) placeholder groups else Some number
+first_refused_from number placeholder (group ∷ groups) = if takes placeholder group then first_refused_from (number + 1) placeholder groups
+    else Some number
 
 -- The number of the first group that the consumer doesn't accept, counted from 0.
 abbrev pub first_refused : List ℕ → List (List Record) → Option ℕ

@@ -24,10 +24,13 @@ pub record PrintedRows (held : List ℕ → List ℕ → Option HeldCells) (end 
   pub ends : Ends (Ok (map row_line rows)) end before after
 
 -- The log of these groups was applied with this placeholder.
-pub data AppliesGroups (placeholder : List ℕ) (groups : List (List Record)) (end : CommandEnd) (before after : Option (List ℕ)) : Type 0 where
+pub data AppliesGroups (placeholder : List ℕ) (groups : List (List Record)) (end : CommandEnd)
+    (before after : Option (List ℕ)) : Type 0 where
   stopped : EndsOutside end → after ≡ before → AppliesGroups placeholder groups end before after
-  bad : (error : CommandError) → end ≡ Err error → IsFirstBadGroup placeholder groups error → after ≡ before → AppliesGroups placeholder groups end before after
-  printed : first_refused placeholder groups ≡ None → PrintedRows (consumer placeholder (map as_line (joined groups))) end before after → AppliesGroups placeholder groups end before after
+  bad : (error : CommandError) → end ≡ Err error → IsFirstBadGroup placeholder groups error → after ≡ before
+      → AppliesGroups placeholder groups end before after
+  printed : first_refused placeholder groups ≡ None → PrintedRows (consumer placeholder (map as_line (joined groups))) end before after
+      → AppliesGroups placeholder groups end before after
 
 -- The log of these groups was applied with the placeholder of an offset, if there is one.
 abbrev pub AppliesStores : List (List Record) → Option Offset → CommandEnd → Option (List ℕ) → Option (List ℕ) → Type 0

@@ -6,7 +6,8 @@ use Rattle.dblog_stores.specs.Answers.{LinesAnswer, AnswersTopics, AnswersOffset
 
 -- The contents of the disks represent one pair of stores at most.
 abbrev pub StoresAreReadOnce : Type 0
-StoresAreReadOnce = (topics offsets : List ℕ) (first second : Stores) → ReadAsStores topics offsets first → ReadAsStores topics offsets second → first ≡ second
+StoresAreReadOnce = (topics offsets : List ℕ) (first second : Stores) → ReadAsStores topics offsets first
+    → ReadAsStores topics offsets second → first ≡ second
 
 -- `topics` has one answer at most.
 abbrev pub TopicsAnswerOnce : Type 0
@@ -14,11 +15,13 @@ TopicsAnswerOnce = (bytes : List ℕ) (first second : LinesAnswer) → AnswersTo
 
 -- `offsets` has one answer at most.
 abbrev pub OffsetsAnswerOnce : Type 0
-OffsetsAnswerOnce = (bytes : List ℕ) (first second : LinesAnswer) → AnswersOffsets bytes first → AnswersOffsets bytes second → first ≡ second
+OffsetsAnswerOnce = (bytes : List ℕ) (first second : LinesAnswer) → AnswersOffsets bytes first → AnswersOffsets bytes second
+    → first ≡ second
 
 -- `apply` has one answer at most.
 abbrev pub ApplyAnswersOnce : Type 0
-ApplyAnswersOnce = (topics offsets : List ℕ) (first second : LinesAnswer) → AnswersApply topics offsets first → AnswersApply topics offsets second → first ≡ second
+ApplyAnswersOnce = (topics offsets : List ℕ) (first second : LinesAnswer) → AnswersApply topics offsets first
+    → AnswersApply topics offsets second → first ≡ second
 
 -- `topics` has an answer for any contents of the disk.
 abbrev pub TopicsAnswersStand : Type 0
@@ -30,4 +33,5 @@ OffsetsAnswersStand = (bytes : List ℕ) → AreBytes bytes → (answer : LinesA
 
 -- `apply` has an answer for any contents of the disks.
 abbrev pub ApplyAnswersStand : Type 0
-ApplyAnswersStand = (topics offsets : List ℕ) → AreBytes topics → AreBytes offsets → (answer : LinesAnswer) × AnswersApply topics offsets answer
+ApplyAnswersStand = (topics offsets : List ℕ) → AreBytes topics → AreBytes offsets → (answer : LinesAnswer)
+    × AnswersApply topics offsets answer

@@ -1,5 +1,6 @@
 //! `apply`: the rows of the state of a consumer of the topic log.
-ghost use Rattle.std.specs.Prelude.{◌≡◌, ◌≢◌, ◌⊎◌, ℕ, List, Ok, Err, Some, None, IfErr, IfSome, MatchResult, IsTrue, option_map, map};
+ghost use Rattle.std.specs.Prelude.{◌≡◌, ◌≢◌, ◌⊎◌, ℕ, List, Ok, Err, Some, None, IfErr};
+ghost use Rattle.std.specs.Prelude.{IfSome, MatchResult, IsTrue, option_map, map};
 ghost use Rattle.dbl_base.specs.Streams.{FailsOnlyIfCounted};
 ghost use Rattle.dbl_record.specs.declared.record.Record.{Record};
 ghost use Rattle.dbl_record.specs.Acts.{Reading};
@@ -10,7 +11,8 @@ ghost use Rattle.dbl_topic.specs.Logs.{IsLog};
 ghost use Rattle.dbl_offset.specs.declared.offset.Offset.{Offset};
 ghost use Rattle.dblog_stores.specs.Answers.{AnswersApply};
 ghost use Rattle.dblog_stores.specs.Applying.{AppliesStores, AppliesGroups, PrintedRows};
-ghost use Rattle.dblog_stores.specs.Ends.{HasOpenedOffset, IsAfterJournalOpening, IsErrorOf, IsRefusal, IsSynced, Runs};
+ghost use Rattle.dblog_stores.specs.Ends.{HasOpenedOffset, IsAfterJournalOpening};
+ghost use Rattle.dblog_stores.specs.Ends.{IsErrorOf, IsRefusal, IsSynced, Runs};
 ghost use Rattle.dbl_journal.specs.Calls.{Keeps};
 
 use crate::consuming::consume;

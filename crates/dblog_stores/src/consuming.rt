@@ -1,6 +1,6 @@
 //! A consumer of a topic log's records.
-ghost use Rattle.std.specs.Prelude.{◌≡◌, ◌≢◌, ◌⊎◌, ◌++◌, ◌∷◌, ℕ, List, [], Err, Some, None, true, false, codes, map};
-ghost use Rattle.std.specs.Prelude.{IfErr, IfOk, OnOk, MatchResult, IsTrue};
+ghost use Rattle.std.specs.Prelude.{◌≡◌, ◌≢◌, ◌⊎◌, ◌++◌, ◌∷◌, ℕ, List, [], Err, Some, None, true};
+ghost use Rattle.std.specs.Prelude.{false, codes, map, IfErr, IfOk, OnOk, MatchResult, IsTrue};
 ghost use Rattle.dbl_record.specs.declared.record.Record.{Record};
 ghost use Rattle.dbl_record.specs.declared.acts.ConsumeError.TheVariants.{Memory};
 ghost use Rattle.dbl_record.specs.Acts.{Reading, reading_of};
@@ -131,7 +131,8 @@ pub(crate) fn consume<D: Disk>(
 ) -> Result<Consumer, CommandError>
     requires { IsTrue log.old.live }
     ensures told { (groups : List (List Record)) → HoldsGroups D.Disk log.old groups →
-        MatchResult result (HasTakenRecords placeholder.now groups) (RefusesAt placeholder.now groups) }
+        MatchResult result (HasTakenRecords placeholder.now groups)
+        (RefusesAt placeholder.now groups) }
     ensures keeps { Keeps D.Disk
         (result ≡ Err (CommandError.Failed Store.Topics)) log.old.disk log.new.disk }
     ensures kinds { IfErr result (IsErrorOf Store.Topics) }

@@ -7,8 +7,9 @@ ghost use Rattle.dbl_topic.specs.Held.{HoldsGroups};
 ghost use Rattle.dbl_offset.specs.declared.offset.Offset.{Offset};
 ghost use Rattle.dbl_offset.specs.Stores.{HoldsOffset, StoreOn, disk_of};
 ghost use Rattle.dblog_stores.specs.Stores.{ReadAsStores};
-ghost use Rattle.dblog_stores.specs.Laws.{ApplyAnswersOnce, ApplyAnswersStand, OffsetsAnswerOnce, OffsetsAnswersStand};
-ghost use Rattle.dblog_stores.specs.Laws.{StoresAreReadOnce, TopicsAnswerOnce, TopicsAnswersStand};
+ghost use Rattle.dblog_stores.specs.Laws.{ApplyAnswersOnce, ApplyAnswersStand, OffsetsAnswerOnce};
+ghost use Rattle.dblog_stores.specs.Laws.{OffsetsAnswersStand, StoresAreReadOnce, TopicsAnswerOnce};
+ghost use Rattle.dblog_stores.specs.Laws.{TopicsAnswersStand};
 
 use dbl_disk::Disk;
 

@@ -1,13 +1,14 @@
 //! `offsets`: the text of the stored offset.
-ghost use Rattle.std.specs.Prelude.{◌≡◌, ◌≢◌, ◌⊎◌, ◌++◌, ◌∷◌, ℕ, List, [], Ok, Err, Some, IfOk, IfErr, IfSome, OnOk};
-ghost use Rattle.std.specs.Prelude.{length, map, option_map};
+ghost use Rattle.std.specs.Prelude.{◌≡◌, ◌≢◌, ◌⊎◌, ◌++◌, ◌∷◌, ℕ, List, [], Ok, Err, Some};
+ghost use Rattle.std.specs.Prelude.{IfOk, IfErr, IfSome, OnOk, length, map, option_map};
 ghost use Rattle.std.specs.List.{zip};
 ghost use Rattle.std.specs.String.{string_bytes};
 ghost use Rattle.dbl_base.specs.Lines.{lines_text};
 ghost use Rattle.dbl_base.specs.Streams.{FailsOnlyIfCounted};
 ghost use Rattle.dbl_model_history.specs.Cursors.{AreCursorsOf, IsCursorOf};
 ghost use Rattle.dbl_offset.specs.Offsets.{IsOffset};
-ghost use Rattle.dblog_stores.specs.Answers.{AnswersOffsets, number_lines, offset_lines, table_line};
+ghost use Rattle.dblog_stores.specs.Answers.{AnswersOffsets, number_lines};
+ghost use Rattle.dblog_stores.specs.Answers.{offset_lines, table_line};
 ghost use Rattle.dbl_lines.specs.Writing.{Wrote, WrotePrefix};
 ghost use Rattle.dblog_stores.specs.Applying.{TellsOffset};
 ghost use Rattle.dblog_stores.specs.Ends.{Ends, IsErrorOf, IsRefusal, IsSynced, Runs};

@@ -1,12 +1,14 @@
 //! Opens stores and reads groups, with the errors of a command.
-ghost use Rattle.std.specs.Prelude.{◌≡◌, ◌≢◌, ◌⊎◌, ℕ, ◌<◌, List, Some, Err, IfOk, IfErr, MatchResult, IsTrue, slice_get};
+ghost use Rattle.std.specs.Prelude.{◌≡◌, ◌≢◌, ◌⊎◌, ℕ, ◌<◌, List, Some, Err, IfOk};
+ghost use Rattle.std.specs.Prelude.{IfErr, MatchResult, IsTrue, slice_get};
 ghost use Rattle.dbl_journal.specs.Stored.{count_of};
 ghost use Rattle.dbl_record.specs.declared.record.Record.{Record};
 ghost use Rattle.dbl_topic.specs.Held.{HoldsGroups};
 ghost use Rattle.dbl_topic.specs.Logs.{IsLog};
 ghost use Rattle.dbl_offset.specs.Stores.{IsLive, IsStore, disk_of};
 ghost use Rattle.dblog_stores.specs.Answers.{HasNoOffset, IsNoLog};
-ghost use Rattle.dblog_stores.specs.Ends.{IsAfterJournalOpening, IsErrorOf, IsExternalCommandError, IsSynced};
+ghost use Rattle.dblog_stores.specs.Ends.{IsAfterJournalOpening, IsErrorOf};
+ghost use Rattle.dblog_stores.specs.Ends.{IsExternalCommandError, IsSynced};
 ghost use Rattle.dbl_journal.specs.Calls.{Keeps};
 
 use crate::{CommandError, Store};
@@ -26,13 +28,15 @@ pub(crate) fn open_topics<D: Disk>(
         HoldsGroups D.Disk log groups) }
     ensures live { IfOk result (λ log. IsTrue log.live) }
     ensures refused { (bytes : List ℕ) → D.seen disk ≡ Some bytes →
-        IfErr result (λ refused. IsExternalCommandError refused.error ⊎ IsNoLog bytes refused.error) }
+        IfErr result (λ refused. IsExternalCommandError refused.error
+        ⊎ IsNoLog bytes refused.error) }
     ensures kinds { IfErr result (λ refused. IsErrorOf Store.Topics refused.error) }
     ensures stable { MatchResult result (λ log. IsSynced D.Disk disk log.disk)
         (λ refused. refused.error ≢ CommandError.Failed Store.Topics →
         IsSynced D.Disk disk refused.disk) }
     ensures keeps { MatchResult result (λ log. Keeps D.Disk ⊥ disk log.disk)
-        (λ refused. Keeps D.Disk (refused.error ≡ CommandError.Failed Store.Topics) disk refused.disk) }
+        (λ refused. Keeps D.Disk (refused.error ≡ CommandError.Failed Store.Topics) disk
+        refused.disk) }
 {
     match TopicLog::open(alloc, disk) {
         Ok(log) => Ok(log),
@@ -52,7 +56,8 @@ pub(crate) fn open_offsets<D: Disk>(
         IfOk result (λ store. IsStore bytes store.offset) }
     ensures live { IfOk result IsLive }
     ensures refused { (bytes : List ℕ) → D.seen disk ≡ Some bytes →
-        IfErr result (λ refused. IsExternalCommandError refused.error ⊎ HasNoOffset bytes refused.error) }
+        IfErr result (λ refused. IsExternalCommandError refused.error
+        ⊎ HasNoOffset bytes refused.error) }
     ensures kinds { IfErr result (λ refused. IsErrorOf Store.Offsets refused.error) }
     ensures stable { MatchResult result
         (λ store. IsSynced D.Disk disk (disk_of store))

@@ -1,5 +1,6 @@
 //! `topics`: the lines of a topic log's records.
-ghost use Rattle.std.specs.Prelude.{◌≡◌, ◌≢◌, ◌⊎◌, ℕ, List, [], Option, Ok, Err, Some, IfErr, MatchResult, IsTrue, false};
+ghost use Rattle.std.specs.Prelude.{◌≡◌, ◌≢◌, ◌⊎◌, ℕ, List, [], Option, Ok, Err};
+ghost use Rattle.std.specs.Prelude.{Some, IfErr, MatchResult, IsTrue, false};
 ghost use Rattle.dbl_base.specs.Streams.{FailsOnlyIfCounted};
 ghost use Rattle.dbl_lines.specs.Gathering.{IsPut};
 ghost use Rattle.dbl_record.specs.declared.record.Record.{Record};

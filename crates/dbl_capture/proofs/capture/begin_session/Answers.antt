@@ -56,7 +56,7 @@ returns-in_err-put_offset-clause-left g c tell entry asked f honest had =
     (λ left is. g.met.S.Source.only _ stood.standing left stood.is is) (g.met.S.Source.may _ stood.standing stood.is) stood.holds
     (λ t. subst (λ (o : Offset). LeavesOffset g.D.Disk (disk_of c.put_offset.new.store) (λ left. (left ≡ entry.offset) ⊎ (left ≡ Some o))) c.in_ok-stored.ensures (c.put_offset.ensures.left entry.offset (f.store_is t))))
 
--- behind it
+-- after it
 pub returns-clause-begun : goal.returns-clause-begun
 returns-clause-begun g c tell entry asked f honest had =
     let stood = c.in_ok-offset.ensures.begins entry asked f.offset_is had f.standing f.source_is f.history in

@@ -50,7 +50,7 @@ returns-in_err-put_offset-clause-left g c tell entry s honest =
     (g.met.S.Source.only _) (g.met.S.Source.may _) honest (λ h l is. g.met.S.Source.fit _ l is h)
     (λ t groups is. g.met.K.Sink.only _ s.stage.groups groups (s.sink_is t) is) (λ t. (s.stage.groups, g.met.K.Sink.may _ s.stage.groups (s.sink_is t))))
 
--- the confirm behind it failed
+-- the confirm after it failed
 pub returns-in_err-confirm-clause-left : goal.returns-in_err-confirm-clause-left
 returns-in_err-confirm-clause-left g c tell entry s honest =
     on_err _ _

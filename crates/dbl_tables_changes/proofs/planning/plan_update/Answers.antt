@@ -68,7 +68,7 @@ returns-in_default c tables past asked =
     inr (update_missing tables past c.args.name.now here c.args.rows.now c.args.session.now asked c.args.key.now c.args.set.now readable none (unblocked (lesser_if (other_than c.args.name.now (owner_at c.args.rows.now (key_given (raw_of c.args.rows.now.table) c.args.key.now))) (other_than c.args.name.now (owner_at c.args.rows.now (key_set (raw_of c.args.rows.now.table) c.args.key.now c.args.set.now)))) tt
     (subst (λ (o : Option (List ℕ)). Blocks {A = Unit {0}} o (Ok tt)) (c.in_the_way.ensures ∙ way) c.in_ok-pass.ensures)))
 
--- a row: the rest is judged behind it
+-- a row: the rest is judged after it
 pub returns : goal.returns
 returns c tables past asked =
     let here = found_here c.args.oid c.args.rows.now in

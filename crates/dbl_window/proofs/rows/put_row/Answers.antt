@@ -23,7 +23,7 @@ returns-in-Ok-clause-fit c info all new_fits =
     let entries = subst (λ (cmp : Key → Key → Ordering). c.insert.new.self.entries ≡ insert_entry cmp old c.args.key c.args.row) order_is c.in-Ok.ensures.entries in
     subst (λ (l : List (Key × Row)). AllByRecursion (FitsRow info) l) (sym entries) (all_inserted (FitsRow info) c.args.key c.args.row old all new_fits)
 
--- a row behind all others stands last
+-- a row after all others stands last
 pub returns-in-Ok-clause-last : goal.returns-in-Ok-clause-last
 returns-in-Ok-clause-last c bound above subsequent =
     let old = c.args.rows.now.entries in

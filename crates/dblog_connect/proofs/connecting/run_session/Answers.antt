@@ -179,7 +179,7 @@ returns-in_err-ending-clause-log_bounded g c = log_bounded g.W.Disk g.T.Disk g.F
 pub returns-in_err-ending-clause-store_bounded : goal.returns-in_err-ending-clause-store_bounded
 returns-in_err-ending-clause-store_bounded g c = store_bounded g.W.Disk g.T.Disk g.F.Disk c.args.source.now c.args.log.now c.args.store.now c.requires.source_opened c.requires.log_opened c.requires.store_opened c.session.new.offsets c.session.ensures.store_comes
 
--- ---- it ended as it should
+-- ---- it ended normally
 
 pub returns-clause-answers : goal.returns-clause-answers
 returns-clause-answers g c =

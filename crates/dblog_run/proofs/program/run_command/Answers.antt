@@ -154,7 +154,7 @@ returns-in-Resume-clause-connected g c = λ asked is.
     c.args.disks left.disks left.end (g.O.Output.written c.args.output.now) (g.O.Output.written c.run_session-in-Resume.new.output))
     (one_asked c.args.command (Again here.chunk here.every here.messages) asked (ap asked_by here.is) is) c.run_session-in-Resume.ensures.connected
 
--- the others ask for none
+-- the others request none
 pub returns-in-Replay-clause-connected : goal.returns-in-Replay-clause-connected
 returns-in-Replay-clause-connected g c = λ asked is. absurd (unasked c.args.command asked (ap asked_by c.in-Replay.is) is)
 

@@ -17,7 +17,7 @@ use Rattle.dbl_demo_laws.proofs.SelectLemmas.{lead_select}
 use Rattle.dbl_demo_laws.proofs.PromiseLemmas.{comes_held, leads_held, left_held, kept_reader, same_reader, some_held, tells_of}
 use Rattle.dbl_demo.proofs.calls.DemoSourceSource.select.Goals as goal
 
--- the reader stays, and the rows are those behind the first group
+-- the reader stays, and the rows are those after the first group
 rows_said : {D T : Type 0} (model : DiskModel D) (table : TableName) (above : Option Key) (limit : ℕ) (old new : Demo D) (result : Result T SourceError) (items : T → List RawRow) → IfOk result (λ x. IsReaderKept old new)
     → ((wal : Wal) → IsDemo model wal old → IfOk result (λ x. AreRowsShown wal.workload.tables (acts_at wal.workload (next_end old)) table above limit (items x))) → IfOk result (λ x. AnswersRows model table above limit old new (items x))
 rows_said model table above limit old new (Ok x) items reader are = record { reader = reader; are = are }

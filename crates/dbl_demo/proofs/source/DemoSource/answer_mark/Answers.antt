@@ -36,7 +36,7 @@ returns-in_err-run_to_tick-clause-added g c =
 pub returns-in_err-run_to_tick-clause-starved : goal.returns-in_err-run_to_tick-clause-starved
 returns-in_err-run_to_tick-clause-starved g c = λ is. first_from g.D.Disk c.self.view_is c.run_to_tick.new.self c.run_to_tick.ensures.crash
 
--- memory ran out for the mark's entry
+-- memory ran out for the watermark's entry
 pub returns-in_err-entry-clause-added : goal.returns-in_err-entry-clause-added
 returns-in_err-entry-clause-added g c =
     let p = err_from_is_err_and c.from_residual-in_err-entry.result c.from_residual-in_err-entry.ensures.1 in
@@ -50,7 +50,7 @@ log_mark-requires-clause-live g c =
     let usable = c.self.invariant.usable (ap (λ (s : Demo _). s.live) c.self.view_is ∙ c.requires.live) in
     search rules
 
--- the mark is that of the steps that are done
+-- the watermark is that of the steps that are done
 spelled : {D : Type 0} (mid : Demo D) (done steps : ℕ) (bytes value : List ℕ) → done ≡ mid.done → mid.done ≡ steps → EncodesEntry bytes (Marks done value) → EncodesEntry bytes (Marks steps value)
 spelled mid done steps bytes value same end spells = subst (λ (n : ℕ). EncodesEntry bytes (Marks n value)) (same ∙ end) spells
 

@@ -45,7 +45,7 @@ returns-in_err-run_to_tick-2-clause-added g c =
     let p = err_from_is_err_and c.from_residual-in_err-run_to_tick-2.result c.from_residual-in_err-run_to_tick-2.ensures.1 in
     fails_again g.D.Disk c.self.view_is c.run_to_tick.new.self c.run_to_tick.ensures.same c.in_ok-run_to_tick.ensures.ran c.in_ok-run_to_tick.ensures.end c.run_to_tick-2.new.self c.run_to_tick-2.ensures.same c.run_to_tick-2.ensures.crash c.run_to_tick.ensures.comes c.run_to_tick.ensures.cause.later c.run_to_tick-2.ensures.comes c.run_to_tick-2.ensures.cause.later (λ s new rows. IsReaderKept s new) c.from_residual-in_err-run_to_tick-2.result p.0 p.1 (λ is. c.run_to_tick-2.ensures.cause.cause (c.in_err-run_to_tick-2.was ∙ ap Err (sym p.2 ∙ is)))
 
--- whatever it answers, once it is live again
+-- for every answer, once it is live again
 live_again : {D T : Type 0} (model : DiskModel D) (upto : ℕ) (Answers : Demo D → T → Type 0) (old : Demo D) {inside new : Demo D} → inside ≡ new → (x : T) → RunsStepsAndWrites model upto [] Answers old (answering new) (Ok x)
     → RunsStepsAndWrites model upto [] Answers old (answering inside) (Ok x)
 live_again model upto Answers old is x adds = subst (λ (s : Demo _). RunsStepsAndWrites model upto [] Answers old (answering s) (Ok x)) (sym is) adds

@@ -19,7 +19,7 @@ returns-clause-marks g c s stands = subst (λ (v : List ℕ). HasState g.S.Sourc
 pub returns-clause-left : goal.returns-clause-left
 returns-clause-left g c s l stands may = subst (λ (v : List ℕ). MayFollowMark v s l) c.high_mark.ensures.text (c.mark.ensures.left s l stands may)
 
--- a source that wanted memory wrote no mark
+-- a source that ran out of memory wrote no watermark
 pub returns-in_err-mark-clause-unmarked : goal.returns-in_err-mark-clause-unmarked
 returns-in_err-mark-clause-unmarked g c is =
     let p = err_from_is_err_and c.from_residual.result c.from_residual.ensures.1 in

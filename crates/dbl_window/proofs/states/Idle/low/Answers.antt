@@ -45,7 +45,7 @@ returns-clause-left g c s l stands may =
     let text = c.low_mark.ensures.text ∙ ap low_text c.in_ok-marked.ensures in
     inr (subst (λ (v : List ℕ). MayFollowMark v s l) text (c.mark.ensures.left s l stands may))
 
--- a source that wanted memory wrote no mark
+-- a source that ran out of memory wrote no watermark
 pub returns-in_err-mark-clause-unmarked : goal.returns-in_err-mark-clause-unmarked
 returns-in_err-mark-clause-unmarked g c is =
     let p = err_from_is_err_and c.from_residual-in_err-mark.result c.from_residual-in_err-mark.ensures.1 in
@@ -60,7 +60,7 @@ returns-in_err-mark-clause-still g c s t before after = still_dead g.S.Source.st
 pub returns-clause-still : goal.returns-clause-still
 returns-clause-still g c s t before after = still_led g.S.Source.stands c.mark.new.self _ s t (g.met.S.Source.one c.mark.new.self) (c.in_ok-mark.ensures.marked s before) (λ u marked. marked.reading) after
 
--- what its mark tells
+-- what its watermark tells
 
 pub returns-clause-some : goal.returns-clause-some
 returns-clause-some g c = c.mark.ensures.some

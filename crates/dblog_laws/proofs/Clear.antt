@@ -1,7 +1,7 @@
 -- No commit that the messages of a log without a fault state has a value equal to the placeholder, for every list of tables captured later.
-use Rattle.std.proofs.Common.{◌≡◌, ◌∙◌, ◌+◌, ℕ, zero, suc, Option, Some, None, IsSome, IsSomeAnd, List, [], ◌∷◌, ◌++◌, map, flat_map, length, slice_get, refl, sym, ap, ap₂, subst}
+use Rattle.std.proofs.Common.{◌≡◌, ◌∙◌, ◌+◌, ℕ, zero, suc, Option, Some, None, IsSome, IsSomeAnd, List, [], ◌∷◌, ◌++◌, map, flat_map, slice_get, refl, sym, ap, ap₂, subst}
 use Rattle.std.specs.Prelude.{option_map, unwrap_or}
-use Rattle.std.specs.Option.{option_and_then, option_or}
+use Rattle.std.specs.Option.{option_and_then}
 use Rattle.std.specs.List.{AllByRecursion}
 use Rattle.std.proofs.lemmas.List.{append-nil}
 use Rattle.dbl_pgmsg.specs.declared.messages.Message.{Message}
@@ -19,17 +19,14 @@ use Rattle.dbl_model_event.specs.Clashes.{Clash, notice_clash, first_found, clas
 use Rattle.dbl_model_event.specs.Events.{Notice, notices, change_notices}
 use Rattle.dbl_model_commit.specs.StatedFits.{FitCommits}
 use Rattle.dbl_model_commit.specs.Past.{HasNoRelation}
-use Rattle.dbl_model_commit.specs.Stated.{list_of, ended_commit, commits_of, transaction_fault}
-use Rattle.dbl_model_commit.specs.Blocks.{onto}
+use Rattle.dbl_model_commit.specs.Stated.{list_of, ended_commit, commits_of}
 use Rattle.dbl_model_commit.proofs.ChangeFits.{commits_fit}
 use Rattle.dbl_model_commit.proofs.Learning.{commits_learnt}
 use Rattle.dbl_consume_laws.proofs.Notices.{all_append}
-use Rattle.dblog_run.specs.Replay.declared.log_fault.LogFault.{LogFault}
-use Rattle.dblog_run.specs.Replay.declared.log_fault.LogFault.TheVariants as log
 use Rattle.dblog_run.specs.Replay.declared.options.ReplayOptions.{ReplayOptions}
 use Rattle.dblog_run.specs.Replay.Captures.{table_told, tables_in, AreCaptured}
-use Rattle.dblog_run.specs.Replay.Log.{log_start, placeholder_fault, commit_fault}
-use Rattle.dblog_run.specs.Replay.Replay.{AreSpelled, HaveNoFault}
+use Rattle.dblog_run.specs.Replay.Log.{placeholder_fault, commit_fault}
+use Rattle.dblog_run.specs.Replay.Replay.{HaveNoFault}
 use Rattle.dblog_run.proofs.ReplayCaptureLemmas.{infos_one, told_has_none}
 
 abbrev pub IsClear : Identity → List TableInfo → Commit → Type 0
@@ -108,10 +105,6 @@ clear_then options ms m xs infos (Some raw) is before captured fields clear =
 
 -- ---- the commit that a message ends
 
-second_none : (a b : Option LogFault) → option_or a b ≡ None → b ≡ None
-second_none None b is = is
-second_none (Some fault) b is = cc
-
 no_clash : (o : Option Clash) → option_map placeholder_fault o ≡ None → o ≡ None
 no_clash None is = refl
 no_clash (Some clash) is = cc
@@ -124,7 +117,7 @@ ended_clear identity infos (Some commit) is = (no_clash (clash_of identity infos
 
 captured_before : (options : ReplayOptions) (ms : List Message) → HaveNoFault options ms → (infos : List TableInfo) × AreCaptured options.keys ms infos
 captured_before options [] clean = ([], refl)
-captured_before options (m ∷ ms) clean = (clean.0.infos, clean.0.captured)
+captured_before options (m ∷ ms) clean = (clean.0.0, clean.0.1.tables.captured)
 
 pub clear : (options : ReplayOptions) (ms : List Message) (infos : List TableInfo) → HaveNoFault options ms → AreCaptured options.keys ms infos → AllByRecursion FitsFields ms → AllByRecursion (IsClear options.identity infos) (commits_of infos ms)
 clear options [] infos clean captured fields = tt
@@ -132,23 +125,7 @@ clear options (m ∷ ms) infos clean captured fields =
     let here = clean.0 in
     let before = captured_before options ms clean.1 in
     let earlier = clear options ms before.0 clean.1 before.1 fields.1 in
-    let same = infos_one here.infos infos (here.captured ∙ sym captured) in
-    let fault = second_none (option_map (log.Transaction (length ms + 1)) (transaction_fault here.infos log_start m ms)) (option_and_then (commit_fault options.identity here.infos) (ended_commit here.infos m ms)) here.clean in
-    let last = subst (λ (i : List TableInfo). AllByRecursion (IsClear options.identity i) (list_of (ended_commit i m ms))) same (ended_clear options.identity here.infos (ended_commit here.infos m ms) fault) in
+    let same = infos_one here.0 infos (here.1.tables.captured ∙ sym captured) in
+    let last = subst (λ (i : List TableInfo). AllByRecursion (IsClear options.identity i) (list_of (ended_commit i m ms))) same (ended_clear options.identity here.0 (ended_commit here.0 m ms) here.1.made) in
     all_append (IsClear options.identity infos) (commits_of infos ms) (list_of (ended_commit infos m ms))
     (clear_then options ms m before.0 infos (table_told options.keys (tables_in options.keys ms) m) refl before.1 captured fields.1 earlier) last
-
--- ---- messages that are spelled fit their fields
-
-fields_of : (bs : List (List ℕ)) (ms : List Message) → AreSpelled bs ms → AllByRecursion FitsFields ms
-fields_of [] [] h = tt
-fields_of [] (m ∷ ms) h = absurd h
-fields_of (b ∷ bs) [] h = tt
-fields_of (b ∷ bs) (m ∷ ms) h = (h.0.fits.fields, fields_of bs ms h.1)
-
-onto_fields : (before ms : List Message) → AllByRecursion FitsFields before → AllByRecursion FitsFields ms → AllByRecursion FitsFields (onto before ms)
-onto_fields before [] h k = h
-onto_fields before (m ∷ ms) h k = onto_fields (m ∷ before) ms (k.0, h) k.1
-
-pub spelled_fields : (bs : List (List ℕ)) (ms : List Message) → AreSpelled bs ms → AllByRecursion FitsFields (onto [] ms)
-spelled_fields bs ms h = onto_fields [] ms tt (fields_of bs ms h)

@@ -46,7 +46,7 @@ has_way (command.Apply true placeholder) now given can =
     let rows = rows_stand placeholder (readings_of_lines (lines_of given.input)) in
     (done (map row_line rows.0), applied rows.0 can.short (can.clean, rows.1) refl, refl)
 has_way (command.Replay prefix db placeholder keys) now given can =
-    (log_answer can.lines None, replayed can.lines None can.short can.spelled can.replayed refl, refl)
+    (log_answer can.0 None, replayed can.0 None can.1 refl, refl)
 has_way (command.Gen number rows groups false) now given can = (made number rows groups, refl, refl)
 has_way (command.Gen number rows groups true) now given can = absurd can
 has_way (command.Capture options) now given can = absurd can

@@ -19,7 +19,9 @@ use Rattle.dbl_model_commit.specs.Tuples.{spelled_value, given_cell, row_of, cha
 use Rattle.dbl_model_commit.specs.Stated.{row_stated, commits_of}
 use Rattle.dbl_model_commit.specs.Blocks.{onto, AreWithoutFault}
 use Rattle.dblog_run.specs.Replay.Log.{lines_in, log_start}
-use Rattle.dblog_run.specs.Replay.Replay.{AreSpelled, HaveNoFault, IsReplayed}
+use Rattle.dblog_run.specs.Replay.Pieces.{AreSpelled}
+use Rattle.dblog_run.proofs.ReplayPieceLemmas.{numbered, spelled_read, numbered_carry}
+use Rattle.dblog_run.specs.Replay.Replay.{HaveNoFault, IsReplayed}
 use Rattle.dblog_run.proofs.ReplayCaptureLemmas.{infos_one}
 use Rattle.dblog_laws.specs.Pipe.{AreNamesUtf8, IsWholeLog}
 use Rattle.dblog_laws.specs.Example.{example_identity, example_options, example_messages, example_log, example_entry, example_table, example_history, example_lines, WholeLogsStand}
@@ -111,10 +113,13 @@ spelled = (
 clean : HaveNoFault example_options (onto [] example_messages)
 unfolding type_of spelled_value given_cell row_of change_of row_stated
 clean = (
-  record { infos = example_table ∷ []; captured = refl; capturable = refl; clean = refl },
+  (example_table ∷ [], record { tables = record { captured = refl; capturable = refl }; placed = refl; made = refl }),
   (
-    record { infos = example_table ∷ []; captured = refl; capturable = refl; clean = refl },
-    (record { infos = example_table ∷ []; captured = refl; capturable = refl; clean = refl }, (record { infos = []; captured = refl; capturable = refl; clean = refl }, tt)),
+    (example_table ∷ [], record { tables = record { captured = refl; capturable = refl }; placed = refl; made = refl }),
+    (
+      (example_table ∷ [], record { tables = record { captured = refl; capturable = refl }; placed = refl; made = refl }),
+      (([], record { tables = record { captured = refl; capturable = refl }; placed = refl; made = refl }), tt),
+    ),
   ),
 )
 
@@ -126,14 +131,14 @@ stated : commits_of (example_table ∷ []) (onto [] example_messages) ≡ typed 
 unfolding type_of spelled_value given_cell row_of change_of row_stated
 stated = refl
 
-replayed : IsReplayed example_options (pos 0) example_log example_lines None
+replayed : IsReplayed example_options (pos 0) (numbered 1 example_messages) example_lines None
 replayed = record {
   messages = example_messages;
-  front = example_log;
+  front = numbered 1 example_messages;
   rest = [];
   infos = example_table ∷ [];
   parts = refl;
-  spelled = spelled;
+  carried = numbered_carry 1 example_messages;
   captured = refl;
   clean = clean;
   accepted = accepted;
@@ -149,7 +154,7 @@ captured = record { distinct = refl; each = (refl, tt) }
 
 whole : IsWholeLog example_options (pos 0) example_log example_lines example_history
 unfolding replayed
-whole = record { replayed = replayed; moment = at_zero; names = names; fit = fit; captured = captured; stated = stated }
+whole = record { pieces = numbered 1 example_messages; read = spelled_read 1 example_log example_messages spelled; replayed = replayed; moment = at_zero; names = names; fit = fit; captured = captured; stated = stated }
 
 pub whole_logs_stand : WholeLogsStand
 whole_logs_stand = (whole, refl)

@@ -11,11 +11,10 @@ use Rattle.dbl_cli.specs.declared.commands.Command.{Command}
 use Rattle.dbl_cli.specs.declared.commands.Command.TheVariants.{Init, Topics, Offsets, Capture, Resume, Replay, Apply, Gen}
 use Rattle.dblog_run.specs.Init.Answers.{AreEmpty}
 use Rattle.dblog_run.specs.Replay.Apply.{first_line_fault}
-use Rattle.dblog_run.specs.Replay.Lines.{first_bad_line, message_bytes_in}
-use Rattle.dblog_run.specs.Replay.Replay.{IsReplayed}
 use Rattle.dblog_run.specs.Replay.declared.options.ReplayOptions.{ReplayOptions}
 use Rattle.dblog_run.specs.Promise.Contents.{Contents, ReadAs}
 use Rattle.dblog_run.specs.Promise.Kept.{IsKept}
+use Rattle.dblog_run.specs.Run.{ReplaysLog}
 use Rattle.dblog_run.specs.Means.{RunInput, given_init, options_of}
 
 -- The input is a workload that can be run, and the disks are empty.
@@ -38,12 +37,9 @@ pub record CanApplyLines (placeholder : List ℕ) (given : RunInput) : Type 0 wh
   pub short : length given.input ≤ input_limit
   pub clean : first_line_fault placeholder (lines_of given.input) ≡ None
 
--- The lines of the input encode valid messages, and end outside a transaction.
-pub record CanReplay (options : ReplayOptions) (now : ℤ) (given : RunInput) : Type 0 where
-  pub short : length given.input ≤ input_limit
-  pub spelled : first_bad_line (lines_of given.input) ≡ None
-  pub lines : List (List ℕ)
-  pub replayed : IsReplayed options now (message_bytes_in (lines_of given.input)) lines None
+-- The lines of the input encode valid messages, and end outside a transaction: these are replayed to some lines without an error.
+abbrev pub CanReplay : ReplayOptions → ℤ → RunInput → Type 0
+CanReplay options now given = (lines : List (List ℕ)) × ReplaysLog options now given.input lines None
 
 -- The input and the disks are what the command requires; for sessions `IsSupportedRun` says so.
 abbrev pub CanRun : Command → ℤ → RunInput → Type 0

@@ -26,6 +26,7 @@ use Rattle.dbl_model_commit.specs.Stated.{commits_of}
 use Rattle.dbl_model_commit.specs.Blocks.{onto}
 use Rattle.dbl_consume_laws.specs.Laws.{HoldsJsonTexts, last_rows}
 use Rattle.dblog_run.specs.Replay.declared.options.ReplayOptions.{ReplayOptions}
+use Rattle.dblog_run.specs.Replay.Pieces.{Piece, AreRead}
 use Rattle.dblog_run.specs.Replay.Replay.{IsReplayed}
 use Rattle.dblog_run.specs.Replay.Apply.{readings_of_lines}
 use Rattle.dblog_run.specs.Replay.Applied.{IsApplied}
@@ -40,7 +41,9 @@ pub record AreNamesUtf8 (identity : Identity) : Type 0 where
 -- and begins with empty tables; its catalogue has the tables as the log describes them; and its commits are exactly those that the log
 -- states.
 pub record IsWholeLog (options : ReplayOptions) (now : ℤ) (log lines : List (List ℕ)) (history : History) : Type 0 where
-  pub replayed : IsReplayed options now log lines None
+  pub pieces : List Piece
+  pub read : AreRead 1 log pieces
+  pub replayed : IsReplayed options now pieces lines None
   pub moment : IsMomentInRange now
   pub names : AreNamesUtf8 options.identity
   pub fit : IsFitHistory history

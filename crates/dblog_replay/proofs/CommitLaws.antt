@@ -1,12 +1,11 @@
 -- The lines of a log are those of all commits that its messages state up to the first fault.
 use Rattle.std.proofs.Common.{◌≡◌, inl, inr, ◌∙◌, ℕ, zero, suc, ℤ, ◌+◌, Option, Some, None, IsSome, IsSomeAnd, List, [], ◌∷◌, ◌++◌, map, flat_map, length, slice_get, refl, sym, ap, ap₂, subst, append_assoc}
 use Rattle.std.specs.Prelude.{option_map, unwrap_or}
-use Rattle.std.specs.Option.{option_and_then, option_or}
 use Rattle.std.specs.List.{AllByRecursion}
 use Rattle.std.proofs.lemmas.List.{append-nil, map-append}
 use Rattle.dbl_pgmsg.specs.declared.messages.Message.{Message}
 use Rattle.dbl_pgmsg.specs.declared.messages.Message.TheVariants as says
-use Rattle.dbl_pgmsg.specs.Grammar.{FitsFields, Spells}
+use Rattle.dbl_pgmsg.specs.Grammar.{FitsFields}
 use Rattle.dbl_record.specs.declared.record.Record.{Record}
 use Rattle.dbl_record.specs.Line.{line_of}
 use Rattle.dbl_model_table.specs.declared.identity.Identity.{Identity}
@@ -16,7 +15,6 @@ use Rattle.dbl_model_table.specs.declared.table.TableName.{TableName}
 use Rattle.dbl_model_table.specs.declared.change.Change.{Change}
 use Rattle.dbl_model_table.specs.declared.change.Change.TheVariants.{Insert, Update, Delete, Clear}
 use Rattle.dbl_model_table.specs.declared.change.Commit.{Commit}
-use Rattle.dbl_model_commit.specs.declared.txn_error.TxnError.{TxnError}
 use Rattle.dbl_model_table.specs.Infos.{catalogue_of}
 use Rattle.dbl_model_table.specs.Rows.{table_of, changes_of}
 use Rattle.dbl_model_event.specs.Events.{Notice, notices, change_notices, numbered}
@@ -24,17 +22,20 @@ use Rattle.dbl_model_event.specs.EventJson.{print, envelopes}
 use Rattle.dbl_model_history.specs.FitsInfos.{FitsInsert, FitsUpdate, FitsDelete, FitsInfos}
 use Rattle.dbl_model_commit.specs.StatedFits.{FitCommits}
 use Rattle.dbl_model_commit.specs.Past.{HasNoRelation}
-use Rattle.dbl_model_commit.specs.Stated.{list_of, ended_commit, commits_of, transaction_fault}
+use Rattle.dbl_model_commit.specs.Stated.{list_of, ended_commit, commits_of}
 use Rattle.dbl_model_commit.specs.Blocks.{onto, AreWithoutFault}
 use Rattle.dbl_model_commit.proofs.ChangeFits.{commits_fit}
 use Rattle.dbl_model_commit.proofs.Learning.{commits_learnt, fault_learnt}
 use Rattle.dblog_replay.specs.declared.log_fault.LogFault.{LogFault}
 use Rattle.dblog_replay.specs.declared.options.ReplayOptions.{ReplayOptions}
-use Rattle.dblog_replay.specs.declared.log_fault.LogFault.TheVariants as log
 use Rattle.dblog_replay.specs.Captures.{table_told, tables_in, AreCaptured}
-use Rattle.dblog_replay.specs.Replay.{AreSpelled, HasNoFault, HaveNoFault, EndsLog, IsReplayed, CommitsAreWritten}
-use Rattle.dblog_replay.specs.Log.{lines_in, log_start, commit_fault, IsTaken, LogWrites}
+use Rattle.dblog_replay.specs.Pieces.{Piece, Carries, Stops, CarryMessages, AllFitFields}
+use Rattle.dblog_replay.specs.Replay.{HaveNoFault, EndsLog, IsReplayed, CommitsAreWritten, ReplaysAreOne, ReplaysExist}
+use Rattle.dblog_replay.specs.Log.{lines_in, log_start, IsTaken, LogWrites}
 use Rattle.dblog_replay.proofs.CaptureLemmas.{infos_one, told_has_none}
+use Rattle.dblog_replay.proofs.ExistLemmas.{log_exists}
+use Rattle.dblog_replay.proofs.LogLemmas.{log_one}
+use Rattle.dblog_replay.proofs.PieceLemmas.{carried_fits}
 
 -- ---- records of earlier commits stay the same where a table is captured later
 
@@ -153,79 +154,73 @@ so_far_then options now ms m infos more lines (Some raw) is captured so_far =
     let none : HasNoRelation one.info.name ms = subst (λ (r : RawTable). HasNoRelation r.name ms) (sym one.is) (told_has_none options.keys ms m raw is) in
     subst (λ (i : List TableInfo). AreWithoutFault i log_start ms × (lines ≡ lines_in options.identity i (commits_of i ms) now)) (sym one.all_is) (so_far_more options now ms infos one.info lines none so_far)
 
-no_place_fault : (count : ℕ) (fault : Option TxnError) (other : Option LogFault) → option_or (option_map (log.Transaction count) fault) other ≡ None → fault ≡ None
-no_place_fault count None other is = refl
-no_place_fault count (Some error) other is = cc
-
-so_far_next : (options : ReplayOptions) (now : ℤ) (ms : List Message) (b : List ℕ) (m : Message) (infos more : List TableInfo) (lines : List (List ℕ)) → IsTaken options ms b m more → IsSoFar options now ms infos lines
+so_far_next : (options : ReplayOptions) (now : ℤ) (ms : List Message) (m : Message) (infos more : List TableInfo) (lines : List (List ℕ)) → IsTaken options ms m more → FitsFields m → IsSoFar options now ms infos lines
     → IsSoFar options now (m ∷ ms) more (lines ++ lines_in options.identity more (list_of (ended_commit more m ms)) now)
-so_far_next options now ms b m infos more lines taken so_far =
-    let then = so_far_then options now ms m infos more lines (table_told options.keys (tables_in options.keys ms) m) refl taken.read.captured so_far in
+so_far_next options now ms m infos more lines taken fits so_far =
+    let then = so_far_then options now ms m infos more lines (table_told options.keys (tables_in options.keys ms) m) refl taken.tables.captured so_far in
     record {
-      captured = taken.read.captured;
-      clean = (record { infos = more; captured = taken.read.captured; capturable = taken.read.capturable; clean = taken.clean }, so_far.clean);
-      accepted = (no_place_fault (length ms + 1) (transaction_fault more log_start m ms) (option_and_then (commit_fault options.identity more) (ended_commit more m ms)) taken.clean, then.0);
-      fields = (taken.read.spells.fits.fields, so_far.fields);
+      captured = taken.tables.captured;
+      clean = ((more, taken), so_far.clean);
+      accepted = (taken.placed, then.0);
+      fields = (fits, so_far.fields);
       commits = ap (λ (l : List (List ℕ)). l ++ lines_in options.identity more (list_of (ended_commit more m ms)) now) then.1 ∙ sym (lines_more options.identity more (commits_of more ms) (list_of (ended_commit more m ms)) now);
     }
 
--- what byte strings after messages write, with the messages that stand before
-record IsWhole (options : ReplayOptions) (now : ℤ) (ms : List Message) (bs : List (List ℕ)) (lines : List (List ℕ)) (end : Option LogFault) : Type 0 where
+-- what pieces after messages write, with the messages that stand before
+record IsWhole (options : ReplayOptions) (now : ℤ) (ms : List Message) (pieces : List Piece) (lines : List (List ℕ)) (end : Option LogFault) : Type 0 where
   pub messages : List Message
-  pub front : List (List ℕ)
-  pub rest : List (List ℕ)
+  pub front : List Piece
+  pub rest : List Piece
   pub infos : List TableInfo
-  pub parts : bs ≡ front ++ rest
-  pub spelled : AreSpelled front messages
+  pub parts : pieces ≡ front ++ rest
+  pub carried : CarryMessages front messages
   pub so_far : IsSoFar options now (onto ms messages) infos lines
   pub ends : EndsLog options (onto ms messages) rest end
 
-whole_from : (options : ReplayOptions) (now : ℤ) (ms : List Message) (infos : List TableInfo) (before : List (List ℕ)) (bs lines : List (List ℕ)) (end : Option LogFault) → IsSoFar options now ms infos before → LogWrites options now ms bs lines end
-    → IsWhole options now ms bs (before ++ lines) end
-whole_from options now ms infos before [] lines end so_far writes = record {
+-- no message more
+whole_ends : (options : ReplayOptions) (now : ℤ) (ms : List Message) (infos : List TableInfo) (before : List (List ℕ)) (pieces : List Piece) (lines : List (List ℕ)) (end : Option LogFault) → IsSoFar options now ms infos before → lines ≡ [] → EndsLog options ms pieces end
+    → IsWhole options now ms pieces (before ++ lines) end
+whole_ends options now ms infos before pieces lines end so_far none ends = record {
   messages = [];
   front = [];
-  rest = [];
+  rest = pieces;
   infos = infos;
   parts = refl;
-  spelled = tt;
-  so_far = subst (IsSoFar options now ms infos) (sym (ap (λ (l : List (List ℕ)). before ++ l) writes.0 ∙ append-nil before)) so_far;
-  ends = writes.1;
+  carried = tt;
+  so_far = subst (IsSoFar options now ms infos) (sym (ap (λ (l : List (List ℕ)). before ++ l) none ∙ append-nil before)) so_far;
+  ends = ends;
 }
-whole_from options now ms infos before (b ∷ bs) lines end so_far (inl stopped) = record {
-  messages = [];
-  front = [];
-  rest = b ∷ bs;
-  infos = infos;
-  parts = refl;
-  spelled = tt;
-  so_far = subst (IsSoFar options now ms infos) (sym (ap (λ (l : List (List ℕ)). before ++ l) stopped.none ∙ append-nil before)) so_far;
-  ends = (stopped.fault, stopped.is, stopped.told);
-}
-whole_from options now ms infos before (b ∷ bs) lines end so_far (inr (m, more, next, taken, split, writes)) =
+
+whole_from : (options : ReplayOptions) (now : ℤ) (ms : List Message) (infos : List TableInfo) (before : List (List ℕ)) (pieces : List Piece) (lines : List (List ℕ)) (end : Option LogFault) → IsSoFar options now ms infos before → AllFitFields pieces
+    → LogWrites options now ms pieces lines end → IsWhole options now ms pieces (before ++ lines) end
+whole_from options now ms infos before [] lines end so_far fit writes = whole_ends options now ms infos before [] lines end so_far writes.0 writes.1
+whole_from options now ms infos before (Stops f ∷ pieces) lines end so_far fit writes = whole_ends options now ms infos before (Stops f ∷ pieces) lines end so_far writes.0 writes.1
+whole_from options now ms infos before (Carries number m ∷ pieces) lines end so_far fit (inl stopped) =
+    whole_ends options now ms infos before (Carries number m ∷ pieces) lines end so_far stopped.none (stopped.fault, stopped.is, stopped.told)
+whole_from options now ms infos before (Carries number m ∷ pieces) lines end so_far fit (inr (more, next, taken, split, writes)) =
     let printed = lines_in options.identity more (list_of (ended_commit more m ms)) now in
-    let later = whole_from options now (m ∷ ms) more (before ++ printed) bs next end (so_far_next options now ms b m infos more before taken so_far) writes in
+    let later = whole_from options now (m ∷ ms) more (before ++ printed) pieces next end (so_far_next options now ms m infos more before taken fit.0 so_far) fit.1 writes in
     record {
       messages = m ∷ later.messages;
-      front = b ∷ later.front;
+      front = Carries number m ∷ later.front;
       rest = later.rest;
       infos = later.infos;
-      parts = ap (λ (l : List (List ℕ)). b ∷ l) later.parts;
-      spelled = (taken.read.spells, later.spelled);
+      parts = ap (λ (l : List Piece). Carries number m ∷ l) later.parts;
+      carried = ((number, refl), later.carried);
       so_far = subst (IsSoFar options now (onto (m ∷ ms) later.messages) later.infos) (append_assoc before printed next ∙ ap (λ (l : List (List ℕ)). before ++ l) (sym split)) later.so_far;
       ends = later.ends;
     }
 
-pub commits_written : (options : ReplayOptions) (now : ℤ) (bs lines : List (List ℕ)) (end : Option LogFault) → LogWrites options now [] bs lines end → IsReplayed options now bs lines end
-commits_written options now bs lines end writes =
-    let whole = whole_from options now [] [] [] bs lines end (record { captured = refl; clean = tt; accepted = tt; fields = tt; commits = refl }) writes in
+pub commits_written : (options : ReplayOptions) (now : ℤ) (pieces : List Piece) (lines : List (List ℕ)) (end : Option LogFault) → AllFitFields pieces → LogWrites options now [] pieces lines end → IsReplayed options now pieces lines end
+commits_written options now pieces lines end fit writes =
+    let whole = whole_from options now [] [] [] pieces lines end (record { captured = refl; clean = tt; accepted = tt; fields = tt; commits = refl }) fit writes in
     record {
       messages = whole.messages;
       front = whole.front;
       rest = whole.rest;
       infos = whole.infos;
       parts = whole.parts;
-      spelled = whole.spelled;
+      carried = whole.carried;
       captured = whole.so_far.captured;
       clean = whole.so_far.clean;
       accepted = whole.so_far.accepted;
@@ -240,51 +235,58 @@ clean_before : (options : ReplayOptions) (ms messages : List Message) → HaveNo
 clean_before options ms [] clean = clean
 clean_before options ms (m ∷ messages) clean = (clean_before options (m ∷ ms) messages clean).1
 
--- bytes that spell a message without a fault are taken
-taken_of : (options : ReplayOptions) (ms : List Message) (b : List ℕ) (m : Message) → Spells b m → (clean : HasNoFault options m ms) → IsTaken options ms b m clean.infos
-taken_of options ms b m spells clean = record { read = record { spells = spells; capturable = clean.capturable; captured = clean.captured }; clean = clean.clean }
-
 -- what messages after others write, and how it ends
-record IsWalked (options : ReplayOptions) (now : ℤ) (ms messages : List Message) (bs before : List (List ℕ)) (end : Option LogFault) : Type 0 where
+record IsWalked (options : ReplayOptions) (now : ℤ) (ms messages : List Message) (pieces : List Piece) (before : List (List ℕ)) (end : Option LogFault) : Type 0 where
   pub lines : List (List ℕ)
   pub infos : List TableInfo
-  pub writes : LogWrites options now ms bs lines end
+  pub writes : LogWrites options now ms pieces lines end
   pub so_far : IsSoFar options now (onto ms messages) infos (before ++ lines)
 
-walked_end : (options : ReplayOptions) (now : ℤ) (ms : List Message) (infos : List TableInfo) (rest before : List (List ℕ)) (end : Option LogFault) → EndsLog options ms rest end → IsSoFar options now ms infos before
+walked_end : (options : ReplayOptions) (now : ℤ) (ms : List Message) (infos : List TableInfo) (rest : List Piece) (before : List (List ℕ)) (end : Option LogFault) → LogWrites options now ms rest [] end → IsSoFar options now ms infos before
     → IsWalked options now ms [] rest before end
-walked_end options now ms infos [] before end ends so_far = record { lines = []; infos = infos; writes = (refl, ends); so_far = subst (IsSoFar options now ms infos) (sym (append-nil before)) so_far }
-walked_end options now ms infos (b ∷ rest) before end ends so_far = record {
-  lines = [];
-  infos = infos;
-  writes = inl (record { fault = ends.0; is = ends.1; none = refl; told = ends.2 });
-  so_far = subst (IsSoFar options now ms infos) (sym (append-nil before)) so_far;
-}
+walked_end options now ms infos rest before end writes so_far = record { lines = []; infos = infos; writes = writes; so_far = subst (IsSoFar options now ms infos) (sym (append-nil before)) so_far }
 
-walked : (options : ReplayOptions) (now : ℤ) (ms messages : List Message) (infos : List TableInfo) (front rest before : List (List ℕ)) (end : Option LogFault) → AreSpelled front messages → HaveNoFault options (onto ms messages)
-    → EndsLog options (onto ms messages) rest end → IsSoFar options now ms infos before → IsWalked options now ms messages (front ++ rest) before end
-walked options now ms [] infos [] rest before end spelled clean ends so_far = walked_end options now ms infos rest before end ends so_far
-walked options now ms [] infos (b ∷ front) rest before end spelled clean ends so_far = absurd spelled
-walked options now ms (m ∷ messages) infos [] rest before end spelled clean ends so_far = absurd spelled
-walked options now ms (m ∷ messages) infos (b ∷ front) rest before end spelled clean ends so_far =
+ends_write : (options : ReplayOptions) (now : ℤ) (ms : List Message) (rest : List Piece) (end : Option LogFault) → EndsLog options ms rest end → LogWrites options now ms rest [] end
+ends_write options now ms [] end ends = (refl, ends)
+ends_write options now ms (Stops f ∷ rest) end ends = (refl, ends)
+ends_write options now ms (Carries number m ∷ rest) end ends = inl (record { fault = ends.0; is = ends.1; none = refl; told = ends.2 })
+
+walked : (options : ReplayOptions) (now : ℤ) (ms messages : List Message) (infos : List TableInfo) (front rest : List Piece) (before : List (List ℕ)) (end : Option LogFault) → CarryMessages front messages → HaveNoFault options (onto ms messages)
+    → EndsLog options (onto ms messages) rest end → AllFitFields (front ++ rest) → IsSoFar options now ms infos before → IsWalked options now ms messages (front ++ rest) before end
+walked options now ms [] infos [] rest before end carried clean ends fit so_far = walked_end options now ms infos rest before end (ends_write options now ms rest end ends) so_far
+walked options now ms [] infos (p ∷ front) rest before end carried clean ends fit so_far = absurd carried
+walked options now ms (m ∷ messages) infos [] rest before end carried clean ends fit so_far = absurd carried
+walked options now ms (m ∷ messages) infos (p ∷ front) rest before end carried clean ends fit so_far =
     let here = (clean_before options (m ∷ ms) messages clean).0 in
-    let taken = taken_of options ms b m spelled.0 here in
-    let printed = lines_in options.identity here.infos (list_of (ended_commit here.infos m ms)) now in
-    let later = walked options now (m ∷ ms) messages here.infos front rest (before ++ printed) end spelled.1 clean ends (so_far_next options now ms b m infos here.infos before taken so_far) in
+    let fits = carried_fits p carried.0.0 m (front ++ rest) carried.0.1 fit in
+    let printed = lines_in options.identity here.0 (list_of (ended_commit here.0 m ms)) now in
+    let later = walked options now (m ∷ ms) messages here.0 front rest (before ++ printed) end carried.1 clean ends fits.1 (so_far_next options now ms m infos here.0 before here.1 fits.0 so_far) in
     record {
       lines = printed ++ later.lines;
       infos = later.infos;
-      writes = inr (m, here.infos, later.lines, taken, refl, later.writes);
+      writes = subst (λ (x : Piece). LogWrites options now ms (x ∷ (front ++ rest)) (printed ++ later.lines) end) (sym carried.0.1) (inr (here.0, later.lines, here.1, refl, later.writes));
       so_far = subst (IsSoFar options now (onto (m ∷ ms) messages) later.infos) (append_assoc before printed later.lines) later.so_far;
     }
 
-pub replayed_written : (options : ReplayOptions) (now : ℤ) (bs lines : List (List ℕ)) (end : Option LogFault) → IsReplayed options now bs lines end → LogWrites options now [] bs lines end
-replayed_written options now bs lines end is =
-    let walk = walked options now [] is.messages [] is.front is.rest [] end is.spelled is.clean is.ends (record { captured = refl; clean = tt; accepted = tt; fields = tt; commits = refl }) in
+pub replayed_written : (options : ReplayOptions) (now : ℤ) (pieces : List Piece) (lines : List (List ℕ)) (end : Option LogFault) → AllFitFields pieces → IsReplayed options now pieces lines end → LogWrites options now [] pieces lines end
+replayed_written options now pieces lines end fit is =
+    let walk = walked options now [] is.messages [] is.front is.rest [] end is.carried is.clean is.ends (subst AllFitFields is.parts fit) (record { captured = refl; clean = tt; accepted = tt; fields = tt; commits = refl }) in
     let same = infos_one walk.infos is.infos (walk.so_far.captured ∙ sym is.captured) in
     let lines_are : walk.lines ≡ lines = walk.so_far.commits ∙ ap (λ (i : List TableInfo). lines_in options.identity i (commits_of i (onto [] is.messages)) now) same ∙ sym is.commits in
-    subst (λ (l : List (List ℕ)). LogWrites options now [] l lines end) (sym is.parts)
+    subst (λ (l : List Piece). LogWrites options now [] l lines end) (sym is.parts)
     (subst (λ (l : List (List ℕ)). LogWrites options now [] (is.front ++ is.rest) l end) lines_are walk.writes)
 
 pub commits_are_written : CommitsAreWritten
-commits_are_written options now bs lines end = (commits_written options now bs lines end, replayed_written options now bs lines end)
+commits_are_written options now pieces lines end fit = (commits_written options now pieces lines end fit, replayed_written options now pieces lines end fit)
+
+-- ---- one answer, and some answer
+
+pub replays_one : ReplaysAreOne
+replays_one options now pieces l k d e fit one two =
+    let same = log_one options now [] pieces l k d e (replayed_written options now pieces l d fit one) (replayed_written options now pieces k e fit two) in
+    (same.lines, same.end)
+
+pub replays_exist : ReplaysExist
+replays_exist options now pieces fit =
+    let log = log_exists options now [] [] refl pieces in
+    (log.0, log.1, commits_written options now pieces log.0 log.1 fit log.2)

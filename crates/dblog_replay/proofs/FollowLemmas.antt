@@ -1,7 +1,7 @@
 -- The messages that were taken, one by one, and what their bytes write.
 use Rattle.std.proofs.Common.{◌≡◌, ◌≢◌, ◌⊎◌, inl, inr, ◌∙◌, ℕ, ℤ, ◌+◌, Option, Some, None, Result, Ok, Err, OnOk, IfOk, IfErr, List, [], ◌∷◌, ◌++◌, length, refl, sym, ap, ap₂, subst, append_assoc, append-nil, arith}
 use Rattle.std.specs.Prelude.{option_map, is_some, Bool, true, false, not, ◌||◌}
-use Rattle.std.specs.Option.{option_and_then, option_or}
+use Rattle.std.specs.Option.{option_and_then}
 use Rattle.std.specs.List.{AllByRecursion, list_any}
 use Rattle.dbl_lines.specs.declared.error.PrintError.{PrintError}
 use Rattle.dbl_lines.specs.declared.error.PrintError.TheVariants.{Memory}
@@ -27,11 +27,13 @@ use Rattle.dblog_replay.specs.declared.log_fault.LogFault.TheVariants as log
 use Rattle.dblog_replay.specs.declared.options.ReplayOptions.{ReplayOptions}
 use Rattle.dblog_replay.specs.declared.replay.Replayer.{Replayer}
 use Rattle.dblog_replay.specs.Captures.{entry_of, capture_fault, tables_in, told_fault}
-use Rattle.dblog_replay.specs.Log.{log_start, lines_in, commit_fault, IsRead, read_fault, IsLogFault, no_message, no_table, no_place, IsTaken, end_fault, LogWrites}
-use Rattle.dblog_replay.specs.Following.{HasReplayed, FollowsMessages, ReadFails, IsReplayerReady, IsAppended, AppendsMessage, IsNextMessage, TakesMessage}
-use Rattle.dblog_replay.specs.LogPrinting.{IsHalted, starved, cut, PutsCommit, IsStepped, StepFails, step_starved, step_cut, StepsPrinting, IsLogPut}
+use Rattle.dblog_replay.specs.Pieces.{Piece, Carries, Stops, IsPiece, AreRead}
+use Rattle.dblog_replay.specs.Log.{log_start, lines_in, commit_fault, HasTables, records_fault, IsLogFault, no_table, no_place, no_records, IsTaken, end_fault, LogWrites}
+use Rattle.dblog_replay.specs.Following.{HasReplayed, FollowsMessages, IsReplaying, IsReplayerReady, AppendsMessage, IsNextMessage, TakesMessage}
+use Rattle.dblog_replay.specs.LogPrinting.{starved, cut, PutsCommit, IsStepped, step_starved, step_cut, StopsAt, StepsPrinting, StepsReading, IsLogPut}
 use Rattle.dblog_replay.proofs.CaptureLemmas.{count_is, captured_still, captured_more, is_known, is_new, new_has_none}
 use Rattle.dblog_replay.proofs.LogLemmas.{goes}
+use Rattle.dblog_replay.proofs.PieceLemmas.{next_piece}
 
 -- ---- the table of a Relation
 
@@ -64,8 +66,10 @@ module _ (options : ReplayOptions) (ms : List Message) (r : Replayer) (oid ident
       record {
         infos = follows.infos;
         replayed = follows.replayed;
-        capturable = ap (option_and_then (capture_fault (length (tables_in options.keys ms)))) none;
-        captured = captured_still options.keys (says.Relation oid ns nm identity columns) ms follows.infos follows.captured none;
+        tables = record {
+          capturable = ap (option_and_then (capture_fault (length (tables_in options.keys ms)))) none;
+          captured = captured_still options.keys (says.Relation oid ns nm identity columns) ms follows.infos follows.captured none;
+        };
       }
 
   -- it can't be captured
@@ -93,51 +97,46 @@ module _ (options : ReplayOptions) (ms : List Message) (r : Replayer) (oid ident
       record {
         infos = follows.infos ++ info ∷ [];
         replayed = replayed;
-        capturable = ap (option_and_then (capture_fault (length (tables_in options.keys ms)))) told ∙ ap₂ capture_fault (sym count_told) (sym entry_same) ∙ clean;
-        captured = captured_more options.keys (says.Relation oid ns nm identity columns) ms follows.infos info (entry_of options.keys (table_named ns nm) columns) follows.captured told (info_told ∙ entry_same);
+        tables = record {
+          capturable = ap (option_and_then (capture_fault (length (tables_in options.keys ms)))) told ∙ ap₂ capture_fault (sym count_told) (sym entry_same) ∙ clean;
+          captured = captured_more options.keys (says.Relation oid ns nm identity columns) ms follows.infos info (entry_of options.keys (table_named ns nm) columns) follows.captured told (info_told ∙ entry_same);
+        };
       }
 
 -- ---- one message
 
-pub read_fails : (options : ReplayOptions) (ms : List Message) (number : ℕ) (bytes : List ℕ) (fault : LogFault) → number ≡ length ms + 1 → ReadFails number bytes fault → (fault ≡ log.Memory) ⊎ IsLogFault options ms bytes fault
-read_fails options ms number bytes fault count (inl memory) = inl memory
-read_fails options ms number bytes fault count (inr (error, is, told)) = inr (no_message error is (told ∙ ap (λ (n : ℕ). log.Message n error) count))
+pub prepare_fails : (options : ReplayOptions) (ms : List Message) (number : ℕ) (m : Message) (fault : LogFault) → (fault ≡ log.Memory) ⊎ (told_fault options.keys (tables_in options.keys ms) m ≡ Some fault)
+    → (fault ≡ log.Memory) ⊎ IsLogFault options ms number m fault
+prepare_fails options ms number m fault (inl memory) = inl memory
+prepare_fails options ms number m fault (inr told) = inr (no_table told)
 
-pub prepare_fails : (options : ReplayOptions) (ms : List Message) (bytes : List ℕ) (m : Message) (fault : LogFault) → Spells bytes m → (fault ≡ log.Memory) ⊎ (told_fault options.keys (tables_in options.keys ms) m ≡ Some fault) → (fault ≡ log.Memory) ⊎ IsLogFault options ms bytes fault
-prepare_fails options ms bytes m fault spells (inl memory) = inl memory
-prepare_fails options ms bytes m fault spells (inr told) = inr (no_table m spells told)
+no_fault_found : (number : ℕ) (fault : LogFault) → option_map (log.Transaction number) None ≡ Some fault → ⊥
+no_fault_found number fault told = cc
 
-is_read : (options : ReplayOptions) (ms : List Message) (bytes : List ℕ) (m : Message) (r : Replayer) (ready : IsReplayerReady options ms m r) → Spells bytes m → IsRead options ms bytes m ready.infos
-is_read options ms bytes m r ready spells = record { spells = spells; capturable = ready.capturable; captured = ready.captured }
+fault_found : (number : ℕ) (error : TxnError) (fault : LogFault) → option_map (log.Transaction number) (Some error) ≡ Some fault → fault ≡ log.Transaction number error
+fault_found number error fault told = cc
 
-pub put_fails : (options : ReplayOptions) (ms : List Message) (bytes : List ℕ) (m : Message) (r : Replayer) (fault : LogFault) (ready : IsReplayerReady options ms m r) → Spells bytes m
-    → (fault ≡ log.Memory) ⊎ (option_map (log.Transaction (length ms + 1)) (transaction_fault ready.infos log_start m ms) ≡ Some fault) → (fault ≡ log.Memory) ⊎ IsLogFault options ms bytes fault
-put_fails options ms bytes m r fault ready spells (inl memory) = inl memory
-put_fails options ms bytes m r fault ready spells (inr told) =
-    inr (no_place m ready.infos (is_read options ms bytes m r ready spells) (ap (λ (o : Option LogFault). option_or o (option_and_then (commit_fault options.identity ready.infos) (ended_commit ready.infos m ms))) told))
+misplaced : (options : ReplayOptions) (ms : List Message) (number : ℕ) (m : Message) (infos : List TableInfo) (fault : LogFault) → HasTables options ms m infos → (o : Option TxnError) → transaction_fault infos log_start m ms ≡ o
+    → option_map (log.Transaction number) o ≡ Some fault → IsLogFault options ms number m fault
+misplaced options ms number m infos fault tables None is told = absurd (no_fault_found number fault told)
+misplaced options ms number m infos fault tables (Some error) is told = no_place infos error tables is (fault_found number error fault told)
 
--- the fault of a message that may stand where it stands
-ended_fault : (options : ReplayOptions) (ms : List Message) (m : Message) (infos : List TableInfo) (o : Option Commit) → transaction_fault infos log_start m ms ≡ None → o ≡ ended_commit infos m ms
-    → read_fault options.identity infos m ms ≡ option_and_then (commit_fault options.identity infos) o
-ended_fault options ms m infos o clean is =
-    ap₂ (λ (t : Option TxnError) (c : Option Commit). option_or (option_map (log.Transaction (length ms + 1)) t) (option_and_then (commit_fault options.identity infos) c)) clean (sym is)
+put_fails : (options : ReplayOptions) (ms : List Message) (number : ℕ) (m : Message) (r : Replayer) (fault : LogFault) (ready : IsReplayerReady options ms m r)
+    → (fault ≡ log.Memory) ⊎ (option_map (log.Transaction number) (transaction_fault ready.infos log_start m ms) ≡ Some fault) → (fault ≡ log.Memory) ⊎ IsLogFault options ms number m fault
+put_fails options ms number m r fault ready (inl memory) = inl memory
+put_fails options ms number m r fault ready (inr told) = inr (misplaced options ms number m ready.infos fault ready.tables _ refl told)
 
-pub taken_next : (options : ReplayOptions) (ms : List Message) (bytes : List ℕ) (m : Message) (r s : Replayer) (o : Option Commit) (ready : IsReplayerReady options ms m r) → Spells bytes m → IsAppended options ready.infos ms m s o
-    → AllByRecursion FitsFields ms → IsNextMessage options ms bytes s o
-taken_next options ms bytes m r s o ready spells put fields = record {
-  m = m;
+pub put_takes : (options : ReplayOptions) (ms : List Message) (number : ℕ) (m : Message) (r s : Replayer) (result : Result (Option Commit) LogFault) (ready : IsReplayerReady options ms m r) → FitsFields m → AllByRecursion FitsFields ms
+    → AppendsMessage options ready.infos ms number m s result → TakesMessage options ms number m s result
+put_takes options ms number m r s (Ok o) ready fits fields put = record {
   infos = ready.infos;
-  read = is_read options ms bytes m r ready spells;
-  clean = put.clean;
+  tables = ready.tables;
+  placed = put.placed;
   commit = put.commit;
   replayed = put.replayed;
-  fields = (spells.fits.fields, fields);
+  fields = (fits, fields);
 }
-
-pub put_takes : (options : ReplayOptions) (ms : List Message) (bytes : List ℕ) (m : Message) (r s : Replayer) (result : Result (Option Commit) LogFault) (ready : IsReplayerReady options ms m r) → Spells bytes m → AllByRecursion FitsFields ms
-    → AppendsMessage options ready.infos ms m s result → TakesMessage options ms bytes s result
-put_takes options ms bytes m r s (Ok o) ready spells fields put = taken_next options ms bytes m r s o ready spells put fields
-put_takes options ms bytes m r s (Err fault) ready spells fields put = put_fails options ms bytes m r fault ready spells put
+put_takes options ms number m r s (Err fault) ready fits fields put = put_fails options ms number m r fault ready put
 
 -- ---- the lines of the commit that a message ends
 
@@ -148,34 +147,37 @@ WriterLines r o now = lines_in r.writer.identity r.writer.infos (list_of o) now
 abbrev WriterFault : Replayer → Option Commit → Option LogFault
 WriterFault r o = option_and_then (commit_fault r.writer.identity r.writer.infos) o
 
-writer_lines : (options : ReplayOptions) (ms : List Message) (b : List ℕ) (r : Replayer) (o : Option Commit) (now : ℤ) (is : IsNextMessage options ms b r o) → WriterLines r o now ≡ lines_in options.identity is.infos (list_of (ended_commit is.infos is.m ms)) now
-writer_lines options ms b r o now is =
+writer_lines : (options : ReplayOptions) (ms : List Message) (m : Message) (r : Replayer) (o : Option Commit) (now : ℤ) (is : IsNextMessage options ms m r o) → WriterLines r o now ≡ lines_in options.identity is.infos (list_of (ended_commit is.infos m ms)) now
+writer_lines options ms m r o now is =
     ap₂ (λ (i : Identity) (infos : List TableInfo). lines_in i infos (list_of o) now) is.replayed.identity is.replayed.writes ∙ ap (λ (c : Option Commit). lines_in options.identity is.infos (list_of c) now) is.commit
 
-writer_fault : (options : ReplayOptions) (ms : List Message) (b : List ℕ) (r : Replayer) (o : Option Commit) (is : IsNextMessage options ms b r o) → WriterFault r o ≡ read_fault options.identity is.infos is.m ms
-writer_fault options ms b r o is =
-    ap₂ (λ (i : Identity) (infos : List TableInfo). option_and_then (commit_fault i infos) o) is.replayed.identity is.replayed.writes ∙ sym (ended_fault options ms is.m is.infos o is.clean is.commit)
+writer_fault : (options : ReplayOptions) (ms : List Message) (m : Message) (r : Replayer) (o : Option Commit) (is : IsNextMessage options ms m r o) → WriterFault r o ≡ records_fault options.identity is.infos m ms
+writer_fault options ms m r o is =
+    ap₂ (λ (i : Identity) (infos : List TableInfo). option_and_then (commit_fault i infos) o) is.replayed.identity is.replayed.writes ∙ ap (λ (c : Option Commit). option_and_then (commit_fault options.identity is.infos) c) is.commit
 
-next_taken : (options : ReplayOptions) (ms : List Message) (b : List ℕ) (r : Replayer) (o : Option Commit) (is : IsNextMessage options ms b r o) → WriterFault r o ≡ None → IsTaken options ms b is.m is.infos
-next_taken options ms b r o is none = record { read = is.read; clean = sym (writer_fault options ms b r o is) ∙ none }
+next_taken : (options : ReplayOptions) (ms : List Message) (m : Message) (r : Replayer) (o : Option Commit) (is : IsNextMessage options ms m r o) → WriterFault r o ≡ None → IsTaken options ms m is.infos
+next_taken options ms m r o is none = record { tables = is.tables; placed = is.placed; made = sym (writer_fault options ms m r o is) ∙ none }
 
-next_follows : (options : ReplayOptions) (ms : List Message) (b : List ℕ) (r : Replayer) (o : Option Commit) (is : IsNextMessage options ms b r o) → FollowsMessages options (is.m ∷ ms) r
-next_follows options ms b r o is = record { infos = is.infos; replayed = is.replayed; captured = is.read.captured; fields = is.fields }
+next_follows : (options : ReplayOptions) (ms : List Message) (m : Message) (r : Replayer) (o : Option Commit) (is : IsNextMessage options ms m r o) → FollowsMessages options (m ∷ ms) r
+next_follows options ms m r o is = record { infos = is.infos; replayed = is.replayed; captured = is.tables.captured; fields = is.fields }
 
 -- what became of the commit is what became of the message
-pub steps : (options : ReplayOptions) (now : ℤ) (ms : List Message) (b gathered later : List ℕ) (r : Replayer) (o : Option Commit) (result : Result (Option LogFault) PrintError) (before after : Option (List ℕ)) → IsNextMessage options ms b r o
-    → PutsCommit (WriterFault r o) (WriterLines r o now) gathered later result before after → StepsPrinting options now ms b gathered later r result before after
-steps options now ms b gathered later r o (Ok None) before after is puts = record {
-  m = is.m;
+pub steps : (options : ReplayOptions) (now : ℤ) (ms : List Message) (number : ℕ) (m : Message) (gathered later : List ℕ) (r : Replayer) (o : Option Commit) (result : Result (Option LogFault) PrintError) (before after : Option (List ℕ)) → IsNextMessage options ms m r o
+    → PutsCommit (WriterFault r o) (WriterLines r o now) gathered later result before after → StepsPrinting options now ms (Carries number m) gathered later r result before after
+steps options now ms number m gathered later r o (Ok None) before after is puts = record {
+  number = number;
+  m = m;
   infos = is.infos;
-  taken = next_taken options ms b r o is puts.0;
-  follows = next_follows options ms b r o is;
-  puts = subst (λ (l : List (List ℕ)). Puts l gathered later before after) (writer_lines options ms b r o now is) puts.1;
+  carries = refl;
+  taken = next_taken options ms m r o is puts.0;
+  follows = next_follows options ms m r o is;
+  puts = subst (λ (l : List (List ℕ)). Puts l gathered later before after) (writer_lines options ms m r o now is) puts.1;
 }
-steps options now ms b gathered later r o (Ok (Some fault)) before after is (told, halted) = (no_place is.m is.infos is.read (sym (writer_fault options ms b r o is) ∙ told), halted)
-steps options now ms b gathered later r o (Err error) before after is (starved memory same) = step_starved memory same
-steps options now ms b gathered later r o (Err error) before after is (cut none fails) =
-    step_cut is.m is.infos (next_taken options ms b r o is none) (subst (λ (l : List (List ℕ)). PutFails l gathered error before after) (writer_lines options ms b r o now is) fails)
+steps options now ms number m gathered later r o (Ok (Some fault)) before after is (told, halted) =
+    (no_records is.infos is.tables is.placed (sym (writer_fault options ms m r o is) ∙ told), halted)
+steps options now ms number m gathered later r o (Err error) before after is (starved memory same) = step_starved memory same
+steps options now ms number m gathered later r o (Err error) before after is (cut none fails) =
+    step_cut number m is.infos refl (next_taken options ms m r o is none) (subst (λ (l : List (List ℕ)). PutFails l gathered error before after) (writer_lines options ms m r o now is) fails)
 
 same_fault : (x y : LogFault) → Some x ≡ Some y → x ≡ y
 same_fault x y same = cc
@@ -183,103 +185,161 @@ same_fault x y same = cc
 no_fault : (x : LogFault) → None ≡ Some x → ⊥
 no_fault x same = cc
 
--- bytes with a fault
-pub steps_stopped : (options : ReplayOptions) (now : ℤ) (ms : List Message) (b gathered : List ℕ) (r : Replayer) (fault : LogFault) (result : Result (Option LogFault) PrintError) (before : Option (List ℕ)) → (fault ≡ log.Memory) ⊎ IsLogFault options ms b fault
-    → IfOk result (λ found. found ≡ Some fault) → OnOk result (fault ≢ log.Memory) → IfErr result (λ e. e ≡ Memory) → StepsPrinting options now ms b gathered gathered r result before before
-steps_stopped options now ms b gathered r fault (Ok None) before cause told other memory = absurd (no_fault fault told)
-steps_stopped options now ms b gathered r fault (Ok (Some found)) before (inl memory) told other err = absurd (other memory)
-steps_stopped options now ms b gathered r fault (Ok (Some found)) before (inr is) told other err =
-    (subst (IsLogFault options ms b) (sym (same_fault found fault told)) is, record { kept = refl; same = refl })
-steps_stopped options now ms b gathered r fault (Err error) before cause told other memory = step_starved memory refl
+-- a piece that ends the log, or out of memory
+pub steps_stopped : (options : ReplayOptions) (now : ℤ) (ms : List Message) (piece : Piece) (gathered : List ℕ) (r : Replayer) (fault : LogFault) (result : Result (Option LogFault) PrintError) (before : Option (List ℕ)) → (fault ≡ log.Memory) ⊎ StopsAt options ms piece fault
+    → IfOk result (λ found. found ≡ Some fault) → OnOk result (fault ≢ log.Memory) → IfErr result (λ e. e ≡ Memory) → StepsPrinting options now ms piece gathered gathered r result before before
+steps_stopped options now ms piece gathered r fault (Ok None) before cause told other memory = absurd (no_fault fault told)
+steps_stopped options now ms piece gathered r fault (Ok (Some found)) before (inl memory) told other err = absurd (other memory)
+steps_stopped options now ms piece gathered r fault (Ok (Some found)) before (inr is) told other err =
+    (subst (StopsAt options ms piece) (sym (same_fault found fault told)) is, record { kept = refl; same = refl })
+steps_stopped options now ms piece gathered r fault (Err error) before cause told other memory = step_starved memory refl
 
-pub steps_same : (options : ReplayOptions) (now : ℤ) (ms : List Message) (a b gathered later : List ℕ) (r : Replayer) (one other : Option LogFault) (before after : Option (List ℕ)) → StepsPrinting options now ms a gathered later r (Ok one) before after → a ≡ b → one ≡ other
-    → StepsPrinting options now ms b gathered later r (Ok other) before after
-steps_same options now ms a b gathered later r one other before after is bytes same =
-    subst (λ (f : Option LogFault). StepsPrinting options now ms b gathered later r (Ok f) before after) same (subst (λ (x : List ℕ). StepsPrinting options now ms x gathered later r (Ok one) before after) bytes is)
+-- bytes that are no message, or out of memory
+pub read_stopped : (options : ReplayOptions) (now : ℤ) (ms : List Message) (number : ℕ) (b gathered : List ℕ) (r : Replayer) (fault : LogFault) (result : Result (Option LogFault) PrintError) (before : Option (List ℕ)) → (fault ≡ log.Memory) ⊎ IsPiece number b (Stops fault)
+    → IfOk result (λ found. found ≡ Some fault) → OnOk result (fault ≢ log.Memory) → IfErr result (λ e. e ≡ Memory) → StepsReading options now ms number b gathered gathered r result before before
+read_stopped options now ms number b gathered r fault result before (inr is) told other err =
+    inr (Stops fault, is, steps_stopped options now ms (Stops fault) gathered r fault result before (inr refl) told other err)
+read_stopped options now ms number b gathered r fault (Ok found) before (inl memory) told other err = absurd (other memory)
+read_stopped options now ms number b gathered r fault (Err error) before (inl memory) told other err = inl (ap (λ (e : PrintError). Err e) err, refl)
+
+-- bytes that are a message
+pub read_steps : (options : ReplayOptions) (now : ℤ) (ms : List Message) (number : ℕ) (b : List ℕ) (m : Message) (gathered later : List ℕ) (r : Replayer) (result : Result (Option LogFault) PrintError) (before after : Option (List ℕ)) → Spells b m
+    → StepsPrinting options now ms (Carries number m) gathered later r result before after → StepsReading options now ms number b gathered later r result before after
+read_steps options now ms number b m gathered later r result before after spells steps = inr (Carries number m, (refl, spells), steps)
+
+pub reading_same : (options : ReplayOptions) (now : ℤ) (ms : List Message) (number : ℕ) (b gathered later : List ℕ) (r : Replayer) (one other : Option LogFault) (before after : Option (List ℕ)) → StepsReading options now ms number b gathered later r (Ok one) before after → one ≡ other
+    → StepsReading options now ms number b gathered later r (Ok other) before after
+reading_same options now ms number b gathered later r one other before after is same = subst (λ (f : Option LogFault). StepsReading options now ms number b gathered later r (Ok f) before after) same is
+
+-- the piece that was processed without an error
+abbrev pub HasStepped : ReplayOptions → ℤ → List Message → ℕ → List ℕ → List ℕ → List ℕ → Replayer → Option (List ℕ) → Option (List ℕ) → Type 0
+HasStepped options now ms number b gathered later r before after = (piece : Piece) × IsPiece number b piece × IsStepped options now ms piece gathered later r before after
+
+pub read_on : (options : ReplayOptions) (now : ℤ) (ms : List Message) (number : ℕ) (b gathered later : List ℕ) (r : Replayer) (before after : Option (List ℕ)) → StepsReading options now ms number b gathered later r (Ok None) before after
+    → HasStepped options now ms number b gathered later r before after
+read_on options now ms number b gathered later r before after (inl (failed, same)) = cc
+read_on options now ms number b gathered later r before after (inr stepped) = stepped
+
+pub stepped_replays : (options : ReplayOptions) (now : ℤ) (ms : List Message) (number : ℕ) (b gathered later : List ℕ) (r : Replayer) (before after : Option (List ℕ)) → HasStepped options now ms number b gathered later r before after → IsReplaying r
+stepped_replays options now ms number b gathered later r before after (piece, is, stepped) = record { options = options; ms = stepped.m ∷ ms; follows = stepped.follows }
 
 -- ---- the messages so far
 
--- the first of the byte strings were taken, and the lines of their commits put; the others are left
-pub record IsLogging (options : ReplayOptions) (now : ℤ) (all left : List (List ℕ)) (gathered later : List ℕ) (before after : Option (List ℕ)) (number : ℕ) (r : Replayer) : Type 0 where
+-- the first of the byte strings were read, and the lines of their commits put; the others are left
+pub record IsLogging (options : ReplayOptions) (now : ℤ) (all : List Piece) (unread : List (List ℕ)) (gathered later : List ℕ) (before after : Option (List ℕ)) (number : ℕ) (r : Replayer) : Type 0 where
   pub ms : List Message
+  pub left : List Piece
+  pub read : AreRead (number + 1) unread left
   pub follows : FollowsMessages options ms r
-  pub count : number ≡ length ms
-  pub size : number + length left ≡ length all
   pub first : List (List ℕ)
   pub puts : Puts first gathered later before after
   pub onto : (lines : List (List ℕ)) (end : Option LogFault) → LogWrites options now [] all lines end → (more : List (List ℕ)) × (lines ≡ first ++ more) × LogWrites options now ms left more end
   pub back : (more : List (List ℕ)) (end : Option LogFault) → LogWrites options now ms left more end → LogWrites options now [] all (first ++ more) end
 
-pub logging_begins : (options : ReplayOptions) (now : ℤ) (all : List (List ℕ)) (gathered : List ℕ) (before : Option (List ℕ)) (r : Replayer) → FollowsMessages options [] r → IsLogging options now all all gathered gathered before before 0 r
-logging_begins options now all gathered before r follows = record {
+pub logging_begins : (options : ReplayOptions) (now : ℤ) (all : List Piece) (unread : List (List ℕ)) (gathered : List ℕ) (before : Option (List ℕ)) (r : Replayer) → FollowsMessages options [] r → AreRead 1 unread all
+    → IsLogging options now all unread gathered gathered before before 0 r
+logging_begins options now all unread gathered before r follows read = record {
   ms = [];
+  left = all;
+  read = read;
   follows = follows;
-  count = refl;
-  size = omega arith;
   first = [];
   puts = no_lines gathered before;
   onto = λ lines end writes. (lines, refl, writes);
   back = λ more end writes. writes;
 }
 
-pub logging_more : (options : ReplayOptions) (now : ℤ) (all left next : List (List ℕ)) (b gathered middle later : List ℕ) (before between after : Option (List ℕ)) (number : ℕ) (r s : Replayer)
-    (so_far : IsLogging options now all left gathered middle before between number r) → left ≡ b ∷ next → IsStepped options now so_far.ms b middle later s between after → IsLogging options now all next gathered later before after (number + 1) s
-logging_more options now all left next b gathered middle later before between after number r s so_far split is =
+-- the piece of the next byte string
+next_left : (options : ReplayOptions) (now : ℤ) (all : List Piece) (unread next : List (List ℕ)) (b gathered later : List ℕ) (before after : Option (List ℕ)) (number : ℕ) (r : Replayer)
+    (so_far : IsLogging options now all unread gathered later before after number r) → unread ≡ b ∷ next → (piece : Piece) → IsPiece (number + 1) b piece → (more : List Piece) × (so_far.left ≡ piece ∷ more)
+next_left options now all unread next b gathered later before after number r so_far split piece is =
+    next_piece (number + 1) b next so_far.left piece (subst (λ (l : List (List ℕ)). AreRead (number + 1) l so_far.left) split so_far.read) is
+
+pub logging_more : (options : ReplayOptions) (now : ℤ) (all : List Piece) (unread next : List (List ℕ)) (b gathered middle later : List ℕ) (before between after : Option (List ℕ)) (number : ℕ) (r s : Replayer)
+    (so_far : IsLogging options now all unread gathered middle before between number r) → unread ≡ b ∷ next → HasStepped options now so_far.ms (number + 1) b middle later s between after
+    → IsLogging options now all next gathered later before after (number + 1) s
+logging_more options now all unread next b gathered middle later before between after number r s so_far split (piece, is_piece, is) =
     let printed = lines_in options.identity is.infos (list_of (ended_commit is.infos is.m so_far.ms)) now in
+    let rest = next_left options now all unread next b gathered middle before between number r so_far split piece is_piece in
+    let left_is : so_far.left ≡ Carries is.number is.m ∷ rest.0 = rest.1 ∙ ap (λ (p : Piece). p ∷ rest.0) is.carries in
+    let read : AreRead (number + 1) (b ∷ next) (Carries is.number is.m ∷ rest.0) =
+    subst (λ (ps : List Piece). AreRead (number + 1) (b ∷ next) ps) left_is (subst (λ (l : List (List ℕ)). AreRead (number + 1) l so_far.left) split so_far.read) in
     record {
       ms = is.m ∷ so_far.ms;
+      left = rest.0;
+      read = read.1;
       follows = is.follows;
-      count = omega (arith, so_far.count);
-      size = omega (arith, so_far.size, ap length split);
       first = so_far.first ++ printed;
       puts = puts_then so_far.first printed gathered middle later before between after so_far.puts is.puts;
       onto = λ lines end writes. (
           let told = so_far.onto lines end writes in
-          let more = goes options now so_far.ms b next is.m is.infos told.0 end is.taken (subst (λ (l : List (List ℕ)). LogWrites options now so_far.ms l told.0 end) split told.2) in
+          let more = goes options now so_far.ms is.number is.m rest.0 is.infos told.0 end is.taken (subst (λ (l : List Piece). LogWrites options now so_far.ms l told.0 end) left_is told.2) in
           (more.more, told.1 ∙ ap (λ (l : List (List ℕ)). so_far.first ++ l) more.split ∙ sym (append_assoc so_far.first printed more.more), more.rest));
       back = λ more end writes.
           subst (λ (l : List (List ℕ)). LogWrites options now [] all l end) (sym (append_assoc so_far.first printed more))
-          (so_far.back (printed ++ more) end (subst (λ (l : List (List ℕ)). LogWrites options now so_far.ms l (printed ++ more) end) (sym split)
-          (inr (is.m, is.infos, more, is.taken, refl, writes))));
+          (so_far.back (printed ++ more) end (subst (λ (l : List Piece). LogWrites options now so_far.ms l (printed ++ more) end) (sym left_is)
+          (inr (is.infos, more, is.taken, refl, writes))));
     }
 
--- the next bytes have a fault
-pub logging_stops : (options : ReplayOptions) (now : ℤ) (all left next : List (List ℕ)) (b gathered middle later : List ℕ) (before between after : Option (List ℕ)) (number : ℕ) (r : Replayer) (fault : LogFault)
-    (so_far : IsLogging options now all left gathered middle before between number r) → left ≡ b ∷ next → IsLogFault options so_far.ms b fault → IsHalted middle later between after
+stops_write : (options : ReplayOptions) (now : ℤ) (ms : List Message) (piece : Piece) (more : List Piece) (fault : LogFault) → StopsAt options ms piece fault → LogWrites options now ms (piece ∷ more) [] (Some fault)
+stops_write options now ms (Carries number m) more fault is = inl (record { fault = fault; is = is; none = refl; told = refl })
+stops_write options now ms (Stops error) more fault is = (refl, ap (λ (f : LogFault). Some f) is)
+
+-- the next piece ends the log
+pub logging_stops : (options : ReplayOptions) (now : ℤ) (all : List Piece) (unread next : List (List ℕ)) (b gathered middle later : List ℕ) (before between after : Option (List ℕ)) (number : ℕ) (r s : Replayer) (fault : LogFault)
+    (so_far : IsLogging options now all unread gathered middle before between number r) → unread ≡ b ∷ next → StepsReading options now so_far.ms (number + 1) b middle later s (Ok (Some fault)) between after
     → IsLogPut options now all gathered later (Some fault) before after
-logging_stops options now all left next b gathered middle later before between after number r fault so_far split is halted = record {
-  lines = so_far.first ++ [];
-  writes = so_far.back [] (Some fault) (subst (λ (l : List (List ℕ)). LogWrites options now so_far.ms l [] (Some fault)) (sym split) (inl (record { fault = fault; is = is; none = refl; told = refl })));
-  puts =
-      subst (λ (l : List (List ℕ)). Puts l gathered later before after) (sym (append-nil so_far.first))
-      (subst (λ (t : List ℕ). Puts so_far.first gathered t before after) (sym halted.kept) (subst (λ (a : Option (List ℕ)). Puts so_far.first gathered middle before a) (sym halted.same) so_far.puts));
-}
+logging_stops options now all unread next b gathered middle later before between after number r s fault so_far split (inl (failed, same)) = cc
+logging_stops options now all unread next b gathered middle later before between after number r s fault so_far split (inr (piece, is_piece, (is, halted))) =
+    let rest = next_left options now all unread next b gathered middle before between number r so_far split piece is_piece in
+    record {
+      lines = so_far.first ++ [];
+      writes = so_far.back [] (Some fault) (subst (λ (l : List Piece). LogWrites options now so_far.ms l [] (Some fault)) (sym rest.1) (stops_write options now so_far.ms piece rest.0 fault is));
+      puts =
+          subst (λ (l : List (List ℕ)). Puts l gathered later before after) (sym (append-nil so_far.first))
+          (subst (λ (t : List ℕ). Puts so_far.first gathered t before after) (sym halted.kept) (subst (λ (a : Option (List ℕ)). Puts so_far.first gathered middle before a) (sym halted.same) so_far.puts));
+    }
 
 -- nothing is left
-pub logging_ends : (options : ReplayOptions) (now : ℤ) (all left : List (List ℕ)) (gathered later : List ℕ) (before after : Option (List ℕ)) (number : ℕ) (r : Replayer) (fault : Option LogFault) (inside : Bool)
-    (so_far : IsLogging options now all left gathered later before after number r) → left ≡ [] → inside ≡ is_some (begin_of so_far.ms) → fault ≡ end_fault inside → IsLogPut options now all gathered later fault before after
-logging_ends options now all left gathered later before after number r fault inside so_far none inside_is told = record {
-  lines = so_far.first ++ [];
-  writes = so_far.back [] fault (subst (λ (l : List (List ℕ)). LogWrites options now so_far.ms l [] fault) (sym none) (refl, told ∙ ap end_fault inside_is));
-  puts = subst (λ (l : List (List ℕ)). Puts l gathered later before after) (sym (append-nil so_far.first)) so_far.puts;
-}
+pub logging_ends : (options : ReplayOptions) (now : ℤ) (all : List Piece) (unread : List (List ℕ)) (gathered later : List ℕ) (before after : Option (List ℕ)) (number : ℕ) (r : Replayer) (fault : Option LogFault) (inside : Bool)
+    (so_far : IsLogging options now all unread gathered later before after number r) → unread ≡ [] → inside ≡ is_some (begin_of so_far.ms) → fault ≡ end_fault inside → IsLogPut options now all gathered later fault before after
+logging_ends options now all unread gathered later before after number r fault inside so_far none inside_is told =
+    let left_is : so_far.left ≡ [] = subst (λ (l : List (List ℕ)). AreRead (number + 1) l so_far.left) none so_far.read in
+    record {
+      lines = so_far.first ++ [];
+      writes = so_far.back [] fault (subst (λ (l : List Piece). LogWrites options now so_far.ms l [] fault) (sym left_is) (refl, told ∙ ap end_fault inside_is));
+      puts = subst (λ (l : List (List ℕ)). Puts l gathered later before after) (sym (append-nil so_far.first)) so_far.puts;
+    }
 
-pub logging_starves : (options : ReplayOptions) (now : ℤ) (all left : List (List ℕ)) (gathered later : List ℕ) (before after : Option (List ℕ)) (number : ℕ) (r : Replayer)
-    (so_far : IsLogging options now all left gathered later before after number r) (lines : List (List ℕ)) (end : Option LogFault) → LogWrites options now [] all lines end → PutFails lines gathered Memory before after
-logging_starves options now all left gathered later before after number r so_far lines end writes =
+pub logging_starves : (options : ReplayOptions) (now : ℤ) (all : List Piece) (unread : List (List ℕ)) (gathered later : List ℕ) (before after : Option (List ℕ)) (number : ℕ) (r : Replayer)
+    (so_far : IsLogging options now all unread gathered later before after number r) (lines : List (List ℕ)) (end : Option LogFault) → LogWrites options now [] all lines end → PutFails lines gathered Memory before after
+logging_starves options now all unread gathered later before after number r so_far lines end writes =
     let told = so_far.onto lines end writes in
     putting_starves lines told.0 gathered later before after (record { first = so_far.first; is = sym told.1; puts = so_far.puts })
 
--- the lines of the next commit weren't all put
-pub logging_fails : (options : ReplayOptions) (now : ℤ) (all left next : List (List ℕ)) (b gathered middle : List ℕ) (before between after : Option (List ℕ)) (number : ℕ) (r : Replayer) (error : PrintError)
-    (so_far : IsLogging options now all left gathered middle before between number r) → left ≡ b ∷ next → StepFails options now so_far.ms b middle error between after
+memory_fails : (options : ReplayOptions) (now : ℤ) (all : List Piece) (unread : List (List ℕ)) (gathered middle : List ℕ) (before between after : Option (List ℕ)) (number : ℕ) (r : Replayer) (error : PrintError)
+    (so_far : IsLogging options now all unread gathered middle before between number r) → error ≡ Memory → after ≡ between
     → (lines : List (List ℕ)) (end : Option LogFault) → LogWrites options now [] all lines end → PutFails lines gathered error before after
-logging_fails options now all left next b gathered middle before between after number r error so_far split (step_starved memory same) lines end writes =
+memory_fails options now all unread gathered middle before between after number r error so_far memory same lines end writes =
     subst (λ (e : PrintError). PutFails lines gathered e before after) (sym memory)
-    (subst (λ (a : Option (List ℕ)). PutFails lines gathered Memory before a) (sym same) (logging_starves options now all left gathered middle before between number r so_far lines end writes))
-logging_fails options now all left next b gathered middle before between after number r error so_far split (step_cut m infos taken fails) lines end writes =
+    (subst (λ (a : Option (List ℕ)). PutFails lines gathered Memory before a) (sym same) (logging_starves options now all unread gathered middle before between number r so_far lines end writes))
+
+same_error : (d e : PrintError) → Err {A = Option LogFault} d ≡ Err e → d ≡ e
+same_error d e same = cc
+
+-- the lines of the next commit weren't all put
+pub logging_fails : (options : ReplayOptions) (now : ℤ) (all : List Piece) (unread next : List (List ℕ)) (b gathered middle later : List ℕ) (before between after : Option (List ℕ)) (number : ℕ) (r s : Replayer) (error : PrintError)
+    (so_far : IsLogging options now all unread gathered middle before between number r) → unread ≡ b ∷ next → StepsReading options now so_far.ms (number + 1) b middle later s (Err error) between after
+    → (lines : List (List ℕ)) (end : Option LogFault) → LogWrites options now [] all lines end → PutFails lines gathered error before after
+logging_fails options now all unread next b gathered middle later before between after number r s error so_far split (inl (failed, same)) lines end writes =
+    memory_fails options now all unread gathered middle before between after number r error so_far (same_error error Memory failed) same lines end writes
+logging_fails options now all unread next b gathered middle later before between after number r s error so_far split (inr (piece, is_piece, step_starved memory same)) lines end writes =
+    memory_fails options now all unread gathered middle before between after number r error so_far memory same lines end writes
+logging_fails options now all unread next b gathered middle later before between after number r s error so_far split (inr (piece, is_piece, step_cut n m infos carries taken fails)) lines end writes =
     let told = so_far.onto lines end writes in
-    let more = goes options now so_far.ms b next m infos told.0 end taken (subst (λ (l : List (List ℕ)). LogWrites options now so_far.ms l told.0 end) split told.2) in
+    let rest = next_left options now all unread next b gathered middle before between number r so_far split piece is_piece in
+    let left_is : so_far.left ≡ Carries n m ∷ rest.0 = rest.1 ∙ ap (λ (p : Piece). p ∷ rest.0) carries in
+    let more = goes options now so_far.ms n m rest.0 infos told.0 end taken (subst (λ (l : List Piece). LogWrites options now so_far.ms l told.0 end) left_is told.2) in
     putting_fails lines told.0 (lines_in options.identity infos (list_of (ended_commit infos m so_far.ms)) now) more.more gathered middle error before between after (record { first = so_far.first; is = sym told.1; puts = so_far.puts }) more.split fails
 
 pub empty_is : {A : Type 0} (xs : List A) → length xs ≡ 0 → xs ≡ []

@@ -2,9 +2,12 @@ pub mod ApplyLemmas
 pub mod CaptureLemmas
 pub mod CommitLaws
 pub mod CommitLemmas
+pub mod DigitLemmas
+pub mod ExistLemmas
 pub mod FollowLemmas
 pub mod LineLemmas
 pub mod LogLemmas
+pub mod PieceLemmas
 pub mod PrintLemmas
 pub mod SuitLemmas
 pub mod LogPrintLemmas

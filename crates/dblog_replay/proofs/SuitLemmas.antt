@@ -1,5 +1,5 @@
 -- The commit that a message ends suits the writer.
-use Rattle.std.proofs.Common.{◌≡◌, ℕ, Option, Some, None, IfSome, All, List, [], ◌∷◌, ◌++◌, sym, subst}
+use Rattle.std.proofs.Common.{◌≡◌, Option, Some, None, IfSome, All, List, [], ◌∷◌, ◌++◌, sym, subst}
 use Rattle.std.specs.List.{AllByRecursion}
 use Rattle.std.proofs.lemmas.List.Elements.{All-from_recursion}
 use Rattle.dbl_pgmsg.specs.declared.messages.Message.{Message}
@@ -33,6 +33,6 @@ ended_suits infos m ms (Some commit) fields is =
     let fits = last_fits infos (commits_of infos ms) commit (subst (λ (o : Option Commit). FitCommits infos (commits_of infos ms ++ list_of o)) (sym is) fit) in
     All-from_recursion (Suits infos) (changes_of commit) (changes_suit infos (changes_of commit) fits)
 
-pub next_suits : (options : ReplayOptions) (ms : List Message) (bytes : List ℕ) (r : Replayer) (o : Option Commit) → IsNextMessage options ms bytes r o → IfSome o (λ commit. All (Suits r.writer.infos) (changes_of commit))
-next_suits options ms bytes r o is =
-    subst (λ (infos : List TableInfo). IfSome o (λ commit. All (Suits infos) (changes_of commit))) (sym is.replayed.writes) (ended_suits is.infos is.m ms o is.fields is.commit)
+pub next_suits : (options : ReplayOptions) (ms : List Message) (m : Message) (r : Replayer) (o : Option Commit) → IsNextMessage options ms m r o → IfSome o (λ commit. All (Suits r.writer.infos) (changes_of commit))
+next_suits options ms m r o is =
+    subst (λ (infos : List TableInfo). IfSome o (λ commit. All (Suits infos) (changes_of commit))) (sym is.replayed.writes) (ended_suits is.infos m ms o is.fields is.commit)

@@ -1,10 +1,8 @@
 -- For private clauses: the state after the processed messages.
-use Rattle.std.specs.Prelude.{◌≡◌, ◌⊎◌, ℕ, ◌+◌, Option, None, Some, Result, Ok, Err, option_map, List, ◌∷◌, length}
+use Rattle.std.specs.Prelude.{◌≡◌, ◌⊎◌, ℕ, Option, None, Some, Result, Ok, Err, option_map, List, ◌∷◌}
 use Rattle.std.specs.List.{AllByRecursion}
-use Rattle.dbl_pgmsg.specs.declared.error.MsgError.{MsgError}
 use Rattle.dbl_pgmsg.specs.declared.messages.Message.{Message}
-use Rattle.dbl_pgmsg.specs.Grammar.{FitsFields}
-use Rattle.dbl_pgmsg.specs.Faults.{IsFault}
+use Rattle.dbl_pgmsg.specs.Grammar.{FitsFields, Spells}
 use Rattle.dbl_model_table.specs.declared.table.TableInfo.{TableInfo}
 use Rattle.dbl_model_table.specs.declared.change.Commit.{Commit}
 use Rattle.dbl_model_commit.specs.Stated.{ended_commit, transaction_fault}
@@ -14,7 +12,8 @@ use Rattle.dblog_replay.specs.declared.log_fault.LogFault.TheVariants as log
 use Rattle.dblog_replay.specs.declared.options.ReplayOptions.{ReplayOptions}
 use Rattle.dblog_replay.specs.declared.replay.Replayer.{Replayer}
 use Rattle.dblog_replay.specs.Captures.{tables_in, AreCaptured, told_fault}
-use Rattle.dblog_replay.specs.Log.{log_start, IsRead, IsLogFault}
+use Rattle.dblog_replay.specs.Pieces.{IsPiece, Stops}
+use Rattle.dblog_replay.specs.Log.{log_start, HasTables, IsLogFault}
 
 -- The state after these messages, with these tables captured.
 pub record HasReplayed (options : ReplayOptions) (infos : List TableInfo) (ms : List Message) (r : Replayer) : Type 0 where
@@ -30,23 +29,22 @@ pub record FollowsMessages (options : ReplayOptions) (ms : List Message) (r : Re
   pub captured : AreCaptured options.keys ms infos
   pub fields : AllByRecursion FitsFields ms
 
--- Some messages were processed, and the next one has this number.
-pub record IsReplaying (r : Replayer) (number : ℕ) : Type 0 where
+-- Some messages were processed.
+pub record IsReplaying (r : Replayer) : Type 0 where
   pub options : ReplayOptions
   pub ms : List Message
   pub follows : FollowsMessages options ms r
-  pub count : number ≡ length ms + 1
 
--- The error of bytes that are no message, or out of memory.
-abbrev pub ReadFails : ℕ → List ℕ → LogFault → Type 0
-ReadFails number bytes fault = (fault ≡ log.Memory) ⊎ ((error : MsgError) × IsFault bytes error × (fault ≡ log.Message number error))
+-- The result of reading the byte string of this number: its piece, unless memory ran out.
+abbrev pub ReadsBytes : ℕ → List ℕ → Result Message LogFault → Type 0
+ReadsBytes number bytes (Ok m) = Spells bytes m
+ReadsBytes number bytes (Err e) = (e ≡ log.Memory) ⊎ IsPiece number bytes (Stops e)
 
 -- The table of the next message is captured, if the message is the first to describe it.
 pub record IsReplayerReady (options : ReplayOptions) (ms : List Message) (m : Message) (r : Replayer) : Type 0 where
   pub infos : List TableInfo
   pub replayed : HasReplayed options infos ms r
-  pub capturable : told_fault options.keys (tables_in options.keys ms) m ≡ None
-  pub captured : AreCaptured options.keys (m ∷ ms) infos
+  pub tables : HasTables options ms m infos
 
 -- The result of capturing the table of the next message.
 abbrev pub Prepares : {A : Type 0} → ReplayOptions → List Message → Message → Replayer → Result A LogFault → Type 0
@@ -56,27 +54,27 @@ Prepares options ms m r (Err e) = (e ≡ log.Memory) ⊎ (told_fault options.key
 -- The next message was processed, and ends this commit.
 pub record IsAppended (options : ReplayOptions) (infos : List TableInfo) (ms : List Message) (m : Message) (r : Replayer)
     (o : Option Commit) : Type 0 where
-  pub clean : transaction_fault infos log_start m ms ≡ None
+  pub placed : transaction_fault infos log_start m ms ≡ None
   pub commit : o ≡ ended_commit infos m ms
   pub replayed : HasReplayed options infos (m ∷ ms) r
 
--- The result of processing the next message, after its table was captured.
-abbrev pub AppendsMessage : ReplayOptions → List TableInfo → List Message → Message → Replayer → Result (Option Commit) LogFault → Type 0
-AppendsMessage options infos ms m r (Ok o) = IsAppended options infos ms m r o
-AppendsMessage options infos ms m r (Err e) = (e ≡ log.Memory)
-    ⊎ (option_map (log.Transaction (length ms + 1)) (transaction_fault infos log_start m ms) ≡ Some e)
+-- The result of processing the next message, which has this number, after its table was captured.
+abbrev pub AppendsMessage : ReplayOptions → List TableInfo → List Message → ℕ → Message → Replayer
+    → Result (Option Commit) LogFault → Type 0
+AppendsMessage options infos ms number m r (Ok o) = IsAppended options infos ms m r o
+AppendsMessage options infos ms number m r (Err e) =
+    (e ≡ log.Memory) ⊎ (option_map (log.Transaction number) (transaction_fault infos log_start m ms) ≡ Some e)
 
--- Bytes were processed that are a message which may follow, and ends this commit.
-pub record IsNextMessage (options : ReplayOptions) (ms : List Message) (bytes : List ℕ) (r : Replayer) (o : Option Commit) : Type 0 where
-  pub m : Message
+-- A message that may follow was processed, and ends this commit.
+pub record IsNextMessage (options : ReplayOptions) (ms : List Message) (m : Message) (r : Replayer) (o : Option Commit) : Type 0 where
   pub infos : List TableInfo
-  pub read : IsRead options ms bytes m infos
-  pub clean : transaction_fault infos log_start m ms ≡ None
+  pub tables : HasTables options ms m infos
+  pub placed : transaction_fault infos log_start m ms ≡ None
   pub commit : o ≡ ended_commit infos m ms
   pub replayed : HasReplayed options infos (m ∷ ms) r
   pub fields : AllByRecursion FitsFields (m ∷ ms)
 
--- The result of processing the bytes of the next message.
-abbrev pub TakesMessage : ReplayOptions → List Message → List ℕ → Replayer → Result (Option Commit) LogFault → Type 0
-TakesMessage options ms bytes r (Ok o) = IsNextMessage options ms bytes r o
-TakesMessage options ms bytes r (Err e) = (e ≡ log.Memory) ⊎ IsLogFault options ms bytes e
+-- The result of processing the next message, which has this number.
+abbrev pub TakesMessage : ReplayOptions → List Message → ℕ → Message → Replayer → Result (Option Commit) LogFault → Type 0
+TakesMessage options ms number m r (Ok o) = IsNextMessage options ms m r o
+TakesMessage options ms number m r (Err e) = (e ≡ log.Memory) ⊎ IsLogFault options ms number m e

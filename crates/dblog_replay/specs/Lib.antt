@@ -7,4 +7,5 @@ pub mod Lines
 pub mod Log
 pub mod LogFaults
 pub mod LogPrinting
+pub mod Pieces
 pub mod Replay

@@ -1,5 +1,5 @@
 -- The lines of a log, gathered and written; clauses of public functions cite only `PrintsLog`.
-use Rattle.std.specs.Prelude.{◌≡◌, ℕ, ℤ, List, [], ◌∷◌, ◌++◌, take, Option, None, Some, Result, Ok, Err}
+use Rattle.std.specs.Prelude.{◌≡◌, ◌⊎◌, ℕ, ℤ, List, [], ◌∷◌, ◌++◌, take, Option, None, Some, Result, Ok, Err}
 use Rattle.dbl_base.specs.Lines.{lines_text}
 use Rattle.dbl_lines.specs.declared.status.Status.{Status}
 use Rattle.dbl_lines.specs.declared.error.PrintError.{PrintError}
@@ -13,6 +13,7 @@ use Rattle.dblog_replay.specs.declared.log_fault.LogFault.{LogFault}
 use Rattle.dblog_replay.specs.declared.options.ReplayOptions.{ReplayOptions}
 use Rattle.dblog_replay.specs.declared.replay.Replayer.{Replayer}
 use Rattle.dblog_replay.specs.Following.{FollowsMessages}
+use Rattle.dblog_replay.specs.Pieces.{Piece, IsPiece, Carries, Stops}
 use Rattle.dblog_replay.specs.Log.{lines_in, IsLogFault, IsTaken, LogWrites, end_status, end_lines}
 
 -- No line was gathered.
@@ -33,51 +34,65 @@ PutsCommit fault lines gathered later (Ok None) before after = (fault ≡ None) 
 PutsCommit fault lines gathered later (Ok (Some found)) before after = (fault ≡ Some found) × IsHalted gathered later before after
 PutsCommit fault lines gathered later (Err error) before after = CommitFails fault lines gathered error before after
 
--- Bytes without an error were processed, and the lines of the commit that they end gathered.
-pub record IsStepped (options : ReplayOptions) (now : ℤ) (ms : List Message) (bytes gathered later : List ℕ) (r : Replayer)
+-- The piece carries a message without an error, which was processed, and the lines of the commit that it ends were gathered.
+pub record IsStepped (options : ReplayOptions) (now : ℤ) (ms : List Message) (piece : Piece) (gathered later : List ℕ) (r : Replayer)
     (before after : Option (List ℕ)) : Type 0 where
+  pub number : ℕ
   pub m : Message
   pub infos : List TableInfo
-  pub taken : IsTaken options ms bytes m infos
+  pub carries : piece ≡ Carries number m
+  pub taken : IsTaken options ms m infos
   pub follows : FollowsMessages options (m ∷ ms) r
   pub puts : Puts (lines_in options.identity infos (list_of (ended_commit infos m ms)) now) gathered later before after
 
--- Bytes were not processed whole, or the lines of their commit not all gathered.
-pub data StepFails (options : ReplayOptions) (now : ℤ) (ms : List Message) (bytes gathered : List ℕ) (error : PrintError)
+-- The piece's message was not processed whole, or the lines of its commit not all gathered.
+pub data StepFails (options : ReplayOptions) (now : ℤ) (ms : List Message) (piece : Piece) (gathered : List ℕ) (error : PrintError)
     (before after : Option (List ℕ)) : Type 0 where
-  step_starved : error ≡ Memory → after ≡ before → StepFails options now ms bytes gathered error before after
-  step_cut : (m : Message) (infos : List TableInfo) → IsTaken options ms bytes m infos
+  step_starved : error ≡ Memory → after ≡ before → StepFails options now ms piece gathered error before after
+  step_cut : (number : ℕ) (m : Message) (infos : List TableInfo) → piece ≡ Carries number m → IsTaken options ms m infos
       → PutFails (lines_in options.identity infos (list_of (ended_commit infos m ms)) now) gathered error before after
-      → StepFails options now ms bytes gathered error before after
+      → StepFails options now ms piece gathered error before after
 
--- The result of processing bytes after these messages.
-abbrev pub StepsPrinting : ReplayOptions → ℤ → List Message → List ℕ → List ℕ → List ℕ → Replayer → Result (Option LogFault) PrintError
+-- The error at which a piece after these messages ends the log.
+abbrev pub StopsAt : ReplayOptions → List Message → Piece → LogFault → Type 0
+StopsAt options ms (Carries number m) fault = IsLogFault options ms number m fault
+StopsAt options ms (Stops error) fault = fault ≡ error
+
+-- The result of processing a piece after these messages.
+abbrev pub StepsPrinting : ReplayOptions → ℤ → List Message → Piece → List ℕ → List ℕ → Replayer → Result (Option LogFault) PrintError
     → Option (List ℕ) → Option (List ℕ) → Type 0
-StepsPrinting options now ms bytes gathered later r (Ok None) before after = IsStepped options now ms bytes gathered later r before after
-StepsPrinting options now ms bytes gathered later r (Ok (Some fault)) before after = IsLogFault options ms bytes fault
+StepsPrinting options now ms piece gathered later r (Ok None) before after = IsStepped options now ms piece gathered later r before after
+StepsPrinting options now ms piece gathered later r (Ok (Some fault)) before after = StopsAt options ms piece fault
     × IsHalted gathered later before after
-StepsPrinting options now ms bytes gathered later r (Err error) before after = StepFails options now ms bytes gathered error before after
+StepsPrinting options now ms piece gathered later r (Err error) before after = StepFails options now ms piece gathered error before after
 
--- The lines of the byte strings' messages were gathered, up to this error.
-pub record IsLogPut (options : ReplayOptions) (now : ℤ) (bs : List (List ℕ)) (gathered later : List ℕ) (fault : Option LogFault)
+-- The result of reading the byte string of this number and processing its piece after these messages, unless memory ran out.
+abbrev pub StepsReading : ReplayOptions → ℤ → List Message → ℕ → List ℕ → List ℕ → List ℕ → Replayer → Result (Option LogFault) PrintError
+    → Option (List ℕ) → Option (List ℕ) → Type 0
+StepsReading options now ms number bytes gathered later r result before after =
+    ((result ≡ Err Memory) × (after ≡ before))
+    ⊎ ((piece : Piece) × IsPiece number bytes piece × StepsPrinting options now ms piece gathered later r result before after)
+
+-- The lines of the commits of these pieces were gathered, up to this error.
+pub record IsLogPut (options : ReplayOptions) (now : ℤ) (pieces : List Piece) (gathered later : List ℕ) (fault : Option LogFault)
     (before after : Option (List ℕ)) : Type 0 where
   pub lines : List (List ℕ)
-  pub writes : LogWrites options now [] bs lines fault
+  pub writes : LogWrites options now [] pieces lines fault
   pub puts : Puts lines gathered later before after
 
 -- The result of gathering a log's lines: all of them, or some if the output failed or memory ran out.
-abbrev pub PutsLog : ReplayOptions → ℤ → List (List ℕ) → List ℕ → List ℕ → Result (Option LogFault) PrintError → Option (List ℕ)
+abbrev pub PutsLog : ReplayOptions → ℤ → List Piece → List ℕ → List ℕ → Result (Option LogFault) PrintError → Option (List ℕ)
     → Option (List ℕ) → Type 0
-PutsLog options now bs gathered later (Ok fault) before after = IsLogPut options now bs gathered later fault before after
-PutsLog options now bs gathered later (Err error) before after = (lines : List (List ℕ)) (end : Option LogFault)
-    → LogWrites options now [] bs lines end → PutFails lines gathered error before after
+PutsLog options now pieces gathered later (Ok fault) before after = IsLogPut options now pieces gathered later fault before after
+PutsLog options now pieces gathered later (Err error) before after = (lines : List (List ℕ)) (end : Option LogFault)
+    → LogWrites options now [] pieces lines end → PutFails lines gathered error before after
 
 -- All lines of a log were written, with that of its error.
-pub record IsLogPrinted (options : ReplayOptions) (now : ℤ) (bs : List (List ℕ)) (status : Status)
+pub record IsLogPrinted (options : ReplayOptions) (now : ℤ) (pieces : List Piece) (status : Status)
     (before after : Option (List ℕ)) : Type 0 where
   pub lines : List (List ℕ)
   pub end : Option LogFault
-  pub writes : LogWrites options now [] bs lines end
+  pub writes : LogWrites options now [] pieces lines end
   pub is : status ≡ end_status end
   pub wrote : Wrote before after (lines_text (lines ++ end_lines end))
 
@@ -87,10 +102,10 @@ LogFails lines end OutputFailed before after = WrotePrefix before after (lines_t
 LogFails lines end Memory before after = (n : ℕ) × Wrote before after (lines_text (take n lines))
 
 -- The result of printing a log: all of its lines, or a part.
-abbrev pub PrintsLog : ReplayOptions → ℤ → List (List ℕ) → Result Status PrintError → Option (List ℕ) → Option (List ℕ) → Type 0
-PrintsLog options now bs (Ok status) before after = IsLogPrinted options now bs status before after
-PrintsLog options now bs (Err error) before after = (lines : List (List ℕ)) (end : Option LogFault) → LogWrites options now [] bs lines end
-    → LogFails lines end error before after
+abbrev pub PrintsLog : ReplayOptions → ℤ → List Piece → Result Status PrintError → Option (List ℕ) → Option (List ℕ) → Type 0
+PrintsLog options now pieces (Ok status) before after = IsLogPrinted options now pieces status before after
+PrintsLog options now pieces (Err error) before after = (lines : List (List ℕ)) (end : Option LogFault)
+    → LogWrites options now [] pieces lines end → LogFails lines end error before after
 
 -- The lines and the error's line were gathered, and a prefix of their text was written if the output failed.
 abbrev pub EndFails : Option LogFault → List ℕ → PrintError → Option (List ℕ) → Option (List ℕ) → Type 0

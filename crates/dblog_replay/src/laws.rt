@@ -1,7 +1,31 @@
-ghost use Rattle.dblog_replay.specs.Replay.{CommitsAreWritten};
+//! Theorems about the stages of `replay`; the functions have empty bodies.
+
+ghost use Rattle.dblog_replay.specs.Pieces.{MessagesAreSpelled, PiecesAreOne};
+ghost use Rattle.dblog_replay.specs.Pieces.{PiecesExist, PiecesFit};
+ghost use Rattle.dblog_replay.specs.Replay.{CommitsAreWritten, ReplaysAreOne, ReplaysExist};
+
+/// Byte strings are read as exactly one list of pieces, whose messages are within their formats'
+/// ranges.
+pub fn pieces_are_read()
+    ensures one { PiecesAreOne }
+    ensures some { PiecesExist }
+    ensures fit { PiecesFit }
+{}
+
+/// The messages of the first pieces are the first byte strings, each at its index, and the others
+/// are numbered on.
+pub fn messages_are_spelled()
+    ensures { MessagesAreSpelled }
+{}
 
 /// The lines that are written of a log, message by message, are exactly those of all commits before
 /// the first error.
 pub fn commits_are_written()
     ensures { CommitsAreWritten }
+{}
+
+/// Pieces are replayed to exactly one list of lines and one end.
+pub fn pieces_are_replayed()
+    ensures one { ReplaysAreOne }
+    ensures some { ReplaysExist }
 {}

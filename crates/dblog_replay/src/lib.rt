@@ -10,6 +10,7 @@ mod log;
 mod log_fault;
 mod options;
 mod printing;
+mod reader;
 mod replay;
 
 pub use apply::{FaultAt, LineFault, consume};

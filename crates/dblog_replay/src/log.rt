@@ -1,10 +1,11 @@
-//! The loop over the messages of a log: the lines of their commits up to the first error, and its
-//! line.
-ghost use Rattle.std.specs.Prelude.{◌≡◌, ◌≢◌, Some, ◌+◌, ◌∷◌, List, [], length, map, None};
-ghost use Rattle.std.specs.Prelude.{option_and_then, All, IfSome, IfOk, IfErr, OnOk, Err};
+//! The loop over the byte strings of a log: the lines of the commits of their messages up to the
+//! first error, and its line.
+ghost use Rattle.std.specs.Prelude.{◌≡◌, ◌≢◌, Some, ◌∷◌, List, [], map, None, option_and_then, All};
+ghost use Rattle.std.specs.Prelude.{IfSome, IfOk, IfErr, OnOk, Err};
 ghost use Rattle.dbl_base.specs.Streams.{FailsOnlyIfCounted};
 ghost use Rattle.dbl_lines.specs.Gathering.{PutsLines};
 ghost use Rattle.dbl_pgmsg.specs.declared.messages.Message.{Message};
+ghost use Rattle.dbl_pgmsg.specs.Grammar.{FitsFields};
 ghost use Rattle.dbl_record.specs.Line.{line_of};
 ghost use Rattle.dbl_model_event.specs.Clashes.{clash_of};
 ghost use Rattle.dbl_model_table.specs.Rows.{changes_of};
@@ -13,20 +14,23 @@ ghost use Rattle.dbl_model_commit.specs.Stated.{list_of};
 ghost use Rattle.dbl_envelope.specs.Clashing.{IsClash};
 ghost use Rattle.dbl_envelope.specs.Suits.{Suits};
 ghost use Rattle.dblog_replay.specs.declared.options.ReplayOptions.{ReplayOptions};
-ghost use Rattle.dblog_replay.specs.Following.{FollowsMessages, IsReplaying, TakesMessage};
+ghost use Rattle.dblog_replay.specs.Following.{FollowsMessages, IsReplaying};
 ghost use Rattle.dblog_replay.specs.Log.{lines_in, commit_fault, end_fault, end_status, end_lines};
 ghost use Rattle.dblog_replay.specs.LogFaults.{log_status, log_line};
-ghost use Rattle.dblog_replay.specs.LogPrinting.{PutsCommit, StepsPrinting};
+ghost use Rattle.dblog_replay.specs.LogPrinting.{PutsCommit, StepsPrinting, StepsReading};
 ghost use Rattle.dblog_replay.specs.LogPrinting.{PutsLog, PrintsLog, FinishesLog};
+ghost use Rattle.dblog_replay.specs.Pieces.{Piece, Carries, AreRead};
 
 use crate::log_fault::LogFault;
 use crate::options::ReplayOptions;
 use crate::printing::put_left;
+use crate::reader::read_message;
 use crate::replay::Replayer;
 use dbl_base::{Bytes, Output, Text};
 use dbl_envelope::{EnvelopeError, EventWriter, RecordsLeft};
 use dbl_lines::{LineWriter, PrintError, Status};
 use dbl_model_table::Commit;
+use dbl_pgmsg::Message;
 use std::alloc::{AllocError, Global};
 
 fn unfinished_fault(inside: bool) -> Option<LogFault>
@@ -119,23 +123,35 @@ fn put_ended<O: Output>(
     }
 }
 
-// Processes the bytes of the next message, which has this number, and frees them.
-fn take_bytes(
+// Processes the next message, which has this number, and appends the lines of the commit that it
+// ends, or returns its error.
+fn put_message<O: Output>(
     alloc: Global,
     replayer: &mut Replayer,
     number: u64,
-    bytes: Bytes,
-) -> Result<Option<Commit>, LogFault>
-    ensures { (options : ReplayOptions) (ms : List Message)
-        → FollowsMessages options ms replayer.old
-        → number ≡ length ms + 1 → TakesMessage options ms bytes replayer.new result }
+    message: Message,
+    now_ms: &i64,
+    output: &mut O,
+    lines: &mut LineWriter,
+) -> Result<Option<LogFault>, PrintError>
+    requires replaying { IsReplaying replayer.old }
+    requires fits { FitsFields message }
+    ensures steps { (options : ReplayOptions) (ms : List Message) →
+        FollowsMessages options ms replayer.old
+        → StepsPrinting options now_ms.now ms (Carries number message) lines.old lines.new
+        replayer.new result (O.written output.old) (O.written output.new) }
+    ensures cause { FailsOnlyIfCounted (result ≡ Err PrintError.OutputFailed)
+        (O.faults output.old) (O.faults output.new) }
 {
-    replayer.take(alloc, number, bytes.items().as_slice())
+    match replayer.take(alloc, number, message) {
+        Ok(ended) => put_ended(alloc, &replayer.writer, &ended, now_ms, output, lines),
+        Err(fault) => stop_at(fault),
+    }
 }
 
-// Processes the bytes of the next message, which has this number, and appends the lines of the
-// commit that it ends, or returns its error.
-fn put_message<O: Output>(
+// Reads the byte string of this number, which is freed, and processes its message, or returns its
+// error.
+fn put_bytes<O: Output>(
     alloc: Global,
     replayer: &mut Replayer,
     number: u64,
@@ -144,22 +160,22 @@ fn put_message<O: Output>(
     output: &mut O,
     lines: &mut LineWriter,
 ) -> Result<Option<LogFault>, PrintError>
-    requires { IsReplaying replayer.old number }
+    requires { IsReplaying replayer.old }
     ensures steps { (options : ReplayOptions) (ms : List Message) →
-        FollowsMessages options ms replayer.old → number ≡ length ms + 1
-        → StepsPrinting options now_ms.now ms bytes lines.old lines.new replayer.new result
+        FollowsMessages options ms replayer.old
+        → StepsReading options now_ms.now ms number bytes lines.old lines.new replayer.new result
         (O.written output.old) (O.written output.new) }
     ensures cause { FailsOnlyIfCounted (result ≡ Err PrintError.OutputFailed)
         (O.faults output.old) (O.faults output.new) }
 {
-    match take_bytes(alloc, replayer, number, bytes) {
-        Ok(ended) => put_ended(alloc, &replayer.writer, &ended, now_ms, output, lines),
+    match read_message(alloc, number, bytes) {
+        Ok(message) => put_message(alloc, replayer, number, message, now_ms, output, lines),
         Err(fault) => stop_at(fault),
     }
 }
 
-// Appends the lines of all commits of the messages, up to the first error, which it returns, for a
-// new replayer.
+// Reads the byte strings, and appends the lines of all commits of their messages, up to the first
+// error, which it returns, for a new replayer.
 fn put_messages<O: Output>(
     alloc: Global,
     replayer: &mut Replayer,
@@ -169,8 +185,9 @@ fn put_messages<O: Output>(
     lines: &mut LineWriter,
 ) -> Result<Option<LogFault>, PrintError>
     requires { (options : ReplayOptions) × FollowsMessages options [] replayer.old }
-    ensures puts { (options : ReplayOptions) → FollowsMessages options [] replayer.old
-        → PutsLog options now_ms.now messages.items lines.old lines.new result
+    ensures puts { (options : ReplayOptions) (pieces : List Piece) →
+        FollowsMessages options [] replayer.old → AreRead 1 messages.items pieces
+        → PutsLog options now_ms.now pieces lines.old lines.new result
         (O.written output.old) (O.written output.new) }
     ensures cause { FailsOnlyIfCounted (result ≡ Err PrintError.OutputFailed)
         (O.faults output.old) (O.faults output.new) }
@@ -178,7 +195,7 @@ fn put_messages<O: Output>(
     let mut number = 0u64;
     'messages: for bytes in messages {
         number += 1;
-        match put_message(alloc, replayer, number, bytes, now_ms, output, lines) {
+        match put_bytes(alloc, replayer, number, bytes, now_ms, output, lines) {
             Ok(None) => {}
             Ok(Some(fault)) => return Ok(Some(fault)),
             Err(error) => return Err(error),
@@ -187,7 +204,8 @@ fn put_messages<O: Output>(
     Ok(unfinished_fault(replayer.inside()))
 }
 
-// Appends the lines of all commits of the messages, up to the first error, which it returns.
+// Reads the byte strings, and appends the lines of all commits of their messages, up to the first
+// error, which it returns.
 fn put_log<O: Output>(
     alloc: Global,
     options: ReplayOptions,
@@ -196,7 +214,8 @@ fn put_log<O: Output>(
     output: &mut O,
     lines: &mut LineWriter,
 ) -> Result<Option<LogFault>, PrintError>
-    ensures puts { PutsLog options now_ms.now messages.items lines.old lines.new result
+    ensures puts { (pieces : List Piece) → AreRead 1 messages.items pieces
+        → PutsLog options now_ms.now pieces lines.old lines.new result
         (O.written output.old) (O.written output.new) }
     ensures cause { FailsOnlyIfCounted (result ≡ Err PrintError.OutputFailed)
         (O.faults output.old) (O.faults output.new) }
@@ -280,8 +299,8 @@ fn finish_log<O: Output>(
     }
 }
 
-/// Writes the lines of all commits of the messages, up to the first error, and its line, and
-/// returns the status.
+/// Reads the byte strings, writes the lines of all commits of their messages, up to the first
+/// error, and its line, and returns the status.
 pub fn print_log<O: Output>(
     alloc: Global,
     options: ReplayOptions,
@@ -289,8 +308,8 @@ pub fn print_log<O: Output>(
     now_ms: &i64,
     output: &mut O,
 ) -> Result<Status, PrintError>
-    ensures prints { PrintsLog options now_ms.now messages.items result
-        (O.written output.old) (O.written output.new) }
+    ensures prints { (pieces : List Piece) → AreRead 1 messages.items pieces
+        → PrintsLog options now_ms.now pieces result (O.written output.old) (O.written output.new) }
     ensures cause { FailsOnlyIfCounted (result ≡ Err PrintError.OutputFailed)
         (O.faults output.old) (O.faults output.new) }
 {

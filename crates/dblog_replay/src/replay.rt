@@ -1,15 +1,14 @@
 //! The messages of a log, one after another: their commits, and the first error.
 
-ghost use Rattle.std.specs.Prelude.{◌≡◌, ◌+◌, ◌∷◌, ℕ, List, [], ◌++◌};
-ghost use Rattle.std.specs.Prelude.{length, IfOk, IfErr, OnOk, is_some};
+ghost use Rattle.std.specs.Prelude.{◌≡◌, ◌∷◌, ℕ, List, [], ◌++◌, IfOk, IfErr, OnOk, is_some};
 ghost use Rattle.dbl_pgmsg.specs.declared.messages.Message.{Message};
 ghost use Rattle.dbl_pgmsg.specs.declared.messages.Message.TheVariants as says;
-ghost use Rattle.dbl_pgmsg.specs.Grammar.{Spells};
+ghost use Rattle.dbl_pgmsg.specs.Grammar.{FitsFields};
 ghost use Rattle.dbl_model_table.specs.declared.table.TableInfo.{TableInfo};
 ghost use Rattle.dbl_model_commit.specs.Past.{begin_of, HasNoRelation};
 ghost use Rattle.dblog_replay.specs.declared.options.ReplayOptions.{ReplayOptions};
-ghost use Rattle.dblog_replay.specs.Following.{HasReplayed, FollowsMessages, ReadFails};
-ghost use Rattle.dblog_replay.specs.Following.{Prepares, AppendsMessage, TakesMessage};
+ghost use Rattle.dblog_replay.specs.Following.{HasReplayed, FollowsMessages, Prepares};
+ghost use Rattle.dblog_replay.specs.Following.{AppendsMessage, TakesMessage};
 
 use crate::capture::{capture_table, entry_of, is_new, schema_of};
 use crate::log_fault::LogFault;
@@ -18,7 +17,7 @@ use dbl_base::{Lsn, Seq, Text};
 use dbl_envelope::EventWriter;
 use dbl_model_commit::TxnError;
 use dbl_model_table::{Commit, TableInfo, TableKey};
-use dbl_pgmsg::{Message, MsgError, RelationColumn, decode};
+use dbl_pgmsg::{Message, RelationColumn};
 use dbl_txn::Assembler;
 use std::alloc::{AllocError, Global};
 
@@ -38,17 +37,6 @@ fn learn_in(writer: &mut EventWriter, alloc: Global, info: TableInfo) -> Result<
     match writer.learn(alloc, info) {
         Ok(()) => Ok(()),
         Err(_) => Err(LogFault::Memory),
-    }
-}
-
-fn decode_message(alloc: Global, number: u64, bytes: &[u8]) -> Result<Message, LogFault>
-    ensures spelled { IfOk result (Spells bytes.now) }
-    ensures refused { IfErr result (ReadFails number bytes.now) }
-{
-    match decode(alloc, bytes) {
-        Ok(message) => Ok(message),
-        Err(MsgError::Memory) => Err(LogFault::Memory),
-        Err(error) => Err(LogFault::Message { number, error }),
     }
 }
 
@@ -143,8 +131,8 @@ impl Replayer {
         message: Message,
     ) -> Result<Option<Commit>, LogFault>
         ensures { (options : ReplayOptions) (infos : List TableInfo) (ms : List Message) →
-            HasReplayed options infos ms self.old → number ≡ length ms + 1 →
-            AppendsMessage options infos ms message self.new result }
+            HasReplayed options infos ms self.old →
+            AppendsMessage options infos ms number message self.new result }
     {
         match self.assembler.take(alloc, message) {
             Ok(ended) => Ok(ended),
@@ -153,19 +141,18 @@ impl Replayer {
         }
     }
 
-    /// Processes the bytes of the next message, which has this number, and returns the commit that
-    /// it ends.
+    /// Processes the next message, which has this number, and returns the commit that it ends.
     pub fn take(
         &mut self,
         alloc: Global,
         number: u64,
-        bytes: &[u8],
+        message: Message,
     ) -> Result<Option<Commit>, LogFault>
+        requires { FitsFields message }
         ensures { (options : ReplayOptions) (ms : List Message) →
             FollowsMessages options ms self.old →
-            number ≡ length ms + 1 → TakesMessage options ms bytes.now self.new result }
+            TakesMessage options ms number message self.new result }
     {
-        let message = decode_message(alloc, number, bytes)?;
         self.prepare(alloc, &message)?;
         self.append(alloc, number, message)
     }

@@ -10,6 +10,7 @@ pub use Rattle.dblog_capture.proofs.PromiseTakenLaws
 pub use Rattle.dblog_capture.proofs.WindowHonestLemmas
 pub use Rattle.dblog_init.proofs.AnswerLaws as InitAnswerLaws
 pub use Rattle.dblog_replay.proofs.CaptureLemmas as ReplayCaptureLemmas
+pub use Rattle.dblog_replay.proofs.PieceLemmas as ReplayPieceLemmas
 pub mod ApplyLaws
 pub mod ApplyRunLemmas
 pub mod CommandLemmas
@@ -18,6 +19,7 @@ pub mod FinishLemmas
 pub mod GeneratedLemmas
 pub mod InitEndLemmas
 pub mod InitLemmas
+pub mod InputLemmas
 pub mod KeptLemmas
 pub mod RefusalLaws
 pub mod ReplayRunLemmas

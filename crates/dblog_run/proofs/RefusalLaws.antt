@@ -13,9 +13,10 @@ use Rattle.dblog_replay.specs.Log.{end_status}
 use Rattle.dbl_consume.specs.Printing.{row_line}
 use Rattle.dbl_lines.specs.declared.status.Status.{Status}
 use Rattle.dbl_lines.specs.declared.status.Status.TheVariants.{Done, InvalidArguments, StartMismatch, Unsupported}
-use Rattle.dbl_lines.specs.declared.status.Status.TheVariants.{SourceFailed, OutOfMemory, InvalidInput, InvalidStore}
-use Rattle.dbl_lines.specs.declared.run_error.RunError.TheVariants.{BadLine, InputTooLong, Usage}
-use Rattle.dblog_run.specs.Run.{RunAnswer, Applies, Replays, applied, bad_line, done, fault, line_fault, log_answer, long_input, refused, replayed, too_long}
+use Rattle.dbl_lines.specs.declared.status.Status.TheVariants.{SourceFailed, StdinFailed, OutOfMemory, InvalidInput, InvalidStore}
+use Rattle.dbl_lines.specs.declared.run_error.RunError.{RunError}
+use Rattle.dbl_lines.specs.declared.run_error.RunError.TheVariants.{BadLine, InputFailed, InputTooLong, Memory, Usage}
+use Rattle.dblog_run.specs.Run.{RunAnswer, Applies, EncodesStrings, Replays, applied, done, fault, line_fault, log_answer, long_input, refused, replayed, unread}
 use Rattle.dblog_run.specs.Disks.{store_answer, store_fault}
 use Rattle.dblog_run.specs.Means.{Answers, RunInput, Means, given_init, made, options_of, spelled, usage}
 use Rattle.dbl_journal.specs.declared.error.JournalError.TheVariants as journal
@@ -52,10 +53,16 @@ stores_told : (Allows : StoreAnswer → Type 0) (answer : RunAnswer) (P : Type 0
 stores_told Allows answer P next refuses (Ok lines) told is = absurd (other_status Done (λ e. cc) (λ e. cc) answer.status (status_is answer (store_answer (Ok lines)) is) refuses)
 stores_told Allows answer P next refuses (Err e) told is = next e told is
 
+encoding_refuses : (bytes : List ℕ) (error : RunError) (answer : RunAnswer) → EncodesStrings bytes (Err error) → answer ≡ fault error → Refuses answer.status → ⊥
+encoding_refuses bytes InputTooLong answer encodes is refuses = other_status InvalidInput (λ e. cc) (λ e. cc) answer.status (status_is answer (fault InputTooLong) is) refuses
+encoding_refuses bytes (BadLine n) answer encodes is refuses = other_status InvalidInput (λ e. cc) (λ e. cc) answer.status (status_is answer (fault (BadLine n)) is) refuses
+encoding_refuses bytes Usage answer encodes is refuses = other_status InvalidArguments (λ e. cc) (λ e. cc) answer.status (status_is answer (fault Usage) is) refuses
+encoding_refuses bytes InputFailed answer encodes is refuses = other_status StdinFailed (λ e. cc) (λ e. cc) answer.status (status_is answer (fault InputFailed) is) refuses
+encoding_refuses bytes Memory answer encodes is refuses = other_status OutOfMemory (λ e. cc) (λ e. cc) answer.status (status_is answer (fault Memory) is) refuses
+
 replay_refuses : (options : ReplayOptions) (now : ℤ) (bytes : List ℕ) (answer : RunAnswer) → Replays options now bytes answer → Refuses answer.status → ⊥
-replay_refuses options now bytes answer (too_long long is) refuses = other_status InvalidInput (λ e. cc) (λ e. cc) answer.status (status_is answer (fault InputTooLong) is) refuses
-replay_refuses options now bytes answer (bad_line n within bad is) refuses = other_status InvalidInput (λ e. cc) (λ e. cc) answer.status (status_is answer (fault (BadLine n)) is) refuses
-replay_refuses options now bytes answer (replayed lines end within good writes is) refuses =
+replay_refuses options now bytes answer (unread error encodes is) refuses = encoding_refuses bytes error answer encodes is refuses
+replay_refuses options now bytes answer (replayed lines end log is) refuses =
     other_status (end_status end) (replay_other StartMismatch (end_status end) (λ e. cc, λ e. cc, λ e. cc, λ e. cc) (λ e. cc, λ e. cc, λ e. cc) (end_known end))
     (replay_other InvalidStore (end_status end) (λ e. cc, λ e. cc, λ e. cc, λ e. cc) (λ e. cc, λ e. cc, λ e. cc) (end_known end)) answer.status (status_is answer (log_answer lines end) is) refuses
 

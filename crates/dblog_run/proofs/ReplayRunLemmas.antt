@@ -1,7 +1,7 @@
 -- How a run of `replay` ends.
-use Rattle.std.proofs.Common.{◌≡◌, ◌≢◌, ◌⊎◌, inl, inr, ◌∙◌, ℕ, ℤ, ◌≤◌, Option, Some, None, List, [], ◌∷◌, ◌++◌, length, take, refl, sym, ap, ap₂, subst, arith}
-use Rattle.dbl_base.specs.Lines.{lines_of, lines_text}
-use Rattle.dbl_base.specs.Streams.{FaultCounted, input_limit}
+use Rattle.std.proofs.Common.{◌≡◌, ◌≢◌, ◌⊎◌, inl, inr, ◌∙◌, ℕ, ℤ, Option, Some, None, Ok, Err, List, [], ◌∷◌, ◌++◌, take, refl, sym, ap, ap₂, subst}
+use Rattle.dbl_base.specs.Lines.{lines_text}
+use Rattle.dbl_base.specs.Streams.{FaultCounted}
 use Rattle.dbl_model_commit.specs.declared.txn_error.TxnError.{TxnError}
 use Rattle.dbl_model_commit.specs.declared.txn_error.TxnError.TheVariants as txn
 use Rattle.dbl_lines.specs.declared.status.Status.{Status}
@@ -13,39 +13,41 @@ use Rattle.dblog_replay.specs.declared.log_fault.LogFault.TheVariants as log
 use Rattle.dblog_replay.specs.declared.options.ReplayOptions.{ReplayOptions}
 use Rattle.dbl_lines.specs.declared.error.PrintError.TheVariants as print_error
 use Rattle.dbl_lines.specs.Faults.{status_of, fault_line}
-use Rattle.dblog_replay.specs.Lines.{message_bytes_in, first_bad_line}
+use Rattle.dblog_replay.specs.Pieces.{Piece, AreRead}
 use Rattle.dblog_replay.specs.Log.{LogWrites, end_status, end_lines}
 use Rattle.dblog_replay.specs.LogFaults.{transaction_status}
 use Rattle.dblog_replay.specs.LogPrinting.{IsLogPrinted, LogFails}
 use Rattle.dblog_run.specs.Run.{RunsLog}
-use Rattle.dblog_run.specs.Run.{RunAnswer, fault, log_answer, Replays, too_long, bad_line, replayed, whole, out_of_memory, Ends, HaltsReplaying, RunsReplaying, FailsReading, IsReplayAnswer, IsReplayStatus}
+use Rattle.dblog_run.specs.Run.{RunAnswer, fault, log_answer, EncodesStrings, ReplaysLog, Replays, unread, replayed, whole, out_of_memory, Ends, HaltsReading, RunsReplaying, FailsReading, IsReplayAnswer, IsReplayStatus}
 use Rattle.dblog_run.proofs.ApplyRunLemmas.{memory_outside, memory_written, says_is, outside_of}
 use Rattle.dblog_replay.proofs.CommitLaws.{commits_written, replayed_written}
 use Rattle.dblog_replay.proofs.LogLemmas.{log_one}
-use Rattle.dblog_run.proofs.RunLemmas.{replays_one, says_ends, memory_ends, written_or_outside, memory_is_outside, writes_then}
+use Rattle.dblog_replay.proofs.PieceLemmas.{pieces_exist, pieces_fit}
+use Rattle.dblog_run.proofs.InputLemmas.{strings_small}
+use Rattle.dblog_run.proofs.RunLemmas.{strings_one, ok_one, ok_or_halt, replays_one, says_ends, memory_ends, written_or_outside, memory_is_outside, writes_then}
 use Rattle.dbl_lines.specs.Says.{Says}
 
--- ---- how a run over messages ends
+-- ---- how a run over pieces ends
 
-pub printed_runs : (options : ReplayOptions) (now : ℤ) (bs : List (List ℕ)) (status : Status) (before after : Option (List ℕ)) → IsLogPrinted options now bs status before after → RunsLog options now bs status before after
-printed_runs options now bs status before after is = record {
+pub printed_runs : (options : ReplayOptions) (now : ℤ) (pieces : List Piece) (status : Status) (before after : Option (List ℕ)) → IsLogPrinted options now pieces status before after → RunsLog options now pieces status before after
+printed_runs options now pieces status before after is = record {
   ended = λ lines end writes. (
-      let same = log_one options now [] bs is.lines lines is.end end is.writes writes in
+      let same = log_one options now [] pieces is.lines lines is.end end is.writes writes in
       subst (λ (a : RunAnswer). Ends a status before after) (ap₂ (λ (l : List (List ℕ)) (e : Option LogFault). log_answer l e) same.lines same.end)
       (record { wanted = end_status is.end; text = lines_text (is.lines ++ end_lines is.end); may = whole refl refl; writes = inl (is.is, is.wrote) }));
   meant = inr (is.lines, is.end, is.writes, sym is.is);
 }
 
-pub cut_runs : (options : ReplayOptions) (now : ℤ) (bs : List (List ℕ)) (status : Status) (before after : Option (List ℕ)) → status ≡ StdoutFailed
-    → ((lines : List (List ℕ)) (end : Option LogFault) → LogWrites options now [] bs lines end → LogFails lines end print_error.OutputFailed before after) → RunsLog options now bs status before after
-cut_runs options now bs status before after is fails = record {
+pub cut_runs : (options : ReplayOptions) (now : ℤ) (pieces : List Piece) (status : Status) (before after : Option (List ℕ)) → status ≡ StdoutFailed
+    → ((lines : List (List ℕ)) (end : Option LogFault) → LogWrites options now [] pieces lines end → LogFails lines end print_error.OutputFailed before after) → RunsLog options now pieces status before after
+cut_runs options now pieces status before after is fails = record {
   ended = λ lines end writes. record { wanted = end_status end; text = lines_text (lines ++ end_lines end); may = whole refl refl; writes = inr (is, fails lines end writes) };
   meant = inl (inr (inl is));
 }
 
-pub starved_runs : (options : ReplayOptions) (now : ℤ) (bs : List (List ℕ)) (status : Status) (before middle after : Option (List ℕ))
-    → ((lines : List (List ℕ)) (end : Option LogFault) → LogWrites options now [] bs lines end → LogFails lines end print_error.Memory before middle) → Says Memory status middle after → RunsLog options now bs status before after
-starved_runs options now bs status before middle after fails says = record {
+pub starved_runs : (options : ReplayOptions) (now : ℤ) (pieces : List Piece) (status : Status) (before middle after : Option (List ℕ))
+    → ((lines : List (List ℕ)) (end : Option LogFault) → LogWrites options now [] pieces lines end → LogFails lines end print_error.Memory before middle) → Says Memory status middle after → RunsLog options now pieces status before after
+starved_runs options now pieces status before middle after fails says = record {
   ended = λ lines end writes. (
       let part = fails lines end writes in
       record {
@@ -86,8 +88,8 @@ end_known (Some (log.Placeholder name column)) = inl (inr (inr (inl refl)))
 end_known (Some log.Unfinished) = inl (inr (inl refl))
 end_known (Some log.Memory) = inr (inr (inr refl))
 
-pub printed_known : (options : ReplayOptions) (now : ℤ) (bs : List (List ℕ)) (status : Status) (before after : Option (List ℕ)) → IsLogPrinted options now bs status before after → IsReplayStatus status
-printed_known options now bs status before after is = subst IsReplayStatus (sym is.is) (end_known is.end)
+pub printed_known : (options : ReplayOptions) (now : ℤ) (pieces : List Piece) (status : Status) (before after : Option (List ℕ)) → IsLogPrinted options now pieces status before after → IsReplayStatus status
+printed_known options now pieces status before after is = subst IsReplayStatus (sym is.is) (end_known is.end)
 
 -- a log's status is neither that of a failed output nor that of a failed input
 transaction_other : (error : TxnError) → (transaction_status error ≢ StdoutFailed) × (transaction_status error ≢ status_of InputFailed)
@@ -117,11 +119,11 @@ end_other (Some (log.Placeholder name column)) = (λ is. cc, λ is. cc)
 end_other (Some log.Unfinished) = (λ is. cc, λ is. cc)
 end_other (Some log.Memory) = (λ is. cc, λ is. cc)
 
-pub printed_no_output : (options : ReplayOptions) (now : ℤ) (bs : List (List ℕ)) (status : Status) (before after : Option (List ℕ)) → IsLogPrinted options now bs status before after → status ≢ StdoutFailed
-printed_no_output options now bs status before after is same = (end_other is.end).0 (sym is.is ∙ same)
+pub printed_no_output : (options : ReplayOptions) (now : ℤ) (pieces : List Piece) (status : Status) (before after : Option (List ℕ)) → IsLogPrinted options now pieces status before after → status ≢ StdoutFailed
+printed_no_output options now pieces status before after is same = (end_other is.end).0 (sym is.is ∙ same)
 
-pub printed_no_input : (options : ReplayOptions) (now : ℤ) (bs : List (List ℕ)) (status : Status) (before after : Option (List ℕ)) → IsLogPrinted options now bs status before after → status ≢ status_of InputFailed
-printed_no_input options now bs status before after is same = (end_other is.end).1 (sym is.is ∙ same)
+pub printed_no_input : (options : ReplayOptions) (now : ℤ) (pieces : List Piece) (status : Status) (before after : Option (List ℕ)) → IsLogPrinted options now pieces status before after → status ≢ status_of InputFailed
+printed_no_input options now pieces status before after is same = (end_other is.end).1 (sym is.is ∙ same)
 
 -- a fault before the messages was said
 pub replay_said : (halt : RunError) (status : Status) (before after : Option (List ℕ)) → halt ≢ Usage → Says halt status before after → IsReplayStatus status
@@ -156,18 +158,20 @@ outside_no_answer halt status before after (inr is) says told =
 
 -- ---- how a run over bytes ends
 
-answered : (options : ReplayOptions) (now : ℤ) (bytes : List ℕ) (halt : RunError) (status : Status) (before after : Option (List ℕ)) → Replays options now bytes (fault halt) → Says halt status before after → RunsReplaying options now bytes status before after
-answered options now bytes halt status before after replays (inl writes) = record {
-  ended = λ answer other. subst (λ a. Ends a status before after) (replays_one options now bytes (fault halt) answer replays other) (says_ends halt status before after (inl writes));
-  meant = elim (written_or_outside _ _ status before after writes) [ inl is ↦ inr (fault halt, replays, sym is) | inr outside ↦ inl outside ];
-}
-answered options now bytes halt status before after replays (inr writes) = record {
+answered : (options : ReplayOptions) (now : ℤ) (bytes : List ℕ) (halt : RunError) (status : Status) (before after : Option (List ℕ)) → EncodesStrings bytes (Err halt) → Says halt status before after → RunsReplaying options now bytes status before after
+answered options now bytes halt status before after encodes (inl writes) =
+    let replays : Replays options now bytes (fault halt) = unread halt encodes refl in
+    record {
+      ended = λ answer other. subst (λ a. Ends a status before after) (replays_one options now bytes (fault halt) answer replays other) (says_ends halt status before after (inl writes));
+      meant = elim (written_or_outside _ _ status before after writes) [ inl is ↦ inr (fault halt, replays, sym is) | inr outside ↦ inl outside ];
+    }
+answered options now bytes halt status before after encodes (inr writes) = record {
   ended = λ answer other. memory_ends answer status before after writes;
   meant = inl (memory_is_outside status (written_or_outside _ _ status before after writes));
 }
 
--- a fault of the lines was said
-pub halt_replays : (options : ReplayOptions) (now : ℤ) (bytes : List ℕ) (halt : RunError) (status : Status) (before after : Option (List ℕ)) → HaltsReplaying options now bytes halt → halt ≢ InputFailed
+-- an error of the lines was said
+pub halt_replays : (options : ReplayOptions) (now : ℤ) (bytes : List ℕ) (halt : RunError) (status : Status) (before after : Option (List ℕ)) → HaltsReading bytes halt → halt ≢ InputFailed
     → Says halt status before after → RunsReplaying options now bytes status before after
 halt_replays options now bytes Usage status before after halts read says = absurd halts
 halt_replays options now bytes InputFailed status before after halts read says = absurd (read refl)
@@ -178,8 +182,8 @@ halt_replays options now bytes Memory status before after halts read says = reco
 halt_replays options now bytes (BadLine number) status before after halts read says = answered options now bytes (BadLine number) status before after halts says
 halt_replays options now bytes InputTooLong status before after halts read says = answered options now bytes InputTooLong status before after halts says
 
--- a fault of reading the lines was said
-pub read_replays : (options : ReplayOptions) (now : ℤ) (bytes : List ℕ) (halt : RunError) (was later : ℕ) (status : Status) (before after : Option (List ℕ)) → HaltsReplaying options now bytes halt → (halt ≡ InputFailed → FaultCounted was later)
+-- an error of reading the lines was said
+pub read_replays : (options : ReplayOptions) (now : ℤ) (bytes : List ℕ) (halt : RunError) (was later : ℕ) (status : Status) (before after : Option (List ℕ)) → HaltsReading bytes halt → (halt ≡ InputFailed → FaultCounted was later)
     → Says halt status before after → RunsReplaying options now bytes status before after ⊎ FailsReading was later status before after
 read_replays options now bytes Usage was later status before after halts failed says = absurd halts
 read_replays options now bytes InputFailed was later status before after halts failed says = inr (record { rose = failed refl; says = says })
@@ -187,18 +191,32 @@ read_replays options now bytes Memory was later status before after halts failed
 read_replays options now bytes (BadLine number) was later status before after halts failed says = inl (answered options now bytes (BadLine number) status before after halts says)
 read_replays options now bytes InputTooLong was later status before after halts failed says = inl (answered options now bytes InputTooLong status before after halts says)
 
-pub messages_replay : (options : ReplayOptions) (now : ℤ) (bytes : List ℕ) (bs : List (List ℕ)) (status : Status) (before after : Option (List ℕ)) → length bytes ≤ input_limit → bs ≡ message_bytes_in (lines_of bytes) → first_bad_line (lines_of bytes) ≡ None
-    → RunsLog options now bs status before after → RunsReplaying options now bytes status before after
-messages_replay options now bytes bs status before after within are good runs = record {
-  ended = ends;
-  meant = elim runs.meant [
-    | inl outside ↦ inl outside
-    | inr told ↦ inr (log_answer told.0 told.1, replayed told.0 told.1 within good (commits_written options now _ told.0 told.1 (subst (λ (l : List (List ℕ)). LogWrites options now [] l told.0 told.1) are told.2)) refl, told.3)
-  ];
-}
+-- the byte strings were replayed
+pub strings_replay : (options : ReplayOptions) (now : ℤ) (bytes : List ℕ) (strings : List (List ℕ)) (status : Status) (before after : Option (List ℕ)) → EncodesStrings bytes (Ok strings)
+    → ((pieces : List Piece) → AreRead 1 strings pieces → RunsLog options now pieces status before after) → RunsReplaying options now bytes status before after
+strings_replay options now bytes strings status before after encodes runs =
+    let some = pieces_exist 1 strings (strings_small bytes strings encodes) in
+    record {
+      ended = ends;
+      meant = elim (runs some.0 some.1).meant [
+        | inl outside ↦ inl outside
+        | inr told ↦ inr (log_answer told.0 told.1, replayed told.0 told.1 (logged some.0 some.1 told.0 told.1 told.2) refl, told.3)
+      ];
+    }
   where
+    logged : (pieces : List Piece) → AreRead 1 strings pieces → (lines : List (List ℕ)) (end : Option LogFault) → LogWrites options now [] pieces lines end → ReplaysLog options now bytes lines end
+    logged pieces read lines end writes = record {
+      strings = strings;
+      pieces = pieces;
+      encodes = encodes;
+      read = read;
+      replayed = commits_written options now pieces lines end (pieces_fit 1 strings pieces read) writes;
+    }
+
     ends : (answer : RunAnswer) → Replays options now bytes answer → Ends answer status before after
-    ends answer (too_long long is) = absurd (omega arith)
-    ends answer (bad_line n within' bad is) = cc
-    ends answer (replayed lines end within' good' writes is) =
-        subst (λ (a : RunAnswer). Ends a status before after) (sym is) (runs.ended lines end (subst (λ (l : List (List ℕ)). LogWrites options now [] l lines end) (sym are) (replayed_written options now _ lines end writes)))
+    ends answer (unread halt encodes' is) = absurd (ok_or_halt strings halt (strings_one bytes (Ok strings) (Err halt) encodes encodes'))
+    ends answer (replayed lines end log is) =
+        let same = ok_one log.strings strings (strings_one bytes (Ok log.strings) (Ok strings) log.encodes encodes) in
+        let read : AreRead 1 strings log.pieces = subst (λ (bs : List (List ℕ)). AreRead 1 bs log.pieces) same log.read in
+        subst (λ (a : RunAnswer). Ends a status before after) (sym is)
+        ((runs log.pieces read).ended lines end (replayed_written options now log.pieces lines end (pieces_fit 1 strings log.pieces read) log.replayed))

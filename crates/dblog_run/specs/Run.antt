@@ -1,5 +1,5 @@
 -- What a run of the program writes and returns.
-use Rattle.std.specs.Prelude.{◌≡◌, ◌⊎◌, ℕ, ℤ, ◌<◌, ◌≤◌, Option, Some, None, Ok, Err, List, [], ◌∷◌, ◌++◌, take, length, map}
+use Rattle.std.specs.Prelude.{◌≡◌, ◌⊎◌, ℕ, ℤ, ◌<◌, ◌≤◌, Option, Some, None, Result, Ok, Err, List, [], ◌∷◌, ◌++◌, take, length, map}
 use Rattle.dbl_base.specs.Lines.{lines_of, lines_text}
 use Rattle.dbl_base.specs.Streams.{FaultCounted, input_limit}
 use Rattle.dbl_lines.specs.declared.status.Status.{Status}
@@ -17,6 +17,7 @@ use Rattle.dblog_replay.specs.Applied.{IsApplied}
 use Rattle.dblog_replay.specs.Lines.{message_bytes_in, first_bad_line}
 use Rattle.dblog_replay.specs.declared.log_fault.LogFault.{LogFault}
 use Rattle.dblog_replay.specs.declared.options.ReplayOptions.{ReplayOptions}
+use Rattle.dblog_replay.specs.Pieces.{Piece, AreRead}
 use Rattle.dblog_replay.specs.Log.{LogWrites, end_status, end_lines}
 use Rattle.dblog_replay.specs.Replay.{IsReplayed}
 
@@ -38,13 +39,27 @@ fault halt = record { status = status_of halt; lines = fault_line halt ∷ []; o
 abbrev pub log_answer : List (List ℕ) → Option LogFault → RunAnswer
 log_answer lines end = record { status = end_status end; lines = lines ++ end_lines end; one_by_one = lines }
 
+-- The byte strings that the lines of an input with these bytes encode; or why it has none: the input is too long, or a line is bad.
+pub data EncodesStrings (bytes : List ℕ) (result : Result (List (List ℕ)) RunError) : Type 0 where
+  too_long : input_limit < length bytes → result ≡ Err InputTooLong → EncodesStrings bytes result
+  bad_line : (number : ℕ) → length bytes ≤ input_limit → first_bad_line (lines_of bytes) ≡ Some number → result ≡ Err (BadLine number)
+      → EncodesStrings bytes result
+  encoded : length bytes ≤ input_limit → first_bad_line (lines_of bytes) ≡ None → result ≡ Ok (message_bytes_in (lines_of bytes))
+      → EncodesStrings bytes result
+
+-- The lines and the error, or none, of a log with these options at a time, for an input with these bytes: it encodes byte strings, these
+-- are read as pieces, and the pieces are replayed.
+pub record ReplaysLog (options : ReplayOptions) (now : ℤ) (bytes : List ℕ) (lines : List (List ℕ)) (end : Option LogFault) : Type 0 where
+  pub strings : List (List ℕ)
+  pub pieces : List Piece
+  pub encodes : EncodesStrings bytes (Ok strings)
+  pub read : AreRead 1 strings pieces
+  pub replayed : IsReplayed options now pieces lines end
+
 -- The answer of `replay` with these options at a time for an input with these bytes.
 pub data Replays (options : ReplayOptions) (now : ℤ) (bytes : List ℕ) (answer : RunAnswer) : Type 0 where
-  too_long : input_limit < length bytes → answer ≡ fault InputTooLong → Replays options now bytes answer
-  bad_line : (number : ℕ) → length bytes ≤ input_limit → first_bad_line (lines_of bytes) ≡ Some number → answer ≡ fault (BadLine number)
-      → Replays options now bytes answer
-  replayed : (lines : List (List ℕ)) (end : Option LogFault) → length bytes ≤ input_limit → first_bad_line (lines_of bytes) ≡ None
-      → IsReplayed options now (message_bytes_in (lines_of bytes)) lines end → answer ≡ log_answer lines end
+  unread : (halt : RunError) → EncodesStrings bytes (Err halt) → answer ≡ fault halt → Replays options now bytes answer
+  replayed : (lines : List (List ℕ)) (end : Option LogFault) → ReplaysLog options now bytes lines end → answer ≡ log_answer lines end
       → Replays options now bytes answer
 
 -- The answer of a line that isn't applied.
@@ -95,13 +110,13 @@ pub record FailsReading (was now : ℕ) (status : Status) (before after : Option
   pub rose : FaultCounted was now
   pub says : Says InputFailed status before after
 
--- For private clauses: an error of `replay` is its answer for the bytes, unless it is a failure.
-abbrev pub HaltsReplaying : ReplayOptions → ℤ → List ℕ → RunError → Type 0
-HaltsReplaying options now bytes Usage = ⊥
-HaltsReplaying options now bytes InputFailed = Unit {0}
-HaltsReplaying options now bytes Memory = Unit {0}
-HaltsReplaying options now bytes (BadLine number) = Replays options now bytes (fault (BadLine number))
-HaltsReplaying options now bytes InputTooLong = Replays options now bytes (fault InputTooLong)
+-- For private clauses: an error of reading the input is why it encodes no byte strings, unless it is a failure.
+abbrev pub HaltsReading : List ℕ → RunError → Type 0
+HaltsReading bytes Usage = ⊥
+HaltsReading bytes InputFailed = Unit {0}
+HaltsReading bytes Memory = Unit {0}
+HaltsReading bytes (BadLine number) = EncodesStrings bytes (Err (BadLine number))
+HaltsReading bytes InputTooLong = EncodesStrings bytes (Err InputTooLong)
 
 -- For private clauses: the end of a run of `replay`.
 pub record RunsReplaying (options : ReplayOptions) (now : ℤ) (bytes : List ℕ) (status : Status)
@@ -133,10 +148,10 @@ pub record PrintedAs (held : List ℕ → List ℕ → Option HeldCells) (status
   pub are : AreRowsOf held rows
   pub ends : EndsAs (done (map row_line rows)) status before after
 
--- For private clauses: the end of a run of these messages.
-pub record RunsLog (options : ReplayOptions) (now : ℤ) (bs : List (List ℕ)) (status : Status)
+-- For private clauses: the end of a run of these pieces.
+pub record RunsLog (options : ReplayOptions) (now : ℤ) (pieces : List Piece) (status : Status)
     (before after : Option (List ℕ)) : Type 0 where
-  pub ended : (lines : List (List ℕ)) (end : Option LogFault) → LogWrites options now [] bs lines end
+  pub ended : (lines : List (List ℕ)) (end : Option LogFault) → LogWrites options now [] pieces lines end
       → Ends (log_answer lines end) status before after
   pub meant : IsExternalStatus status
-      ⊎ ((lines : List (List ℕ)) × (end : Option LogFault) × LogWrites options now [] bs lines end × (end_status end ≡ status))
+      ⊎ ((lines : List (List ℕ)) × (end : Option LogFault) × LogWrites options now [] pieces lines end × (end_status end ≡ status))

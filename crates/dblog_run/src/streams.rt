@@ -1,16 +1,17 @@
 //! The commands that read only the input: `replay`, and `apply --lines`.
 ghost use Rattle.std.specs.Prelude.{◌≡◌, ◌≢◌, ◌⊎◌, ℕ, ◌≤◌, List, [], length};
-ghost use Rattle.std.specs.Prelude.{Some, Err, None, IfOk, IfErr, OnOk, ℤ};
-ghost use Rattle.dbl_base.specs.Lines.{lines_of};
+ghost use Rattle.std.specs.Prelude.{Some, Ok, Err, IfOk, IfErr, OnOk};
+ghost use Rattle.std.specs.List.{AllByRecursion};
 ghost use Rattle.dbl_base.specs.Streams.{FaultCounted, input_limit};
 ghost use Rattle.dbl_record.specs.Acts.{Reading};
 ghost use Rattle.dbl_record.specs.Consumers.{consumer_of};
 ghost use Rattle.dbl_consume.specs.Holdings.{Took, placeholder_of};
-ghost use Rattle.dblog_replay.specs.Lines.{message_bytes_in, first_bad_line};
-ghost use Rattle.dblog_replay.specs.declared.options.ReplayOptions.{ReplayOptions};
-ghost use Rattle.dblog_run.specs.Run.{RunsLog, FailsReading, HaltsReplaying, RunsReplaying};
-ghost use Rattle.dblog_run.specs.Run.{HaltsApplying, RunsApplying, EndsAs, PrintedAs};
-ghost use Rattle.dblog_run.specs.Run.{IsReplayAnswer, IsReplayStatus, IsApplyStatus, line_fault};
+ghost use Rattle.dbl_pgmsg.specs.Faults.{AreBytes};
+ghost use Rattle.dblog_replay.specs.Pieces.{Piece, AreRead};
+ghost use Rattle.dblog_run.specs.Run.{EncodesStrings, RunsLog, FailsReading};
+ghost use Rattle.dblog_run.specs.Run.{HaltsReading, RunsReplaying, HaltsApplying};
+ghost use Rattle.dblog_run.specs.Run.{RunsApplying, EndsAs, PrintedAs, IsReplayAnswer};
+ghost use Rattle.dblog_run.specs.Run.{IsReplayStatus, IsApplyStatus, line_fault};
 ghost use Rattle.dbl_lines.specs.declared.status.Status.TheVariants.{Done, StdinFailed};
 ghost use Rattle.dbl_lines.specs.declared.status.Status.TheVariants.{StdoutFailed, OutOfMemory};
 ghost use Rattle.dbl_lines.specs.declared.status.Status.TheVariants.{InvalidInput};
@@ -28,8 +29,8 @@ fn read_input<I: Input>(alloc: Global, input: &mut I) -> Result<Bytes, RunError>
     ensures end { (bytes : List ℕ) → I.left input.old ≡ Some bytes →
         OnOk result (I.left input.new ≡ Some []) }
     ensures within { IfOk result (λ read. length read ≤ input_limit) }
-    ensures halts { (bytes : List ℕ) (options : ReplayOptions) (now : ℤ) →
-        I.left input.old ≡ Some bytes → IfErr result (HaltsReplaying options now bytes) }
+    ensures halts { (bytes : List ℕ) → I.left input.old ≡ Some bytes →
+        IfErr result (HaltsReading bytes) }
     ensures long { (bytes : List ℕ) → I.left input.old ≡ Some bytes → length bytes ≤ input_limit →
         IfErr result (λ halt. (halt ≡ RunError.InputFailed) ⊎ (halt ≡ RunError.Memory)) }
     ensures applying { (bytes placeholder : List ℕ) → I.left input.old ≡ Some bytes →
@@ -49,38 +50,37 @@ fn read_input<I: Input>(alloc: Global, input: &mut I) -> Result<Bytes, RunError>
     }
 }
 
-// The bytes of the messages of an input within the limit, which is freed.
-fn messages_of(alloc: Global, text: Bytes) -> Result<Vec<Bytes>, RunError>
+// The byte strings that an input within the limit encodes, which is freed.
+fn strings_of(alloc: Global, text: Bytes) -> Result<Vec<Bytes>, RunError>
     requires { length text ≤ input_limit }
-    ensures ok { IfOk result (λ found. found.items ≡ message_bytes_in (lines_of text)) }
-    ensures good { OnOk result (first_bad_line (lines_of text) ≡ None) }
-    ensures halts { (options : ReplayOptions) (now : ℤ) →
-        IfErr result (HaltsReplaying options now text) }
+    ensures encodes { IfOk result (λ strings. EncodesStrings text (Ok strings.items)) }
+    ensures halts { IfErr result (HaltsReading text) }
     ensures kinds { IfErr result (λ halt. halt ≢ RunError.InputFailed) }
     ensures command { IfErr result (λ halt. halt ≢ RunError.Usage) }
 {
     match dblog_replay::messages(alloc, text.items().as_slice()) {
-        Ok(found) => Ok(found),
+        Ok(strings) => Ok(strings),
         Err(LineError::BadLine { number }) => Err(RunError::BadLine { number }),
         Err(LineError::Memory) => Err(RunError::Memory),
     }
 }
 
-fn replay_messages<O: Output>(
+fn replay_strings<O: Output>(
     alloc: Global,
     options: ReplayOptions,
-    messages: Vec<Bytes>,
+    strings: Vec<Bytes>,
     now_ms: &i64,
     output: &mut O,
 ) -> Status
-    ensures told { RunsLog options now_ms.now messages.items result
-        (O.written output.old) (O.written output.new) }
+    requires { AllByRecursion AreBytes strings.items }
+    ensures told { (pieces : List Piece) → AreRead 1 strings.items pieces →
+        RunsLog options now_ms.now pieces result (O.written output.old) (O.written output.new) }
     ensures output_failed { result ≡ StdoutFailed →
         FaultCounted (O.faults output.old) (O.faults output.new) }
     ensures not_input { result ≢ StdinFailed }
     ensures known { IsReplayStatus result }
 {
-    match print_log(alloc, options, messages, now_ms, output) {
+    match print_log(alloc, options, strings, now_ms, output) {
         Ok(status) => status,
         Err(PrintError::OutputFailed) => Status::StdoutFailed,
         Err(PrintError::Memory) => say(alloc, RunError::Memory, output),
@@ -102,8 +102,8 @@ fn replay_text<O: Output>(
     ensures not_input { result ≢ StdinFailed }
     ensures known { IsReplayStatus result }
 {
-    match messages_of(alloc, text) {
-        Ok(messages) => replay_messages(alloc, options, messages, now_ms, output),
+    match strings_of(alloc, text) {
+        Ok(strings) => replay_strings(alloc, options, strings, now_ms, output),
         Err(halt) => say(alloc, halt, output),
     }
 }

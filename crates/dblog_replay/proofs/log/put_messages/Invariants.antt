@@ -1,10 +1,14 @@
-use Rattle.std.proofs.Common.{◌≤◌, []}
+use Rattle.std.proofs.Common.{◌≡◌, ◌+◌, ◌≤◌, List, [], length}
 use Rattle.dblog_replay.specs.declared.options.ReplayOptions.{ReplayOptions}
-use Rattle.dblog_replay.specs.Following.{FollowsMessages}
+use Rattle.dblog_replay.specs.Following.{FollowsMessages, IsReplaying}
+use Rattle.dblog_replay.specs.Pieces.{Piece, AreRead}
 use Rattle.dblog_replay.proofs.FollowLemmas.{IsLogging}
 use Rattle.dblog_replay.proofs.log.put_messages.Given as goal
 
 abbrev pub invariant-messages : goal.invariant-messages
 invariant-messages g l =
-    ((options : ReplayOptions) → FollowsMessages options [] l.fn.replayer → IsLogging options l.now_ms l.fn.messages.items l.bytes-iterator.rest.items l.fn.lines l.lines (g.O.Output.written l.fn.output) (g.O.Output.written l.output) l.number l.replayer)
+    ((options : ReplayOptions) (pieces : List Piece) → FollowsMessages options [] l.fn.replayer → AreRead 1 l.fn.messages.items pieces
+    → IsLogging options l.now_ms pieces l.bytes-iterator.rest.items l.fn.lines l.lines (g.O.Output.written l.fn.output) (g.O.Output.written l.output) l.number l.replayer)
+    × IsReplaying l.replayer
+    × (l.number + length l.bytes-iterator.rest.items ≡ length l.fn.messages.items)
     × (g.O.Output.faults l.fn.output ≤ g.O.Output.faults l.output)

@@ -9,7 +9,7 @@ returns-in-Ok-clause-told g c = λ bytes told.
 
 pub returns-in-Err-clause-told : goal.returns-in-Err-clause-told
 returns-in-Err-clause-told g c = λ bytes told.
-    read_replays c.args.options c.args.now_ms.now bytes c.in-Err.halt _ _ _ _ _ (c.in-Err.ensures.halts bytes c.args.options c.args.now_ms.now told) (λ is. c.in-Err.ensures.failed (ap Err is)) c.say.ensures.says
+    read_replays c.args.options c.args.now_ms.now bytes c.in-Err.halt _ _ _ _ _ (c.in-Err.ensures.halts bytes told) (λ is. c.in-Err.ensures.failed (ap Err is)) c.say.ensures.says
 
 pub returns-in-Err-clause-known : goal.returns-in-Err-clause-known
 returns-in-Err-clause-known g c = replay_said c.in-Err.halt _ _ _ c.in-Err.ensures.command c.say.ensures.says

@@ -46,7 +46,7 @@ IsWithin Topics = Unit {0}
 IsWithin Offsets = Unit {0}
 IsWithin (Capture options) = AreGoodNames options.prefix options.db options.placeholder
     × IsGoodPace options.chunk options.every options.messages × AreGoodTables options.tables
-IsWithin (Resume chunk every messages) = IsGoodPace chunk every messages
+IsWithin (Resume options) = IsGoodPace options.chunk options.every options.messages
 IsWithin (Apply lines placeholder) = is_placeholder placeholder ≡ true
-IsWithin (Replay prefix db placeholder keys) = AreGoodNames prefix db placeholder × AreGoodKeys keys
+IsWithin (Replay options) = AreGoodNames options.prefix options.db options.placeholder × AreGoodKeys options.keys
 IsWithin (Gen number rows groups run) = IsBetween 0 999999999 number × IsBetween 0 400000 rows × IsBetween 0 90000 groups

@@ -13,6 +13,24 @@ pub struct CaptureOptions {
     pub tables: Seq<TableName>,
 }
 
+/// The options of a resumed capture.
+#[derive(Debug, Drop)]
+pub struct ResumeOptions {
+    pub chunk: u32,
+    pub every: u32,
+    pub messages: u64,
+}
+
+/// The options of `replay`.
+#[derive(Debug, Drop)]
+pub struct ReplayOptions {
+    pub prefix: Text,
+    pub db: Text,
+    pub placeholder: Text,
+    /// The keys of tables that aren't to be read from the log.
+    pub keys: Seq<TableKey>,
+}
+
 /// A parsed command line; absent options have their defaults.
 #[derive(Debug, Drop)]
 pub enum Command {
@@ -23,19 +41,14 @@ pub enum Command {
         options: CaptureOptions,
     },
     Resume {
-        chunk: u32,
-        every: u32,
-        messages: u64,
+        options: ResumeOptions,
     },
     Apply {
         lines: bool,
         placeholder: Text,
     },
     Replay {
-        prefix: Text,
-        db: Text,
-        placeholder: Text,
-        keys: Seq<TableKey>,
+        options: ReplayOptions,
     },
     Gen {
         number: u64,

@@ -17,7 +17,7 @@ ghost use Rattle.dbl_cli.specs.Found.{option_in, places_in, SaysFlag, Finds};
 use crate::parser::PLACE;
 use crate::values::{keys, name_or_demo, number, number_or, placeholder_or_own, tables};
 use crate::verbs::Verb;
-use crate::{CaptureOptions, CliError, Command};
+use crate::{CaptureOptions, CliError, Command, ReplayOptions, ResumeOptions};
 use clap::ArgMatches;
 use dbl_base::{Seq, Text};
 use dbl_model_table::{TableKey, TableName};
@@ -132,9 +132,11 @@ fn resume(found: &ArgMatches<'_>) -> Result<Command, CliError>
 {
     let pacing = pacing(found)?;
     Ok(Command::Resume {
-        chunk: pacing.chunk,
-        every: pacing.every,
-        messages: u64::from(pacing.messages),
+        options: ResumeOptions {
+            chunk: pacing.chunk,
+            every: pacing.every,
+            messages: u64::from(pacing.messages),
+        },
     })
 }
 
@@ -163,10 +165,12 @@ fn replay(alloc: Global, found: &ArgMatches<'_>) -> Result<Command, CliError>
     } = naming(alloc, found)?;
     let keys = keys_in(alloc, found)?;
     Ok(Command::Replay {
-        prefix,
-        db,
-        placeholder,
-        keys,
+        options: ReplayOptions {
+            prefix,
+            db,
+            placeholder,
+            keys,
+        },
     })
 }
 

@@ -6,6 +6,7 @@ use Rattle.dbl_model_table.specs.declared.table.TableInfo.{TableInfo}
 use Rattle.dbl_model_table.specs.declared.table.TableName.{TableName}
 use Rattle.dbl_model_table.specs.Configs.{IsGoodConfig}
 use Rattle.dbl_cli.specs.declared.commands.CaptureOptions.{CaptureOptions}
+use Rattle.dbl_cli.specs.declared.commands.ResumeOptions.{ResumeOptions}
 use Rattle.dbl_cli.specs.Limits.{AreGoodNames, AreGoodTables, IsGoodPace}
 use Rattle.dbl_offset.specs.declared.offset.Offset.{Offset}
 use Rattle.dbl_offset.specs.Offsets.{IsOffset}
@@ -52,8 +53,8 @@ good_first options all names good pace tables =
       messages = pace.messages_are;
     }
 
-pub good_again : (offset : Offset) (chunk every messages : ℕ) → IsOffset offset → IsGoodPace chunk every messages → IsGoodConfig (config_again offset chunk every messages)
-good_again offset chunk every messages is pace =
+pub good_again : (offset : Offset) (options : ResumeOptions) → IsOffset offset → IsGoodPace options.chunk options.every options.messages → IsGoodConfig (config_again offset options)
+good_again offset options is pace =
     let many = length-map offset.infos (λ (info : TableInfo). info.name) in
     record {
       identity = is.identity;
@@ -69,5 +70,5 @@ good_again offset chunk every messages is pace =
 pub asks_budget : (asked : Asked) (all : List TableName) (stored : Option Offset) (config : Config) → asks_of asked all stored ≡ Some config → config.messages ≡ budget_of asked
 asks_budget (First options) all None config is = (let same : config_of options all ≡ config = (let i = is in cc) in sym (ap (λ (c : Config). c.messages) same))
 asks_budget (First options) all (Some offset) config is = absurd (let i = is in cc)
-asks_budget (Again chunk every messages) all None config is = absurd (let i = is in cc)
-asks_budget (Again chunk every messages) all (Some offset) config is = (let same : config_again offset chunk every messages ≡ config = (let i = is in cc) in sym (ap (λ (c : Config). c.messages) same))
+asks_budget (Again options) all None config is = absurd (let i = is in cc)
+asks_budget (Again options) all (Some offset) config is = (let same : config_again offset options ≡ config = (let i = is in cc) in sym (ap (λ (c : Config). c.messages) same))

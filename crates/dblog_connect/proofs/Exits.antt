@@ -42,8 +42,8 @@ pub refused_is : (asked : Asked) (stored : Option Offset) (e : ConnectError) →
 refused_is asked stored e (inl is) = inl is
 refused_is (First options) None e (inr refuses) = absurd refuses
 refused_is (First options) (Some offset) e (inr refuses) = inr (inl refuses)
-refused_is (Again chunk every messages) None e (inr refuses) = inr (inr refuses)
-refused_is (Again chunk every messages) (Some offset) e (inr refuses) = absurd refuses
+refused_is (Again options) None e (inr refuses) = inr (inr refuses)
+refused_is (Again options) (Some offset) e (inr refuses) = absurd refuses
 
 refused_as : (P : ConnectError → Type 0) → P error.Memory → P error.AlreadyStarted → P error.NotStarted → (asked : Asked) (stored : Option Offset) (e : ConnectError) → (e ≡ error.Memory) ⊎ Refuses asked stored e → P e
 refused_as P memory already not_yet asked stored e refused = by (refused_is asked stored e refused)
@@ -148,6 +148,6 @@ asks_same asked names stored all found config one two is =
 pub asked_of : (asked : Asked) (all : List TableName) (stored : Option Offset) (config : Config) → asks_of asked all stored ≡ Some config → IsOfConfig config stored
 asked_of (First options) all None config is = tt
 asked_of (First options) all (Some offset) config is = absurd (let i = is in cc)
-asked_of (Again chunk every messages) all None config is = tt
-asked_of (Again chunk every messages) all (Some offset) config is =
-    (let same : config_again offset chunk every messages ≡ config = (let i = is in cc) in (ap (λ (c : Config). c.identity) same, ap (λ (c : Config). c.tables) same))
+asked_of (Again options) all None config is = tt
+asked_of (Again options) all (Some offset) config is =
+    (let same : config_again offset options ≡ config = (let i = is in cc) in (ap (λ (c : Config). c.identity) same, ap (λ (c : Config). c.tables) same))

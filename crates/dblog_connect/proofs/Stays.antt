@@ -59,9 +59,9 @@ unrefused asked w t f held read e (inr (not_asked other found refuses)) = unaske
     unasked (First options) None error refuses = absurd refuses
     unasked (First options) (Some offset) error refuses =
         (λ store at is. (let wrong : AlreadyStarted ≡ NotAStore store at = sym refuses ∙ is in cc), λ store index is. (let wrong : AlreadyStarted ≡ BadEntry store index = sym refuses ∙ is in cc))
-    unasked (Again chunk every messages) None error refuses =
+    unasked (Again options) None error refuses =
         (λ store at is. (let wrong : NotStarted ≡ NotAStore store at = sym refuses ∙ is in cc), λ store index is. (let wrong : NotStarted ≡ BadEntry store index = sym refuses ∙ is in cc))
-    unasked (Again chunk every messages) (Some offset) error refuses = absurd refuses
+    unasked (Again options) (Some offset) error refuses = absurd refuses
 
 never_so : (asked : Asked) (now : ℤ) (wals logs stores : List ℕ → Type 0) (w t f : List ℕ) (held : Contents) → ReadAs w t f held → (e : ConnectError)
     → IsUnhalted e → IsExternalConnectError e ⊎ IsRefused asked w t f e → IsKeptError asked now wals logs stores w t f e

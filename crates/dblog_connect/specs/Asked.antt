@@ -4,6 +4,7 @@ use Rattle.dbl_model_table.specs.declared.config.Config.{Config}
 use Rattle.dbl_model_table.specs.declared.table.TableInfo.{TableInfo}
 use Rattle.dbl_model_table.specs.declared.table.TableName.{TableName}
 use Rattle.dbl_cli.specs.declared.commands.CaptureOptions.{CaptureOptions}
+use Rattle.dbl_cli.specs.declared.commands.ResumeOptions.{ResumeOptions}
 use Rattle.dbl_cli.specs.Limits.{AreGoodNames, AreGoodTables, IsGoodPace}
 use Rattle.dbl_offset.specs.declared.offset.Offset.{Offset}
 use Rattle.dbl_demo.specs.DemoWal.Wals.{Wal}
@@ -18,7 +19,7 @@ abbrev pub IsAskedWithinLimits : Asked → Type 0
 IsAskedWithinLimits (First options) =
     AreGoodNames options.prefix options.db options.placeholder × IsGoodPace options.chunk options.every options.messages
     × AreGoodTables options.tables
-IsAskedWithinLimits (Again chunk every messages) = IsGoodPace chunk every messages
+IsAskedWithinLimits (Again options) = IsGoodPace options.chunk options.every options.messages
 
 -- ---- captured tables
 
@@ -48,13 +49,13 @@ config_of options all = record {
 }
 
 -- The configuration of a later session, with the connector and the tables of the offset.
-abbrev pub config_again : Offset → ℕ → ℕ → ℕ → Config
-config_again offset chunk every messages = record {
+abbrev pub config_again : Offset → ResumeOptions → Config
+config_again offset options = record {
   identity = offset.identity;
   tables = names_of offset.infos;
-  chunk = chunk;
-  every = every;
-  messages = messages;
+  chunk = options.chunk;
+  every = options.every;
+  messages = options.messages;
 }
 
 -- The configuration of a session over a source with these tables, or none if it is refused: a first one requires that no offset is stored,
@@ -62,20 +63,20 @@ config_again offset chunk every messages = record {
 abbrev pub asks_of : Asked → List TableName → Option Offset → Option Config
 asks_of (First options) all None = Some (config_of options all)
 asks_of (First options) all (Some offset) = None
-asks_of (Again chunk every messages) all None = None
-asks_of (Again chunk every messages) all (Some offset) = Some (config_again offset chunk every messages)
+asks_of (Again options) all None = None
+asks_of (Again options) all (Some offset) = Some (config_again offset options)
 
 -- The error of a refused session: an offset is stored, or none is.
 abbrev pub Refuses : Asked → Option Offset → ConnectError → Type 0
 Refuses (First options) None e = ⊥
 Refuses (First options) (Some offset) e = e ≡ AlreadyStarted
-Refuses (Again chunk every messages) None e = e ≡ NotStarted
-Refuses (Again chunk every messages) (Some offset) e = ⊥
+Refuses (Again options) None e = e ≡ NotStarted
+Refuses (Again options) (Some offset) e = ⊥
 
 -- How many messages the session may read.
 abbrev pub budget_of : Asked → ℕ
 budget_of (First options) = options.messages
-budget_of (Again chunk every messages) = messages
+budget_of (Again options) = options.messages
 
 -- The configuration of a session over disks with these contents, or none if it is refused.
 abbrev pub asks_in : Asked → Contents → Option Config

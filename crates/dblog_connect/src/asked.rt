@@ -10,7 +10,7 @@ ghost use Rattle.dblog_connect.specs.Asked.{config_again, config_of, names_of, t
 
 use crate::ConnectError;
 use dbl_base::{Seq, copy_items};
-use dbl_cli::CaptureOptions;
+use dbl_cli::{CaptureOptions, ResumeOptions};
 use dbl_model_table::{Config, Identity, TableInfo, TableName};
 use dbl_offset::Offset;
 use std::alloc::{AllocError, Global};
@@ -19,15 +19,9 @@ use std::alloc::{AllocError, Global};
 #[derive(Debug, Drop)]
 pub enum Asked {
     /// A first session, of these tables, or of all tables of the workload if none is named.
-    First {
-        options: CaptureOptions,
-    },
+    First { options: CaptureOptions },
     /// A later session, for the connector and the tables of the stored offset.
-    Again {
-        chunk: u32,
-        every: u32,
-        messages: u64,
-    },
+    Again { options: ResumeOptions },
 }
 
 fn names_of(alloc: Global, infos: &Vec<TableInfo>) -> Result<Vec<TableName>, AllocError>
@@ -92,15 +86,18 @@ fn first_config(
 fn later_config(
     alloc: Global,
     offset: &Offset,
-    chunk: u32,
-    every: u32,
-    messages: u64,
+    options: ResumeOptions,
 ) -> Result<Config, AllocError>
     requires offset { IsOffset offset.now }
-    requires pace { IsGoodPace chunk every messages }
-    ensures is { IfOk result (λ config. config ≡ config_again offset.now chunk every messages) }
+    requires pace { IsGoodPace options.chunk options.every options.messages }
+    ensures is { IfOk result (λ config. config ≡ config_again offset.now options) }
     ensures good { IfOk result IsGoodConfig }
 {
+    let ResumeOptions {
+        chunk,
+        every,
+        messages,
+    } = options;
     Ok(Config {
         identity: offset.identity.copy(alloc)?,
         tables: Seq::make(names_of(alloc, offset.infos.items())?),
@@ -132,12 +129,8 @@ pub(crate) fn config_for(
             Some(_) => Err(ConnectError::AlreadyStarted),
             None => Ok(first_config(alloc, options, all)?),
         },
-        Asked::Again {
-            chunk,
-            every,
-            messages,
-        } => match stored {
-            Some(offset) => Ok(later_config(alloc, offset, chunk, every, messages)?),
+        Asked::Again { options } => match stored {
+            Some(offset) => Ok(later_config(alloc, offset, options)?),
             None => Err(ConnectError::NotStarted),
         },
     }

@@ -38,6 +38,7 @@ use Rattle.dblog_run.specs.Promise.Tables.{whole_history}
 use Rattle.dblog_run.proofs.PromiseKeptLaws.{disks_are_read_once}
 use Rattle.dblog_run.specs.Connect.declared.asked.Asked.TheVariants.{Again}
 use Rattle.dbl_cli.specs.declared.commands.Command.TheVariants.{Resume}
+use Rattle.dbl_cli.specs.declared.commands.ResumeOptions.{ResumeOptions}
 use Rattle.dblog_run.specs.Connect.Asked.{asks_of, config_again, workload_tables}
 use Rattle.dblog_run.specs.Sessions.{IsCompleteRun, asks_by}
 use Rattle.dblog_run.specs.Connect.declared.summary.Summary.{Summary}
@@ -96,16 +97,16 @@ grown_size old_bytes new_bytes old new after windows more old_is new_is same ext
 
 -- ---- the session's end
 
-goes_again : (chunk every budget : ℕ) (all : List TableName) (offset : Offset) (old new : Contents) → old.offset ≡ Some offset → Advances (asks_of (Again chunk every budget) all old.offset) old new → AdvancesFrom (config_again offset chunk every budget) old new
-goes_again chunk every budget all offset old new stored goes = subst (λ (o : Option Offset). Advances (asks_of (Again chunk every budget) all o) old new) stored goes
+goes_again : (options : ResumeOptions) (all : List TableName) (offset : Offset) (old new : Contents) → old.offset ≡ Some offset → Advances (asks_of (Again options) all old.offset) old new → AdvancesFrom (config_again offset options) old new
+goes_again options all offset old new stored goes = subst (λ (o : Option Offset). Advances (asks_of (Again options) all o) old new) stored goes
 
-module _ (chunk every budget : ℕ) (now : ℤ) (told_wal told_topics told_offsets : Option (List ℕ)) (wals logs stores new_wals new_logs new_stores : List ℕ → Type 0) (status : Status)
+module _ (options : ResumeOptions) (now : ℤ) (told_wal told_topics told_offsets : Option (List ℕ)) (wals logs stores new_wals new_logs new_stores : List ℕ → Type 0) (status : Status)
     (kept : AreKept told_wal told_topics told_offsets wals logs stores)
-    (headline : (w t f : List ℕ) → new_wals w → new_logs t → new_stores f → GuaranteesAfterCrash (IsCompleteRun (Resume chunk every budget) status) (asks_by (Resume chunk every budget)) wals logs stores w t f)
+    (headline : (w t f : List ℕ) → new_wals w → new_logs t → new_stores f → GuaranteesAfterCrash (IsCompleteRun (Resume options) status) (asks_by (Resume options)) wals logs stores w t f)
     (w t f : List ℕ) (held : Contents) (read : ReadAs w t f held) (rest : AreAtRest wals logs stores held w t f)
     (left : Contents) (may : MayLeaveContents new_wals new_logs new_stores left) (offset : Offset) (stored : held.offset ≡ Some offset) (pairs : List (ℕ × Key)) (cover : CoverRows offset.infos (whole_history held.wal) pairs) where
   abbrev windows : ℕ
-  windows = length offset.infos + length pairs / chunk
+  windows = length offset.infos + length pairs / options.chunk
 
   held_kept : IsKept held
   held_kept =
@@ -123,16 +124,16 @@ module _ (chunk every budget : ℕ) (now : ℤ) (told_wal told_topics told_offse
       let there : promised.left.held ≡ left = disks_are_read_once may.w may.t may.f promised.left.held left promised.left.read may.read in
       let wal : predecessor.old.wal ≡ held.wal = one_wal predecessor.wal predecessor.old.wal held.wal predecessor.read.source (rest.wal_only predecessor.wal predecessor.may_wal) in
       let at : predecessor.old.offset ≡ held.offset = one_store predecessor.offsets predecessor.old.offset held.offset predecessor.read.store (rest.offsets_only predecessor.offsets predecessor.may_offsets) in
-      let goes = goes_again chunk every budget (workload_tables predecessor.old.wal) offset predecessor.old promised.left.held (at ∙ stored) predecessor.advances in
-      let to_left : AdvancesFrom (config_again offset chunk every budget) predecessor.old left = subst (AdvancesFrom (config_again offset chunk every budget) predecessor.old) there goes in
+      let goes = goes_again options (workload_tables predecessor.old.wal) offset predecessor.old promised.left.held (at ∙ stored) predecessor.advances in
+      let to_left : AdvancesFrom (config_again offset options) predecessor.old left = subst (AdvancesFrom (config_again offset options) predecessor.old) there goes in
       subst (λ (x : Wal). ExtendsList (history_in x).commits (history_at left).commits) wal to_left.onward.commits
 
-  begun : HasBegun (Again chunk every budget) w t f
+  begun : HasBegun (Again options) w t f
   begun = record {
     held = held;
     read = read;
-    config = config_again offset chunk every budget;
-    asks = ap (λ (o : Option Offset). asks_of (Again chunk every budget) (workload_tables held.wal) o) stored;
+    config = config_again offset options;
+    asks = ap (λ (o : Option Offset). asks_of (Again options) (workload_tables held.wal) o) stored;
   }
 
   covers : left.wal.workload ≡ held.wal.workload → CoverRows offset.infos (history_at left) pairs
@@ -140,25 +141,25 @@ module _ (chunk every budget : ℕ) (now : ℤ) (told_wal told_topics told_offse
       let whole : CoverRows offset.infos (whole_history left.wal) pairs = subst (λ (x : Workload). CoverRows offset.infos (whole_of x) pairs) (sym same) cover in
       whole_covers may.w left.wal offset.infos pairs may.read.source whole
 
-  few_marks : left.wal.workload ≡ held.wal.workload → AddsFew (Again chunk every budget) wals new_wals w t f → length (marks_in (history_at left).commits) ≤ length (marks_in (history_at held).commits) + 2 * windows
+  few_marks : left.wal.workload ≡ held.wal.workload → AddsFew (Again options) wals new_wals w t f → length (marks_in (history_at left).commits) ≤ length (marks_in (history_at held).commits) + 2 * windows
   unfolding begun
   few_marks same adds = by (adds begun own_tables may.w left may.wal may.read.source)
     where
-      by : wals may.w ⊎ GrowsByFewMarks (config_again offset chunk every budget) held left → length (marks_in (history_at left).commits) ≤ length (marks_in (history_at held).commits) + 2 * windows
+      by : wals may.w ⊎ GrowsByFewMarks (config_again offset options) held left → length (marks_in (history_at left).commits) ≤ length (marks_in (history_at held).commits) + 2 * windows
       by (inl before) =
           let wal : left.wal ≡ held.wal = one_wal may.w left.wal held.wal may.read.source (rest.wal_only may.w before) in
           omega (arith, ap (λ (x : Wal). length (marks_in (history_in x).commits)) wal)
       by (inr (inl none)) = omega (arith, ap length none)
       by (inr (inr (infos, captures, few))) =
-          let own : infos ≡ offset.infos = subst (λ (o : Option Offset). Captures (config_again offset chunk every budget) (history_at held) o infos) stored captures in
+          let own : infos ≡ offset.infos = subst (λ (o : Option Offset). Captures (config_again offset options) (history_at held) o infos) stored captures in
           let here : CoverRows infos (history_at left) pairs = subst (λ (is : List TableInfo). CoverRows is (history_at left) pairs) (sym own) (covers same) in
-          let many : few.windows ≤ length infos + length pairs / chunk = few.few pairs here in
+          let many : few.windows ≤ length infos + length pairs / options.chunk = few.few pairs here in
           omega (arith, few.marks, many, ap length own)
 
-  few_read : (summary : Summary) → HasRun (Again chunk every budget) now new_wals new_logs new_stores w t f summary → IsReported (Again chunk every budget) now new_wals new_logs new_stores w t f summary
-      → AddsFew (Again chunk every budget) wals new_wals w t f → summary.report.messages ≤ length (messages_sent held.wal offset.lsn) + most_messages 1 held.wal.workload windows
+  few_read : (summary : Summary) → HasRun (Again options) now new_wals new_logs new_stores w t f summary → IsReported (Again options) now new_wals new_logs new_stores w t f summary
+      → AddsFew (Again options) wals new_wals w t f → summary.report.messages ≤ length (messages_sent held.wal offset.lsn) + most_messages 1 held.wal.workload windows
   few_read summary run reported adds =
-      let same = workload_stays (Again chunk every budget) now new_wals new_logs new_stores w t f left held may read summary run in
+      let same = workload_stays (Again options) now new_wals new_logs new_stores w t f left held may read summary run in
       let ended = reported.ended in
       let report = reported.report in
       let began : ended.begun.held ≡ held = disks_are_read_once w t f ended.begun.held held ended.begun.read read in
@@ -172,17 +173,17 @@ module _ (chunk every budget : ℕ) (now : ℤ) (told_wal told_topics told_offse
       let few = grown_size w may.w held.wal left.wal offset.lsn windows extends.more read.source may.read.source same extends.is (few_marks same adds) in
       omega (arith, counted, front, length-append report.sent_messages report.are_sent.rest, moved, few)
 
-  reads_few : (end : ConnectEnd) → AnswersCapture (Again chunk every budget) now wals logs new_wals new_logs new_stores w t f end → AnswersKept (Again chunk every budget) now new_wals new_logs new_stores w t f end
+  reads_few : (end : ConnectEnd) → AnswersCapture (Again options) now wals logs new_wals new_logs new_stores w t f end → AnswersKept (Again options) now new_wals new_logs new_stores w t f end
       → IfOk end (λ summary. summary.report.messages ≤ length (messages_sent held.wal offset.lsn) + most_messages 1 held.wal.workload windows)
   reads_few (Ok summary) answers answers_kept = few_read summary answers.told answers_kept.report answers.marks
   reads_few (Err e) answers answers_kept = tt
 
 pub generous_budgets_suffice_again : (wals logs stores new_wals new_logs new_stores : List ℕ → Type 0) → GenerousBudgetsSufficeAgain 1 wals logs stores new_wals new_logs new_stores
-generous_budgets_suffice_again wals logs stores new_wals new_logs new_stores chunk every budget now told_wal told_topics told_offsets status before after runs kept headline w t f wal_is topics_is offsets_is held read rest left may offset stored pairs cover =
+generous_budgets_suffice_again wals logs stores new_wals new_logs new_stores options now told_wal told_topics told_offsets status before after runs kept headline w t f wal_is topics_is offsets_is held read rest left may offset stored pairs cover =
     let answers = runs.answers w t f wal_is topics_is offsets_is in
     let answers_kept = runs.kept kept w t f wal_is topics_is offsets_is in
-    let few = reads_few chunk every budget now told_wal told_topics told_offsets wals logs stores new_wals new_logs new_stores status kept headline w t f held read rest left may offset stored pairs cover runs.end answers answers_kept in
+    let few = reads_few options now told_wal told_topics told_offsets wals logs stores new_wals new_logs new_stores status kept headline w t f held read rest left may offset stored pairs cover runs.end answers answers_kept in
     record {
       few = few;
-      unspent = λ less three. not_spent budget (length (messages_sent held.wal offset.lsn) + most_messages 1 held.wal.workload (length offset.infos + length pairs / chunk)) runs.end (spent_end runs.end status before after runs.says three) few runs.spent less;
+      unspent = λ less three. not_spent options.messages (length (messages_sent held.wal offset.lsn) + most_messages 1 held.wal.workload (length offset.infos + length pairs / options.chunk)) runs.end (spent_end runs.end status before after runs.says three) few runs.spent less;
     }

@@ -23,7 +23,7 @@ use Rattle.dbl_model_commit.specs.Stated.{list_of, ended_commit, commits_of}
 use Rattle.dbl_model_commit.proofs.ChangeFits.{commits_fit}
 use Rattle.dbl_model_commit.proofs.Learning.{commits_learnt}
 use Rattle.dbl_consume_laws.proofs.Notices.{all_append}
-use Rattle.dblog_run.specs.Replay.declared.options.ReplayOptions.{ReplayOptions}
+use Rattle.dblog_run.specs.Replay.declared.options.LogOptions.{LogOptions}
 use Rattle.dblog_run.specs.Replay.Captures.{table_told, tables_in, AreCaptured}
 use Rattle.dblog_run.specs.Replay.Log.{placeholder_fault, commit_fault}
 use Rattle.dblog_run.specs.Replay.Replay.{HaveNoFault}
@@ -91,7 +91,7 @@ one_more_is (x ∷ xs) (y ∷ ys) raw is =
     record { info = rest.info; all_is = ap₂ (λ (a b : List TableInfo). a ++ b) first rest.all_is; is = rest.is }
 
 -- what is captured of some messages, and of them and one more
-clear_then : (options : ReplayOptions) (ms : List Message) (m : Message) (xs infos : List TableInfo) (told : Option RawTable) → table_told options.keys (tables_in options.keys ms) m ≡ told → AreCaptured options.keys ms xs → AreCaptured options.keys (m ∷ ms) infos
+clear_then : (options : LogOptions) (ms : List Message) (m : Message) (xs infos : List TableInfo) (told : Option RawTable) → table_told options.keys (tables_in options.keys ms) m ≡ told → AreCaptured options.keys ms xs → AreCaptured options.keys (m ∷ ms) infos
     → AllByRecursion FitsFields ms → AllByRecursion (IsClear options.identity xs) (commits_of xs ms) → AllByRecursion (IsClear options.identity infos) (commits_of infos ms)
 clear_then options ms m xs infos None is before captured fields clear =
     let same = infos_one xs infos (before ∙ sym (captured ∙ ap (λ (o : Option RawTable). tables_in options.keys ms ++ list_of o) is ∙ append-nil (tables_in options.keys ms))) in
@@ -115,11 +115,11 @@ ended_clear identity infos (Some commit) is = (no_clash (clash_of identity infos
 
 -- ---- all messages
 
-captured_before : (options : ReplayOptions) (ms : List Message) → HaveNoFault options ms → (infos : List TableInfo) × AreCaptured options.keys ms infos
+captured_before : (options : LogOptions) (ms : List Message) → HaveNoFault options ms → (infos : List TableInfo) × AreCaptured options.keys ms infos
 captured_before options [] clean = ([], refl)
 captured_before options (m ∷ ms) clean = (clean.0.0, clean.0.1.tables.captured)
 
-pub clear : (options : ReplayOptions) (ms : List Message) (infos : List TableInfo) → HaveNoFault options ms → AreCaptured options.keys ms infos → AllByRecursion FitsFields ms → AllByRecursion (IsClear options.identity infos) (commits_of infos ms)
+pub clear : (options : LogOptions) (ms : List Message) (infos : List TableInfo) → HaveNoFault options ms → AreCaptured options.keys ms infos → AllByRecursion FitsFields ms → AllByRecursion (IsClear options.identity infos) (commits_of infos ms)
 clear options [] infos clean captured fields = tt
 clear options (m ∷ ms) infos clean captured fields =
     let here = clean.0 in

@@ -45,12 +45,12 @@ has_way (command.Apply false placeholder) now given can =
 has_way (command.Apply true placeholder) now given can =
     let rows = rows_stand placeholder (readings_of_lines (lines_of given.input)) in
     (done (map row_line rows.0), applied rows.0 can.short (can.clean, rows.1) refl, refl)
-has_way (command.Replay prefix db placeholder keys) now given can =
+has_way (command.Replay options) now given can =
     (log_answer can.0 None, replayed can.0 None can.1 refl, refl)
 has_way (command.Gen number rows groups false) now given can = (made number rows groups, refl, refl)
 has_way (command.Gen number rows groups true) now given can = absurd can
 has_way (command.Capture options) now given can = absurd can
-has_way (command.Resume chunk every messages) now given can = absurd can
+has_way (command.Resume options) now given can = absurd can
 
 -- ---- so it ended
 
@@ -103,9 +103,9 @@ alone_done command.Init answer is = absurd is
 alone_done command.Topics answer is = absurd is
 alone_done command.Offsets answer is = absurd is
 alone_done (command.Capture options) answer is = absurd is
-alone_done (command.Resume chunk every messages) answer is = absurd is
+alone_done (command.Resume options) answer is = absurd is
 alone_done (command.Apply lines placeholder) answer is = absurd is
-alone_done (command.Replay prefix db placeholder keys) answer is = absurd is
+alone_done (command.Replay options) answer is = absurd is
 
 pub printed_workloads_succeed : PrintedWorkloadsSucceed
 printed_workloads_succeed c answer status before after alone ends none = by ends.told

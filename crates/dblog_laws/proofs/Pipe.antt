@@ -18,7 +18,7 @@ use Rattle.dbl_model_commit.specs.Blocks.{onto}
 use Rattle.dbl_consume_laws.specs.Laws.{IsToldWhole, HoldsJsonTexts, held_of}
 use Rattle.dbl_consume_laws.proofs.Clashes.{fit_changes_are_wide, histories_lack_placeholders}
 use Rattle.dbl_consume_laws.proofs.Named.{hold_images, images_stand}
-use Rattle.dblog_run.specs.Replay.declared.options.ReplayOptions.{ReplayOptions}
+use Rattle.dblog_run.specs.Replay.declared.options.LogOptions.{LogOptions}
 use Rattle.dblog_run.specs.Replay.Log.{lines_in}
 use Rattle.dblog_run.specs.Replay.Apply.{readings_of_lines, first_fault_from, or_later_line, first_line_fault}
 use Rattle.dblog_laws.specs.Pipe.{IsWholeLog, LastRowsAreApplied}
@@ -45,7 +45,7 @@ lines_clean number placeholder (item ∷ items) h = ap₂ (or_later_line number)
 
 -- ---- of a whole log
 
-told_whole : (options : ReplayOptions) (now : ℤ) (log lines : List (List ℕ)) (history : History) → (whole : IsWholeLog options now log lines history) → IsToldWhole history whole.replayed.infos options.identity (λ commit. now)
+told_whole : (options : LogOptions) (now : ℤ) (log lines : List (List ℕ)) (history : History) → (whole : IsWholeLog options now log lines history) → IsToldWhole history whole.replayed.infos options.identity (λ commit. now)
 told_whole options now log lines history whole =
     let infos = whole.replayed.infos in
     let messages = whole.replayed.messages in

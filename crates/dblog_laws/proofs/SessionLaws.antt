@@ -124,8 +124,8 @@ module _ (config : Config) (now : ℤ) (old left : Contents) (begins : CanBegin 
 not_both : (asked : Asked) (all : List TableName) (offset : Option Offset) (config : Config) (e : ConnectError) → Refuses asked offset e → asks_of asked all offset ≡ Some config → ⊥
 not_both (First options) all None config e refuses asks = refuses
 not_both (First options) all (Some offset) config e refuses asks = let wrong : None ≡ Some config = asks in cc
-not_both (Again chunk every messages) all None config e refuses asks = let wrong : None ≡ Some config = asks in cc
-not_both (Again chunk every messages) all (Some offset) config e refuses asks = refuses
+not_both (Again options) all None config e refuses asks = let wrong : None ≡ Some config = asks in cc
+not_both (Again options) all (Some offset) config e refuses asks = refuses
 
 module _ (asked : Asked) (now : ℤ) (wals logs stores : List ℕ → Type 0) (w t f : List ℕ) (run : IsSupportedRun asked now wals logs stores w t f) where
   not_refused : (e : ConnectError) → IsKeptError asked now wals logs stores w t f e → IsRefused asked w t f e → ⊥

@@ -7,6 +7,7 @@ use Rattle.dbl_pgmsg.specs.declared.messages.Message.{Message}
 use Rattle.dbl_model_table.specs.declared.row.Key.{Key}
 use Rattle.dbl_model_table.specs.declared.table.TableInfo.{TableInfo}
 use Rattle.dbl_cli.specs.declared.commands.CaptureOptions.{CaptureOptions}
+use Rattle.dbl_cli.specs.declared.commands.ResumeOptions.{ResumeOptions}
 use Rattle.dbl_source_log.specs.declared.logged.Logged.{Logged}
 use Rattle.dbl_source_log.specs.declared.logged.LogTable.{LogTable}
 use Rattle.dbl_source_log.specs.Numbers.{commits_upto}
@@ -120,19 +121,19 @@ pub record AreAtRest (wals logs stores : List ℕ → Type 0) (held : Contents) 
 -- A `resume` over such disks doesn't use up a message budget above the workload's bound and the messages that were unsent when it began.
 abbrev pub GenerousBudgetsSufficeAgain : ℕ → (wals logs stores new_wals new_logs new_stores : List ℕ → Type 0) → Type 0
 GenerousBudgetsSufficeAgain more wals logs stores new_wals new_logs new_stores =
-    (chunk every budget : ℕ) (now : ℤ) (told_wal told_topics told_offsets : Option (List ℕ)) (status : Status)
+    (options : ResumeOptions) (now : ℤ) (told_wal told_topics told_offsets : Option (List ℕ)) (status : Status)
     (before after : Option (List ℕ))
-    → (runs : RunsSession (Again chunk every budget) now told_wal told_topics told_offsets wals logs stores new_wals new_logs new_stores
-    status before after)
+    → (runs : RunsSession (Again options) now told_wal told_topics told_offsets wals logs stores new_wals new_logs new_stores status
+    before after)
     → AreKept told_wal told_topics told_offsets wals logs stores
     → ((w t f : List ℕ) → new_wals w → new_logs t → new_stores f
-    → GuaranteesAfterCrash (IsCompleteRun (Resume chunk every budget) status) (asks_by (Resume chunk every budget)) wals logs stores w t f)
+    → GuaranteesAfterCrash (IsCompleteRun (Resume options) status) (asks_by (Resume options)) wals logs stores w t f)
     → (w t f : List ℕ) → told_wal ≡ Some w → told_topics ≡ Some t → told_offsets ≡ Some f
     → (held : Contents) → ReadAs w t f held → AreAtRest wals logs stores held w t f
     → (left : Contents) → MayLeaveContents new_wals new_logs new_stores left → (offset : Offset) → held.offset ≡ Some offset
     → (pairs : List (ℕ × Key)) → CoverRows offset.infos (whole_history held.wal) pairs
     → ReadsFew (length (messages_sent held.wal offset.lsn) + most_messages more held.wal.workload
-    (length offset.infos + length pairs / chunk)) budget status runs.end
+    (length offset.infos + length pairs / options.chunk)) options.messages status runs.end
 
 -- ---- of a generated workload
 

@@ -16,7 +16,7 @@ use Rattle.dbl_model_history.specs.History.{RawCommit, History}
 use Rattle.dbl_model_history.specs.History as raw
 use Rattle.dbl_model_history.specs.Typed.{typed}
 use Rattle.dbl_consume_laws.specs.Laws.{last_rows}
-use Rattle.dblog_run.specs.Replay.declared.options.ReplayOptions.{ReplayOptions}
+use Rattle.dblog_run.specs.Replay.declared.options.LogOptions.{LogOptions}
 use Rattle.dblog_run.specs.Replay.Log.{lines_in}
 use Rattle.dblog_laws.specs.Pipe.{IsWholeLog}
 
@@ -25,7 +25,7 @@ abbrev pub example_identity : Identity
 example_identity = record { prefix = codes "p"; db = codes "d"; placeholder = codes "unset" }
 
 -- The options of `replay` in the example.
-abbrev pub example_options : ReplayOptions
+abbrev pub example_options : LogOptions
 example_options = record { identity = example_identity; keys = [] }
 
 -- The name of the example's table.

@@ -25,7 +25,7 @@ use Rattle.dbl_model_event.specs.EventJson.{row_data}
 use Rattle.dbl_model_commit.specs.Stated.{commits_of}
 use Rattle.dbl_model_commit.specs.Blocks.{onto}
 use Rattle.dbl_consume_laws.specs.Laws.{HoldsJsonTexts, last_rows}
-use Rattle.dblog_run.specs.Replay.declared.options.ReplayOptions.{ReplayOptions}
+use Rattle.dblog_run.specs.Replay.declared.options.LogOptions.{LogOptions}
 use Rattle.dblog_run.specs.Replay.Pieces.{Piece, AreRead}
 use Rattle.dblog_run.specs.Replay.Replay.{IsReplayed}
 use Rattle.dblog_run.specs.Replay.Apply.{readings_of_lines}
@@ -40,7 +40,7 @@ pub record AreNamesUtf8 (identity : Identity) : Type 0 where
 -- The bytes of the messages of a source's whole log, for which `replay` writes these lines without an error. The source's history is valid
 -- and begins with empty tables; its catalogue has the tables as the log describes them; and its commits are exactly those that the log
 -- states.
-pub record IsWholeLog (options : ReplayOptions) (now : ℤ) (log lines : List (List ℕ)) (history : History) : Type 0 where
+pub record IsWholeLog (options : LogOptions) (now : ℤ) (log lines : List (List ℕ)) (history : History) : Type 0 where
   pub pieces : List Piece
   pub read : AreRead 1 log pieces
   pub replayed : IsReplayed options now pieces lines None
@@ -83,7 +83,7 @@ pub record AppliesTo (identity : Identity) (infos : List TableInfo) (source : Ro
 
 -- `apply --lines`, with the same placeholder, applies the bytes that `replay` writes for a whole log to the source's last rows.
 abbrev pub LastRowsAreApplied : Type 0
-LastRowsAreApplied = (options : ReplayOptions) (now : ℤ) (log lines : List (List ℕ)) (history : History)
+LastRowsAreApplied = (options : LogOptions) (now : ℤ) (log lines : List (List ℕ)) (history : History)
     → (whole : IsWholeLog options now log lines history)
     → AppliesTo options.identity whole.replayed.infos (last_rows whole.replayed.infos (typed whole.replayed.infos history))
     (lines_text lines)

@@ -11,13 +11,13 @@ use Rattle.dbl_model_commit.specs.Past.{begin_of}
 use Rattle.dbl_model_commit.specs.Stated.{list_of, ended_commit, transaction_fault}
 use Rattle.dblog_replay.specs.declared.log_fault.LogFault.{LogFault}
 use Rattle.dblog_replay.specs.declared.log_fault.LogFault.TheVariants as log
-use Rattle.dblog_replay.specs.declared.options.ReplayOptions.{ReplayOptions}
+use Rattle.dblog_replay.specs.declared.options.LogOptions.{LogOptions}
 use Rattle.dblog_replay.specs.Captures.{capture_fault, entry_fault, table_told, tables_in, AreCaptured, told_fault}
 use Rattle.dblog_replay.specs.Pieces.{Piece, Carries, Stops}
 use Rattle.dblog_replay.specs.Log.{lines_in, log_start, HasTables, records_fault, IsLogFault, no_table, no_place, no_records, end_fault, LogWrites}
 use Rattle.dblog_replay.proofs.CaptureLemmas.{captured_still, captured_more}
 
-abbrev Written : ReplayOptions → ℤ → List Message → List Piece → Type 0
+abbrev Written : LogOptions → ℤ → List Message → List Piece → Type 0
 Written options now ms pieces = (lines : List (List ℕ)) × (end : Option LogFault) × LogWrites options now ms pieces lines end
 
 no_entry_fault : (count : ℕ) (o : Option ModelError) → entry_fault count o ≡ None → o ≡ None
@@ -25,10 +25,10 @@ no_entry_fault count None is = refl
 no_entry_fault count (Some error) is = cc
 
 -- the tables that are captured after one message more
-abbrev Captures : ReplayOptions → List Message → Message → Type 0
+abbrev Captures : LogOptions → List Message → Message → Type 0
 Captures options ms m = (infos : List TableInfo) × AreCaptured options.keys (m ∷ ms) infos
 
-captures : (options : ReplayOptions) (ms : List Message) (m : Message) (infos : List TableInfo) → AreCaptured options.keys ms infos → (o : Option RawTable) → table_told options.keys (tables_in options.keys ms) m ≡ o
+captures : (options : LogOptions) (ms : List Message) (m : Message) (infos : List TableInfo) → AreCaptured options.keys ms infos → (o : Option RawTable) → table_told options.keys (tables_in options.keys ms) m ≡ o
     → told_fault options.keys (tables_in options.keys ms) m ≡ None → Captures options ms m
 captures options ms m infos captured None none clean = (infos, captured_still options.keys m ms infos captured none)
 captures options ms m infos captured (Some raw) told clean =
@@ -36,7 +36,7 @@ captures options ms m infos captured (Some raw) told clean =
     let info = (capturable raw).0 (no_entry_fault _ _ judged) in
     (infos ++ info.0 ∷ [], captured_more options.keys m ms infos info.0 raw captured told info.1)
 
-module _ (options : ReplayOptions) (now : ℤ) (ms : List Message) (number : ℕ) (m : Message) (pieces : List Piece) where
+module _ (options : LogOptions) (now : ℤ) (ms : List Message) (number : ℕ) (m : Message) (pieces : List Piece) where
   stops : (found : LogFault) → IsLogFault options ms number m found → Written options now ms (Carries number m ∷ pieces)
   stops found is = ([], Some found, inl (record { fault = found; is = is; none = refl; told = refl }))
 
@@ -57,7 +57,7 @@ module _ (options : ReplayOptions) (now : ℤ) (ms : List Message) (number : ℕ
       let next = captures options ms m infos captured _ refl is in
       by_place next.0 (record { capturable = is; captured = next.1 }) (later next.0 next.1) _ refl
 
-pub log_exists : (options : ReplayOptions) (now : ℤ) (ms : List Message) (infos : List TableInfo) → AreCaptured options.keys ms infos → (pieces : List Piece) → Written options now ms pieces
+pub log_exists : (options : LogOptions) (now : ℤ) (ms : List Message) (infos : List TableInfo) → AreCaptured options.keys ms infos → (pieces : List Piece) → Written options now ms pieces
 log_exists options now ms infos captured [] = ([], end_fault (is_some (begin_of ms)), (refl, refl))
 log_exists options now ms infos captured (Stops f ∷ pieces) = ([], Some f, (refl, refl))
 log_exists options now ms infos captured (Carries number m ∷ pieces) =

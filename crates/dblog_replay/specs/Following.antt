@@ -9,21 +9,21 @@ use Rattle.dbl_model_commit.specs.Stated.{ended_commit, transaction_fault}
 use Rattle.dbl_txn.specs.Stands.{StandsWhole}
 use Rattle.dblog_replay.specs.declared.log_fault.LogFault.{LogFault}
 use Rattle.dblog_replay.specs.declared.log_fault.LogFault.TheVariants as log
-use Rattle.dblog_replay.specs.declared.options.ReplayOptions.{ReplayOptions}
+use Rattle.dblog_replay.specs.declared.options.LogOptions.{LogOptions}
 use Rattle.dblog_replay.specs.declared.replay.Replayer.{Replayer}
 use Rattle.dblog_replay.specs.Captures.{tables_in, AreCaptured, told_fault}
 use Rattle.dblog_replay.specs.Pieces.{IsPiece, Stops}
 use Rattle.dblog_replay.specs.Log.{log_start, HasTables, IsLogFault}
 
 -- The state after these messages, with these tables captured.
-pub record HasReplayed (options : ReplayOptions) (infos : List TableInfo) (ms : List Message) (r : Replayer) : Type 0 where
+pub record HasReplayed (options : LogOptions) (infos : List TableInfo) (ms : List Message) (r : Replayer) : Type 0 where
   pub stands : StandsWhole infos log_start ms r.assembler
   pub identity : r.writer.identity ≡ options.identity
   pub keys : r.keys ≡ options.keys
   pub writes : r.writer.infos ≡ infos
 
 -- The state after these messages, with the tables captured that they describe.
-pub record FollowsMessages (options : ReplayOptions) (ms : List Message) (r : Replayer) : Type 0 where
+pub record FollowsMessages (options : LogOptions) (ms : List Message) (r : Replayer) : Type 0 where
   pub infos : List TableInfo
   pub replayed : HasReplayed options infos ms r
   pub captured : AreCaptured options.keys ms infos
@@ -31,7 +31,7 @@ pub record FollowsMessages (options : ReplayOptions) (ms : List Message) (r : Re
 
 -- Some messages were processed.
 pub record IsReplaying (r : Replayer) : Type 0 where
-  pub options : ReplayOptions
+  pub options : LogOptions
   pub ms : List Message
   pub follows : FollowsMessages options ms r
 
@@ -41,32 +41,31 @@ ReadsBytes number bytes (Ok m) = Spells bytes m
 ReadsBytes number bytes (Err e) = (e ≡ log.Memory) ⊎ IsPiece number bytes (Stops e)
 
 -- The table of the next message is captured, if the message is the first to describe it.
-pub record IsReplayerReady (options : ReplayOptions) (ms : List Message) (m : Message) (r : Replayer) : Type 0 where
+pub record IsReplayerReady (options : LogOptions) (ms : List Message) (m : Message) (r : Replayer) : Type 0 where
   pub infos : List TableInfo
   pub replayed : HasReplayed options infos ms r
   pub tables : HasTables options ms m infos
 
 -- The result of capturing the table of the next message.
-abbrev pub Prepares : {A : Type 0} → ReplayOptions → List Message → Message → Replayer → Result A LogFault → Type 0
+abbrev pub Prepares : {A : Type 0} → LogOptions → List Message → Message → Replayer → Result A LogFault → Type 0
 Prepares options ms m r (Ok x) = IsReplayerReady options ms m r
 Prepares options ms m r (Err e) = (e ≡ log.Memory) ⊎ (told_fault options.keys (tables_in options.keys ms) m ≡ Some e)
 
 -- The next message was processed, and ends this commit.
-pub record IsAppended (options : ReplayOptions) (infos : List TableInfo) (ms : List Message) (m : Message) (r : Replayer)
+pub record IsAppended (options : LogOptions) (infos : List TableInfo) (ms : List Message) (m : Message) (r : Replayer)
     (o : Option Commit) : Type 0 where
   pub placed : transaction_fault infos log_start m ms ≡ None
   pub commit : o ≡ ended_commit infos m ms
   pub replayed : HasReplayed options infos (m ∷ ms) r
 
 -- The result of processing the next message, which has this number, after its table was captured.
-abbrev pub AppendsMessage : ReplayOptions → List TableInfo → List Message → ℕ → Message → Replayer
-    → Result (Option Commit) LogFault → Type 0
+abbrev pub AppendsMessage : LogOptions → List TableInfo → List Message → ℕ → Message → Replayer → Result (Option Commit) LogFault → Type 0
 AppendsMessage options infos ms number m r (Ok o) = IsAppended options infos ms m r o
 AppendsMessage options infos ms number m r (Err e) =
     (e ≡ log.Memory) ⊎ (option_map (log.Transaction number) (transaction_fault infos log_start m ms) ≡ Some e)
 
 -- A message that may follow was processed, and ends this commit.
-pub record IsNextMessage (options : ReplayOptions) (ms : List Message) (m : Message) (r : Replayer) (o : Option Commit) : Type 0 where
+pub record IsNextMessage (options : LogOptions) (ms : List Message) (m : Message) (r : Replayer) (o : Option Commit) : Type 0 where
   pub infos : List TableInfo
   pub tables : HasTables options ms m infos
   pub placed : transaction_fault infos log_start m ms ≡ None
@@ -75,6 +74,6 @@ pub record IsNextMessage (options : ReplayOptions) (ms : List Message) (m : Mess
   pub fields : AllByRecursion FitsFields (m ∷ ms)
 
 -- The result of processing the next message, which has this number.
-abbrev pub TakesMessage : ReplayOptions → List Message → ℕ → Message → Replayer → Result (Option Commit) LogFault → Type 0
+abbrev pub TakesMessage : LogOptions → List Message → ℕ → Message → Replayer → Result (Option Commit) LogFault → Type 0
 TakesMessage options ms number m r (Ok o) = IsNextMessage options ms m r o
 TakesMessage options ms number m r (Err e) = (e ≡ log.Memory) ⊎ IsLogFault options ms number m e

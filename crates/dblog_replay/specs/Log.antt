@@ -17,7 +17,7 @@ use Rattle.dbl_model_commit.specs.Past.{begin_of}
 use Rattle.dbl_model_commit.specs.Stated.{list_of, ended_commit, transaction_fault}
 use Rattle.dblog_replay.specs.declared.log_fault.LogFault.{LogFault}
 use Rattle.dblog_replay.specs.declared.log_fault.LogFault.TheVariants as log
-use Rattle.dblog_replay.specs.declared.options.ReplayOptions.{ReplayOptions}
+use Rattle.dblog_replay.specs.declared.options.LogOptions.{LogOptions}
 use Rattle.dblog_replay.specs.Captures.{tables_in, AreCaptured, told_fault}
 use Rattle.dblog_replay.specs.LogFaults.{log_status, log_line}
 use Rattle.dblog_replay.specs.Pieces.{Piece, Carries, Stops}
@@ -31,7 +31,7 @@ abbrev pub log_start : Lsn
 log_start = record { 0 = 0 }
 
 -- After these messages a message's new table can be captured, if it describes one, and these are the captured tables then.
-pub record HasTables (options : ReplayOptions) (ms : List Message) (m : Message) (infos : List TableInfo) : Type 0 where
+pub record HasTables (options : LogOptions) (ms : List Message) (m : Message) (infos : List TableInfo) : Type 0 where
   pub capturable : told_fault options.keys (tables_in options.keys ms) m ≡ None
   pub captured : AreCaptured options.keys (m ∷ ms) infos
 
@@ -49,7 +49,7 @@ records_fault identity infos m ms = option_and_then (commit_fault identity infos
 
 -- The error of a message of this number after these: its new table can't be captured, it can't follow them, or it ends a commit whose
 -- records can't be made.
-pub data IsLogFault (options : ReplayOptions) (ms : List Message) (number : ℕ) (m : Message) (fault : LogFault) : Type 0 where
+pub data IsLogFault (options : LogOptions) (ms : List Message) (number : ℕ) (m : Message) (fault : LogFault) : Type 0 where
   no_table : told_fault options.keys (tables_in options.keys ms) m ≡ Some fault → IsLogFault options ms number m fault
   no_place : (infos : List TableInfo) (error : TxnError) → HasTables options ms m infos
       → transaction_fault infos log_start m ms ≡ Some error
@@ -58,7 +58,7 @@ pub data IsLogFault (options : ReplayOptions) (ms : List Message) (number : ℕ)
       → records_fault options.identity infos m ms ≡ Some fault → IsLogFault options ms number m fault
 
 -- A message after these has no error, and these are the captured tables then.
-pub record IsTaken (options : ReplayOptions) (ms : List Message) (m : Message) (infos : List TableInfo) : Type 0 where
+pub record IsTaken (options : LogOptions) (ms : List Message) (m : Message) (infos : List TableInfo) : Type 0 where
   pub tables : HasTables options ms m infos
   pub placed : transaction_fault infos log_start m ms ≡ None
   pub made : records_fault options.identity infos m ms ≡ None
@@ -69,7 +69,7 @@ end_fault true = Some log.Unfinished
 end_fault false = None
 
 -- The message of this number, after these, has an error: no line is written.
-pub record IsStopped (options : ReplayOptions) (ms : List Message) (number : ℕ) (m : Message) (lines : List (List ℕ))
+pub record IsStopped (options : LogOptions) (ms : List Message) (number : ℕ) (m : Message) (lines : List (List ℕ))
     (end : Option LogFault) : Type 0 where
   pub fault : LogFault
   pub is : IsLogFault options ms number m fault
@@ -77,7 +77,7 @@ pub record IsStopped (options : ReplayOptions) (ms : List Message) (number : ℕ
   pub told : end ≡ Some fault
 
 -- Pieces after these messages write these lines, those of the commits before the first error, and end with this error or none.
-abbrev pub LogWrites : ReplayOptions → ℤ → List Message → List Piece → List (List ℕ) → Option LogFault → Type 0
+abbrev pub LogWrites : LogOptions → ℤ → List Message → List Piece → List (List ℕ) → Option LogFault → Type 0
 LogWrites options now ms [] lines end = (lines ≡ []) × (end ≡ end_fault (is_some (begin_of ms)))
 LogWrites options now ms (Stops fault ∷ pieces) lines end = (lines ≡ []) × (end ≡ Some fault)
 LogWrites options now ms (Carries number m ∷ pieces) lines end =

@@ -10,7 +10,7 @@ use Rattle.dbl_pgmsg.specs.declared.messages.Message.{Message}
 use Rattle.dbl_model_table.specs.declared.table.TableInfo.{TableInfo}
 use Rattle.dbl_model_commit.specs.Stated.{list_of, ended_commit}
 use Rattle.dblog_replay.specs.declared.log_fault.LogFault.{LogFault}
-use Rattle.dblog_replay.specs.declared.options.ReplayOptions.{ReplayOptions}
+use Rattle.dblog_replay.specs.declared.options.LogOptions.{LogOptions}
 use Rattle.dblog_replay.specs.declared.replay.Replayer.{Replayer}
 use Rattle.dblog_replay.specs.Following.{FollowsMessages}
 use Rattle.dblog_replay.specs.Pieces.{Piece, IsPiece, Carries, Stops}
@@ -35,7 +35,7 @@ PutsCommit fault lines gathered later (Ok (Some found)) before after = (fault �
 PutsCommit fault lines gathered later (Err error) before after = CommitFails fault lines gathered error before after
 
 -- The piece carries a message without an error, which was processed, and the lines of the commit that it ends were gathered.
-pub record IsStepped (options : ReplayOptions) (now : ℤ) (ms : List Message) (piece : Piece) (gathered later : List ℕ) (r : Replayer)
+pub record IsStepped (options : LogOptions) (now : ℤ) (ms : List Message) (piece : Piece) (gathered later : List ℕ) (r : Replayer)
     (before after : Option (List ℕ)) : Type 0 where
   pub number : ℕ
   pub m : Message
@@ -46,7 +46,7 @@ pub record IsStepped (options : ReplayOptions) (now : ℤ) (ms : List Message) (
   pub puts : Puts (lines_in options.identity infos (list_of (ended_commit infos m ms)) now) gathered later before after
 
 -- The piece's message was not processed whole, or the lines of its commit not all gathered.
-pub data StepFails (options : ReplayOptions) (now : ℤ) (ms : List Message) (piece : Piece) (gathered : List ℕ) (error : PrintError)
+pub data StepFails (options : LogOptions) (now : ℤ) (ms : List Message) (piece : Piece) (gathered : List ℕ) (error : PrintError)
     (before after : Option (List ℕ)) : Type 0 where
   step_starved : error ≡ Memory → after ≡ before → StepFails options now ms piece gathered error before after
   step_cut : (number : ℕ) (m : Message) (infos : List TableInfo) → piece ≡ Carries number m → IsTaken options ms m infos
@@ -54,12 +54,12 @@ pub data StepFails (options : ReplayOptions) (now : ℤ) (ms : List Message) (pi
       → StepFails options now ms piece gathered error before after
 
 -- The error at which a piece after these messages ends the log.
-abbrev pub StopsAt : ReplayOptions → List Message → Piece → LogFault → Type 0
+abbrev pub StopsAt : LogOptions → List Message → Piece → LogFault → Type 0
 StopsAt options ms (Carries number m) fault = IsLogFault options ms number m fault
 StopsAt options ms (Stops error) fault = fault ≡ error
 
 -- The result of processing a piece after these messages.
-abbrev pub StepsPrinting : ReplayOptions → ℤ → List Message → Piece → List ℕ → List ℕ → Replayer → Result (Option LogFault) PrintError
+abbrev pub StepsPrinting : LogOptions → ℤ → List Message → Piece → List ℕ → List ℕ → Replayer → Result (Option LogFault) PrintError
     → Option (List ℕ) → Option (List ℕ) → Type 0
 StepsPrinting options now ms piece gathered later r (Ok None) before after = IsStepped options now ms piece gathered later r before after
 StepsPrinting options now ms piece gathered later r (Ok (Some fault)) before after = StopsAt options ms piece fault
@@ -67,28 +67,28 @@ StepsPrinting options now ms piece gathered later r (Ok (Some fault)) before aft
 StepsPrinting options now ms piece gathered later r (Err error) before after = StepFails options now ms piece gathered error before after
 
 -- The result of reading the byte string of this number and processing its piece after these messages, unless memory ran out.
-abbrev pub StepsReading : ReplayOptions → ℤ → List Message → ℕ → List ℕ → List ℕ → List ℕ → Replayer → Result (Option LogFault) PrintError
+abbrev pub StepsReading : LogOptions → ℤ → List Message → ℕ → List ℕ → List ℕ → List ℕ → Replayer → Result (Option LogFault) PrintError
     → Option (List ℕ) → Option (List ℕ) → Type 0
 StepsReading options now ms number bytes gathered later r result before after =
     ((result ≡ Err Memory) × (after ≡ before))
     ⊎ ((piece : Piece) × IsPiece number bytes piece × StepsPrinting options now ms piece gathered later r result before after)
 
 -- The lines of the commits of these pieces were gathered, up to this error.
-pub record IsLogPut (options : ReplayOptions) (now : ℤ) (pieces : List Piece) (gathered later : List ℕ) (fault : Option LogFault)
+pub record IsLogPut (options : LogOptions) (now : ℤ) (pieces : List Piece) (gathered later : List ℕ) (fault : Option LogFault)
     (before after : Option (List ℕ)) : Type 0 where
   pub lines : List (List ℕ)
   pub writes : LogWrites options now [] pieces lines fault
   pub puts : Puts lines gathered later before after
 
 -- The result of gathering a log's lines: all of them, or some if the output failed or memory ran out.
-abbrev pub PutsLog : ReplayOptions → ℤ → List Piece → List ℕ → List ℕ → Result (Option LogFault) PrintError → Option (List ℕ)
+abbrev pub PutsLog : LogOptions → ℤ → List Piece → List ℕ → List ℕ → Result (Option LogFault) PrintError → Option (List ℕ)
     → Option (List ℕ) → Type 0
 PutsLog options now pieces gathered later (Ok fault) before after = IsLogPut options now pieces gathered later fault before after
 PutsLog options now pieces gathered later (Err error) before after = (lines : List (List ℕ)) (end : Option LogFault)
     → LogWrites options now [] pieces lines end → PutFails lines gathered error before after
 
 -- All lines of a log were written, with that of its error.
-pub record IsLogPrinted (options : ReplayOptions) (now : ℤ) (pieces : List Piece) (status : Status)
+pub record IsLogPrinted (options : LogOptions) (now : ℤ) (pieces : List Piece) (status : Status)
     (before after : Option (List ℕ)) : Type 0 where
   pub lines : List (List ℕ)
   pub end : Option LogFault
@@ -102,7 +102,7 @@ LogFails lines end OutputFailed before after = WrotePrefix before after (lines_t
 LogFails lines end Memory before after = (n : ℕ) × Wrote before after (lines_text (take n lines))
 
 -- The result of printing a log: all of its lines, or a part.
-abbrev pub PrintsLog : ReplayOptions → ℤ → List Piece → Result Status PrintError → Option (List ℕ) → Option (List ℕ) → Type 0
+abbrev pub PrintsLog : LogOptions → ℤ → List Piece → Result Status PrintError → Option (List ℕ) → Option (List ℕ) → Type 0
 PrintsLog options now pieces (Ok status) before after = IsLogPrinted options now pieces status before after
 PrintsLog options now pieces (Err error) before after = (lines : List (List ℕ)) (end : Option LogFault)
     → LogWrites options now [] pieces lines end → LogFails lines end error before after

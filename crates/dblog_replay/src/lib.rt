@@ -18,4 +18,4 @@ pub use dbl_lines::PrintError;
 pub use lines::{LineError, messages};
 pub use log::print_log;
 pub use log_fault::{LogFault, transaction_status};
-pub use options::ReplayOptions;
+pub use options::LogOptions;

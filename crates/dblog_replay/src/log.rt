@@ -13,7 +13,7 @@ ghost use Rattle.dbl_model_event.specs.EventJson.{envelopes};
 ghost use Rattle.dbl_model_commit.specs.Stated.{list_of};
 ghost use Rattle.dbl_envelope.specs.Clashing.{IsClash};
 ghost use Rattle.dbl_envelope.specs.Suits.{Suits};
-ghost use Rattle.dblog_replay.specs.declared.options.ReplayOptions.{ReplayOptions};
+ghost use Rattle.dblog_replay.specs.declared.options.LogOptions.{LogOptions};
 ghost use Rattle.dblog_replay.specs.Following.{FollowsMessages, IsReplaying};
 ghost use Rattle.dblog_replay.specs.Log.{lines_in, commit_fault, end_fault, end_status, end_lines};
 ghost use Rattle.dblog_replay.specs.LogFaults.{log_status, log_line};
@@ -22,7 +22,7 @@ ghost use Rattle.dblog_replay.specs.LogPrinting.{PutsLog, PrintsLog, FinishesLog
 ghost use Rattle.dblog_replay.specs.Pieces.{Piece, Carries, AreRead};
 
 use crate::log_fault::LogFault;
-use crate::options::ReplayOptions;
+use crate::options::LogOptions;
 use crate::printing::put_left;
 use crate::reader::read_message;
 use crate::replay::Replayer;
@@ -136,7 +136,7 @@ fn put_message<O: Output>(
 ) -> Result<Option<LogFault>, PrintError>
     requires replaying { IsReplaying replayer.old }
     requires fits { FitsFields message }
-    ensures steps { (options : ReplayOptions) (ms : List Message) →
+    ensures steps { (options : LogOptions) (ms : List Message) →
         FollowsMessages options ms replayer.old
         → StepsPrinting options now_ms.now ms (Carries number message) lines.old lines.new
         replayer.new result (O.written output.old) (O.written output.new) }
@@ -161,7 +161,7 @@ fn put_bytes<O: Output>(
     lines: &mut LineWriter,
 ) -> Result<Option<LogFault>, PrintError>
     requires { IsReplaying replayer.old }
-    ensures steps { (options : ReplayOptions) (ms : List Message) →
+    ensures steps { (options : LogOptions) (ms : List Message) →
         FollowsMessages options ms replayer.old
         → StepsReading options now_ms.now ms number bytes lines.old lines.new replayer.new result
         (O.written output.old) (O.written output.new) }
@@ -184,8 +184,8 @@ fn put_messages<O: Output>(
     output: &mut O,
     lines: &mut LineWriter,
 ) -> Result<Option<LogFault>, PrintError>
-    requires { (options : ReplayOptions) × FollowsMessages options [] replayer.old }
-    ensures puts { (options : ReplayOptions) (pieces : List Piece) →
+    requires { (options : LogOptions) × FollowsMessages options [] replayer.old }
+    ensures puts { (options : LogOptions) (pieces : List Piece) →
         FollowsMessages options [] replayer.old → AreRead 1 messages.items pieces
         → PutsLog options now_ms.now pieces lines.old lines.new result
         (O.written output.old) (O.written output.new) }
@@ -208,7 +208,7 @@ fn put_messages<O: Output>(
 // error, which it returns.
 fn put_log<O: Output>(
     alloc: Global,
-    options: ReplayOptions,
+    options: LogOptions,
     messages: Vec<Bytes>,
     now_ms: &i64,
     output: &mut O,
@@ -303,7 +303,7 @@ fn finish_log<O: Output>(
 /// error, and its line, and returns the status.
 pub fn print_log<O: Output>(
     alloc: Global,
-    options: ReplayOptions,
+    options: LogOptions,
     messages: Vec<Bytes>,
     now_ms: &i64,
     output: &mut O,

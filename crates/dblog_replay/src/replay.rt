@@ -6,13 +6,13 @@ ghost use Rattle.dbl_pgmsg.specs.declared.messages.Message.TheVariants as says;
 ghost use Rattle.dbl_pgmsg.specs.Grammar.{FitsFields};
 ghost use Rattle.dbl_model_table.specs.declared.table.TableInfo.{TableInfo};
 ghost use Rattle.dbl_model_commit.specs.Past.{begin_of, HasNoRelation};
-ghost use Rattle.dblog_replay.specs.declared.options.ReplayOptions.{ReplayOptions};
+ghost use Rattle.dblog_replay.specs.declared.options.LogOptions.{LogOptions};
 ghost use Rattle.dblog_replay.specs.Following.{HasReplayed, FollowsMessages, Prepares};
 ghost use Rattle.dblog_replay.specs.Following.{AppendsMessage, TakesMessage};
 
 use crate::capture::{capture_table, entry_of, is_new, schema_of};
 use crate::log_fault::LogFault;
-use crate::options::ReplayOptions;
+use crate::options::LogOptions;
 use dbl_base::{Lsn, Seq, Text};
 use dbl_envelope::EventWriter;
 use dbl_model_commit::TxnError;
@@ -42,10 +42,10 @@ fn learn_in(writer: &mut EventWriter, alloc: Global, info: TableInfo) -> Result<
 
 impl Replayer {
     /// The state before any message.
-    pub fn make(alloc: Global, options: ReplayOptions) -> Result<Replayer, AllocError>
+    pub fn make(alloc: Global, options: LogOptions) -> Result<Replayer, AllocError>
         ensures { IfOk result (FollowsMessages options []) }
     {
-        let ReplayOptions { identity, keys } = options;
+        let LogOptions { identity, keys } = options;
         let writer = match EventWriter::make(alloc, identity, Vec::new(alloc)) {
             Ok(writer) => writer,
             Err(_) => return Err(AllocError),
@@ -59,15 +59,14 @@ impl Replayer {
 
     /// Whether a transaction is open. Takes no memory.
     pub fn inside(&self) -> bool
-        ensures { (options : ReplayOptions) (ms : List Message) →
-            FollowsMessages options ms self.now →
+        ensures { (options : LogOptions) (ms : List Message) → FollowsMessages options ms self.now →
             result ≡ is_some (begin_of ms) }
     {
         self.assembler.inside()
     }
 
     fn add(&mut self, alloc: Global, info: TableInfo) -> Result<(), LogFault>
-        ensures added { (options : ReplayOptions) (infos : List TableInfo) (ms : List Message) →
+        ensures added { (options : LogOptions) (infos : List TableInfo) (ms : List Message) →
             HasReplayed options infos ms self.old → HasNoRelation info.name ms →
             OnOk result (HasReplayed options (infos ++ info ∷ []) ms self.new) }
         ensures err { IfErr result (λ e. e ≡ LogFault.Memory) }
@@ -90,7 +89,7 @@ impl Replayer {
         name: &Text,
         columns: &Vec<RelationColumn>,
     ) -> Result<(), LogFault>
-        ensures { (options : ReplayOptions) (ms : List Message) (oid identity : ℕ) →
+        ensures { (options : LogOptions) (ms : List Message) (oid identity : ℕ) →
             FollowsMessages options ms self.old → Prepares options ms
             (says.Relation oid namespace.now name.now identity columns.now.items) self.new result }
     {
@@ -107,8 +106,7 @@ impl Replayer {
     }
 
     fn prepare(&mut self, alloc: Global, message: &Message) -> Result<(), LogFault>
-        ensures { (options : ReplayOptions) (ms : List Message) →
-            FollowsMessages options ms self.old →
+        ensures { (options : LogOptions) (ms : List Message) → FollowsMessages options ms self.old →
             Prepares options ms message.now self.new result }
     {
         match message {
@@ -130,7 +128,7 @@ impl Replayer {
         number: u64,
         message: Message,
     ) -> Result<Option<Commit>, LogFault>
-        ensures { (options : ReplayOptions) (infos : List TableInfo) (ms : List Message) →
+        ensures { (options : LogOptions) (infos : List TableInfo) (ms : List Message) →
             HasReplayed options infos ms self.old →
             AppendsMessage options infos ms number message self.new result }
     {
@@ -149,8 +147,7 @@ impl Replayer {
         message: Message,
     ) -> Result<Option<Commit>, LogFault>
         requires { FitsFields message }
-        ensures { (options : ReplayOptions) (ms : List Message) →
-            FollowsMessages options ms self.old →
+        ensures { (options : LogOptions) (ms : List Message) → FollowsMessages options ms self.old →
             TakesMessage options ms number message self.new result }
     {
         self.prepare(alloc, &message)?;

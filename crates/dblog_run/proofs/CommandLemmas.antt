@@ -2,10 +2,10 @@
 use Rattle.std.proofs.Common.{◌≡◌, ◌⊎◌, inl, inr, ◌∙◌, ℕ, ℤ, true, false, Option, List, refl, sym, ap, subst}
 use Rattle.dbl_base.specs.Lines.{lines_text}
 use Rattle.dbl_record.specs.declared.record.Record.{Record}
-use Rattle.dbl_model_table.specs.declared.table.TableKey.{TableKey}
 use Rattle.dbl_topic.specs.Logs.{IsLog}
-use Rattle.dblog_replay.specs.declared.options.ReplayOptions.{ReplayOptions}
+use Rattle.dblog_replay.specs.declared.options.LogOptions.{LogOptions}
 use Rattle.dbl_cli.specs.declared.commands.Command.{Command}
+use Rattle.dbl_cli.specs.declared.commands.ReplayOptions.{ReplayOptions}
 use Rattle.dbl_cli.specs.declared.commands.Command.TheVariants as command
 use Rattle.dbl_cli.specs.Commands.{Spells}
 use Rattle.dbl_cli.proofs.SayLemmas.{one_command}
@@ -20,7 +20,7 @@ use Rattle.dblog_stores.specs.declared.error.Store.{Store}
 use Rattle.dblog_run.specs.Disks.{EndsOrFails, IsAnswerOf, OfDisk, RunsStores, store_answer}
 use Rattle.dblog_init.proofs.AnswerLaws.{one_answer}
 use Rattle.dblog_run.specs.Inits.{FailsSource, IsInitAnswer, init_answer}
-use Rattle.dblog_run.specs.Means.{opens_offsets, opens_topics, uses_offsets, uses_topics, makes, FindsNoLog, options_of, RunInput, given_init, Answers, Means, usage, spelled, Runs, RunsCommand, RunsInit, InputFails, WalFails, reads, ReportsInputStatus, IsStatusOf}
+use Rattle.dblog_run.specs.Means.{opens_offsets, opens_topics, uses_offsets, uses_topics, makes, FindsNoLog, log_options, RunInput, given_init, Answers, Means, usage, spelled, Runs, RunsCommand, RunsInit, InputFails, WalFails, reads, ReportsInputStatus, IsStatusOf}
 use Rattle.dblog_run.proofs.ApplyLaws.{applies_one}
 use Rattle.dblog_run.proofs.ApplyRunLemmas.{memory_outside, memory_written, says_is}
 use Rattle.dblog_run.proofs.ReplayRunLemmas.{outside_no_answer}
@@ -43,10 +43,10 @@ answers_one command.Init now given a b is is' = is.2 ∙ ap init_answer (one_ans
 answers_one command.Topics now given a b is is' = stores_one (AnswersTopics given.topics) (topics_once given.topics) a b is is'
 answers_one command.Offsets now given a b is is' = stores_one (AnswersOffsets given.offsets) (offsets_once given.offsets) a b is is'
 answers_one (command.Capture options) now given a b is is' = absurd is
-answers_one (command.Resume chunk every messages) now given a b is is' = absurd is
+answers_one (command.Resume options) now given a b is is' = absurd is
 answers_one (command.Apply true placeholder) now given a b is is' = applies_one placeholder given.input a b is is'
 answers_one (command.Apply false placeholder) now given a b is is' = stores_one (AnswersApply given.topics given.offsets) (apply_once given.topics given.offsets) a b is is'
-answers_one (command.Replay prefix db placeholder keys) now given a b is is' = replays_one _ now given.input a b is is'
+answers_one (command.Replay options) now given a b is is' = replays_one _ now given.input a b is is'
 answers_one (command.Gen number rows groups true) now given a b is is' = absurd is
 answers_one (command.Gen number rows groups false) now given a b is is' = is ∙ sym is'
 
@@ -113,10 +113,10 @@ reads_topics command.Init opens = refl
 reads_topics command.Topics opens = opens
 reads_topics command.Offsets opens = opens
 reads_topics (command.Capture options) opens = refl
-reads_topics (command.Resume chunk every messages) opens = refl
+reads_topics (command.Resume options) opens = refl
 reads_topics (command.Apply true placeholder) opens = opens
 reads_topics (command.Apply false placeholder) opens = refl
-reads_topics (command.Replay prefix db placeholder keys) opens = opens
+reads_topics (command.Replay options) opens = opens
 reads_topics (command.Gen number rows groups true) opens = refl
 reads_topics (command.Gen number rows groups false) opens = opens
 
@@ -125,10 +125,10 @@ reads_offsets command.Init opens = refl
 reads_offsets command.Topics opens = opens
 reads_offsets command.Offsets opens = opens
 reads_offsets (command.Capture options) opens = refl
-reads_offsets (command.Resume chunk every messages) opens = refl
+reads_offsets (command.Resume options) opens = refl
 reads_offsets (command.Apply true placeholder) opens = opens
 reads_offsets (command.Apply false placeholder) opens = refl
-reads_offsets (command.Replay prefix db placeholder keys) opens = opens
+reads_offsets (command.Replay options) opens = opens
 reads_offsets (command.Gen number rows groups true) opens = refl
 reads_offsets (command.Gen number rows groups false) opens = opens
 
@@ -190,10 +190,10 @@ memory_status command.Init status before after says = inr (inr (inr (inr (inr (i
 memory_status command.Topics status before after says = inr (inr (inr (cut_short status before after says)))
 memory_status command.Offsets status before after says = inr (inr (inr (inr (cut_short status before after says))))
 memory_status (command.Capture options) status before after says = inr (inr (inr (inr (inr (inr (inr (inr (inr (cut_short status before after says)))))))))
-memory_status (command.Resume chunk every messages) status before after says = inr (inr (inr (inr (inr (inr (inr (inr (inr (cut_short status before after says)))))))))
+memory_status (command.Resume options) status before after says = inr (inr (inr (inr (inr (inr (inr (inr (inr (cut_short status before after says)))))))))
 memory_status (command.Apply true placeholder) status before after says = inr (inr (memory_outside status before after says))
 memory_status (command.Apply false placeholder) status before after says = inr (inr (inr (inr (inr (cut_short status before after says)))))
-memory_status (command.Replay prefix db placeholder keys) status before after says = inr (memory_outside status before after says)
+memory_status (command.Replay options) status before after says = inr (memory_outside status before after says)
 memory_status (command.Gen number rows groups true) status before after says = starved_known status before after says
 memory_status (command.Gen number rows groups false) status before after says = inr (cut_short status before after says)
 
@@ -213,10 +213,10 @@ memory_tells command.Init status before after says told = init_apart status (cut
 memory_tells command.Topics status before after says told = told
 memory_tells command.Offsets status before after says told = told
 memory_tells (command.Capture options) status before after says told = told
-memory_tells (command.Resume chunk every messages) status before after says told = told
+memory_tells (command.Resume options) status before after says told = told
 memory_tells (command.Apply true placeholder) status before after says told = apply_apart status (cut_short status before after says) told
 memory_tells (command.Apply false placeholder) status before after says told = told
-memory_tells (command.Replay prefix db placeholder keys) status before after says told = outside_no_answer Memory status before after (inr refl) says told
+memory_tells (command.Replay options) status before after says told = outside_no_answer Memory status before after (inr refl) says told
 memory_tells (command.Gen number rows groups true) status before after says told = told
 memory_tells (command.Gen number rows groups false) status before after says told = told
 
@@ -226,14 +226,14 @@ memory_alone answer status before after says = record { ended = memory_ends answ
 
 -- ---- the commands
 
-pub replay_command : (c : Command) (prefix db placeholder : List ℕ) (keys : List TableKey) (options : ReplayOptions) (now : ℤ) (given : RunInput) (failed : Store → Type 0) (was later : ℕ) (status : Status) (before after : Option (List ℕ))
-    → c ≡ command.Replay prefix db placeholder keys → options ≡ options_of prefix db placeholder keys → RunsReplaying options now given.input status before after ⊎ FailsReading was later status before after
+pub replay_command : (c : Command) (options : ReplayOptions) (log : LogOptions) (now : ℤ) (given : RunInput) (failed : Store → Type 0) (was later : ℕ) (status : Status) (before after : Option (List ℕ))
+    → c ≡ command.Replay options → log ≡ log_options options → RunsReplaying log now given.input status before after ⊎ FailsReading was later status before after
     → RunsCommand c now given failed status before after ⊎ ((reads c ≡ true) × FailsReading was later status before after)
-replay_command c prefix db placeholder keys options now given failed was later status before after is same (inl runs) =
-    let as_given = subst (λ (o : ReplayOptions). RunsReplaying o now given.input status before after) same runs in
+replay_command c options log now given failed was later status before after is same (inl runs) =
+    let as_given = subst (λ (o : LogOptions). RunsReplaying o now given.input status before after) same runs in
     inl (subst (λ (k : Command). RunsCommand k now given failed status before after) (sym is)
     (record { ended = λ answer answers. inl (as_given.ended answer answers); meant = elim as_given.meant [ inl outside ↦ inl outside | inr told ↦ inr (inr told) ] }))
-replay_command c prefix db placeholder keys options now given failed was later status before after is same (inr fails) = inr (ap reads is, fails)
+replay_command c options log now given failed was later status before after is same (inr fails) = inr (ap reads is, fails)
 
 pub apply_command : (c : Command) (placeholder : List ℕ) (now : ℤ) (given : RunInput) (failed : Store → Type 0) (was later : ℕ) (status : Status) (before after : Option (List ℕ))
     → c ≡ command.Apply true placeholder → RunsApplying placeholder given.input status before after ⊎ FailsReading was later status before after

@@ -43,9 +43,9 @@ makes_by (command.Gen number rows groups false) is = absurd (switched (sym is))
 makes_by command.Topics is = absurd (switched (sym is))
 makes_by command.Offsets is = absurd (switched (sym is))
 makes_by (command.Capture options) is = absurd (switched (sym is))
-makes_by (command.Resume chunk every messages) is = absurd (switched (sym is))
+makes_by (command.Resume options) is = absurd (switched (sym is))
 makes_by (command.Apply lines placeholder) is = absurd (switched (sym is))
-makes_by (command.Replay prefix db placeholder keys) is = absurd (switched (sym is))
+makes_by (command.Replay options) is = absurd (switched (sym is))
 
 -- what holds of both holds of a command that makes the stores
 pub made_by : (P : Type 0) (c : Command) → (c ≡ command.Init → P) → ((number rows groups : ℕ) → c ≡ command.Gen number rows groups true → P) → makes c ≡ true → P

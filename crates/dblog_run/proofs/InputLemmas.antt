@@ -9,7 +9,7 @@ use Rattle.dbl_base.specs.Lines.{lines_of}
 use Rattle.dbl_pgmsg.specs.Faults.{AreBytes}
 use Rattle.dbl_lines.specs.declared.run_error.RunError.{RunError}
 use Rattle.dbl_lines.specs.declared.run_error.RunError.TheVariants.{BadLine, InputTooLong}
-use Rattle.dblog_replay.specs.declared.options.ReplayOptions.{ReplayOptions}
+use Rattle.dblog_replay.specs.declared.options.LogOptions.{LogOptions}
 use Rattle.dblog_replay.specs.Lines.{message_bytes_in, first_bad_line}
 use Rattle.dblog_replay.proofs.CommitLaws.{replays_exist}
 use Rattle.dblog_replay.proofs.DigitLemmas.{messages_small}
@@ -47,7 +47,7 @@ by_length bytes (inr long) = (Err InputTooLong, too_long long refl)
 pub strings_exist : (bytes : List ℕ) → HasStrings bytes
 strings_exist bytes = by_length bytes (within_or_not (length bytes))
 
-by_strings : (options : ReplayOptions) (now : ℤ) (bytes : List ℕ) (result : Result (List (List ℕ)) RunError) → EncodesStrings bytes result → (answer : RunAnswer) × Replays options now bytes answer
+by_strings : (options : LogOptions) (now : ℤ) (bytes : List ℕ) (result : Result (List (List ℕ)) RunError) → EncodesStrings bytes result → (answer : RunAnswer) × Replays options now bytes answer
 by_strings options now bytes (Err halt) encodes = (fault halt, unread halt encodes refl)
 by_strings options now bytes (Ok strings) encodes =
     let some = pieces_exist 1 strings (strings_small bytes strings encodes) in
@@ -55,5 +55,5 @@ by_strings options now bytes (Ok strings) encodes =
     (log_answer log.0 log.1, replayed log.0 log.1 (record { strings = strings; pieces = some.0; encodes = encodes; read = some.1; replayed = log.2 }) refl)
 
 -- bytes have some answer
-pub replay_exists : (options : ReplayOptions) (now : ℤ) (bytes : List ℕ) → (answer : RunAnswer) × Replays options now bytes answer
+pub replay_exists : (options : LogOptions) (now : ℤ) (bytes : List ℕ) → (answer : RunAnswer) × Replays options now bytes answer
 replay_exists options now bytes = let strings = strings_exist bytes in by_strings options now bytes strings.0 strings.1

@@ -115,9 +115,9 @@ module _ {D : Type 0} (model : DiskModel D) where
   wal_untouched command.Topics old new none full stays = same_untouched old new (stays refl)
   wal_untouched command.Offsets old new none full stays = same_untouched old new (stays refl)
   wal_untouched (command.Capture options) old new none full stays = absurd (none_asked (First options) none)
-  wal_untouched (command.Resume chunk every messages) old new none full stays = absurd (none_asked (Again chunk every messages) none)
+  wal_untouched (command.Resume options) old new none full stays = absurd (none_asked (Again options) none)
   wal_untouched (command.Apply lines placeholder) old new none full stays = same_untouched old new (stays refl)
-  wal_untouched (command.Replay prefix db placeholder keys) old new none full stays = same_untouched old new (stays refl)
+  wal_untouched (command.Replay options) old new none full stays = same_untouched old new (stays refl)
   wal_untouched (command.Gen number rows groups true) old new none full stays = full refl
   wal_untouched (command.Gen number rows groups false) old new none full stays = same_untouched old new (stays refl)
 
@@ -135,10 +135,10 @@ module _ {D : Type 0} (model : DiskModel D) where
   topics_untouched command.Topics fault status old new none full reads stays = read_untouched fault status old new (reads refl)
   topics_untouched command.Offsets fault status old new none full reads stays = same_untouched model old new (stays refl)
   topics_untouched (command.Capture options) fault status old new none full reads stays = absurd (none_asked (First options) none)
-  topics_untouched (command.Resume chunk every messages) fault status old new none full reads stays = absurd (none_asked (Again chunk every messages) none)
+  topics_untouched (command.Resume options) fault status old new none full reads stays = absurd (none_asked (Again options) none)
   topics_untouched (command.Apply true placeholder) fault status old new none full reads stays = same_untouched model old new (stays refl)
   topics_untouched (command.Apply false placeholder) fault status old new none full reads stays = read_untouched fault status old new (reads refl)
-  topics_untouched (command.Replay prefix db placeholder keys) fault status old new none full reads stays = same_untouched model old new (stays refl)
+  topics_untouched (command.Replay options) fault status old new none full reads stays = same_untouched model old new (stays refl)
   topics_untouched (command.Gen number rows groups true) fault status old new none full reads stays = full refl
   topics_untouched (command.Gen number rows groups false) fault status old new none full reads stays = same_untouched model old new (stays refl)
 
@@ -148,10 +148,10 @@ module _ {D : Type 0} (model : DiskModel D) where
   offsets_untouched command.Topics fault status old new none full reads stays = same_untouched model old new (stays refl)
   offsets_untouched command.Offsets fault status old new none full reads stays = read_untouched fault status old new (reads refl)
   offsets_untouched (command.Capture options) fault status old new none full reads stays = absurd (none_asked (First options) none)
-  offsets_untouched (command.Resume chunk every messages) fault status old new none full reads stays = absurd (none_asked (Again chunk every messages) none)
+  offsets_untouched (command.Resume options) fault status old new none full reads stays = absurd (none_asked (Again options) none)
   offsets_untouched (command.Apply true placeholder) fault status old new none full reads stays = same_untouched model old new (stays refl)
   offsets_untouched (command.Apply false placeholder) fault status old new none full reads stays = read_untouched fault status old new (reads refl)
-  offsets_untouched (command.Replay prefix db placeholder keys) fault status old new none full reads stays = same_untouched model old new (stays refl)
+  offsets_untouched (command.Replay options) fault status old new none full reads stays = same_untouched model old new (stays refl)
   offsets_untouched (command.Gen number rows groups true) fault status old new none full reads stays = full refl
   offsets_untouched (command.Gen number rows groups false) fault status old new none full reads stays = same_untouched model old new (stays refl)
 

@@ -8,7 +8,7 @@ use Rattle.dblog_stores.specs.declared.error.CommandError.TheVariants as error
 use Rattle.dblog_stores.specs.Answers.{LinesAnswer as StoreAnswer, AnswersApply, AnswersOffsets, AnswersTopics}
 use Rattle.dblog_stores.specs.Ends.{IsRefusal}
 use Rattle.dblog_stores.specs.Errors.{error_status}
-use Rattle.dblog_replay.specs.declared.options.ReplayOptions.{ReplayOptions}
+use Rattle.dblog_replay.specs.declared.options.LogOptions.{LogOptions}
 use Rattle.dblog_replay.specs.Log.{end_status}
 use Rattle.dbl_consume.specs.Printing.{row_line}
 use Rattle.dbl_lines.specs.declared.status.Status.{Status}
@@ -18,7 +18,7 @@ use Rattle.dbl_lines.specs.declared.run_error.RunError.{RunError}
 use Rattle.dbl_lines.specs.declared.run_error.RunError.TheVariants.{BadLine, InputFailed, InputTooLong, Memory, Usage}
 use Rattle.dblog_run.specs.Run.{RunAnswer, Applies, EncodesStrings, Replays, applied, done, fault, line_fault, log_answer, long_input, refused, replayed, unread}
 use Rattle.dblog_run.specs.Disks.{store_answer, store_fault}
-use Rattle.dblog_run.specs.Means.{Answers, RunInput, Means, given_init, made, options_of, spelled, usage}
+use Rattle.dblog_run.specs.Means.{Answers, RunInput, Means, given_init, made, log_options, spelled, usage}
 use Rattle.dbl_journal.specs.declared.error.JournalError.TheVariants as journal
 use Rattle.dblog_init.specs.DemoWorkload.declared.error.DemoError.{DemoError}
 use Rattle.dblog_init.specs.DemoWorkload.declared.error.DemoError.TheVariants as demo
@@ -60,7 +60,7 @@ encoding_refuses bytes Usage answer encodes is refuses = other_status InvalidArg
 encoding_refuses bytes InputFailed answer encodes is refuses = other_status StdinFailed (λ e. cc) (λ e. cc) answer.status (status_is answer (fault InputFailed) is) refuses
 encoding_refuses bytes Memory answer encodes is refuses = other_status OutOfMemory (λ e. cc) (λ e. cc) answer.status (status_is answer (fault Memory) is) refuses
 
-replay_refuses : (options : ReplayOptions) (now : ℤ) (bytes : List ℕ) (answer : RunAnswer) → Replays options now bytes answer → Refuses answer.status → ⊥
+replay_refuses : (options : LogOptions) (now : ℤ) (bytes : List ℕ) (answer : RunAnswer) → Replays options now bytes answer → Refuses answer.status → ⊥
 replay_refuses options now bytes answer (unread error encodes is) refuses = encoding_refuses bytes error answer encodes is refuses
 replay_refuses options now bytes answer (replayed lines end log is) refuses =
     other_status (end_status end) (replay_other StartMismatch (end_status end) (λ e. cc, λ e. cc, λ e. cc, λ e. cc) (λ e. cc, λ e. cc, λ e. cc) (end_known end))
@@ -110,11 +110,11 @@ forth words now given answer command.Topics spells is refuses =
 forth words now given answer command.Offsets spells is refuses =
     stores_told (AnswersOffsets given.offsets) answer (IsRefused words given answer) (λ e told same. inl (e, record { command = command.Offsets; spells = spells; tells = told; answer_is = same })) refuses is.0 is.1 is.2
 forth words now given answer (command.Capture options) spells is refuses = absurd is
-forth words now given answer (command.Resume chunk every messages) spells is refuses = absurd is
+forth words now given answer (command.Resume options) spells is refuses = absurd is
 forth words now given answer (command.Apply true placeholder) spells is refuses = absurd (lines_refuse placeholder given.input answer is refuses)
 forth words now given answer (command.Apply false placeholder) spells is refuses =
     stores_told (AnswersApply given.topics given.offsets) answer (IsRefused words given answer) (λ e told same. inl (e, record { command = command.Apply false placeholder; spells = spells; tells = told; answer_is = same })) refuses is.0 is.1 is.2
-forth words now given answer (command.Replay prefix db placeholder keys) spells is refuses = absurd (replay_refuses (options_of prefix db placeholder keys) now given.input answer is refuses)
+forth words now given answer (command.Replay options) spells is refuses = absurd (replay_refuses (log_options options) now given.input answer is refuses)
 forth words now given answer (command.Gen number rows groups true) spells is refuses = absurd is
 forth words now given answer (command.Gen number rows groups false) spells is refuses = absurd (other_status Done (λ e. cc) (λ e. cc) answer.status (status_is answer (made number rows groups) is) refuses)
 
@@ -125,10 +125,10 @@ tells_refusal given command.Init e tells = absurd tells
 tells_refusal given command.Topics e tells = topics_refuse given.topics e tells
 tells_refusal given command.Offsets e tells = offsets_refuse given.offsets e tells
 tells_refusal given (command.Capture options) e tells = absurd tells
-tells_refusal given (command.Resume chunk every messages) e tells = absurd tells
+tells_refusal given (command.Resume options) e tells = absurd tells
 tells_refusal given (command.Apply true placeholder) e tells = absurd tells
 tells_refusal given (command.Apply false placeholder) e tells = apply_refuses given.topics given.offsets e tells
-tells_refusal given (command.Replay prefix db placeholder keys) e tells = absurd tells
+tells_refusal given (command.Replay options) e tells = absurd tells
 tells_refusal given (command.Gen number rows groups run) e tells = absurd tells
 
 refusal_status : (e : CommandError) → IsRefusal e → Refuses (error_status e)

@@ -10,7 +10,7 @@ use Rattle.dbl_lines.specs.declared.run_error.RunError.{RunError}
 use Rattle.dbl_lines.specs.declared.run_error.RunError.TheVariants.{Usage, BadLine, InputTooLong, InputFailed, Memory}
 use Rattle.dblog_replay.specs.declared.log_fault.LogFault.{LogFault}
 use Rattle.dblog_replay.specs.declared.log_fault.LogFault.TheVariants as log
-use Rattle.dblog_replay.specs.declared.options.ReplayOptions.{ReplayOptions}
+use Rattle.dblog_replay.specs.declared.options.LogOptions.{LogOptions}
 use Rattle.dbl_lines.specs.declared.error.PrintError.TheVariants as print_error
 use Rattle.dbl_lines.specs.Faults.{status_of, fault_line}
 use Rattle.dblog_replay.specs.Pieces.{Piece, AreRead}
@@ -29,7 +29,7 @@ use Rattle.dbl_lines.specs.Says.{Says}
 
 -- ---- how a run over pieces ends
 
-pub printed_runs : (options : ReplayOptions) (now : ℤ) (pieces : List Piece) (status : Status) (before after : Option (List ℕ)) → IsLogPrinted options now pieces status before after → RunsLog options now pieces status before after
+pub printed_runs : (options : LogOptions) (now : ℤ) (pieces : List Piece) (status : Status) (before after : Option (List ℕ)) → IsLogPrinted options now pieces status before after → RunsLog options now pieces status before after
 printed_runs options now pieces status before after is = record {
   ended = λ lines end writes. (
       let same = log_one options now [] pieces is.lines lines is.end end is.writes writes in
@@ -38,14 +38,14 @@ printed_runs options now pieces status before after is = record {
   meant = inr (is.lines, is.end, is.writes, sym is.is);
 }
 
-pub cut_runs : (options : ReplayOptions) (now : ℤ) (pieces : List Piece) (status : Status) (before after : Option (List ℕ)) → status ≡ StdoutFailed
+pub cut_runs : (options : LogOptions) (now : ℤ) (pieces : List Piece) (status : Status) (before after : Option (List ℕ)) → status ≡ StdoutFailed
     → ((lines : List (List ℕ)) (end : Option LogFault) → LogWrites options now [] pieces lines end → LogFails lines end print_error.OutputFailed before after) → RunsLog options now pieces status before after
 cut_runs options now pieces status before after is fails = record {
   ended = λ lines end writes. record { wanted = end_status end; text = lines_text (lines ++ end_lines end); may = whole refl refl; writes = inr (is, fails lines end writes) };
   meant = inl (inr (inl is));
 }
 
-pub starved_runs : (options : ReplayOptions) (now : ℤ) (pieces : List Piece) (status : Status) (before middle after : Option (List ℕ))
+pub starved_runs : (options : LogOptions) (now : ℤ) (pieces : List Piece) (status : Status) (before middle after : Option (List ℕ))
     → ((lines : List (List ℕ)) (end : Option LogFault) → LogWrites options now [] pieces lines end → LogFails lines end print_error.Memory before middle) → Says Memory status middle after → RunsLog options now pieces status before after
 starved_runs options now pieces status before middle after fails says = record {
   ended = λ lines end writes. (
@@ -88,7 +88,7 @@ end_known (Some (log.Placeholder name column)) = inl (inr (inr (inl refl)))
 end_known (Some log.Unfinished) = inl (inr (inl refl))
 end_known (Some log.Memory) = inr (inr (inr refl))
 
-pub printed_known : (options : ReplayOptions) (now : ℤ) (pieces : List Piece) (status : Status) (before after : Option (List ℕ)) → IsLogPrinted options now pieces status before after → IsReplayStatus status
+pub printed_known : (options : LogOptions) (now : ℤ) (pieces : List Piece) (status : Status) (before after : Option (List ℕ)) → IsLogPrinted options now pieces status before after → IsReplayStatus status
 printed_known options now pieces status before after is = subst IsReplayStatus (sym is.is) (end_known is.end)
 
 -- a log's status is neither that of a failed output nor that of a failed input
@@ -119,10 +119,10 @@ end_other (Some (log.Placeholder name column)) = (λ is. cc, λ is. cc)
 end_other (Some log.Unfinished) = (λ is. cc, λ is. cc)
 end_other (Some log.Memory) = (λ is. cc, λ is. cc)
 
-pub printed_no_output : (options : ReplayOptions) (now : ℤ) (pieces : List Piece) (status : Status) (before after : Option (List ℕ)) → IsLogPrinted options now pieces status before after → status ≢ StdoutFailed
+pub printed_no_output : (options : LogOptions) (now : ℤ) (pieces : List Piece) (status : Status) (before after : Option (List ℕ)) → IsLogPrinted options now pieces status before after → status ≢ StdoutFailed
 printed_no_output options now pieces status before after is same = (end_other is.end).0 (sym is.is ∙ same)
 
-pub printed_no_input : (options : ReplayOptions) (now : ℤ) (pieces : List Piece) (status : Status) (before after : Option (List ℕ)) → IsLogPrinted options now pieces status before after → status ≢ status_of InputFailed
+pub printed_no_input : (options : LogOptions) (now : ℤ) (pieces : List Piece) (status : Status) (before after : Option (List ℕ)) → IsLogPrinted options now pieces status before after → status ≢ status_of InputFailed
 printed_no_input options now pieces status before after is same = (end_other is.end).1 (sym is.is ∙ same)
 
 -- a fault before the messages was said
@@ -158,7 +158,7 @@ outside_no_answer halt status before after (inr is) says told =
 
 -- ---- how a run over bytes ends
 
-answered : (options : ReplayOptions) (now : ℤ) (bytes : List ℕ) (halt : RunError) (status : Status) (before after : Option (List ℕ)) → EncodesStrings bytes (Err halt) → Says halt status before after → RunsReplaying options now bytes status before after
+answered : (options : LogOptions) (now : ℤ) (bytes : List ℕ) (halt : RunError) (status : Status) (before after : Option (List ℕ)) → EncodesStrings bytes (Err halt) → Says halt status before after → RunsReplaying options now bytes status before after
 answered options now bytes halt status before after encodes (inl writes) =
     let replays : Replays options now bytes (fault halt) = unread halt encodes refl in
     record {
@@ -171,7 +171,7 @@ answered options now bytes halt status before after encodes (inr writes) = recor
 }
 
 -- an error of the lines was said
-pub halt_replays : (options : ReplayOptions) (now : ℤ) (bytes : List ℕ) (halt : RunError) (status : Status) (before after : Option (List ℕ)) → HaltsReading bytes halt → halt ≢ InputFailed
+pub halt_replays : (options : LogOptions) (now : ℤ) (bytes : List ℕ) (halt : RunError) (status : Status) (before after : Option (List ℕ)) → HaltsReading bytes halt → halt ≢ InputFailed
     → Says halt status before after → RunsReplaying options now bytes status before after
 halt_replays options now bytes Usage status before after halts read says = absurd halts
 halt_replays options now bytes InputFailed status before after halts read says = absurd (read refl)
@@ -183,7 +183,7 @@ halt_replays options now bytes (BadLine number) status before after halts read s
 halt_replays options now bytes InputTooLong status before after halts read says = answered options now bytes InputTooLong status before after halts says
 
 -- an error of reading the lines was said
-pub read_replays : (options : ReplayOptions) (now : ℤ) (bytes : List ℕ) (halt : RunError) (was later : ℕ) (status : Status) (before after : Option (List ℕ)) → HaltsReading bytes halt → (halt ≡ InputFailed → FaultCounted was later)
+pub read_replays : (options : LogOptions) (now : ℤ) (bytes : List ℕ) (halt : RunError) (was later : ℕ) (status : Status) (before after : Option (List ℕ)) → HaltsReading bytes halt → (halt ≡ InputFailed → FaultCounted was later)
     → Says halt status before after → RunsReplaying options now bytes status before after ⊎ FailsReading was later status before after
 read_replays options now bytes Usage was later status before after halts failed says = absurd halts
 read_replays options now bytes InputFailed was later status before after halts failed says = inr (record { rose = failed refl; says = says })
@@ -192,7 +192,7 @@ read_replays options now bytes (BadLine number) was later status before after ha
 read_replays options now bytes InputTooLong was later status before after halts failed says = inl (answered options now bytes InputTooLong status before after halts says)
 
 -- the byte strings were replayed
-pub strings_replay : (options : ReplayOptions) (now : ℤ) (bytes : List ℕ) (strings : List (List ℕ)) (status : Status) (before after : Option (List ℕ)) → EncodesStrings bytes (Ok strings)
+pub strings_replay : (options : LogOptions) (now : ℤ) (bytes : List ℕ) (strings : List (List ℕ)) (status : Status) (before after : Option (List ℕ)) → EncodesStrings bytes (Ok strings)
     → ((pieces : List Piece) → AreRead 1 strings pieces → RunsLog options now pieces status before after) → RunsReplaying options now bytes status before after
 strings_replay options now bytes strings status before after encodes runs =
     let some = pieces_exist 1 strings (strings_small bytes strings encodes) in

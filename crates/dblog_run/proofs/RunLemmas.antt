@@ -5,7 +5,7 @@ use Rattle.dbl_lines.specs.declared.status.Status.{Status}
 use Rattle.dbl_lines.specs.declared.run_error.RunError.{RunError}
 use Rattle.dbl_lines.specs.declared.run_error.RunError.TheVariants.{BadLine, Memory}
 use Rattle.dblog_replay.specs.declared.log_fault.LogFault.{LogFault}
-use Rattle.dblog_replay.specs.declared.options.ReplayOptions.{ReplayOptions}
+use Rattle.dblog_replay.specs.declared.options.LogOptions.{LogOptions}
 use Rattle.dblog_replay.specs.Pieces.{Piece, AreRead}
 use Rattle.dblog_replay.specs.Replay.{IsReplayed}
 use Rattle.dblog_replay.proofs.CommitLaws.{replays_one as pieces_replayed_once}
@@ -43,14 +43,14 @@ pub ok_or_halt : (strings : List (List ℕ)) (halt : RunError) → Ok strings �
 ok_or_halt strings halt same = cc
 
 -- an input is replayed to one list of lines and one end
-pub logs_one : (options : ReplayOptions) (now : ℤ) (bytes : List ℕ) (l k : List (List ℕ)) (d e : Option LogFault) → ReplaysLog options now bytes l d → ReplaysLog options now bytes k e → (l ≡ k) × (d ≡ e)
+pub logs_one : (options : LogOptions) (now : ℤ) (bytes : List ℕ) (l k : List (List ℕ)) (d e : Option LogFault) → ReplaysLog options now bytes l d → ReplaysLog options now bytes k e → (l ≡ k) × (d ≡ e)
 logs_one options now bytes l k d e one two =
     let strings = ok_one one.strings two.strings (strings_one bytes (Ok one.strings) (Ok two.strings) one.encodes two.encodes) in
     let pieces = pieces_one 1 two.strings one.pieces two.pieces (subst (λ (bs : List (List ℕ)). AreRead 1 bs one.pieces) strings one.read) two.read in
     pieces_replayed_once options now two.pieces l k d e (pieces_fit 1 two.strings two.pieces two.read) (subst (λ (ps : List Piece). IsReplayed options now ps l d) pieces one.replayed) two.replayed
 
 -- bytes have one answer
-pub replays_one : (options : ReplayOptions) (now : ℤ) (bytes : List ℕ) (a b : RunAnswer) → Replays options now bytes a → Replays options now bytes b → a ≡ b
+pub replays_one : (options : LogOptions) (now : ℤ) (bytes : List ℕ) (a b : RunAnswer) → Replays options now bytes a → Replays options now bytes b → a ≡ b
 replays_one options now bytes a b (unread g encodes is) (unread h encodes' is') = is ∙ ap (λ (halt : RunError). fault halt) (halt_one g h (strings_one bytes (Err g) (Err h) encodes encodes')) ∙ sym is'
 replays_one options now bytes a b (unread g encodes is) (replayed l e log is') = absurd (ok_or_halt log.strings g (strings_one bytes (Ok log.strings) (Err g) log.encodes encodes))
 replays_one options now bytes a b (replayed l e log is) (unread g encodes is') = absurd (ok_or_halt log.strings g (strings_one bytes (Ok log.strings) (Err g) log.encodes encodes))

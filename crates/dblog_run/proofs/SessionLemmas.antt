@@ -18,9 +18,9 @@ asked_or_not command.Init = inl refl
 asked_or_not command.Topics = inl refl
 asked_or_not command.Offsets = inl refl
 asked_or_not (command.Capture options) = inr (First options, refl)
-asked_or_not (command.Resume chunk every messages) = inr (Again chunk every messages, refl)
+asked_or_not (command.Resume options) = inr (Again chunk every messages, refl)
 asked_or_not (command.Apply lines placeholder) = inl refl
-asked_or_not (command.Replay prefix db placeholder keys) = inl refl
+asked_or_not (command.Replay options) = inl refl
 asked_or_not (command.Gen number rows groups run) = inl refl
 
 pub unasked : (c : Command) (asked : Asked) → asked_by c ≡ None → asked_by c ≡ Some asked → ⊥

@@ -19,7 +19,7 @@ use Rattle.dblog_stores.proofs.StandLaws.{topics_stand, offsets_stand, apply_sta
 use Rattle.dblog_run.specs.Disks.{IsAnswerOf, store_answer}
 use Rattle.dblog_init.proofs.StandLaws.{answers_stand}
 use Rattle.dblog_run.specs.Inits.{init_answer}
-use Rattle.dblog_run.specs.Means.{made, options_of, connects, RunInput, given_init, Answers, Means, SpellNone, usage, spelled}
+use Rattle.dblog_run.specs.Means.{made, log_options, connects, RunInput, given_init, Answers, Means, SpellNone, usage, spelled}
 use Rattle.dblog_run.proofs.StatusLemmas.{switched}
 
 apply_stands : (placeholder bytes : List ℕ) → (answer : RunAnswer) × Applies placeholder bytes answer
@@ -43,11 +43,11 @@ command_stands command.Init now given none t f = let end = answers_stand (given_
 command_stands command.Topics now given none t f = let found = topics_stand given.topics t in stores_stand (AnswersTopics given.topics) found.0 found.1
 command_stands command.Offsets now given none t f = let found = offsets_stand given.offsets f in stores_stand (AnswersOffsets given.offsets) found.0 found.1
 command_stands (command.Capture options) now given none t f = absurd (switched none)
-command_stands (command.Resume chunk every messages) now given none t f = absurd (switched none)
+command_stands (command.Resume options) now given none t f = absurd (switched none)
 command_stands (command.Apply true placeholder) now given none t f = apply_stands placeholder given.input
 command_stands (command.Apply false placeholder) now given none t f =
     let found = consumer_stands given.topics given.offsets t f in stores_stand (AnswersApply given.topics given.offsets) found.0 found.1
-command_stands (command.Replay prefix db placeholder keys) now given none t f = replay_exists (options_of prefix db placeholder keys) now given.input
+command_stands (command.Replay options) now given none t f = replay_exists (log_options options) now given.input
 command_stands (command.Gen number rows groups true) now given none t f = absurd (switched none)
 command_stands (command.Gen number rows groups false) now given none t f = (made number rows groups, refl)
 

@@ -123,10 +123,10 @@ no_wal command.Init status none known same = switched none
 no_wal command.Topics status none known same = topics_other SourceFailed status (λ e. cc, λ e. cc, λ e. cc) (λ e. cc, λ e. cc) known same
 no_wal command.Offsets status none known same = offsets_other SourceFailed status (λ e. cc, λ e. cc, λ e. cc, λ e. cc) (λ e. cc, λ e. cc) known same
 no_wal (command.Capture options) status none known same = switched none
-no_wal (command.Resume chunk every messages) status none known same = switched none
+no_wal (command.Resume options) status none known same = switched none
 no_wal (command.Apply true placeholder) status none known same = lines_other SourceFailed status (λ e. cc, λ e. cc) (λ e. cc, λ e. cc, λ e. cc) known same
 no_wal (command.Apply false placeholder) status none known same = rows_other SourceFailed status (λ e. cc) (λ e. cc, λ e. cc, λ e. cc, λ e. cc) (λ e. cc, λ e. cc) known same
-no_wal (command.Replay prefix db placeholder keys) status none known same = replay_other SourceFailed status (λ e. cc, λ e. cc, λ e. cc, λ e. cc) (λ e. cc, λ e. cc, λ e. cc) known same
+no_wal (command.Replay options) status none known same = replay_other SourceFailed status (λ e. cc, λ e. cc, λ e. cc, λ e. cc) (λ e. cc, λ e. cc, λ e. cc) known same
 no_wal (command.Gen number rows groups true) status none known same = switched none
 no_wal (command.Gen number rows groups false) status none known same = one_other Done SourceFailed status (λ e. cc) (λ e. cc, λ e. cc) known same
 
@@ -136,9 +136,9 @@ wal_fails command.Init status was now known init fails makes is = init refl is
 wal_fails command.Topics status was now known init fails makes is = absurd (no_wal command.Topics status refl known is)
 wal_fails command.Offsets status was now known init fails makes is = absurd (no_wal command.Offsets status refl known is)
 wal_fails (command.Capture options) status was now known init fails makes is = fails (First options) refl is
-wal_fails (command.Resume chunk every messages) status was now known init fails makes is = fails (Again chunk every messages) refl is
+wal_fails (command.Resume options) status was now known init fails makes is = fails (Again options) refl is
 wal_fails (command.Apply lines placeholder) status was now known init fails makes is = absurd (no_wal (command.Apply lines placeholder) status refl known is)
-wal_fails (command.Replay prefix db placeholder keys) status was now known init fails makes is = absurd (no_wal (command.Replay prefix db placeholder keys) status refl known is)
+wal_fails (command.Replay options) status was now known init fails makes is = absurd (no_wal (command.Replay options) status refl known is)
 wal_fails (command.Gen number rows groups true) status was now known init fails makes is = makes number rows groups refl is
 wal_fails (command.Gen number rows groups false) status was now known init fails makes is = absurd (no_wal (command.Gen number rows groups false) status refl known is)
 
@@ -148,10 +148,10 @@ refused_unread P command.Init status known unread full is = full refl is
 refused_unread P command.Topics status known unread full is = unread refl
 refused_unread P command.Offsets status known unread full is = unread refl
 refused_unread P (command.Capture options) status known unread full is = unread refl
-refused_unread P (command.Resume chunk every messages) status known unread full is = unread refl
+refused_unread P (command.Resume options) status known unread full is = unread refl
 refused_unread P (command.Apply true placeholder) status known unread full is = absurd (lines_other InvalidStore status (λ e. cc, λ e. cc) (λ e. cc, λ e. cc, λ e. cc) known is)
 refused_unread P (command.Apply false placeholder) status known unread full is = unread refl
-refused_unread P (command.Replay prefix db placeholder keys) status known unread full is = absurd (replay_other InvalidStore status (λ e. cc, λ e. cc, λ e. cc, λ e. cc) (λ e. cc, λ e. cc, λ e. cc) known is)
+refused_unread P (command.Replay options) status known unread full is = absurd (replay_other InvalidStore status (λ e. cc, λ e. cc, λ e. cc, λ e. cc) (λ e. cc, λ e. cc, λ e. cc) known is)
 refused_unread P (command.Gen number rows groups run) status known unread full is = unread refl
 
 -- nor does a disk that the command doesn't read
@@ -160,10 +160,10 @@ no_topics command.Init status known shut same = switched shut
 no_topics command.Topics status known shut same = switched shut
 no_topics command.Offsets status known shut same = offsets_other TopicsFailed status (λ e. cc, λ e. cc, λ e. cc, λ e. cc) (λ e. cc, λ e. cc) known same
 no_topics (command.Capture options) status known shut same = switched shut
-no_topics (command.Resume chunk every messages) status known shut same = switched shut
+no_topics (command.Resume options) status known shut same = switched shut
 no_topics (command.Apply true placeholder) status known shut same = lines_other TopicsFailed status (λ e. cc, λ e. cc) (λ e. cc, λ e. cc, λ e. cc) known same
 no_topics (command.Apply false placeholder) status known shut same = switched shut
-no_topics (command.Replay prefix db placeholder keys) status known shut same = replay_other TopicsFailed status (λ e. cc, λ e. cc, λ e. cc, λ e. cc) (λ e. cc, λ e. cc, λ e. cc) known same
+no_topics (command.Replay options) status known shut same = replay_other TopicsFailed status (λ e. cc, λ e. cc, λ e. cc, λ e. cc) (λ e. cc, λ e. cc, λ e. cc) known same
 no_topics (command.Gen number rows groups true) status known shut same = switched shut
 no_topics (command.Gen number rows groups false) status known shut same = one_other Done TopicsFailed status (λ e. cc) (λ e. cc, λ e. cc) known same
 
@@ -172,10 +172,10 @@ no_offsets command.Init status known shut same = switched shut
 no_offsets command.Topics status known shut same = topics_other OffsetsFailed status (λ e. cc, λ e. cc, λ e. cc) (λ e. cc, λ e. cc) known same
 no_offsets command.Offsets status known shut same = switched shut
 no_offsets (command.Capture options) status known shut same = switched shut
-no_offsets (command.Resume chunk every messages) status known shut same = switched shut
+no_offsets (command.Resume options) status known shut same = switched shut
 no_offsets (command.Apply true placeholder) status known shut same = lines_other OffsetsFailed status (λ e. cc, λ e. cc) (λ e. cc, λ e. cc, λ e. cc) known same
 no_offsets (command.Apply false placeholder) status known shut same = switched shut
-no_offsets (command.Replay prefix db placeholder keys) status known shut same = replay_other OffsetsFailed status (λ e. cc, λ e. cc, λ e. cc, λ e. cc) (λ e. cc, λ e. cc, λ e. cc) known same
+no_offsets (command.Replay options) status known shut same = replay_other OffsetsFailed status (λ e. cc, λ e. cc, λ e. cc, λ e. cc) (λ e. cc, λ e. cc, λ e. cc) known same
 no_offsets (command.Gen number rows groups true) status known shut same = switched shut
 no_offsets (command.Gen number rows groups false) status known shut same = one_other Done OffsetsFailed status (λ e. cc) (λ e. cc, λ e. cc) known same
 
@@ -186,10 +186,10 @@ topics_fail P command.Init status known init reads fails makes is = init refl is
 topics_fail P command.Topics status known init reads fails makes is = reads refl is
 topics_fail P command.Offsets status known init reads fails makes is = absurd (no_topics command.Offsets status known refl is)
 topics_fail P (command.Capture options) status known init reads fails makes is = fails (First options) refl is
-topics_fail P (command.Resume chunk every messages) status known init reads fails makes is = fails (Again chunk every messages) refl is
+topics_fail P (command.Resume options) status known init reads fails makes is = fails (Again options) refl is
 topics_fail P (command.Apply true placeholder) status known init reads fails makes is = absurd (no_topics (command.Apply true placeholder) status known refl is)
 topics_fail P (command.Apply false placeholder) status known init reads fails makes is = reads refl is
-topics_fail P (command.Replay prefix db placeholder keys) status known init reads fails makes is = absurd (no_topics (command.Replay prefix db placeholder keys) status known refl is)
+topics_fail P (command.Replay options) status known init reads fails makes is = absurd (no_topics (command.Replay options) status known refl is)
 topics_fail P (command.Gen number rows groups true) status known init reads fails makes is = makes number rows groups refl is
 topics_fail P (command.Gen number rows groups false) status known init reads fails makes is = absurd (no_topics (command.Gen number rows groups false) status known refl is)
 
@@ -199,10 +199,10 @@ offsets_fail P command.Init status known init reads fails makes is = init refl i
 offsets_fail P command.Topics status known init reads fails makes is = absurd (no_offsets command.Topics status known refl is)
 offsets_fail P command.Offsets status known init reads fails makes is = reads refl is
 offsets_fail P (command.Capture options) status known init reads fails makes is = fails (First options) refl is
-offsets_fail P (command.Resume chunk every messages) status known init reads fails makes is = fails (Again chunk every messages) refl is
+offsets_fail P (command.Resume options) status known init reads fails makes is = fails (Again options) refl is
 offsets_fail P (command.Apply true placeholder) status known init reads fails makes is = absurd (no_offsets (command.Apply true placeholder) status known refl is)
 offsets_fail P (command.Apply false placeholder) status known init reads fails makes is = reads refl is
-offsets_fail P (command.Replay prefix db placeholder keys) status known init reads fails makes is = absurd (no_offsets (command.Replay prefix db placeholder keys) status known refl is)
+offsets_fail P (command.Replay options) status known init reads fails makes is = absurd (no_offsets (command.Replay options) status known refl is)
 offsets_fail P (command.Gen number rows groups true) status known init reads fails makes is = makes number rows groups refl is
 offsets_fail P (command.Gen number rows groups false) status known init reads fails makes is = absurd (no_offsets (command.Gen number rows groups false) status known refl is)
 
@@ -212,10 +212,10 @@ unused_topics command.Init none shut = none
 unused_topics command.Topics none shut = shut
 unused_topics command.Offsets none shut = shut
 unused_topics (command.Capture options) none shut = none
-unused_topics (command.Resume chunk every messages) none shut = none
+unused_topics (command.Resume options) none shut = none
 unused_topics (command.Apply true placeholder) none shut = refl
 unused_topics (command.Apply false placeholder) none shut = shut
-unused_topics (command.Replay prefix db placeholder keys) none shut = shut
+unused_topics (command.Replay options) none shut = shut
 unused_topics (command.Gen number rows groups run) none shut = none
 
 pub unused_offsets : (c : Command) → writes c ≡ false → opens_offsets c ≡ false → uses_offsets c ≡ false
@@ -223,10 +223,10 @@ unused_offsets command.Init none shut = none
 unused_offsets command.Topics none shut = shut
 unused_offsets command.Offsets none shut = shut
 unused_offsets (command.Capture options) none shut = none
-unused_offsets (command.Resume chunk every messages) none shut = none
+unused_offsets (command.Resume options) none shut = none
 unused_offsets (command.Apply true placeholder) none shut = refl
 unused_offsets (command.Apply false placeholder) none shut = shut
-unused_offsets (command.Replay prefix db placeholder keys) none shut = shut
+unused_offsets (command.Replay options) none shut = shut
 unused_offsets (command.Gen number rows groups run) none shut = none
 
 -- ---- words that spell no command, and runs out of memory

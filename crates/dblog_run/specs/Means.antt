@@ -1,10 +1,10 @@
 -- The meaning of the arguments of a command line, with the contents of the input and the disks.
 use Rattle.std.specs.Prelude.{◌≡◌, ◌⊎◌, ℕ, ℤ, ◌||◌, Bool, true, false, Option, Some, List, []}
 use Rattle.dbl_record.specs.declared.record.Record.{Record}
-use Rattle.dbl_model_table.specs.declared.table.TableKey.{TableKey}
 use Rattle.dbl_topic.specs.Logs.{IsLog}
 use Rattle.dbl_gen.specs.Workload.{workload_lines}
 use Rattle.dbl_cli.specs.declared.commands.Command.{Command}
+use Rattle.dbl_cli.specs.declared.commands.ReplayOptions.{ReplayOptions}
 use Rattle.dbl_cli.specs.declared.commands.Command.TheVariants.{Init, Topics, Offsets, Capture, Resume, Replay, Apply, Gen}
 use Rattle.dbl_cli.specs.Commands.{Spells}
 use Rattle.dblog_init.specs.Answers as inits
@@ -12,7 +12,7 @@ use Rattle.dbl_lines.specs.declared.status.Status.{Status}
 use Rattle.dbl_lines.specs.declared.status.Status.TheVariants.{Done, StartMismatch, TopicsFailed}
 use Rattle.dbl_lines.specs.declared.status.Status.TheVariants.{OffsetsFailed, InvalidInput, InvalidStore}
 use Rattle.dbl_lines.specs.declared.run_error.RunError.TheVariants.{Usage}
-use Rattle.dblog_replay.specs.declared.options.ReplayOptions.{ReplayOptions}
+use Rattle.dblog_replay.specs.declared.options.LogOptions.{LogOptions}
 use Rattle.dblog_stores.specs.Answers.{AnswersTopics, AnswersOffsets, AnswersApply}
 use Rattle.dblog_stores.specs.declared.error.Store.{Store}
 use Rattle.dblog_capture.specs.Ends.{IsSessionStatus}
@@ -27,9 +27,12 @@ use Rattle.dbl_lines.specs.Says.{IsCutShort}
 abbrev pub made : ℕ → ℕ → ℕ → RunAnswer
 made number rows groups = record { status = Done; lines = workload_lines number rows groups; one_by_one = [] }
 
--- The options of `replay` for these arguments.
-abbrev pub options_of : List ℕ → List ℕ → List ℕ → List TableKey → ReplayOptions
-options_of prefix db placeholder keys = record { identity = record { prefix = prefix; db = db; placeholder = placeholder }; keys = keys }
+-- The options of the log that `replay` with these options replays.
+abbrev pub log_options : ReplayOptions → LogOptions
+log_options options = record {
+  identity = record { prefix = options.prefix; db = options.db; placeholder = options.placeholder };
+  keys = options.keys;
+}
 
 -- The contents that a run reads: the unread bytes of the input, and those of the three disks.
 pub record RunInput : Type 0 where
@@ -45,7 +48,7 @@ given_init given = record { wal = given.wal; topics = given.topics; offsets = gi
 -- The answer of a command at a time for these contents. The result of a session isn't determined by them, as its source and stores may fail
 -- at any call (`RunsSession`, and `EndsGenerated` for a generated workload).
 abbrev pub Answers : Command → ℤ → RunInput → RunAnswer → Type 0
-Answers (Replay prefix db placeholder keys) now given answer = Replays (options_of prefix db placeholder keys) now given.input answer
+Answers (Replay options) now given answer = Replays (log_options options) now given.input answer
 Answers (Apply true placeholder) now given answer = Applies placeholder given.input answer
 Answers (Apply false placeholder) now given answer = IsAnswerOf (AnswersApply given.topics given.offsets) answer
 Answers Topics now given answer = IsAnswerOf (AnswersTopics given.topics) answer
@@ -53,7 +56,7 @@ Answers Offsets now given answer = IsAnswerOf (AnswersOffsets given.offsets) ans
 Answers Init now given answer = AnswersInit (given_init given) answer
 Answers (Gen number rows groups false) now given answer = answer ≡ made number rows groups
 Answers (Capture options) now given answer = ⊥
-Answers (Resume chunk every messages) now given answer = ⊥
+Answers (Resume options) now given answer = ⊥
 Answers (Gen number rows groups true) now given answer = ⊥
 
 -- The answer of the program at a time for these arguments and contents.
@@ -71,7 +74,7 @@ pub record Runs (words : List (List ℕ)) (now : ℤ) (given : RunInput) (failed
 
 -- Whether the command reads the input.
 abbrev pub reads : Command → Bool
-reads (Replay prefix db placeholder keys) = true
+reads (Replay options) = true
 reads (Apply lines placeholder) = lines
 reads Init = true
 reads command = false
@@ -97,7 +100,7 @@ makes command = false
 -- Whether the command runs a session of the connector, over all of the disks.
 abbrev pub connects : Command → Bool
 connects (Capture options) = true
-connects (Resume chunk every messages) = true
+connects (Resume options) = true
 connects (Gen number rows groups run) = run
 connects command = false
 
@@ -162,19 +165,19 @@ pub record WalFails (words : List (List ℕ)) (was now : ℕ) (status : Status) 
 
 -- The answer of a command that reads neither the input nor a disk.
 abbrev pub StandsAlone : Command → RunAnswer → Type 0
-StandsAlone (Replay prefix db placeholder keys) answer = ⊥
+StandsAlone (Replay options) answer = ⊥
 StandsAlone (Apply lines placeholder) answer = ⊥
 StandsAlone Init answer = ⊥
 StandsAlone Topics answer = ⊥
 StandsAlone Offsets answer = ⊥
 StandsAlone (Capture options) answer = ⊥
-StandsAlone (Resume chunk every messages) answer = ⊥
+StandsAlone (Resume options) answer = ⊥
 StandsAlone (Gen number rows groups false) answer = answer ≡ made number rows groups
 StandsAlone (Gen number rows groups true) answer = ⊥
 
 -- The statuses of an answer about the contents of the input, which was then read to its end.
 abbrev pub ReportsInputStatus : Command → Status → Type 0
-ReportsInputStatus (Replay prefix db placeholder keys) status = IsReplayAnswer status
+ReportsInputStatus (Replay options) status = IsReplayAnswer status
 ReportsInputStatus (Apply true placeholder) status = (status ≡ Done) ⊎ (status ≡ InvalidInput)
 ReportsInputStatus Init status = IsInitAnswer status
 ReportsInputStatus command status = ⊥
@@ -194,14 +197,14 @@ IsRowsStatus status = (status ≡ TopicsFailed) ⊎ IsOffsetsStatus status
 
 -- The statuses of a command, for every behaviour of the streams and the disks.
 abbrev pub IsStatusOf : Command → Status → Type 0
-IsStatusOf (Replay prefix db placeholder keys) status = IsReplayStatus status
+IsStatusOf (Replay options) status = IsReplayStatus status
 IsStatusOf (Apply true placeholder) status = IsApplyStatus status
 IsStatusOf (Apply false placeholder) status = IsRowsStatus status
 IsStatusOf Init status = IsInitStatus status
 IsStatusOf Topics status = IsTopicsStatus status
 IsStatusOf Offsets status = IsOffsetsStatus status
 IsStatusOf (Capture options) status = IsSessionStatus status
-IsStatusOf (Resume chunk every messages) status = IsSessionStatus status
+IsStatusOf (Resume options) status = IsSessionStatus status
 IsStatusOf (Gen number rows groups false) status = (status ≡ Done) ⊎ IsCutShort status
 IsStatusOf (Gen number rows groups true) status = IsGeneratedStatus status
 

@@ -16,7 +16,7 @@ use Rattle.dblog_replay.specs.Apply.{fault_text}
 use Rattle.dblog_replay.specs.Applied.{IsApplied}
 use Rattle.dblog_replay.specs.Lines.{message_bytes_in, first_bad_line}
 use Rattle.dblog_replay.specs.declared.log_fault.LogFault.{LogFault}
-use Rattle.dblog_replay.specs.declared.options.ReplayOptions.{ReplayOptions}
+use Rattle.dblog_replay.specs.declared.options.LogOptions.{LogOptions}
 use Rattle.dblog_replay.specs.Pieces.{Piece, AreRead}
 use Rattle.dblog_replay.specs.Log.{LogWrites, end_status, end_lines}
 use Rattle.dblog_replay.specs.Replay.{IsReplayed}
@@ -49,7 +49,7 @@ pub data EncodesStrings (bytes : List ℕ) (result : Result (List (List ℕ)) Ru
 
 -- The lines and the error, or none, of a log with these options at a time, for an input with these bytes: it encodes byte strings, these
 -- are read as pieces, and the pieces are replayed.
-pub record ReplaysLog (options : ReplayOptions) (now : ℤ) (bytes : List ℕ) (lines : List (List ℕ)) (end : Option LogFault) : Type 0 where
+pub record ReplaysLog (options : LogOptions) (now : ℤ) (bytes : List ℕ) (lines : List (List ℕ)) (end : Option LogFault) : Type 0 where
   pub strings : List (List ℕ)
   pub pieces : List Piece
   pub encodes : EncodesStrings bytes (Ok strings)
@@ -57,7 +57,7 @@ pub record ReplaysLog (options : ReplayOptions) (now : ℤ) (bytes : List ℕ) (
   pub replayed : IsReplayed options now pieces lines end
 
 -- The answer of `replay` with these options at a time for an input with these bytes.
-pub data Replays (options : ReplayOptions) (now : ℤ) (bytes : List ℕ) (answer : RunAnswer) : Type 0 where
+pub data Replays (options : LogOptions) (now : ℤ) (bytes : List ℕ) (answer : RunAnswer) : Type 0 where
   unread : (halt : RunError) → EncodesStrings bytes (Err halt) → answer ≡ fault halt → Replays options now bytes answer
   replayed : (lines : List (List ℕ)) (end : Option LogFault) → ReplaysLog options now bytes lines end → answer ≡ log_answer lines end
       → Replays options now bytes answer
@@ -119,7 +119,7 @@ HaltsReading bytes (BadLine number) = EncodesStrings bytes (Err (BadLine number)
 HaltsReading bytes InputTooLong = EncodesStrings bytes (Err InputTooLong)
 
 -- For private clauses: the end of a run of `replay`.
-pub record RunsReplaying (options : ReplayOptions) (now : ℤ) (bytes : List ℕ) (status : Status)
+pub record RunsReplaying (options : LogOptions) (now : ℤ) (bytes : List ℕ) (status : Status)
     (before after : Option (List ℕ)) : Type 0 where
   pub ended : (answer : RunAnswer) → Replays options now bytes answer → Ends answer status before after
   pub meant : IsExternalStatus status ⊎ ((answer : RunAnswer) × Replays options now bytes answer × (answer.status ≡ status))
@@ -149,7 +149,7 @@ pub record PrintedAs (held : List ℕ → List ℕ → Option HeldCells) (status
   pub ends : EndsAs (done (map row_line rows)) status before after
 
 -- For private clauses: the end of a run of these pieces.
-pub record RunsLog (options : ReplayOptions) (now : ℤ) (pieces : List Piece) (status : Status)
+pub record RunsLog (options : LogOptions) (now : ℤ) (pieces : List Piece) (status : Status)
     (before after : Option (List ℕ)) : Type 0 where
   pub ended : (lines : List (List ℕ)) (end : Option LogFault) → LogWrites options now [] pieces lines end
       → Ends (log_answer lines end) status before after

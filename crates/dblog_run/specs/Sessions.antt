@@ -13,7 +13,7 @@ use Rattle.dblog_capture.specs.Connect.Asked.{asks_in}
 -- The session that a command requests over the stores that it finds, if it requests one.
 abbrev pub asked_by : Command → Option Asked
 asked_by (Capture options) = Some (First options)
-asked_by (Resume chunk every messages) = Some (Again chunk every messages)
+asked_by (Resume options) = Some (Again options)
 asked_by command = None
 
 -- The configuration of the session that a command requests over disks with these contents; none without a session.

@@ -1,12 +1,12 @@
 ghost use Rattle.std.specs.Prelude.{◌≡◌, ◌≢◌, ◌⊎◌, true, false, ℕ, ◌≤◌};
 ghost use Rattle.std.specs.Prelude.{List, [], length, Some, IsSome, Err};
 ghost use Rattle.dbl_base.specs.Streams.{FaultCounted, input_limit};
-ghost use Rattle.dblog_replay.specs.declared.options.ReplayOptions.{ReplayOptions};
+ghost use Rattle.dblog_replay.specs.declared.options.LogOptions.{LogOptions};
 ghost use Rattle.dbl_cli.specs.declared.commands.Command.{Command};
 ghost use Rattle.dbl_cli.specs.Commands.{Spells};
 ghost use Rattle.dbl_cli.specs.Limits.{IsWithin};
 ghost use Rattle.dblog_stores.specs.Ends.{IsSynced};
-ghost use Rattle.dblog_run.specs.Means.{made, options_of, ReadsGivenInput, RunInput};
+ghost use Rattle.dblog_run.specs.Means.{made, log_options, ReadsGivenInput, RunInput};
 ghost use Rattle.dblog_run.specs.Means.{HasOpenedOffsets, HasOpenedTopics, InputFails, Runs};
 ghost use Rattle.dblog_run.specs.Means.{RunsCommand, SpellNone, SpellSome, Tell, WalFails};
 ghost use Rattle.dblog_run.specs.Means.{connects, makes, reads, writes, opens_offsets};
@@ -40,15 +40,15 @@ ghost use Rattle.dbl_lines.specs.Says.{Says};
 use crate::initializing::run_init;
 use crate::stores::{run_apply, run_offsets, run_topics};
 use crate::streams::{apply_lines, replay_lines};
-use dbl_base::{Input, Output, Seq, Text};
-use dbl_cli::{CliError, Command};
+use dbl_base::{Input, Output, Text};
+use dbl_cli::{CliError, Command, ReplayOptions};
 use dbl_disk::Disk;
 use dbl_gen::script;
 use dbl_lines::{RunError, Status, say, write_text};
-use dbl_model_table::{Identity, TableKey};
+use dbl_model_table::Identity;
 use dblog_capture::{Asked, run_generated, run_session};
 use dblog_init::{Disks, Outcome};
-use dblog_replay::ReplayOptions;
+use dblog_replay::LogOptions;
 use std::alloc::Global;
 
 /// Runs the program on its arguments, at a time in milliseconds since 1970, over the disks of the
@@ -333,20 +333,9 @@ fn run_command<I: Input, O: Output, W: Disk, T: Disk, F: Disk>(
         result.end (O.written output.old) (O.written output.new) }
 {
     match command {
-        Command::Replay {
-            prefix,
-            db,
-            placeholder,
-            keys,
-        } => Outcome {
+        Command::Replay { options } => Outcome {
             disks,
-            end: replay_lines(
-                alloc,
-                options_of(prefix, db, placeholder, keys),
-                now_ms,
-                input,
-                output,
-            ),
+            end: replay_lines(alloc, log_options(options), now_ms, input, output),
         },
         Command::Apply {
             lines: true,
@@ -377,26 +366,24 @@ fn run_command<I: Input, O: Output, W: Disk, T: Disk, F: Disk>(
             let asked = Asked::First { options };
             run_session(alloc, asked, now_ms, output, disks)
         }
-        Command::Resume {
-            chunk,
-            every,
-            messages,
-        } => {
-            let asked = Asked::Again {
-                chunk,
-                every,
-                messages,
-            };
+        Command::Resume { options } => {
+            let asked = Asked::Again { options };
             run_session(alloc, asked, now_ms, output, disks)
         }
         Command::Apply { .. } => run_apply(alloc, output, disks),
     }
 }
 
-fn options_of(prefix: Text, db: Text, placeholder: Text, keys: Seq<TableKey>) -> ReplayOptions
-    ensures { result ≡ options_of prefix db placeholder keys }
+fn log_options(options: ReplayOptions) -> LogOptions
+    ensures { result ≡ log_options options }
 {
-    ReplayOptions {
+    let ReplayOptions {
+        prefix,
+        db,
+        placeholder,
+        keys,
+    } = options;
+    LogOptions {
         identity: Identity {
             prefix,
             db,

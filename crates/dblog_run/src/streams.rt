@@ -20,7 +20,7 @@ ghost use Rattle.dbl_lines.specs.Says.{Says};
 use dbl_base::{Bytes, Input, InputError, Output, Text, read_all};
 use dbl_consume::Consumer;
 use dbl_lines::{RunError, Status, say, write_text};
-use dblog_replay::{FaultAt, LineError, LineFault, PrintError, ReplayOptions, consume, print_log};
+use dblog_replay::{FaultAt, LineError, LineFault, LogOptions, PrintError, consume, print_log};
 use std::alloc::Global;
 
 fn read_input<I: Input>(alloc: Global, input: &mut I) -> Result<Bytes, RunError>
@@ -67,7 +67,7 @@ fn strings_of(alloc: Global, text: Bytes) -> Result<Vec<Bytes>, RunError>
 
 fn replay_strings<O: Output>(
     alloc: Global,
-    options: ReplayOptions,
+    options: LogOptions,
     strings: Vec<Bytes>,
     now_ms: &i64,
     output: &mut O,
@@ -89,7 +89,7 @@ fn replay_strings<O: Output>(
 
 fn replay_text<O: Output>(
     alloc: Global,
-    options: ReplayOptions,
+    options: LogOptions,
     text: Bytes,
     now_ms: &i64,
     output: &mut O,
@@ -111,7 +111,7 @@ fn replay_text<O: Output>(
 /// Reads the input whole, replays its messages, and returns the status.
 pub(crate) fn replay_lines<I: Input, O: Output>(
     alloc: Global,
-    options: ReplayOptions,
+    options: LogOptions,
     now_ms: &i64,
     input: &mut I,
     output: &mut O,

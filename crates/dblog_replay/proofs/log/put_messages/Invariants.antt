@@ -1,5 +1,5 @@
 use Rattle.std.proofs.Common.{◌≡◌, ◌+◌, ◌≤◌, List, [], length}
-use Rattle.dblog_replay.specs.declared.options.ReplayOptions.{ReplayOptions}
+use Rattle.dblog_replay.specs.declared.options.LogOptions.{LogOptions}
 use Rattle.dblog_replay.specs.Following.{FollowsMessages, IsReplaying}
 use Rattle.dblog_replay.specs.Pieces.{Piece, AreRead}
 use Rattle.dblog_replay.proofs.FollowLemmas.{IsLogging}
@@ -7,7 +7,7 @@ use Rattle.dblog_replay.proofs.log.put_messages.Given as goal
 
 abbrev pub invariant-messages : goal.invariant-messages
 invariant-messages g l =
-    ((options : ReplayOptions) (pieces : List Piece) → FollowsMessages options [] l.fn.replayer → AreRead 1 l.fn.messages.items pieces
+    ((options : LogOptions) (pieces : List Piece) → FollowsMessages options [] l.fn.replayer → AreRead 1 l.fn.messages.items pieces
     → IsLogging options l.now_ms pieces l.bytes-iterator.rest.items l.fn.lines l.lines (g.O.Output.written l.fn.output) (g.O.Output.written l.output) l.number l.replayer)
     × IsReplaying l.replayer
     × (l.number + length l.bytes-iterator.rest.items ≡ length l.fn.messages.items)

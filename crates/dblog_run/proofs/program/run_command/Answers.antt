@@ -20,7 +20,7 @@ use Rattle.dblog_run.proofs.program.run_command.Goals as goal
 pub returns-in-Replay-clause-told : goal.returns-in-Replay-clause-told
 returns-in-Replay-clause-told g c = λ given none told.
     let here = c.in-Replay in
-    or_source (replay_command c.args.command here.prefix here.db here.placeholder here.keys c.options_of.result c.args.now_ms.now given _ _ _ _ _ _ here.is c.options_of.ensures
+    or_source (replay_command c.args.command here.options c.log_options.result c.args.now_ms.now given _ _ _ _ _ _ here.is c.log_options.ensures
     (c.replay_lines.ensures.told given.input (told.input_is (ap reads here.is))))
 
 pub returns-in-Apply-true-default-clause-told : goal.returns-in-Apply-true-default-clause-told
@@ -152,7 +152,7 @@ returns-in-Resume-clause-connected g c = λ asked is.
     let here = c.in-Resume in
     subst (λ (a : Asked). RunsConnected g.W.Disk g.T.Disk g.F.Disk a c.args.now_ms.now
     c.args.disks left.disks left.end (g.O.Output.written c.args.output.now) (g.O.Output.written c.run_session-in-Resume.new.output))
-    (one_asked c.args.command (Again here.chunk here.every here.messages) asked (ap asked_by here.is) is) c.run_session-in-Resume.ensures.connected
+    (one_asked c.args.command (Again here.options) asked (ap asked_by here.is) is) c.run_session-in-Resume.ensures.connected
 
 -- the others request none
 pub returns-in-Replay-clause-connected : goal.returns-in-Replay-clause-connected

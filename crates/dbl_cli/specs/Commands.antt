@@ -143,8 +143,8 @@ capture_of prefix db placeholder chunk every messages texts =
 
 -- the command of `resume` with these values
 abbrev pub resume_of : Option (List ℕ) → Option (List ℕ) → Option (List ℕ) → Command
-resume_of chunk every messages = command.Resume
-    (record { chunk = number_or 1000 chunk; every = number_or 100 every; messages = number_or 999999999 messages })
+resume_of chunk every messages =
+    command.Resume (record { chunk = number_or 1000 chunk; every = number_or 100 every; messages = number_or 999999999 messages })
 
 -- the command of `apply` with these values
 abbrev pub apply_of : Bool → Option (List ℕ) → Command
@@ -153,8 +153,8 @@ apply_of lines placeholder = command.Apply lines (placeholder_or_own placeholder
 -- the command of `replay` with these values
 abbrev pub replay_of : Option (List ℕ) → Option (List ℕ) → Option (List ℕ) → List (List ℕ) → Command
 replay_of prefix db placeholder texts =
-    command.Replay (record
-    { prefix = name_or_demo prefix; db = name_or_demo db; placeholder = placeholder_or_own placeholder; keys = map key_in texts })
+    command.Replay
+    (record { prefix = name_or_demo prefix; db = name_or_demo db; placeholder = placeholder_or_own placeholder; keys = map key_in texts })
 
 -- the command of `gen` with these values
 abbrev pub gen_of : List (List ℕ) → Option (List ℕ) → Option (List ℕ) → Bool → Command

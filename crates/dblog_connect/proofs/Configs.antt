@@ -1,5 +1,5 @@
 -- What a session is asked for is within the limits.
-use Rattle.std.proofs.Common.{◌≡◌, ℕ, ◌&&◌, Bool, true, false, Option, Some, None, List, [], ◌∷◌, length, refl, sym, ap, subst, arith}
+use Rattle.std.proofs.Common.{◌≡◌, ◌&&◌, Bool, true, false, Option, Some, None, List, [], ◌∷◌, length, refl, sym, ap, subst, arith}
 use Rattle.std.proofs.lemmas.List.{length-map}
 use Rattle.dbl_model_table.specs.declared.config.Config.{Config}
 use Rattle.dbl_model_table.specs.declared.table.TableInfo.{TableInfo}
@@ -53,7 +53,8 @@ good_first options all names good pace tables =
       messages = pace.messages_are;
     }
 
-pub good_again : (offset : Offset) (options : ResumeOptions) → IsOffset offset → IsGoodPace options.chunk options.every options.messages → IsGoodConfig (config_again offset options)
+pub good_again : (offset : Offset) (options : ResumeOptions) → IsOffset offset → IsGoodPace options.chunk options.every options.messages
+    → IsGoodConfig (config_again offset options)
 good_again offset options is pace =
     let many = length-map offset.infos (λ (info : TableInfo). info.name) in
     record {
@@ -71,4 +72,5 @@ pub asks_budget : (asked : Asked) (all : List TableName) (stored : Option Offset
 asks_budget (First options) all None config is = (let same : config_of options all ≡ config = (let i = is in cc) in sym (ap (λ (c : Config). c.messages) same))
 asks_budget (First options) all (Some offset) config is = absurd (let i = is in cc)
 asks_budget (Again options) all None config is = absurd (let i = is in cc)
-asks_budget (Again options) all (Some offset) config is = (let same : config_again offset options ≡ config = (let i = is in cc) in sym (ap (λ (c : Config). c.messages) same))
+asks_budget (Again options) all (Some offset) config is =
+    (let same : config_again offset options ≡ config = (let i = is in cc) in sym (ap (λ (c : Config). c.messages) same))

@@ -97,10 +97,12 @@ grown_size old_bytes new_bytes old new after windows more old_is new_is same ext
 
 -- ---- the session's end
 
-goes_again : (options : ResumeOptions) (all : List TableName) (offset : Offset) (old new : Contents) → old.offset ≡ Some offset → Advances (asks_of (Again options) all old.offset) old new → AdvancesFrom (config_again offset options) old new
+goes_again : (options : ResumeOptions) (all : List TableName) (offset : Offset) (old new : Contents) → old.offset ≡ Some offset
+    → Advances (asks_of (Again options) all old.offset) old new → AdvancesFrom (config_again offset options) old new
 goes_again options all offset old new stored goes = subst (λ (o : Option Offset). Advances (asks_of (Again options) all o) old new) stored goes
 
-module _ (options : ResumeOptions) (now : ℤ) (told_wal told_topics told_offsets : Option (List ℕ)) (wals logs stores new_wals new_logs new_stores : List ℕ → Type 0) (status : Status)
+module _ (options : ResumeOptions) (now : ℤ) (told_wal told_topics told_offsets : Option (List ℕ))
+    (wals logs stores new_wals new_logs new_stores : List ℕ → Type 0) (status : Status)
     (kept : AreKept told_wal told_topics told_offsets wals logs stores)
     (headline : (w t f : List ℕ) → new_wals w → new_logs t → new_stores f → GuaranteesAfterCrash (IsCompleteRun (Resume options) status) (asks_by (Resume options)) wals logs stores w t f)
     (w t f : List ℕ) (held : Contents) (read : ReadAs w t f held) (rest : AreAtRest wals logs stores held w t f)
@@ -125,7 +127,8 @@ module _ (options : ResumeOptions) (now : ℤ) (told_wal told_topics told_offset
       let wal : predecessor.old.wal ≡ held.wal = one_wal predecessor.wal predecessor.old.wal held.wal predecessor.read.source (rest.wal_only predecessor.wal predecessor.may_wal) in
       let at : predecessor.old.offset ≡ held.offset = one_store predecessor.offsets predecessor.old.offset held.offset predecessor.read.store (rest.offsets_only predecessor.offsets predecessor.may_offsets) in
       let goes = goes_again options (workload_tables predecessor.old.wal) offset predecessor.old promised.left.held (at ∙ stored) predecessor.advances in
-      let to_left : AdvancesFrom (config_again offset options) predecessor.old left = subst (AdvancesFrom (config_again offset options) predecessor.old) there goes in
+      let to_left : AdvancesFrom (config_again offset options) predecessor.old left = subst
+      (AdvancesFrom (config_again offset options) predecessor.old) there goes in
       subst (λ (x : Wal). ExtendsList (history_in x).commits (history_at left).commits) wal to_left.onward.commits
 
   begun : HasBegun (Again options) w t f
@@ -141,11 +144,13 @@ module _ (options : ResumeOptions) (now : ℤ) (told_wal told_topics told_offset
       let whole : CoverRows offset.infos (whole_history left.wal) pairs = subst (λ (x : Workload). CoverRows offset.infos (whole_of x) pairs) (sym same) cover in
       whole_covers may.w left.wal offset.infos pairs may.read.source whole
 
-  few_marks : left.wal.workload ≡ held.wal.workload → AddsFew (Again options) wals new_wals w t f → length (marks_in (history_at left).commits) ≤ length (marks_in (history_at held).commits) + 2 * windows
+  few_marks : left.wal.workload ≡ held.wal.workload → AddsFew (Again options) wals new_wals w t f
+      → length (marks_in (history_at left).commits) ≤ length (marks_in (history_at held).commits) + 2 * windows
   unfolding begun
   few_marks same adds = by (adds begun own_tables may.w left may.wal may.read.source)
     where
-      by : wals may.w ⊎ GrowsByFewMarks (config_again offset options) held left → length (marks_in (history_at left).commits) ≤ length (marks_in (history_at held).commits) + 2 * windows
+      by : wals may.w ⊎ GrowsByFewMarks (config_again offset options) held left
+          → length (marks_in (history_at left).commits) ≤ length (marks_in (history_at held).commits) + 2 * windows
       by (inl before) =
           let wal : left.wal ≡ held.wal = one_wal may.w left.wal held.wal may.read.source (rest.wal_only may.w before) in
           omega (arith, ap (λ (x : Wal). length (marks_in (history_in x).commits)) wal)
@@ -156,8 +161,10 @@ module _ (options : ResumeOptions) (now : ℤ) (told_wal told_topics told_offset
           let many : few.windows ≤ length infos + length pairs / options.chunk = few.few pairs here in
           omega (arith, few.marks, many, ap length own)
 
-  few_read : (summary : Summary) → HasRun (Again options) now new_wals new_logs new_stores w t f summary → IsReported (Again options) now new_wals new_logs new_stores w t f summary
-      → AddsFew (Again options) wals new_wals w t f → summary.report.messages ≤ length (messages_sent held.wal offset.lsn) + most_messages 1 held.wal.workload windows
+  few_read : (summary : Summary) → HasRun (Again options) now new_wals new_logs new_stores w t f summary
+      → IsReported (Again options) now new_wals new_logs new_stores w t f summary
+      → AddsFew (Again options) wals new_wals w t f
+      → summary.report.messages ≤ length (messages_sent held.wal offset.lsn) + most_messages 1 held.wal.workload windows
   few_read summary run reported adds =
       let same = workload_stays (Again options) now new_wals new_logs new_stores w t f left held may read summary run in
       let ended = reported.ended in
@@ -173,7 +180,8 @@ module _ (options : ResumeOptions) (now : ℤ) (told_wal told_topics told_offset
       let few = grown_size w may.w held.wal left.wal offset.lsn windows extends.more read.source may.read.source same extends.is (few_marks same adds) in
       omega (arith, counted, front, length-append report.sent_messages report.are_sent.rest, moved, few)
 
-  reads_few : (end : ConnectEnd) → AnswersCapture (Again options) now wals logs new_wals new_logs new_stores w t f end → AnswersKept (Again options) now new_wals new_logs new_stores w t f end
+  reads_few : (end : ConnectEnd) → AnswersCapture (Again options) now wals logs new_wals new_logs new_stores w t f end
+      → AnswersKept (Again options) now new_wals new_logs new_stores w t f end
       → IfOk end (λ summary. summary.report.messages ≤ length (messages_sent held.wal offset.lsn) + most_messages 1 held.wal.workload windows)
   reads_few (Ok summary) answers answers_kept = few_read summary answers.told answers_kept.report answers.marks
   reads_few (Err e) answers answers_kept = tt
@@ -185,5 +193,7 @@ generous_budgets_suffice_again wals logs stores new_wals new_logs new_stores opt
     let few = reads_few options now told_wal told_topics told_offsets wals logs stores new_wals new_logs new_stores status kept headline w t f held read rest left may offset stored pairs cover runs.end answers answers_kept in
     record {
       few = few;
-      unspent = λ less three. not_spent options.messages (length (messages_sent held.wal offset.lsn) + most_messages 1 held.wal.workload (length offset.infos + length pairs / options.chunk)) runs.end (spent_end runs.end status before after runs.says three) few runs.spent less;
+      unspent = λ less three. not_spent options.messages
+          (length (messages_sent held.wal offset.lsn) + most_messages 1 held.wal.workload (length offset.infos + length pairs / options.chunk)) runs.end
+          (spent_end runs.end status before after runs.says three) few runs.spent less;
     }

@@ -1,5 +1,6 @@
 -- No commit that the messages of a log without a fault state has a value equal to the placeholder, for every list of tables captured later.
-use Rattle.std.proofs.Common.{◌≡◌, ◌∙◌, ◌+◌, ℕ, zero, suc, Option, Some, None, IsSome, IsSomeAnd, List, [], ◌∷◌, ◌++◌, map, flat_map, slice_get, refl, sym, ap, ap₂, subst}
+use Rattle.std.proofs.Common.{◌≡◌, ◌∙◌, ◌+◌, ℕ, zero, suc, Option, Some, None, IsSome, IsSomeAnd, List, [], ◌∷◌, ◌++◌, map, flat_map, slice_get, refl, sym, ap}
+use Rattle.std.proofs.Common.{ap₂, subst}
 use Rattle.std.specs.Prelude.{option_map, unwrap_or}
 use Rattle.std.specs.Option.{option_and_then}
 use Rattle.std.specs.List.{AllByRecursion}
@@ -91,7 +92,8 @@ one_more_is (x ∷ xs) (y ∷ ys) raw is =
     record { info = rest.info; all_is = ap₂ (λ (a b : List TableInfo). a ++ b) first rest.all_is; is = rest.is }
 
 -- what is captured of some messages, and of them and one more
-clear_then : (options : LogOptions) (ms : List Message) (m : Message) (xs infos : List TableInfo) (told : Option RawTable) → table_told options.keys (tables_in options.keys ms) m ≡ told → AreCaptured options.keys ms xs → AreCaptured options.keys (m ∷ ms) infos
+clear_then : (options : LogOptions) (ms : List Message) (m : Message) (xs infos : List TableInfo) (told : Option RawTable)
+    → table_told options.keys (tables_in options.keys ms) m ≡ told → AreCaptured options.keys ms xs → AreCaptured options.keys (m ∷ ms) infos
     → AllByRecursion FitsFields ms → AllByRecursion (IsClear options.identity xs) (commits_of xs ms) → AllByRecursion (IsClear options.identity infos) (commits_of infos ms)
 clear_then options ms m xs infos None is before captured fields clear =
     let same = infos_one xs infos (before ∙ sym (captured ∙ ap (λ (o : Option RawTable). tables_in options.keys ms ++ list_of o) is ∙ append-nil (tables_in options.keys ms))) in
@@ -119,13 +121,15 @@ captured_before : (options : LogOptions) (ms : List Message) → HaveNoFault opt
 captured_before options [] clean = ([], refl)
 captured_before options (m ∷ ms) clean = (clean.0.0, clean.0.1.tables.captured)
 
-pub clear : (options : LogOptions) (ms : List Message) (infos : List TableInfo) → HaveNoFault options ms → AreCaptured options.keys ms infos → AllByRecursion FitsFields ms → AllByRecursion (IsClear options.identity infos) (commits_of infos ms)
+pub clear : (options : LogOptions) (ms : List Message) (infos : List TableInfo) → HaveNoFault options ms → AreCaptured options.keys ms infos
+    → AllByRecursion FitsFields ms → AllByRecursion (IsClear options.identity infos) (commits_of infos ms)
 clear options [] infos clean captured fields = tt
 clear options (m ∷ ms) infos clean captured fields =
     let here = clean.0 in
     let before = captured_before options ms clean.1 in
     let earlier = clear options ms before.0 clean.1 before.1 fields.1 in
     let same = infos_one here.0 infos (here.1.tables.captured ∙ sym captured) in
-    let last = subst (λ (i : List TableInfo). AllByRecursion (IsClear options.identity i) (list_of (ended_commit i m ms))) same (ended_clear options.identity here.0 (ended_commit here.0 m ms) here.1.made) in
+    let last = subst (λ (i : List TableInfo). AllByRecursion (IsClear options.identity i) (list_of (ended_commit i m ms))) same
+    (ended_clear options.identity here.0 (ended_commit here.0 m ms) here.1.made) in
     all_append (IsClear options.identity infos) (commits_of infos ms) (list_of (ended_commit infos m ms))
     (clear_then options ms m before.0 infos (table_told options.keys (tables_in options.keys ms) m) refl before.1 captured fields.1 earlier) last

@@ -24,8 +24,11 @@ use Rattle.dblog_run.proofs.CaptureInitStatuses.{said_status}
 use Rattle.dblog_run.proofs.PromiseTakenLaws.{kept_logs_are_printed}
 use Rattle.dblog_run.specs.Disks.{EndsOrFails, OfDisk, store_answer}
 use Rattle.dblog_run.specs.Inits.{init_answer}
-use Rattle.dblog_run.specs.Means.{Answers, RunInput, InputFails, Runs, SpellSome, StandsAlone, WalFails, made, spelled, uses_offsets, uses_topics}
-use Rattle.dblog_run.specs.Run.{RunAnswer, IsExternalStatus, MayEnd, applied, done, log_answer, out_of_memory, replayed, whole}
+use Rattle.dblog_run.specs.Means.{Answers, RunInput, InputFails, Runs, SpellSome, StandsAlone, WalFails, spelled, uses_offsets, uses_topics}
+use Rattle.dblog_run.specs.Streams.Generates.{made}
+use Rattle.dblog_run.specs.Streams.Answers.{RunAnswer, IsExternalStatus, MayEnd, done, out_of_memory, whole}
+use Rattle.dblog_run.specs.Streams.Applies.{applied}
+use Rattle.dblog_run.specs.Streams.Replays.{log_answer, replayed}
 use Rattle.dblog_laws.specs.Commands.{CanRun}
 use Rattle.dblog_laws.specs.RunLaws.{OtherRunsSucceed, PrintedWorkloadsSucceed}
 use Rattle.dblog_laws.specs.Sessions.{IsDoneStatus, NoneFailed}

@@ -20,7 +20,7 @@ use Rattle.dbl_model_commit.specs.Stated.{row_stated, commits_of}
 use Rattle.dbl_model_commit.specs.Blocks.{onto, AreWithoutFault}
 use Rattle.dblog_run.specs.Replay.Log.{lines_in, log_start}
 use Rattle.dblog_run.specs.Replay.Pieces.{AreSpelled}
-use Rattle.dblog_run.proofs.ReplayPieceLemmas.{numbered, spelled_read, numbered_carry}
+use Rattle.dblog_run.proofs.ReplayPieceLemmas.{pieces_from, spelled_read, pieces_carry}
 use Rattle.dblog_run.specs.Replay.Replay.{HaveNoFault, IsReplayed}
 use Rattle.dblog_run.proofs.ReplayCaptureLemmas.{infos_one}
 use Rattle.dblog_laws.specs.Pipe.{AreNamesUtf8, IsWholeLog}
@@ -131,14 +131,14 @@ stated : commits_of (example_table ∷ []) (onto [] example_messages) ≡ typed 
 unfolding type_of spelled_value given_cell row_of change_of row_stated
 stated = refl
 
-replayed : IsReplayed example_options (pos 0) (numbered 1 example_messages) example_lines None
+replayed : IsReplayed example_options (pos 0) (pieces_from 1 example_messages) example_lines None
 replayed = record {
   messages = example_messages;
-  front = numbered 1 example_messages;
+  front = pieces_from 1 example_messages;
   rest = [];
   infos = example_table ∷ [];
   parts = refl;
-  carried = numbered_carry 1 example_messages;
+  carried = pieces_carry 1 example_messages;
   captured = refl;
   clean = clean;
   accepted = accepted;
@@ -154,7 +154,17 @@ captured = record { distinct = refl; each = (refl, tt) }
 
 whole : IsWholeLog example_options (pos 0) example_log example_lines example_history
 unfolding replayed
-whole = record { pieces = numbered 1 example_messages; read = spelled_read 1 example_log example_messages spelled; replayed = replayed; moment = at_zero; names = names; fit = fit; captured = captured; stated = stated }
+whole =
+    record {
+      pieces = pieces_from 1 example_messages;
+      read = spelled_read 1 example_log example_messages spelled;
+      replayed = replayed;
+      moment = at_zero;
+      names = names;
+      fit = fit;
+      captured = captured;
+      stated = stated;
+    }
 
 pub whole_logs_stand : WholeLogsStand
 whole_logs_stand = (whole, refl)

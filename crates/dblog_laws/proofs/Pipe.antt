@@ -45,12 +45,14 @@ lines_clean number placeholder (item ∷ items) h = ap₂ (or_later_line number)
 
 -- ---- of a whole log
 
-told_whole : (options : LogOptions) (now : ℤ) (log lines : List (List ℕ)) (history : History) → (whole : IsWholeLog options now log lines history) → IsToldWhole history whole.replayed.infos options.identity (λ commit. now)
+told_whole : (options : LogOptions) (now : ℤ) (log lines : List (List ℕ)) (history : History) → (whole : IsWholeLog options now log lines history)
+    → IsToldWhole history whole.replayed.infos options.identity (λ commit. now)
 told_whole options now log lines history whole =
     let infos = whole.replayed.infos in
     let messages = whole.replayed.messages in
     let fit = fit_front whole.replayed.front whole.replayed.rest (subst AllFitFields whole.replayed.parts (pieces_fit 1 log whole.pieces whole.read)) in
-    let none = clear options (onto [] messages) infos whole.replayed.clean whole.replayed.captured (carried_fields whole.replayed.front [] messages whole.replayed.carried fit tt) in
+    let none = clear options (onto [] messages) infos whole.replayed.clean whole.replayed.captured
+    (carried_fields whole.replayed.front [] messages whole.replayed.carried fit tt) in
     record {
       fit = whole.fit;
       captured = whole.captured;

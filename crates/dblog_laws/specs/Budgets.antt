@@ -121,8 +121,8 @@ pub record AreAtRest (wals logs stores : List ℕ → Type 0) (held : Contents) 
 -- A `resume` over such disks doesn't use up a message budget above the workload's bound and the messages that were unsent when it began.
 abbrev pub GenerousBudgetsSufficeAgain : ℕ → (wals logs stores new_wals new_logs new_stores : List ℕ → Type 0) → Type 0
 GenerousBudgetsSufficeAgain more wals logs stores new_wals new_logs new_stores =
-    (options : ResumeOptions) (now : ℤ) (told_wal told_topics told_offsets : Option (List ℕ)) (status : Status)
-    (before after : Option (List ℕ))
+    (options : ResumeOptions) (now : ℤ) (told_wal told_topics told_offsets : Option (List ℕ))
+    (status : Status) (before after : Option (List ℕ))
     → (runs : RunsSession (Again options) now told_wal told_topics told_offsets wals logs stores new_wals new_logs new_stores status
     before after)
     → AreKept told_wal told_topics told_offsets wals logs stores
@@ -132,8 +132,9 @@ GenerousBudgetsSufficeAgain more wals logs stores new_wals new_logs new_stores =
     → (held : Contents) → ReadAs w t f held → AreAtRest wals logs stores held w t f
     → (left : Contents) → MayLeaveContents new_wals new_logs new_stores left → (offset : Offset) → held.offset ≡ Some offset
     → (pairs : List (ℕ × Key)) → CoverRows offset.infos (whole_history held.wal) pairs
-    → ReadsFew (length (messages_sent held.wal offset.lsn) + most_messages more held.wal.workload
-    (length offset.infos + length pairs / options.chunk)) options.messages status runs.end
+    → ReadsFew
+    (length (messages_sent held.wal offset.lsn)
+    + most_messages more held.wal.workload (length offset.infos + length pairs / options.chunk)) options.messages status runs.end
 
 -- ---- of a generated workload
 

@@ -8,14 +8,14 @@ use Rattle.dbl_offset.specs.declared.offset.Offset.{Offset}
 use Rattle.dbl_offset.specs.Stores.{IsStore}
 use Rattle.dbl_demo_wal.specs.Workloads.{IsWorkload, Workload}
 use Rattle.dbl_cli.specs.declared.commands.Command.{Command}
+use Rattle.dbl_cli.specs.declared.commands.ReplayOptions.{ReplayOptions}
 use Rattle.dbl_cli.specs.declared.commands.Command.TheVariants.{Init, Topics, Offsets, Capture, Resume, Replay, Apply, Gen}
 use Rattle.dblog_run.specs.Init.Answers.{AreEmpty}
 use Rattle.dblog_run.specs.Replay.Apply.{first_line_fault}
-use Rattle.dblog_run.specs.Replay.declared.options.LogOptions.{LogOptions}
 use Rattle.dblog_run.specs.Promise.Contents.{Contents, ReadAs}
 use Rattle.dblog_run.specs.Promise.Kept.{IsKept}
-use Rattle.dblog_run.specs.Run.{ReplaysLog}
-use Rattle.dblog_run.specs.Means.{RunInput, given_init, log_options}
+use Rattle.dblog_run.specs.Streams.Replays.{ReplaysLog}
+use Rattle.dblog_run.specs.Means.{RunInput, given_init}
 
 -- The input is a workload that can be run, and the disks are empty.
 pub record CanMake (given : RunInput) : Type 0 where
@@ -38,7 +38,7 @@ pub record CanApplyLines (placeholder : List ℕ) (given : RunInput) : Type 0 wh
   pub clean : first_line_fault placeholder (lines_of given.input) ≡ None
 
 -- The lines of the input encode valid messages, and end outside a transaction: these are replayed to some lines without an error.
-abbrev pub CanReplay : LogOptions → ℤ → RunInput → Type 0
+abbrev pub CanReplay : ReplayOptions → ℤ → RunInput → Type 0
 CanReplay options now given = (lines : List (List ℕ)) × ReplaysLog options now given.input lines None
 
 -- The input and the disks are what the command requires; for sessions `IsSupportedRun` says so.
@@ -48,7 +48,7 @@ CanRun Topics now given = (groups : List (List Record)) × IsLog given.topics gr
 CanRun Offsets now given = (offset : Offset) × IsStore given.offsets (Some offset)
 CanRun (Apply false placeholder) now given = CanApply given
 CanRun (Apply true placeholder) now given = CanApplyLines placeholder given
-CanRun (Replay options) now given = CanReplay (log_options options) now given
+CanRun (Replay options) now given = CanReplay options now given
 CanRun (Gen number rows groups false) now given = Unit {0}
 CanRun (Gen number rows groups true) now given = ⊥
 CanRun (Capture options) now given = ⊥

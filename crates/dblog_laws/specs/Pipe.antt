@@ -83,7 +83,7 @@ pub record AppliesTo (identity : Identity) (infos : List TableInfo) (source : Ro
 
 -- `apply --lines`, with the same placeholder, applies the bytes that `replay` writes for a whole log to the source's last rows.
 abbrev pub LastRowsAreApplied : Type 0
-LastRowsAreApplied = (options : LogOptions) (now : ℤ) (log lines : List (List ℕ)) (history : History)
-    → (whole : IsWholeLog options now log lines history)
+LastRowsAreApplied =
+    (options : LogOptions) (now : ℤ) (log lines : List (List ℕ)) (history : History) → (whole : IsWholeLog options now log lines history)
     → AppliesTo options.identity whole.replayed.infos (last_rows whole.replayed.infos (typed whole.replayed.infos history))
     (lines_text lines)

@@ -19,7 +19,7 @@ use Rattle.dblog_run.specs.Connect.Ends.{ConnectEnd}
 use Rattle.dblog_run.specs.Connect.Errors.{IsConnectError, IsExternalConnectError}
 use Rattle.dblog_run.specs.Capture.Runs.{AnswersCapture, AnswersKept, RunsSession}
 use Rattle.dblog_run.specs.Capture.Generated.{EndsGenerated, WasCaptured, plainly}
-use Rattle.dblog_run.specs.Run.{RunAnswer, EndsAs}
+use Rattle.dblog_run.specs.Streams.Answers.{RunAnswer, EndsAs}
 use Rattle.dblog_run.specs.Disks.{OfDisk}
 use Rattle.dblog_run.specs.Means.{RunInput, InputFails, Runs, SpellSome, StandsAlone, WalFails, uses_offsets, uses_topics}
 use Rattle.dblog_laws.specs.Commands.{CanRun}

@@ -1,5 +1,5 @@
 -- The lines of a log are those of all commits that its messages state up to the first fault.
-use Rattle.std.proofs.Common.{◌≡◌, inl, inr, ◌∙◌, ℕ, zero, suc, ℤ, ◌+◌, Option, Some, None, IsSome, IsSomeAnd, List, [], ◌∷◌, ◌++◌, map, flat_map, length, slice_get, refl, sym, ap, ap₂, subst, append_assoc}
+use Rattle.std.proofs.Common.{◌≡◌, inl, inr, ◌∙◌, ℕ, zero, suc, ℤ, ◌+◌, Option, Some, None, IsSome, IsSomeAnd, List, [], ◌∷◌, ◌++◌, map, flat_map, slice_get, refl, sym, ap, ap₂, subst, append_assoc}
 use Rattle.std.specs.Prelude.{option_map, unwrap_or}
 use Rattle.std.specs.List.{AllByRecursion}
 use Rattle.std.proofs.lemmas.List.{append-nil, map-append}
@@ -114,7 +114,8 @@ record IsSoFar (options : LogOptions) (now : ℤ) (ms : List Message) (infos : L
   pub commits : lines ≡ lines_in options.identity infos (commits_of infos ms) now
 
 -- the same where one more table is captured
-so_far_more : (options : LogOptions) (now : ℤ) (ms : List Message) (infos : List TableInfo) (info : TableInfo) (lines : List (List ℕ)) → HasNoRelation info.name ms → IsSoFar options now ms infos lines
+so_far_more : (options : LogOptions) (now : ℤ) (ms : List Message) (infos : List TableInfo) (info : TableInfo) (lines : List (List ℕ))
+    → HasNoRelation info.name ms → IsSoFar options now ms infos lines
     → AreWithoutFault (infos ++ info ∷ []) log_start ms × (lines ≡ lines_in options.identity (infos ++ info ∷ []) (commits_of (infos ++ info ∷ []) ms) now)
 so_far_more options now ms infos info lines none so_far = (
   accepted_learnt infos info ms none so_far.accepted,
@@ -144,7 +145,8 @@ one_more_is (x ∷ xs) (y ∷ ys) raw is =
     record { info = rest.info; all_is = ap₂ (λ (a b : List TableInfo). a ++ b) first rest.all_is; is = rest.is }
 
 -- where one more message is read, with the tables captured then
-so_far_then : (options : LogOptions) (now : ℤ) (ms : List Message) (m : Message) (infos more : List TableInfo) (lines : List (List ℕ)) (told : Option RawTable) → table_told options.keys (tables_in options.keys ms) m ≡ told → AreCaptured options.keys (m ∷ ms) more → IsSoFar options now ms infos lines
+so_far_then : (options : LogOptions) (now : ℤ) (ms : List Message) (m : Message) (infos more : List TableInfo) (lines : List (List ℕ)) (told : Option RawTable)
+    → table_told options.keys (tables_in options.keys ms) m ≡ told → AreCaptured options.keys (m ∷ ms) more → IsSoFar options now ms infos lines
     → AreWithoutFault more log_start ms × (lines ≡ lines_in options.identity more (commits_of more ms) now)
 so_far_then options now ms m infos more lines None is captured so_far =
     let same = infos_one more infos (captured ∙ ap (λ (o : Option RawTable). tables_in options.keys ms ++ list_of o) is ∙ append-nil (tables_in options.keys ms) ∙ sym so_far.captured) in
@@ -154,7 +156,8 @@ so_far_then options now ms m infos more lines (Some raw) is captured so_far =
     let none : HasNoRelation one.info.name ms = subst (λ (r : RawTable). HasNoRelation r.name ms) (sym one.is) (told_has_none options.keys ms m raw is) in
     subst (λ (i : List TableInfo). AreWithoutFault i log_start ms × (lines ≡ lines_in options.identity i (commits_of i ms) now)) (sym one.all_is) (so_far_more options now ms infos one.info lines none so_far)
 
-so_far_next : (options : LogOptions) (now : ℤ) (ms : List Message) (m : Message) (infos more : List TableInfo) (lines : List (List ℕ)) → IsTaken options ms m more → FitsFields m → IsSoFar options now ms infos lines
+so_far_next : (options : LogOptions) (now : ℤ) (ms : List Message) (m : Message) (infos more : List TableInfo) (lines : List (List ℕ))
+    → IsTaken options ms m more → FitsFields m → IsSoFar options now ms infos lines
     → IsSoFar options now (m ∷ ms) more (lines ++ lines_in options.identity more (list_of (ended_commit more m ms)) now)
 so_far_next options now ms m infos more lines taken fits so_far =
     let then = so_far_then options now ms m infos more lines (table_told options.keys (tables_in options.keys ms) m) refl taken.tables.captured so_far in
@@ -178,7 +181,9 @@ record IsWhole (options : LogOptions) (now : ℤ) (ms : List Message) (pieces : 
   pub ends : EndsLog options (onto ms messages) rest end
 
 -- no message more
-whole_ends : (options : LogOptions) (now : ℤ) (ms : List Message) (infos : List TableInfo) (before : List (List ℕ)) (pieces : List Piece) (lines : List (List ℕ)) (end : Option LogFault) → IsSoFar options now ms infos before → lines ≡ [] → EndsLog options ms pieces end
+whole_ends : (options : LogOptions) (now : ℤ) (ms : List Message) (infos : List TableInfo) (before : List (List ℕ)) (pieces : List Piece)
+    (lines : List (List ℕ)) (end : Option LogFault)
+    → IsSoFar options now ms infos before → lines ≡ [] → EndsLog options ms pieces end
     → IsWhole options now ms pieces (before ++ lines) end
 whole_ends options now ms infos before pieces lines end so_far none ends = record {
   messages = [];
@@ -191,15 +196,19 @@ whole_ends options now ms infos before pieces lines end so_far none ends = recor
   ends = ends;
 }
 
-whole_from : (options : LogOptions) (now : ℤ) (ms : List Message) (infos : List TableInfo) (before : List (List ℕ)) (pieces : List Piece) (lines : List (List ℕ)) (end : Option LogFault) → IsSoFar options now ms infos before → AllFitFields pieces
+whole_from : (options : LogOptions) (now : ℤ) (ms : List Message) (infos : List TableInfo) (before : List (List ℕ)) (pieces : List Piece)
+    (lines : List (List ℕ)) (end : Option LogFault)
+    → IsSoFar options now ms infos before → AllFitFields pieces
     → LogWrites options now ms pieces lines end → IsWhole options now ms pieces (before ++ lines) end
 whole_from options now ms infos before [] lines end so_far fit writes = whole_ends options now ms infos before [] lines end so_far writes.0 writes.1
-whole_from options now ms infos before (Stops f ∷ pieces) lines end so_far fit writes = whole_ends options now ms infos before (Stops f ∷ pieces) lines end so_far writes.0 writes.1
+whole_from options now ms infos before (Stops f ∷ pieces) lines end so_far fit writes =
+    whole_ends options now ms infos before (Stops f ∷ pieces) lines end so_far writes.0 writes.1
 whole_from options now ms infos before (Carries number m ∷ pieces) lines end so_far fit (inl stopped) =
     whole_ends options now ms infos before (Carries number m ∷ pieces) lines end so_far stopped.none (stopped.fault, stopped.is, stopped.told)
 whole_from options now ms infos before (Carries number m ∷ pieces) lines end so_far fit (inr (more, next, taken, split, writes)) =
     let printed = lines_in options.identity more (list_of (ended_commit more m ms)) now in
-    let later = whole_from options now (m ∷ ms) more (before ++ printed) pieces next end (so_far_next options now ms m infos more before taken fit.0 so_far) fit.1 writes in
+    let later = whole_from options now (m ∷ ms) more (before ++ printed) pieces next end
+    (so_far_next options now ms m infos more before taken fit.0 so_far) fit.1 writes in
     record {
       messages = m ∷ later.messages;
       front = Carries number m ∷ later.front;
@@ -211,9 +220,11 @@ whole_from options now ms infos before (Carries number m ∷ pieces) lines end s
       ends = later.ends;
     }
 
-pub commits_written : (options : LogOptions) (now : ℤ) (pieces : List Piece) (lines : List (List ℕ)) (end : Option LogFault) → AllFitFields pieces → LogWrites options now [] pieces lines end → IsReplayed options now pieces lines end
+pub commits_written : (options : LogOptions) (now : ℤ) (pieces : List Piece) (lines : List (List ℕ)) (end : Option LogFault) → AllFitFields pieces
+    → LogWrites options now [] pieces lines end → IsReplayed options now pieces lines end
 commits_written options now pieces lines end fit writes =
-    let whole = whole_from options now [] [] [] pieces lines end (record { captured = refl; clean = tt; accepted = tt; fields = tt; commits = refl }) fit writes in
+    let whole = whole_from options now [] [] [] pieces lines end
+    (record { captured = refl; clean = tt; accepted = tt; fields = tt; commits = refl }) fit writes in
     record {
       messages = whole.messages;
       front = whole.front;
@@ -236,41 +247,53 @@ clean_before options ms [] clean = clean
 clean_before options ms (m ∷ messages) clean = (clean_before options (m ∷ ms) messages clean).1
 
 -- what messages after others write, and how it ends
-record IsWalked (options : LogOptions) (now : ℤ) (ms messages : List Message) (pieces : List Piece) (before : List (List ℕ)) (end : Option LogFault) : Type 0 where
+record IsWalked (options : LogOptions) (now : ℤ) (ms messages : List Message) (pieces : List Piece) (before : List (List ℕ)) (end : Option LogFault)
+    : Type 0 where
   pub lines : List (List ℕ)
   pub infos : List TableInfo
   pub writes : LogWrites options now ms pieces lines end
   pub so_far : IsSoFar options now (onto ms messages) infos (before ++ lines)
 
-walked_end : (options : LogOptions) (now : ℤ) (ms : List Message) (infos : List TableInfo) (rest : List Piece) (before : List (List ℕ)) (end : Option LogFault) → LogWrites options now ms rest [] end → IsSoFar options now ms infos before
+walked_end : (options : LogOptions) (now : ℤ) (ms : List Message) (infos : List TableInfo) (rest : List Piece) (before : List (List ℕ)) (end : Option LogFault)
+    → LogWrites options now ms rest [] end → IsSoFar options now ms infos before
     → IsWalked options now ms [] rest before end
-walked_end options now ms infos rest before end writes so_far = record { lines = []; infos = infos; writes = writes; so_far = subst (IsSoFar options now ms infos) (sym (append-nil before)) so_far }
+walked_end options now ms infos rest before end writes so_far =
+    record { lines = []; infos = infos; writes = writes; so_far = subst (IsSoFar options now ms infos) (sym (append-nil before)) so_far }
 
-ends_write : (options : LogOptions) (now : ℤ) (ms : List Message) (rest : List Piece) (end : Option LogFault) → EndsLog options ms rest end → LogWrites options now ms rest [] end
+ends_write : (options : LogOptions) (now : ℤ) (ms : List Message) (rest : List Piece) (end : Option LogFault) → EndsLog options ms rest end
+    → LogWrites options now ms rest [] end
 ends_write options now ms [] end ends = (refl, ends)
 ends_write options now ms (Stops f ∷ rest) end ends = (refl, ends)
 ends_write options now ms (Carries number m ∷ rest) end ends = inl (record { fault = ends.0; is = ends.1; none = refl; told = ends.2 })
 
-walked : (options : LogOptions) (now : ℤ) (ms messages : List Message) (infos : List TableInfo) (front rest : List Piece) (before : List (List ℕ)) (end : Option LogFault) → CarryMessages front messages → HaveNoFault options (onto ms messages)
-    → EndsLog options (onto ms messages) rest end → AllFitFields (front ++ rest) → IsSoFar options now ms infos before → IsWalked options now ms messages (front ++ rest) before end
-walked options now ms [] infos [] rest before end carried clean ends fit so_far = walked_end options now ms infos rest before end (ends_write options now ms rest end ends) so_far
+walked : (options : LogOptions) (now : ℤ) (ms messages : List Message) (infos : List TableInfo) (front rest : List Piece) (before : List (List ℕ))
+    (end : Option LogFault)
+    → CarryMessages front messages → HaveNoFault options (onto ms messages)
+    → EndsLog options (onto ms messages) rest end → AllFitFields (front ++ rest) → IsSoFar options now ms infos before
+    → IsWalked options now ms messages (front ++ rest) before end
+walked options now ms [] infos [] rest before end carried clean ends fit so_far =
+    walked_end options now ms infos rest before end (ends_write options now ms rest end ends) so_far
 walked options now ms [] infos (p ∷ front) rest before end carried clean ends fit so_far = absurd carried
 walked options now ms (m ∷ messages) infos [] rest before end carried clean ends fit so_far = absurd carried
 walked options now ms (m ∷ messages) infos (p ∷ front) rest before end carried clean ends fit so_far =
     let here = (clean_before options (m ∷ ms) messages clean).0 in
     let fits = carried_fits p carried.0.0 m (front ++ rest) carried.0.1 fit in
     let printed = lines_in options.identity here.0 (list_of (ended_commit here.0 m ms)) now in
-    let later = walked options now (m ∷ ms) messages here.0 front rest (before ++ printed) end carried.1 clean ends fits.1 (so_far_next options now ms m infos here.0 before here.1 fits.0 so_far) in
+    let later = walked options now (m ∷ ms) messages here.0 front rest (before ++ printed) end carried.1 clean ends fits.1
+    (so_far_next options now ms m infos here.0 before here.1 fits.0 so_far) in
     record {
       lines = printed ++ later.lines;
       infos = later.infos;
-      writes = subst (λ (x : Piece). LogWrites options now ms (x ∷ (front ++ rest)) (printed ++ later.lines) end) (sym carried.0.1) (inr (here.0, later.lines, here.1, refl, later.writes));
+      writes = subst (λ (x : Piece). LogWrites options now ms (x ∷ (front ++ rest)) (printed ++ later.lines) end) (sym carried.0.1)
+          (inr (here.0, later.lines, here.1, refl, later.writes));
       so_far = subst (IsSoFar options now (onto (m ∷ ms) messages) later.infos) (append_assoc before printed later.lines) later.so_far;
     }
 
-pub replayed_written : (options : LogOptions) (now : ℤ) (pieces : List Piece) (lines : List (List ℕ)) (end : Option LogFault) → AllFitFields pieces → IsReplayed options now pieces lines end → LogWrites options now [] pieces lines end
+pub replayed_written : (options : LogOptions) (now : ℤ) (pieces : List Piece) (lines : List (List ℕ)) (end : Option LogFault) → AllFitFields pieces
+    → IsReplayed options now pieces lines end → LogWrites options now [] pieces lines end
 replayed_written options now pieces lines end fit is =
-    let walk = walked options now [] is.messages [] is.front is.rest [] end is.carried is.clean is.ends (subst AllFitFields is.parts fit) (record { captured = refl; clean = tt; accepted = tt; fields = tt; commits = refl }) in
+    let walk = walked options now [] is.messages [] is.front is.rest [] end is.carried is.clean is.ends (subst AllFitFields is.parts fit)
+    (record { captured = refl; clean = tt; accepted = tt; fields = tt; commits = refl }) in
     let same = infos_one walk.infos is.infos (walk.so_far.captured ∙ sym is.captured) in
     let lines_are : walk.lines ≡ lines = walk.so_far.commits ∙ ap (λ (i : List TableInfo). lines_in options.identity i (commits_of i (onto [] is.messages)) now) same ∙ sym is.commits in
     subst (λ (l : List Piece). LogWrites options now [] l lines end) (sym is.parts)
@@ -281,8 +304,8 @@ commits_are_written options now pieces lines end fit = (commits_written options 
 
 -- ---- one answer, and some answer
 
-pub replays_one : ReplaysAreOne
-replays_one options now pieces l k d e fit one two =
+pub replayed_once : ReplaysAreOne
+replayed_once options now pieces l k d e fit one two =
     let same = log_one options now [] pieces l k d e (replayed_written options now pieces l d fit one) (replayed_written options now pieces k e fit two) in
     (same.lines, same.end)
 

@@ -1,5 +1,6 @@
 -- What lines encode are bytes.
-use Rattle.std.proofs.Common.{◌≡◌, ℕ, ◌+◌, ◌-◌, ◌*◌, ◌<◌, ◌≤◌, ◌==◌, ◌%◌, ◌&&◌, Bool, true, false, Option, Some, None, Result, Ok, Err, List, [], ◌∷◌, length, refl, subst, arith, leb-true}
+use Rattle.std.proofs.Common.{◌≡◌, ℕ, ◌+◌, ◌-◌, ◌*◌, ◌<◌, ◌≤◌, ◌==◌, ◌%◌, ◌&&◌, Bool, true, false, Option, Some, None, Result, Ok, Err, List, [], ◌∷◌, length}
+use Rattle.std.proofs.Common.{refl, subst, arith, leb-true}
 use Rattle.std.specs.Prelude.{if◌then◌else◌, nat_le}
 use Rattle.std.specs.List.{AllByRecursion, cons_option}
 use Rattle.std.specs.Result.{result_ok}
@@ -29,8 +30,11 @@ digit_small c v is =
     (pick _ (c - 87) v _ (between 97 c 102 87 (omega arith)) (pick _ (c - 48) v None (between 48 c 57 48 (omega arith)) (λ none. cc)))
     is
 
-pair_small : (high low i : ℕ) (o p : Option ℕ) → hex_digit_value high ≡ o → hex_digit_value low ≡ p → (rest : Result (List ℕ) FromHexError) → ((ys : List ℕ) → rest ≡ Ok ys → AreBytes ys)
-    → (xs : List ℕ) → ((digit_or_error high i o >>= (λ h. digit_or_error low (i + 1) p >>= (λ l. Ok (h * 16 + l)))) >>= (λ byte. rest >>= (λ bytes. Ok (byte ∷ bytes)))) ≡ Ok xs → AreBytes xs
+pair_small : (high low i : ℕ) (o p : Option ℕ) → hex_digit_value high ≡ o → hex_digit_value low ≡ p → (rest : Result (List ℕ) FromHexError)
+    → ((ys : List ℕ) → rest ≡ Ok ys → AreBytes ys)
+    → (xs : List ℕ)
+    → ((digit_or_error high i o >>= (λ h. digit_or_error low (i + 1) p >>= (λ l. Ok (h * 16 + l)))) >>= (λ byte. rest >>= (λ bytes. Ok (byte ∷ bytes)))) ≡ Ok xs
+    → AreBytes xs
 pair_small high low i (Some h) (Some l) eh el (Ok ys) small xs is =
     let same : (h * 16 + l) ∷ ys ≡ xs = cc in
     let first : h < 16 = digit_small high h eh in
@@ -62,7 +66,8 @@ message_small : (b : Bool) (line xs : List ℕ) → (if b then None else bytes_i
 message_small true line xs is = cc
 message_small false line xs is = line_small line xs is
 
-one_more_small : (o : Option (List ℕ)) (bs : List (List ℕ)) → ((xs : List ℕ) → o ≡ Some xs → AreBytes xs) → AllByRecursion AreBytes bs → AllByRecursion AreBytes (cons_option o bs)
+one_more_small : (o : Option (List ℕ)) (bs : List (List ℕ)) → ((xs : List ℕ) → o ≡ Some xs → AreBytes xs) → AllByRecursion AreBytes bs
+    → AllByRecursion AreBytes (cons_option o bs)
 one_more_small None bs here later = later
 one_more_small (Some xs) bs here later = (here xs refl, later)
 

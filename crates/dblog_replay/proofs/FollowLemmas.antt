@@ -28,7 +28,8 @@ use Rattle.dblog_replay.specs.declared.options.LogOptions.{LogOptions}
 use Rattle.dblog_replay.specs.declared.replay.Replayer.{Replayer}
 use Rattle.dblog_replay.specs.Captures.{entry_of, capture_fault, tables_in, told_fault}
 use Rattle.dblog_replay.specs.Pieces.{Piece, Carries, Stops, IsPiece, AreRead}
-use Rattle.dblog_replay.specs.Log.{log_start, lines_in, commit_fault, HasTables, records_fault, IsLogFault, no_table, no_place, no_records, IsTaken, end_fault, LogWrites}
+use Rattle.dblog_replay.specs.Log.{log_start, lines_in, commit_fault, HasTables, records_fault, IsLogFault, no_table, no_place, no_records, IsTaken, end_fault}
+use Rattle.dblog_replay.specs.Log.{LogWrites}
 use Rattle.dblog_replay.specs.Following.{HasReplayed, FollowsMessages, IsReplaying, IsReplayerReady, AppendsMessage, IsNextMessage, TakesMessage}
 use Rattle.dblog_replay.specs.LogPrinting.{starved, cut, PutsCommit, IsStepped, step_starved, step_cut, StopsAt, StepsPrinting, StepsReading, IsLogPut}
 use Rattle.dblog_replay.proofs.CaptureLemmas.{count_is, captured_still, captured_more, is_known, is_new, new_has_none}
@@ -52,11 +53,13 @@ entry_is : (keys : List TableKey) (s n ns nm : List ℕ) (columns : List Relatio
 entry_is keys s n ns nm columns entry schema name is = is ∙ ap (λ (t : TableName). entry_of keys t columns) (ap₂ name_of schema name)
 
 -- the entry by the keys that are given
-pub given_entry : (options : LogOptions) (ms : List Message) (r : Replayer) → FollowsMessages options ms r → (keys : List TableKey) (table : TableName) (columns : List RelationColumn) (entry : RawTable) → keys ≡ r.keys
+pub given_entry : (options : LogOptions) (ms : List Message) (r : Replayer) → FollowsMessages options ms r
+    → (keys : List TableKey) (table : TableName) (columns : List RelationColumn) (entry : RawTable) → keys ≡ r.keys
     → entry ≡ entry_of keys table columns → entry ≡ entry_of options.keys table columns
 given_entry options ms r follows keys table columns entry same is = is ∙ ap (λ (k : List TableKey). entry_of k table columns) (same ∙ follows.replayed.keys)
 
-module _ (options : LogOptions) (ms : List Message) (r : Replayer) (oid identity : ℕ) (ns nm s n : List ℕ) (columns : List RelationColumn) (items : List TableInfo) (test : Bool) (follows : FollowsMessages options ms r)
+module _ (options : LogOptions) (ms : List Message) (r : Replayer) (oid identity : ℕ) (ns nm s n : List ℕ) (columns : List RelationColumn)
+    (items : List TableInfo) (test : Bool) (follows : FollowsMessages options ms r)
     (schema : s ≡ schema_of ns) (name : n ≡ nm) (same : items ≡ follows.infos)
     (is : test ≡ not (is_watermark (record { schema = s; name = n }) || list_any (λ (info : TableInfo). same_name info.name (record { schema = s; name = n })) items)) where
   -- the table is captured already
@@ -98,14 +101,17 @@ module _ (options : LogOptions) (ms : List Message) (r : Replayer) (oid identity
         infos = follows.infos ++ info ∷ [];
         replayed = replayed;
         tables = record {
-          capturable = ap (option_and_then (capture_fault (length (tables_in options.keys ms)))) told ∙ ap₂ capture_fault (sym count_told) (sym entry_same) ∙ clean;
-          captured = captured_more options.keys (says.Relation oid ns nm identity columns) ms follows.infos info (entry_of options.keys (table_named ns nm) columns) follows.captured told (info_told ∙ entry_same);
+          capturable = ap (option_and_then (capture_fault (length (tables_in options.keys ms)))) told ∙ ap₂ capture_fault (sym count_told)
+              (sym entry_same) ∙ clean;
+          captured = captured_more options.keys (says.Relation oid ns nm identity columns) ms follows.infos info
+              (entry_of options.keys (table_named ns nm) columns) follows.captured told (info_told ∙ entry_same);
         };
       }
 
 -- ---- one message
 
-pub prepare_fails : (options : LogOptions) (ms : List Message) (number : ℕ) (m : Message) (fault : LogFault) → (fault ≡ log.Memory) ⊎ (told_fault options.keys (tables_in options.keys ms) m ≡ Some fault)
+pub prepare_fails : (options : LogOptions) (ms : List Message) (number : ℕ) (m : Message) (fault : LogFault) → (fault ≡ log.Memory)
+    ⊎ (told_fault options.keys (tables_in options.keys ms) m ≡ Some fault)
     → (fault ≡ log.Memory) ⊎ IsLogFault options ms number m fault
 prepare_fails options ms number m fault (inl memory) = inl memory
 prepare_fails options ms number m fault (inr told) = inr (no_table told)
@@ -113,20 +119,25 @@ prepare_fails options ms number m fault (inr told) = inr (no_table told)
 no_fault_found : (number : ℕ) (fault : LogFault) → option_map (log.Transaction number) None ≡ Some fault → ⊥
 no_fault_found number fault told = cc
 
-fault_found : (number : ℕ) (error : TxnError) (fault : LogFault) → option_map (log.Transaction number) (Some error) ≡ Some fault → fault ≡ log.Transaction number error
+fault_found : (number : ℕ) (error : TxnError) (fault : LogFault) → option_map (log.Transaction number) (Some error) ≡ Some fault
+    → fault ≡ log.Transaction number error
 fault_found number error fault told = cc
 
-misplaced : (options : LogOptions) (ms : List Message) (number : ℕ) (m : Message) (infos : List TableInfo) (fault : LogFault) → HasTables options ms m infos → (o : Option TxnError) → transaction_fault infos log_start m ms ≡ o
+misplaced : (options : LogOptions) (ms : List Message) (number : ℕ) (m : Message) (infos : List TableInfo) (fault : LogFault) → HasTables options ms m infos
+    → (o : Option TxnError) → transaction_fault infos log_start m ms ≡ o
     → option_map (log.Transaction number) o ≡ Some fault → IsLogFault options ms number m fault
 misplaced options ms number m infos fault tables None is told = absurd (no_fault_found number fault told)
 misplaced options ms number m infos fault tables (Some error) is told = no_place infos error tables is (fault_found number error fault told)
 
 put_fails : (options : LogOptions) (ms : List Message) (number : ℕ) (m : Message) (r : Replayer) (fault : LogFault) (ready : IsReplayerReady options ms m r)
-    → (fault ≡ log.Memory) ⊎ (option_map (log.Transaction number) (transaction_fault ready.infos log_start m ms) ≡ Some fault) → (fault ≡ log.Memory) ⊎ IsLogFault options ms number m fault
+    → (fault ≡ log.Memory) ⊎ (option_map (log.Transaction number) (transaction_fault ready.infos log_start m ms) ≡ Some fault) → (fault ≡ log.Memory)
+    ⊎ IsLogFault options ms number m fault
 put_fails options ms number m r fault ready (inl memory) = inl memory
 put_fails options ms number m r fault ready (inr told) = inr (misplaced options ms number m ready.infos fault ready.tables _ refl told)
 
-pub put_takes : (options : LogOptions) (ms : List Message) (number : ℕ) (m : Message) (r s : Replayer) (result : Result (Option Commit) LogFault) (ready : IsReplayerReady options ms m r) → FitsFields m → AllByRecursion FitsFields ms
+pub put_takes : (options : LogOptions) (ms : List Message) (number : ℕ) (m : Message) (r s : Replayer) (result : Result (Option Commit) LogFault)
+    (ready : IsReplayerReady options ms m r)
+    → FitsFields m → AllByRecursion FitsFields ms
     → AppendsMessage options ready.infos ms number m s result → TakesMessage options ms number m s result
 put_takes options ms number m r s (Ok o) ready fits fields put = record {
   infos = ready.infos;
@@ -147,23 +158,31 @@ WriterLines r o now = lines_in r.writer.identity r.writer.infos (list_of o) now
 abbrev WriterFault : Replayer → Option Commit → Option LogFault
 WriterFault r o = option_and_then (commit_fault r.writer.identity r.writer.infos) o
 
-writer_lines : (options : LogOptions) (ms : List Message) (m : Message) (r : Replayer) (o : Option Commit) (now : ℤ) (is : IsNextMessage options ms m r o) → WriterLines r o now ≡ lines_in options.identity is.infos (list_of (ended_commit is.infos m ms)) now
+writer_lines : (options : LogOptions) (ms : List Message) (m : Message) (r : Replayer) (o : Option Commit) (now : ℤ) (is : IsNextMessage options ms m r o)
+    → WriterLines r o now ≡ lines_in options.identity is.infos (list_of (ended_commit is.infos m ms)) now
 writer_lines options ms m r o now is =
     ap₂ (λ (i : Identity) (infos : List TableInfo). lines_in i infos (list_of o) now) is.replayed.identity is.replayed.writes ∙ ap (λ (c : Option Commit). lines_in options.identity is.infos (list_of c) now) is.commit
 
-writer_fault : (options : LogOptions) (ms : List Message) (m : Message) (r : Replayer) (o : Option Commit) (is : IsNextMessage options ms m r o) → WriterFault r o ≡ records_fault options.identity is.infos m ms
+writer_fault : (options : LogOptions) (ms : List Message) (m : Message) (r : Replayer) (o : Option Commit) (is : IsNextMessage options ms m r o)
+    → WriterFault r o ≡ records_fault options.identity is.infos m ms
 writer_fault options ms m r o is =
-    ap₂ (λ (i : Identity) (infos : List TableInfo). option_and_then (commit_fault i infos) o) is.replayed.identity is.replayed.writes ∙ ap (λ (c : Option Commit). option_and_then (commit_fault options.identity is.infos) c) is.commit
+    ap₂ (λ (i : Identity) (infos : List TableInfo). option_and_then (commit_fault i infos) o) is.replayed.identity is.replayed.writes ∙ ap
+    (λ (c : Option Commit). option_and_then (commit_fault options.identity is.infos) c) is.commit
 
-next_taken : (options : LogOptions) (ms : List Message) (m : Message) (r : Replayer) (o : Option Commit) (is : IsNextMessage options ms m r o) → WriterFault r o ≡ None → IsTaken options ms m is.infos
+next_taken : (options : LogOptions) (ms : List Message) (m : Message) (r : Replayer) (o : Option Commit) (is : IsNextMessage options ms m r o)
+    → WriterFault r o ≡ None → IsTaken options ms m is.infos
 next_taken options ms m r o is none = record { tables = is.tables; placed = is.placed; made = sym (writer_fault options ms m r o is) ∙ none }
 
-next_follows : (options : LogOptions) (ms : List Message) (m : Message) (r : Replayer) (o : Option Commit) (is : IsNextMessage options ms m r o) → FollowsMessages options (m ∷ ms) r
+next_follows : (options : LogOptions) (ms : List Message) (m : Message) (r : Replayer) (o : Option Commit) (is : IsNextMessage options ms m r o)
+    → FollowsMessages options (m ∷ ms) r
 next_follows options ms m r o is = record { infos = is.infos; replayed = is.replayed; captured = is.tables.captured; fields = is.fields }
 
 -- what became of the commit is what became of the message
-pub steps : (options : LogOptions) (now : ℤ) (ms : List Message) (number : ℕ) (m : Message) (gathered later : List ℕ) (r : Replayer) (o : Option Commit) (result : Result (Option LogFault) PrintError) (before after : Option (List ℕ)) → IsNextMessage options ms m r o
-    → PutsCommit (WriterFault r o) (WriterLines r o now) gathered later result before after → StepsPrinting options now ms (Carries number m) gathered later r result before after
+pub steps : (options : LogOptions) (now : ℤ) (ms : List Message) (number : ℕ) (m : Message) (gathered later : List ℕ) (r : Replayer) (o : Option Commit)
+    (result : Result (Option LogFault) PrintError) (before after : Option (List ℕ))
+    → IsNextMessage options ms m r o
+    → PutsCommit (WriterFault r o) (WriterLines r o now) gathered later result before after
+    → StepsPrinting options now ms (Carries number m) gathered later r result before after
 steps options now ms number m gathered later r o (Ok None) before after is puts = record {
   number = number;
   m = m;
@@ -177,7 +196,8 @@ steps options now ms number m gathered later r o (Ok (Some fault)) before after 
     (no_records is.infos is.tables is.placed (sym (writer_fault options ms m r o is) ∙ told), halted)
 steps options now ms number m gathered later r o (Err error) before after is (starved memory same) = step_starved memory same
 steps options now ms number m gathered later r o (Err error) before after is (cut none fails) =
-    step_cut number m is.infos refl (next_taken options ms m r o is none) (subst (λ (l : List (List ℕ)). PutFails l gathered error before after) (writer_lines options ms m r o now is) fails)
+    step_cut number m is.infos refl (next_taken options ms m r o is none)
+    (subst (λ (l : List (List ℕ)). PutFails l gathered error before after) (writer_lines options ms m r o now is) fails)
 
 same_fault : (x y : LogFault) → Some x ≡ Some y → x ≡ y
 same_fault x y same = cc
@@ -186,47 +206,69 @@ no_fault : (x : LogFault) → None ≡ Some x → ⊥
 no_fault x same = cc
 
 -- a piece that ends the log, or out of memory
-pub steps_stopped : (options : LogOptions) (now : ℤ) (ms : List Message) (piece : Piece) (gathered : List ℕ) (r : Replayer) (fault : LogFault) (result : Result (Option LogFault) PrintError) (before : Option (List ℕ)) → (fault ≡ log.Memory) ⊎ StopsAt options ms piece fault
-    → IfOk result (λ found. found ≡ Some fault) → OnOk result (fault ≢ log.Memory) → IfErr result (λ e. e ≡ Memory) → StepsPrinting options now ms piece gathered gathered r result before before
+pub steps_stopped : (options : LogOptions) (now : ℤ) (ms : List Message) (piece : Piece) (gathered : List ℕ) (r : Replayer) (fault : LogFault)
+    (result : Result (Option LogFault) PrintError) (before : Option (List ℕ))
+    → (fault ≡ log.Memory) ⊎ StopsAt options ms piece fault
+    → IfOk result (λ found. found ≡ Some fault) → OnOk result (fault ≢ log.Memory) → IfErr result (λ e. e ≡ Memory)
+    → StepsPrinting options now ms piece gathered gathered r result before before
 steps_stopped options now ms piece gathered r fault (Ok None) before cause told other memory = absurd (no_fault fault told)
 steps_stopped options now ms piece gathered r fault (Ok (Some found)) before (inl memory) told other err = absurd (other memory)
 steps_stopped options now ms piece gathered r fault (Ok (Some found)) before (inr is) told other err =
     (subst (StopsAt options ms piece) (sym (same_fault found fault told)) is, record { kept = refl; same = refl })
 steps_stopped options now ms piece gathered r fault (Err error) before cause told other memory = step_starved memory refl
 
+abbrev failed : PrintError → Result (Option LogFault) PrintError
+failed e = Err e
+
 -- bytes that are no message, or out of memory
-pub read_stopped : (options : LogOptions) (now : ℤ) (ms : List Message) (number : ℕ) (b gathered : List ℕ) (r : Replayer) (fault : LogFault) (result : Result (Option LogFault) PrintError) (before : Option (List ℕ)) → (fault ≡ log.Memory) ⊎ IsPiece number b (Stops fault)
-    → IfOk result (λ found. found ≡ Some fault) → OnOk result (fault ≢ log.Memory) → IfErr result (λ e. e ≡ Memory) → StepsReading options now ms number b gathered gathered r result before before
+pub read_stopped : (options : LogOptions) (now : ℤ) (ms : List Message) (number : ℕ) (b gathered : List ℕ) (r : Replayer) (fault : LogFault)
+    (result : Result (Option LogFault) PrintError) (before : Option (List ℕ))
+    → (fault ≡ log.Memory) ⊎ IsPiece number b (Stops fault)
+    → IfOk result (λ found. found ≡ Some fault) → OnOk result (fault ≢ log.Memory) → IfErr result (λ e. e ≡ Memory)
+    → StepsReading options now ms number b gathered gathered r result before before
 read_stopped options now ms number b gathered r fault result before (inr is) told other err =
     inr (Stops fault, is, steps_stopped options now ms (Stops fault) gathered r fault result before (inr refl) told other err)
 read_stopped options now ms number b gathered r fault (Ok found) before (inl memory) told other err = absurd (other memory)
-read_stopped options now ms number b gathered r fault (Err error) before (inl memory) told other err = inl (ap (λ (e : PrintError). Err e) err, refl)
+read_stopped options now ms number b gathered r fault (Err error) before (inl memory) told other err = inl (ap failed err, refl)
 
 -- bytes that are a message
-pub read_steps : (options : LogOptions) (now : ℤ) (ms : List Message) (number : ℕ) (b : List ℕ) (m : Message) (gathered later : List ℕ) (r : Replayer) (result : Result (Option LogFault) PrintError) (before after : Option (List ℕ)) → Spells b m
-    → StepsPrinting options now ms (Carries number m) gathered later r result before after → StepsReading options now ms number b gathered later r result before after
+pub read_steps : (options : LogOptions) (now : ℤ) (ms : List Message) (number : ℕ) (b : List ℕ) (m : Message) (gathered later : List ℕ) (r : Replayer)
+    (result : Result (Option LogFault) PrintError) (before after : Option (List ℕ))
+    → Spells b m
+    → StepsPrinting options now ms (Carries number m) gathered later r result before after
+    → StepsReading options now ms number b gathered later r result before after
 read_steps options now ms number b m gathered later r result before after spells steps = inr (Carries number m, (refl, spells), steps)
 
-pub reading_same : (options : LogOptions) (now : ℤ) (ms : List Message) (number : ℕ) (b gathered later : List ℕ) (r : Replayer) (one other : Option LogFault) (before after : Option (List ℕ)) → StepsReading options now ms number b gathered later r (Ok one) before after → one ≡ other
+pub reading_same : (options : LogOptions) (now : ℤ) (ms : List Message) (number : ℕ) (b gathered later : List ℕ) (r : Replayer) (one other : Option LogFault)
+    (before after : Option (List ℕ))
+    → StepsReading options now ms number b gathered later r (Ok one) before after → one ≡ other
     → StepsReading options now ms number b gathered later r (Ok other) before after
-reading_same options now ms number b gathered later r one other before after is same = subst (λ (f : Option LogFault). StepsReading options now ms number b gathered later r (Ok f) before after) same is
+reading_same options now ms number b gathered later r one other before after is same =
+    subst (λ (f : Option LogFault). StepsReading options now ms number b gathered later r (Ok f) before after) same is
 
--- the piece that was processed without an error
-abbrev pub HasStepped : LogOptions → ℤ → List Message → ℕ → List ℕ → List ℕ → List ℕ → Replayer → Option (List ℕ) → Option (List ℕ) → Type 0
-HasStepped options now ms number b gathered later r before after = (piece : Piece) × IsPiece number b piece × IsStepped options now ms piece gathered later r before after
+-- bytes were read as a piece without an error, which was processed
+pub record HasStepped (options : LogOptions) (now : ℤ) (ms : List Message) (number : ℕ) (b gathered later : List ℕ) (r : Replayer)
+    (before after : Option (List ℕ)) : Type 0 where
+  pub piece : Piece
+  pub is : IsPiece number b piece
+  pub stepped : IsStepped options now ms piece gathered later r before after
 
-pub read_on : (options : LogOptions) (now : ℤ) (ms : List Message) (number : ℕ) (b gathered later : List ℕ) (r : Replayer) (before after : Option (List ℕ)) → StepsReading options now ms number b gathered later r (Ok None) before after
+pub read_on : (options : LogOptions) (now : ℤ) (ms : List Message) (number : ℕ) (b gathered later : List ℕ) (r : Replayer) (before after : Option (List ℕ))
+    → StepsReading options now ms number b gathered later r (Ok None) before after
     → HasStepped options now ms number b gathered later r before after
-read_on options now ms number b gathered later r before after (inl (failed, same)) = cc
-read_on options now ms number b gathered later r before after (inr stepped) = stepped
+read_on options now ms number b gathered later r before after (inl (starves, same)) = cc
+read_on options now ms number b gathered later r before after (inr (piece, is, stepped)) = record { piece = piece; is = is; stepped = stepped }
 
-pub stepped_replays : (options : LogOptions) (now : ℤ) (ms : List Message) (number : ℕ) (b gathered later : List ℕ) (r : Replayer) (before after : Option (List ℕ)) → HasStepped options now ms number b gathered later r before after → IsReplaying r
-stepped_replays options now ms number b gathered later r before after (piece, is, stepped) = record { options = options; ms = stepped.m ∷ ms; follows = stepped.follows }
+pub stepped_replays : (options : LogOptions) (now : ℤ) (ms : List Message) (number : ℕ) (b gathered later : List ℕ) (r : Replayer)
+    (before after : Option (List ℕ)) → HasStepped options now ms number b gathered later r before after → IsReplaying r
+stepped_replays options now ms number b gathered later r before after has =
+    record { options = options; ms = has.stepped.m ∷ ms; follows = has.stepped.follows }
 
 -- ---- the messages so far
 
 -- the first of the byte strings were read, and the lines of their commits put; the others are left
-pub record IsLogging (options : LogOptions) (now : ℤ) (all : List Piece) (unread : List (List ℕ)) (gathered later : List ℕ) (before after : Option (List ℕ)) (number : ℕ) (r : Replayer) : Type 0 where
+pub record IsLogging (options : LogOptions) (now : ℤ) (all : List Piece) (unread : List (List ℕ)) (gathered later : List ℕ) (before after : Option (List ℕ))
+    (number : ℕ) (r : Replayer) : Type 0 where
   pub ms : List Message
   pub left : List Piece
   pub read : AreRead (number + 1) unread left
@@ -236,7 +278,8 @@ pub record IsLogging (options : LogOptions) (now : ℤ) (all : List Piece) (unre
   pub onto : (lines : List (List ℕ)) (end : Option LogFault) → LogWrites options now [] all lines end → (more : List (List ℕ)) × (lines ≡ first ++ more) × LogWrites options now ms left more end
   pub back : (more : List (List ℕ)) (end : Option LogFault) → LogWrites options now ms left more end → LogWrites options now [] all (first ++ more) end
 
-pub logging_begins : (options : LogOptions) (now : ℤ) (all : List Piece) (unread : List (List ℕ)) (gathered : List ℕ) (before : Option (List ℕ)) (r : Replayer) → FollowsMessages options [] r → AreRead 1 unread all
+pub logging_begins : (options : LogOptions) (now : ℤ) (all : List Piece) (unread : List (List ℕ)) (gathered : List ℕ) (before : Option (List ℕ)) (r : Replayer)
+    → FollowsMessages options [] r → AreRead 1 unread all
     → IsLogging options now all unread gathered gathered before before 0 r
 logging_begins options now all unread gathered before r follows read = record {
   ms = [];
@@ -250,20 +293,26 @@ logging_begins options now all unread gathered before r follows read = record {
 }
 
 -- the piece of the next byte string
-next_left : (options : LogOptions) (now : ℤ) (all : List Piece) (unread next : List (List ℕ)) (b gathered later : List ℕ) (before after : Option (List ℕ)) (number : ℕ) (r : Replayer)
-    (so_far : IsLogging options now all unread gathered later before after number r) → unread ≡ b ∷ next → (piece : Piece) → IsPiece (number + 1) b piece → (more : List Piece) × (so_far.left ≡ piece ∷ more)
+next_left : (options : LogOptions) (now : ℤ) (all : List Piece) (unread next : List (List ℕ)) (b gathered later : List ℕ) (before after : Option (List ℕ))
+    (number : ℕ) (r : Replayer)
+    (so_far : IsLogging options now all unread gathered later before after number r) → unread ≡ b ∷ next → (piece : Piece) → IsPiece (number + 1) b piece →
+    (more : List Piece) × (so_far.left ≡ piece ∷ more)
 next_left options now all unread next b gathered later before after number r so_far split piece is =
     next_piece (number + 1) b next so_far.left piece (subst (λ (l : List (List ℕ)). AreRead (number + 1) l so_far.left) split so_far.read) is
 
-pub logging_more : (options : LogOptions) (now : ℤ) (all : List Piece) (unread next : List (List ℕ)) (b gathered middle later : List ℕ) (before between after : Option (List ℕ)) (number : ℕ) (r s : Replayer)
-    (so_far : IsLogging options now all unread gathered middle before between number r) → unread ≡ b ∷ next → HasStepped options now so_far.ms (number + 1) b middle later s between after
+pub logging_more : (options : LogOptions) (now : ℤ) (all : List Piece) (unread next : List (List ℕ)) (b gathered middle later : List ℕ)
+    (before between after : Option (List ℕ)) (number : ℕ) (r s : Replayer)
+    (so_far : IsLogging options now all unread gathered middle before between number r) → unread ≡ b ∷ next → HasStepped options now so_far.ms
+    (number + 1) b middle later s between after
     → IsLogging options now all next gathered later before after (number + 1) s
-logging_more options now all unread next b gathered middle later before between after number r s so_far split (piece, is_piece, is) =
+logging_more options now all unread next b gathered middle later before between after number r s so_far split has =
+    let is = has.stepped in
     let printed = lines_in options.identity is.infos (list_of (ended_commit is.infos is.m so_far.ms)) now in
-    let rest = next_left options now all unread next b gathered middle before between number r so_far split piece is_piece in
+    let rest = next_left options now all unread next b gathered middle before between number r so_far split has.piece has.is in
     let left_is : so_far.left ≡ Carries is.number is.m ∷ rest.0 = rest.1 ∙ ap (λ (p : Piece). p ∷ rest.0) is.carries in
     let read : AreRead (number + 1) (b ∷ next) (Carries is.number is.m ∷ rest.0) =
-    subst (λ (ps : List Piece). AreRead (number + 1) (b ∷ next) ps) left_is (subst (λ (l : List (List ℕ)). AreRead (number + 1) l so_far.left) split so_far.read) in
+    subst (λ (ps : List Piece). AreRead (number + 1) (b ∷ next) ps) left_is
+    (subst (λ (l : List (List ℕ)). AreRead (number + 1) l so_far.left) split so_far.read) in
     record {
       ms = is.m ∷ so_far.ms;
       left = rest.0;
@@ -273,7 +322,8 @@ logging_more options now all unread next b gathered middle later before between 
       puts = puts_then so_far.first printed gathered middle later before between after so_far.puts is.puts;
       onto = λ lines end writes. (
           let told = so_far.onto lines end writes in
-          let more = goes options now so_far.ms is.number is.m rest.0 is.infos told.0 end is.taken (subst (λ (l : List Piece). LogWrites options now so_far.ms l told.0 end) left_is told.2) in
+          let more = goes options now so_far.ms is.number is.m rest.0 is.infos told.0 end is.taken
+          (subst (λ (l : List Piece). LogWrites options now so_far.ms l told.0 end) left_is told.2) in
           (more.more, told.1 ∙ ap (λ (l : List (List ℕ)). so_far.first ++ l) more.split ∙ sym (append_assoc so_far.first printed more.more), more.rest));
       back = λ more end writes.
           subst (λ (l : List (List ℕ)). LogWrites options now [] all l end) (sym (append_assoc so_far.first printed more))
@@ -281,65 +331,82 @@ logging_more options now all unread next b gathered middle later before between 
           (inr (is.infos, more, is.taken, refl, writes))));
     }
 
-stops_write : (options : LogOptions) (now : ℤ) (ms : List Message) (piece : Piece) (more : List Piece) (fault : LogFault) → StopsAt options ms piece fault → LogWrites options now ms (piece ∷ more) [] (Some fault)
+stops_write : (options : LogOptions) (now : ℤ) (ms : List Message) (piece : Piece) (more : List Piece) (fault : LogFault) → StopsAt options ms piece fault
+    → LogWrites options now ms (piece ∷ more) [] (Some fault)
 stops_write options now ms (Carries number m) more fault is = inl (record { fault = fault; is = is; none = refl; told = refl })
 stops_write options now ms (Stops error) more fault is = (refl, ap (λ (f : LogFault). Some f) is)
 
 -- the next piece ends the log
-pub logging_stops : (options : LogOptions) (now : ℤ) (all : List Piece) (unread next : List (List ℕ)) (b gathered middle later : List ℕ) (before between after : Option (List ℕ)) (number : ℕ) (r s : Replayer) (fault : LogFault)
-    (so_far : IsLogging options now all unread gathered middle before between number r) → unread ≡ b ∷ next → StepsReading options now so_far.ms (number + 1) b middle later s (Ok (Some fault)) between after
+pub logging_stops : (options : LogOptions) (now : ℤ) (all : List Piece) (unread next : List (List ℕ)) (b gathered middle later : List ℕ)
+    (before between after : Option (List ℕ)) (number : ℕ) (r s : Replayer) (fault : LogFault)
+    (so_far : IsLogging options now all unread gathered middle before between number r) → unread ≡ b ∷ next → StepsReading options now so_far.ms
+    (number + 1) b middle later s (Ok (Some fault)) between after
     → IsLogPut options now all gathered later (Some fault) before after
-logging_stops options now all unread next b gathered middle later before between after number r s fault so_far split (inl (failed, same)) = cc
+logging_stops options now all unread next b gathered middle later before between after number r s fault so_far split (inl (starves, same)) = cc
 logging_stops options now all unread next b gathered middle later before between after number r s fault so_far split (inr (piece, is_piece, (is, halted))) =
     let rest = next_left options now all unread next b gathered middle before between number r so_far split piece is_piece in
     record {
       lines = so_far.first ++ [];
-      writes = so_far.back [] (Some fault) (subst (λ (l : List Piece). LogWrites options now so_far.ms l [] (Some fault)) (sym rest.1) (stops_write options now so_far.ms piece rest.0 fault is));
+      writes = so_far.back [] (Some fault)
+          (subst (λ (l : List Piece). LogWrites options now so_far.ms l [] (Some fault)) (sym rest.1) (stops_write options now so_far.ms piece rest.0 fault is));
       puts =
           subst (λ (l : List (List ℕ)). Puts l gathered later before after) (sym (append-nil so_far.first))
-          (subst (λ (t : List ℕ). Puts so_far.first gathered t before after) (sym halted.kept) (subst (λ (a : Option (List ℕ)). Puts so_far.first gathered middle before a) (sym halted.same) so_far.puts));
+          (subst (λ (t : List ℕ). Puts so_far.first gathered t before after) (sym halted.kept)
+          (subst (λ (a : Option (List ℕ)). Puts so_far.first gathered middle before a) (sym halted.same) so_far.puts));
     }
 
 -- nothing is left
-pub logging_ends : (options : LogOptions) (now : ℤ) (all : List Piece) (unread : List (List ℕ)) (gathered later : List ℕ) (before after : Option (List ℕ)) (number : ℕ) (r : Replayer) (fault : Option LogFault) (inside : Bool)
-    (so_far : IsLogging options now all unread gathered later before after number r) → unread ≡ [] → inside ≡ is_some (begin_of so_far.ms) → fault ≡ end_fault inside → IsLogPut options now all gathered later fault before after
+pub logging_ends : (options : LogOptions) (now : ℤ) (all : List Piece) (unread : List (List ℕ)) (gathered later : List ℕ) (before after : Option (List ℕ))
+    (number : ℕ) (r : Replayer) (fault : Option LogFault) (inside : Bool)
+    (so_far : IsLogging options now all unread gathered later before after number r) → unread ≡ [] → inside ≡ is_some
+    (begin_of so_far.ms) → fault ≡ end_fault inside → IsLogPut options now all gathered later fault before after
 logging_ends options now all unread gathered later before after number r fault inside so_far none inside_is told =
     let left_is : so_far.left ≡ [] = subst (λ (l : List (List ℕ)). AreRead (number + 1) l so_far.left) none so_far.read in
     record {
       lines = so_far.first ++ [];
-      writes = so_far.back [] fault (subst (λ (l : List Piece). LogWrites options now so_far.ms l [] fault) (sym left_is) (refl, told ∙ ap end_fault inside_is));
+      writes = so_far.back [] fault
+          (subst (λ (l : List Piece). LogWrites options now so_far.ms l [] fault) (sym left_is) (refl, told ∙ ap end_fault inside_is));
       puts = subst (λ (l : List (List ℕ)). Puts l gathered later before after) (sym (append-nil so_far.first)) so_far.puts;
     }
 
-pub logging_starves : (options : LogOptions) (now : ℤ) (all : List Piece) (unread : List (List ℕ)) (gathered later : List ℕ) (before after : Option (List ℕ)) (number : ℕ) (r : Replayer)
-    (so_far : IsLogging options now all unread gathered later before after number r) (lines : List (List ℕ)) (end : Option LogFault) → LogWrites options now [] all lines end → PutFails lines gathered Memory before after
+pub logging_starves : (options : LogOptions) (now : ℤ) (all : List Piece) (unread : List (List ℕ)) (gathered later : List ℕ) (before after : Option (List ℕ))
+    (number : ℕ) (r : Replayer)
+    (so_far : IsLogging options now all unread gathered later before after number r) (lines : List (List ℕ))
+    (end : Option LogFault) → LogWrites options now [] all lines end → PutFails lines gathered Memory before after
 logging_starves options now all unread gathered later before after number r so_far lines end writes =
     let told = so_far.onto lines end writes in
     putting_starves lines told.0 gathered later before after (record { first = so_far.first; is = sym told.1; puts = so_far.puts })
 
-memory_fails : (options : LogOptions) (now : ℤ) (all : List Piece) (unread : List (List ℕ)) (gathered middle : List ℕ) (before between after : Option (List ℕ)) (number : ℕ) (r : Replayer) (error : PrintError)
+memory_fails : (options : LogOptions) (now : ℤ) (all : List Piece) (unread : List (List ℕ)) (gathered middle : List ℕ) (before between after : Option (List ℕ))
+    (number : ℕ) (r : Replayer) (error : PrintError)
     (so_far : IsLogging options now all unread gathered middle before between number r) → error ≡ Memory → after ≡ between
     → (lines : List (List ℕ)) (end : Option LogFault) → LogWrites options now [] all lines end → PutFails lines gathered error before after
 memory_fails options now all unread gathered middle before between after number r error so_far memory same lines end writes =
     subst (λ (e : PrintError). PutFails lines gathered e before after) (sym memory)
-    (subst (λ (a : Option (List ℕ)). PutFails lines gathered Memory before a) (sym same) (logging_starves options now all unread gathered middle before between number r so_far lines end writes))
+    (subst (λ (a : Option (List ℕ)). PutFails lines gathered Memory before a) (sym same)
+    (logging_starves options now all unread gathered middle before between number r so_far lines end writes))
 
-same_error : (d e : PrintError) → Err {A = Option LogFault} d ≡ Err e → d ≡ e
+same_error : (d e : PrintError) → failed d ≡ failed e → d ≡ e
 same_error d e same = cc
 
 -- the lines of the next commit weren't all put
-pub logging_fails : (options : LogOptions) (now : ℤ) (all : List Piece) (unread next : List (List ℕ)) (b gathered middle later : List ℕ) (before between after : Option (List ℕ)) (number : ℕ) (r s : Replayer) (error : PrintError)
-    (so_far : IsLogging options now all unread gathered middle before between number r) → unread ≡ b ∷ next → StepsReading options now so_far.ms (number + 1) b middle later s (Err error) between after
+pub logging_fails : (options : LogOptions) (now : ℤ) (all : List Piece) (unread next : List (List ℕ)) (b gathered middle later : List ℕ)
+    (before between after : Option (List ℕ)) (number : ℕ) (r s : Replayer) (error : PrintError)
+    (so_far : IsLogging options now all unread gathered middle before between number r) → unread ≡ b ∷ next → StepsReading options now so_far.ms
+    (number + 1) b middle later s (Err error) between after
     → (lines : List (List ℕ)) (end : Option LogFault) → LogWrites options now [] all lines end → PutFails lines gathered error before after
-logging_fails options now all unread next b gathered middle later before between after number r s error so_far split (inl (failed, same)) lines end writes =
-    memory_fails options now all unread gathered middle before between after number r error so_far (same_error error Memory failed) same lines end writes
-logging_fails options now all unread next b gathered middle later before between after number r s error so_far split (inr (piece, is_piece, step_starved memory same)) lines end writes =
+logging_fails options now all unread next b gathered middle later before between after number r s error so_far split (inl (starves, same)) lines end writes =
+    memory_fails options now all unread gathered middle before between after number r error so_far (same_error error Memory starves) same lines end writes
+logging_fails options now all unread next b gathered middle later before between after number r s error so_far split
+    (inr (piece, is_piece, step_starved memory same)) lines end writes =
     memory_fails options now all unread gathered middle before between after number r error so_far memory same lines end writes
-logging_fails options now all unread next b gathered middle later before between after number r s error so_far split (inr (piece, is_piece, step_cut n m infos carries taken fails)) lines end writes =
+logging_fails options now all unread next b gathered middle later before between after number r s error so_far split
+    (inr (piece, is_piece, step_cut n m infos carries taken fails)) lines end writes =
     let told = so_far.onto lines end writes in
     let rest = next_left options now all unread next b gathered middle before between number r so_far split piece is_piece in
     let left_is : so_far.left ≡ Carries n m ∷ rest.0 = rest.1 ∙ ap (λ (p : Piece). p ∷ rest.0) carries in
-    let more = goes options now so_far.ms n m rest.0 infos told.0 end taken (subst (λ (l : List Piece). LogWrites options now so_far.ms l told.0 end) left_is told.2) in
+    let more = goes options now so_far.ms n m rest.0 infos told.0 end taken
+    (subst (λ (l : List Piece). LogWrites options now so_far.ms l told.0 end) left_is told.2) in
     putting_fails lines told.0 (lines_in options.identity infos (list_of (ended_commit infos m so_far.ms)) now) more.more gathered middle error before between after (record { first = so_far.first; is = sym told.1; puts = so_far.puts }) more.split fails
 
 pub empty_is : {A : Type 0} (xs : List A) → length xs ≡ 0 → xs ≡ []

@@ -38,7 +38,8 @@ finish_cut fault gathered print_error.Memory before after is fails = cc
 -- ---- the lines of a log
 
 -- the line of the fault wasn't put, as memory ran out
-pub starves_log : (options : LogOptions) (now : ℤ) (pieces : List Piece) (gathered later : List ℕ) (fault : Option LogFault) (before after : Option (List ℕ)) → gathered ≡ [] → IsLogPut options now pieces gathered later fault before after
+pub starves_log : (options : LogOptions) (now : ℤ) (pieces : List Piece) (gathered later : List ℕ) (fault : Option LogFault) (before after : Option (List ℕ))
+    → gathered ≡ [] → IsLogPut options now pieces gathered later fault before after
     → (lines : List (List ℕ)) (end : Option LogFault) → LogWrites options now [] pieces lines end → LogFails lines end print_error.Memory before after
 starves_log options now pieces gathered later fault before after none is lines end writes =
     let same = log_one options now [] pieces is.lines lines fault end is.writes writes in
@@ -46,7 +47,9 @@ starves_log options now pieces gathered later fault before after none is lines e
     subst (λ (l : List (List ℕ)). LogFails l end print_error.Memory before after) same.lines (put_fails_prints is.lines gathered print_error.Memory before after none part)
 
 -- all lines were put, and the line of the fault, and then written
-pub prints_log : (options : LogOptions) (now : ℤ) (pieces : List Piece) (gathered later : List ℕ) (fault : Option LogFault) (status : Status) (before between after : Option (List ℕ)) → gathered ≡ [] → IsLogPut options now pieces gathered later fault before between
+pub prints_log : (options : LogOptions) (now : ℤ) (pieces : List Piece) (gathered later : List ℕ) (fault : Option LogFault) (status : Status)
+    (before between after : Option (List ℕ))
+    → gathered ≡ [] → IsLogPut options now pieces gathered later fault before between
     → FinishesLog fault later (Ok status) between after → IsLogPrinted options now pieces status before after
 prints_log options now pieces gathered later fault status before between after none is ends = record {
   lines = is.lines;
@@ -56,7 +59,9 @@ prints_log options now pieces gathered later fault status before between after n
   wrote = ends.1 before is.lines (is.puts before [] (none_put before gathered none));
 }
 
-pub cuts_log : (options : LogOptions) (now : ℤ) (pieces : List Piece) (gathered later : List ℕ) (fault : Option LogFault) (before between after : Option (List ℕ)) → gathered ≡ [] → IsLogPut options now pieces gathered later fault before between
+pub cuts_log : (options : LogOptions) (now : ℤ) (pieces : List Piece) (gathered later : List ℕ) (fault : Option LogFault)
+    (before between after : Option (List ℕ))
+    → gathered ≡ [] → IsLogPut options now pieces gathered later fault before between
     → EndFails fault later print_error.OutputFailed between after
     → (lines : List (List ℕ)) (end : Option LogFault) → LogWrites options now [] pieces lines end → LogFails lines end print_error.OutputFailed before after
 cuts_log options now pieces gathered later fault before between after none is fails lines end writes =
@@ -64,9 +69,14 @@ cuts_log options now pieces gathered later fault before between after none is fa
     let cut : WrotePrefix before after (lines_text (is.lines ++ end_lines fault)) = fails before is.lines (is.puts before [] (none_put before gathered none)) in
     subst (WrotePrefix before after) (ap₂ (λ (l : List (List ℕ)) (e : Option LogFault). lines_text (l ++ end_lines e)) same.lines same.end) cut
 
-pub ended_log : (options : LogOptions) (now : ℤ) (pieces : List Piece) (gathered later : List ℕ) (fault : Option LogFault) (result : Result Status PrintError) (before between after : Option (List ℕ)) → gathered ≡ [] → IsLogPut options now pieces gathered later fault before between
+pub ended_log : (options : LogOptions) (now : ℤ) (pieces : List Piece) (gathered later : List ℕ) (fault : Option LogFault) (result : Result Status PrintError)
+    (before between after : Option (List ℕ))
+    → gathered ≡ [] → IsLogPut options now pieces gathered later fault before between
     → FinishesLog fault later result between after → PrintsLog options now pieces result before after
-ended_log options now pieces gathered later fault (Ok status) before between after none is ends = prints_log options now pieces gathered later fault status before between after none is ends
-ended_log options now pieces gathered later fault (Err print_error.OutputFailed) before between after none is ends = cuts_log options now pieces gathered later fault before between after none is ends
+ended_log options now pieces gathered later fault (Ok status) before between after none is ends =
+    prints_log options now pieces gathered later fault status before between after none is ends
+ended_log options now pieces gathered later fault (Err print_error.OutputFailed) before between after none is ends =
+    cuts_log options now pieces gathered later fault before between after none is ends
 ended_log options now pieces gathered later fault (Err print_error.Memory) before between after none is same = λ lines end writes.
-    subst (λ (a : Option (List ℕ)). LogFails lines end print_error.Memory before a) (sym same) (starves_log options now pieces gathered later fault before between none is lines end writes)
+    subst (λ (a : Option (List ℕ)). LogFails lines end print_error.Memory before a) (sym same)
+    (starves_log options now pieces gathered later fault before between none is lines end writes)

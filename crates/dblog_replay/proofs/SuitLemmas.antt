@@ -33,6 +33,8 @@ ended_suits infos m ms (Some commit) fields is =
     let fits = last_fits infos (commits_of infos ms) commit (subst (λ (o : Option Commit). FitCommits infos (commits_of infos ms ++ list_of o)) (sym is) fit) in
     All-from_recursion (Suits infos) (changes_of commit) (changes_suit infos (changes_of commit) fits)
 
-pub next_suits : (options : LogOptions) (ms : List Message) (m : Message) (r : Replayer) (o : Option Commit) → IsNextMessage options ms m r o → IfSome o (λ commit. All (Suits r.writer.infos) (changes_of commit))
+pub next_suits : (options : LogOptions) (ms : List Message) (m : Message) (r : Replayer) (o : Option Commit) → IsNextMessage options ms m r o
+    → IfSome o (λ commit. All (Suits r.writer.infos) (changes_of commit))
 next_suits options ms m r o is =
-    subst (λ (infos : List TableInfo). IfSome o (λ commit. All (Suits infos) (changes_of commit))) (sym is.replayed.writes) (ended_suits is.infos m ms o is.fields is.commit)
+    subst (λ (infos : List TableInfo). IfSome o (λ commit. All (Suits infos) (changes_of commit))) (sym is.replayed.writes)
+    (ended_suits is.infos m ms o is.fields is.commit)

@@ -52,8 +52,8 @@ Prepares options ms m r (Ok x) = IsReplayerReady options ms m r
 Prepares options ms m r (Err e) = (e ≡ log.Memory) ⊎ (told_fault options.keys (tables_in options.keys ms) m ≡ Some e)
 
 -- The next message was processed, and ends this commit.
-pub record IsAppended (options : LogOptions) (infos : List TableInfo) (ms : List Message) (m : Message) (r : Replayer)
-    (o : Option Commit) : Type 0 where
+pub record IsAppended (options : LogOptions) (infos : List TableInfo) (ms : List Message) (m : Message) (r : Replayer) (o : Option Commit)
+    : Type 0 where
   pub placed : transaction_fault infos log_start m ms ≡ None
   pub commit : o ≡ ended_commit infos m ms
   pub replayed : HasReplayed options infos (m ∷ ms) r

@@ -1,7 +1,7 @@
 -- What `replay` makes of the pieces of a log: the lines of the commits of their messages, up to the first error. Lists of messages have the
 -- newest first.
-use Rattle.std.specs.Prelude.{◌≡◌, ◌⊎◌, ℕ, ℤ, Bool, true, false, Option, Some, None, is_some}
-use Rattle.std.specs.Prelude.{option_map, option_and_then, List, [], ◌∷◌, ◌++◌, map, flat_map}
+use Rattle.std.specs.Prelude.{◌≡◌, ◌⊎◌, ℕ, ℤ, Bool, true, false, Option, Some, None, is_some, option_map, option_and_then, List, [], ◌∷◌}
+use Rattle.std.specs.Prelude.{◌++◌, map, flat_map}
 use Rattle.dbl_lines.specs.declared.status.Status.{Status}
 use Rattle.dbl_lines.specs.declared.status.Status.TheVariants.{Done}
 use Rattle.dbl_base.specs.declared.lsn.Lsn.{Lsn}
@@ -69,8 +69,8 @@ end_fault true = Some log.Unfinished
 end_fault false = None
 
 -- The message of this number, after these, has an error: no line is written.
-pub record IsStopped (options : LogOptions) (ms : List Message) (number : ℕ) (m : Message) (lines : List (List ℕ))
-    (end : Option LogFault) : Type 0 where
+pub record IsStopped (options : LogOptions) (ms : List Message) (number : ℕ) (m : Message) (lines : List (List ℕ)) (end : Option LogFault)
+    : Type 0 where
   pub fault : LogFault
   pub is : IsLogFault options ms number m fault
   pub none : lines ≡ []

@@ -62,8 +62,8 @@ StopsAt options ms (Stops error) fault = fault ≡ error
 abbrev pub StepsPrinting : LogOptions → ℤ → List Message → Piece → List ℕ → List ℕ → Replayer → Result (Option LogFault) PrintError
     → Option (List ℕ) → Option (List ℕ) → Type 0
 StepsPrinting options now ms piece gathered later r (Ok None) before after = IsStepped options now ms piece gathered later r before after
-StepsPrinting options now ms piece gathered later r (Ok (Some fault)) before after = StopsAt options ms piece fault
-    × IsHalted gathered later before after
+StepsPrinting options now ms piece gathered later r (Ok (Some fault)) before after =
+    StopsAt options ms piece fault × IsHalted gathered later before after
 StepsPrinting options now ms piece gathered later r (Err error) before after = StepFails options now ms piece gathered error before after
 
 -- The result of reading the byte string of this number and processing its piece after these messages, unless memory ran out.
@@ -81,15 +81,15 @@ pub record IsLogPut (options : LogOptions) (now : ℤ) (pieces : List Piece) (ga
   pub puts : Puts lines gathered later before after
 
 -- The result of gathering a log's lines: all of them, or some if the output failed or memory ran out.
-abbrev pub PutsLog : LogOptions → ℤ → List Piece → List ℕ → List ℕ → Result (Option LogFault) PrintError → Option (List ℕ)
-    → Option (List ℕ) → Type 0
+abbrev pub PutsLog : LogOptions → ℤ → List Piece → List ℕ → List ℕ → Result (Option LogFault) PrintError → Option (List ℕ) → Option (List ℕ)
+    → Type 0
 PutsLog options now pieces gathered later (Ok fault) before after = IsLogPut options now pieces gathered later fault before after
-PutsLog options now pieces gathered later (Err error) before after = (lines : List (List ℕ)) (end : Option LogFault)
-    → LogWrites options now [] pieces lines end → PutFails lines gathered error before after
+PutsLog options now pieces gathered later (Err error) before after =
+    (lines : List (List ℕ)) (end : Option LogFault) → LogWrites options now [] pieces lines end → PutFails lines gathered error before after
 
 -- All lines of a log were written, with that of its error.
-pub record IsLogPrinted (options : LogOptions) (now : ℤ) (pieces : List Piece) (status : Status)
-    (before after : Option (List ℕ)) : Type 0 where
+pub record IsLogPrinted (options : LogOptions) (now : ℤ) (pieces : List Piece) (status : Status) (before after : Option (List ℕ))
+    : Type 0 where
   pub lines : List (List ℕ)
   pub end : Option LogFault
   pub writes : LogWrites options now [] pieces lines end
@@ -104,8 +104,8 @@ LogFails lines end Memory before after = (n : ℕ) × Wrote before after (lines_
 -- The result of printing a log: all of its lines, or a part.
 abbrev pub PrintsLog : LogOptions → ℤ → List Piece → Result Status PrintError → Option (List ℕ) → Option (List ℕ) → Type 0
 PrintsLog options now pieces (Ok status) before after = IsLogPrinted options now pieces status before after
-PrintsLog options now pieces (Err error) before after = (lines : List (List ℕ)) (end : Option LogFault)
-    → LogWrites options now [] pieces lines end → LogFails lines end error before after
+PrintsLog options now pieces (Err error) before after =
+    (lines : List (List ℕ)) (end : Option LogFault) → LogWrites options now [] pieces lines end → LogFails lines end error before after
 
 -- The lines and the error's line were gathered, and a prefix of their text was written if the output failed.
 abbrev pub EndFails : Option LogFault → List ℕ → PrintError → Option (List ℕ) → Option (List ℕ) → Type 0

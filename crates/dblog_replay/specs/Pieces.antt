@@ -50,13 +50,14 @@ AreSpelled (b ∷ bs) (m ∷ ms) = Spells b m × AreSpelled bs ms
 
 -- Byte strings are read as at most one list of pieces.
 abbrev pub PiecesAreOne : Type 0
-PiecesAreOne = (number : ℕ) (strings : List (List ℕ)) (one other : List Piece) → AreRead number strings one → AreRead number strings other
-    → one ≡ other
+PiecesAreOne =
+    (number : ℕ) (strings : List (List ℕ))
+    (one other : List Piece) → AreRead number strings one → AreRead number strings other → one ≡ other
 
 -- Byte strings are read as some list of pieces.
 abbrev pub PiecesExist : Type 0
-PiecesExist = (number : ℕ) (strings : List (List ℕ)) → AllByRecursion AreBytes strings
-    → (pieces : List Piece) × AreRead number strings pieces
+PiecesExist =
+    (number : ℕ) (strings : List (List ℕ)) → AllByRecursion AreBytes strings → (pieces : List Piece) × AreRead number strings pieces
 
 -- The messages that were read are within their formats' ranges.
 abbrev pub PiecesFit : Type 0

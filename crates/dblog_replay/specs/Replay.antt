@@ -1,6 +1,6 @@
 -- What `replay` promises of the pieces of a log: the lines of all commits before the first error, and that error. `Log.antt` defines the
 -- same message by message, and `Pieces.antt` says which pieces byte strings are read as.
-use Rattle.std.specs.Prelude.{◌≡◌, ◌↔◌, ℕ, ℤ, Option, Some, None, is_some, List, [], ◌∷◌, ◌++◌}
+use Rattle.std.specs.Prelude.{◌≡◌, ◌↔◌, ℕ, ℤ, Option, Some, is_some, List, [], ◌∷◌, ◌++◌}
 use Rattle.dbl_pgmsg.specs.declared.messages.Message.{Message}
 use Rattle.dbl_model_table.specs.declared.table.TableInfo.{TableInfo}
 use Rattle.dbl_model_commit.specs.Past.{begin_of}
@@ -43,14 +43,15 @@ pub record IsReplayed (options : LogOptions) (now : ℤ) (pieces : List Piece) (
 
 -- The lines that are written message by message are exactly those of all commits before the first error.
 abbrev pub CommitsAreWritten : Type 0
-CommitsAreWritten = (options : LogOptions) (now : ℤ) (pieces : List Piece) (lines : List (List ℕ)) (end : Option LogFault)
-    → AllFitFields pieces
+CommitsAreWritten =
+    (options : LogOptions) (now : ℤ) (pieces : List Piece) (lines : List (List ℕ)) (end : Option LogFault) → AllFitFields pieces
     → LogWrites options now [] pieces lines end ↔ IsReplayed options now pieces lines end
 
 -- Pieces are replayed to at most one list of lines and one end.
 abbrev pub ReplaysAreOne : Type 0
-ReplaysAreOne = (options : LogOptions) (now : ℤ) (pieces : List Piece) (lines others : List (List ℕ)) (end other : Option LogFault)
-    → AllFitFields pieces
+ReplaysAreOne =
+    (options : LogOptions) (now : ℤ) (pieces : List Piece) (lines others : List (List ℕ))
+    (end other : Option LogFault) → AllFitFields pieces
     → IsReplayed options now pieces lines end → IsReplayed options now pieces others other → (lines ≡ others) × (end ≡ other)
 
 -- Pieces are replayed to some list of lines and some end.

@@ -1,5 +1,5 @@
-//! The commands `replay` and `apply --lines`: the lines of a log, and the rows of a consumer of
-//! lines.
+//! The stages of `replay` and `apply --lines`: the pieces of a log and their lines, and the rows of
+//! a consumer of lines.
 #![tactic(auto)]
 
 mod apply;

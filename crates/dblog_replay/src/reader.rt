@@ -1,6 +1,5 @@
 //! The first stage of a log: each byte string is read as a message.
 
-ghost use Rattle.std.specs.Prelude.{◌≡◌};
 ghost use Rattle.dblog_replay.specs.Following.{ReadsBytes};
 
 use crate::log_fault::LogFault;

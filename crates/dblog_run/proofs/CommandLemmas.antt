@@ -1,9 +1,7 @@
 -- How a run of a command ends, and one over words.
 use Rattle.std.proofs.Common.{◌≡◌, ◌⊎◌, inl, inr, ◌∙◌, ℕ, ℤ, true, false, Option, List, refl, sym, ap, subst}
-use Rattle.dbl_base.specs.Lines.{lines_text}
 use Rattle.dbl_record.specs.declared.record.Record.{Record}
 use Rattle.dbl_topic.specs.Logs.{IsLog}
-use Rattle.dblog_replay.specs.declared.options.LogOptions.{LogOptions}
 use Rattle.dbl_cli.specs.declared.commands.Command.{Command}
 use Rattle.dbl_cli.specs.declared.commands.ReplayOptions.{ReplayOptions}
 use Rattle.dbl_cli.specs.declared.commands.Command.TheVariants as command
@@ -13,23 +11,26 @@ use Rattle.dbl_lines.specs.declared.status.Status.{Status}
 use Rattle.dbl_lines.specs.declared.status.Status.TheVariants.{Done, Unsupported, StdoutFailed, InvalidInput}
 use Rattle.dbl_lines.specs.declared.run_error.RunError.TheVariants.{Usage, Memory}
 use Rattle.dbl_lines.specs.Faults.{status_of}
-use Rattle.dblog_run.specs.Run.{RunAnswer, fault, whole, Ends, EndsAs, RunsReplaying, RunsApplying, FailsReading}
+use Rattle.dblog_streams.specs.Answers.{RunAnswer, fault, Ends, EndsAs, FailsReading}
+use Rattle.dblog_streams.specs.Replays.{RunsReplaying}
+use Rattle.dblog_streams.specs.Applies.{RunsApplying}
 use Rattle.dblog_stores.specs.Answers.{LinesAnswer as StoreAnswer, AnswersTopics, AnswersOffsets, AnswersApply}
 use Rattle.dblog_stores.proofs.OnceLaws.{topics_once, offsets_once, apply_once}
 use Rattle.dblog_stores.specs.declared.error.Store.{Store}
 use Rattle.dblog_run.specs.Disks.{EndsOrFails, IsAnswerOf, OfDisk, RunsStores, store_answer}
 use Rattle.dblog_init.proofs.AnswerLaws.{one_answer}
 use Rattle.dblog_run.specs.Inits.{FailsSource, IsInitAnswer, init_answer}
-use Rattle.dblog_run.specs.Means.{opens_offsets, opens_topics, uses_offsets, uses_topics, makes, FindsNoLog, log_options, RunInput, given_init, Answers, Means, usage, spelled, Runs, RunsCommand, RunsInit, InputFails, WalFails, reads, ReportsInputStatus, IsStatusOf}
-use Rattle.dblog_run.proofs.ApplyLaws.{applies_one}
-use Rattle.dblog_run.proofs.ApplyRunLemmas.{memory_outside, memory_written, says_is}
-use Rattle.dblog_run.proofs.ReplayRunLemmas.{outside_no_answer}
-use Rattle.dblog_run.proofs.RunLemmas.{replays_one, says_ends, memory_ends, written_or_outside}
+use Rattle.dblog_run.specs.Means.{opens_offsets, opens_topics, uses_offsets, uses_topics, makes, FindsNoLog, RunInput, given_init, Answers, Means, usage}
+use Rattle.dblog_run.specs.Means.{spelled, Runs, RunsCommand, RunsInit, InputFails, WalFails, reads, ReportsInputStatus, IsStatusOf}
+use Rattle.dblog_streams.proofs.ApplyLaws.{applies_one}
+use Rattle.dblog_streams.proofs.AnswerLemmas.{memory_outside, memory_written, says_is, says_ends, memory_ends}
+use Rattle.dblog_streams.proofs.ReplayRunLemmas.{outside_no_answer}
+use Rattle.dblog_streams.proofs.ReplayLaws.{replays_one}
 use Rattle.dblog_run.proofs.StatusLemmas.{switched}
 use Rattle.dblog_run.proofs.StoreRunLemmas.{both_opened}
 use Rattle.dblog_capture.proofs.Statuses.{starved_known}
 use Rattle.dbl_lines.proofs.SayLemmas.{cut_other}
-use Rattle.dbl_lines.specs.Says.{IsCutShort, Says, Writes}
+use Rattle.dbl_lines.specs.Says.{IsCutShort, Says}
 
 -- ---- one answer
 
@@ -174,13 +175,6 @@ ends_command c now given failed answer status before after answers ends = record
 pub ends_alone : (answer other : RunAnswer) (status : Status) (before after : Option (List ℕ)) → EndsAs answer status before after → other ≡ answer → EndsAs other status before after
 ends_alone answer other status before after ends is = subst (λ (a : RunAnswer). EndsAs a status before after) (sym is) ends
 
--- a text was to be written with this status
-pub written_ends : (answer : RunAnswer) (text : List ℕ) (status : Status) (before after : Option (List ℕ)) → text ≡ lines_text answer.lines → Writes answer.status text status before after → EndsAs answer status before after
-written_ends answer text status before after is writes = record {
-  ended = record { wanted = answer.status; text = text; may = whole refl is; writes = writes };
-  told = elim (written_or_outside _ _ status before after writes) [ inl same ↦ inr (sym same) | inr outside ↦ inl outside ];
-}
-
 -- out of memory is a status of every command, and tells nothing of the input
 pub cut_short : (status : Status) (before after : Option (List ℕ)) → Says Memory status before after → IsCutShort status
 cut_short status before after says = elim (says_is Memory status before after says) [ inl is ↦ inr is | inr outside ↦ outside ]
@@ -220,20 +214,16 @@ memory_tells (command.Replay options) status before after says told = outside_no
 memory_tells (command.Gen number rows groups true) status before after says told = told
 memory_tells (command.Gen number rows groups false) status before after says told = told
 
--- a run that ends before it reads the input has the answer that stands alone
-pub memory_alone : (answer : RunAnswer) (status : Status) (before after : Option (List ℕ)) → Says Memory status before after → EndsAs answer status before after
-memory_alone answer status before after says = record { ended = memory_ends answer status before after (memory_written status before after says); told = inl (memory_outside status before after says) }
-
 -- ---- the commands
 
-pub replay_command : (c : Command) (options : ReplayOptions) (log : LogOptions) (now : ℤ) (given : RunInput) (failed : Store → Type 0) (was later : ℕ) (status : Status) (before after : Option (List ℕ))
-    → c ≡ command.Replay options → log ≡ log_options options → RunsReplaying log now given.input status before after ⊎ FailsReading was later status before after
+pub replay_command : (c : Command) (options : ReplayOptions) (now : ℤ) (given : RunInput) (failed : Store → Type 0) (was later : ℕ) (status : Status)
+    (before after : Option (List ℕ)) → c ≡ command.Replay options
+    → RunsReplaying options now given.input status before after ⊎ FailsReading was later status before after
     → RunsCommand c now given failed status before after ⊎ ((reads c ≡ true) × FailsReading was later status before after)
-replay_command c options log now given failed was later status before after is same (inl runs) =
-    let as_given = subst (λ (o : LogOptions). RunsReplaying o now given.input status before after) same runs in
+replay_command c options now given failed was later status before after is (inl runs) =
     inl (subst (λ (k : Command). RunsCommand k now given failed status before after) (sym is)
-    (record { ended = λ answer answers. inl (as_given.ended answer answers); meant = elim as_given.meant [ inl outside ↦ inl outside | inr told ↦ inr (inr told) ] }))
-replay_command c options log now given failed was later status before after is same (inr fails) = inr (ap reads is, fails)
+    (record { ended = λ answer answers. inl (runs.ended answer answers); meant = elim runs.meant [ inl outside ↦ inl outside | inr told ↦ inr (inr told) ] }))
+replay_command c options now given failed was later status before after is (inr fails) = inr (ap reads is, fails)
 
 pub apply_command : (c : Command) (placeholder : List ℕ) (now : ℤ) (given : RunInput) (failed : Store → Type 0) (was later : ℕ) (status : Status) (before after : Option (List ℕ))
     → c ≡ command.Apply true placeholder → RunsApplying placeholder given.input status before after ⊎ FailsReading was later status before after

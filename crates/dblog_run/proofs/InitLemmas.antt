@@ -19,8 +19,8 @@ use Rattle.dblog_capture.specs.InitErrors.{SaysInit, init_line, init_status}
 use Rattle.dblog_capture.proofs.InitStatuses.{said_status}
 use Rattle.dblog_run.specs.Inits.{FailsSource, FinishesInit, IsInitStatus, init_answer, init_fault}
 use Rattle.dblog_run.specs.Means.{RunsInit}
-use Rattle.dblog_run.specs.Run.{RunAnswer, Ends, FailsReading, IsExternalStatus, whole}
-use Rattle.dblog_run.proofs.RunLemmas.{memory_ends, memory_is_outside, written_or_outside}
+use Rattle.dblog_streams.specs.Answers.{RunAnswer, Ends, FailsReading, IsExternalStatus, whole}
+use Rattle.dblog_streams.proofs.AnswerLemmas.{memory_ends, memory_is_outside, written_or_outside}
 use Rattle.dbl_lines.specs.Says.{IsCutShort, Writes}
 
 abbrev pub end_status : inits.InitEnd → Status

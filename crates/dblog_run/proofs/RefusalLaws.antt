@@ -1,5 +1,5 @@
 -- The statuses 4 and 14 are answered if and only if the stores tell an error.
-use Rattle.std.proofs.Common.{◌≡◌, ◌≢◌, ◌⊎◌, inl, inr, ◌∙◌, ℕ, ℤ, true, false, Ok, Err, List, [], map, refl, sym, ap}
+use Rattle.std.proofs.Common.{◌≡◌, ◌≢◌, ◌⊎◌, inl, inr, ◌∙◌, ℕ, ℤ, true, false, Ok, Err, List, [], refl, sym, ap}
 use Rattle.dbl_cli.specs.declared.commands.Command.{Command}
 use Rattle.dbl_cli.specs.declared.commands.Command.TheVariants as command
 use Rattle.dbl_cli.specs.Commands.{Spells}
@@ -8,17 +8,13 @@ use Rattle.dblog_stores.specs.declared.error.CommandError.TheVariants as error
 use Rattle.dblog_stores.specs.Answers.{LinesAnswer as StoreAnswer, AnswersApply, AnswersOffsets, AnswersTopics}
 use Rattle.dblog_stores.specs.Ends.{IsRefusal}
 use Rattle.dblog_stores.specs.Errors.{error_status}
-use Rattle.dblog_replay.specs.declared.options.LogOptions.{LogOptions}
-use Rattle.dblog_replay.specs.Log.{end_status}
-use Rattle.dbl_consume.specs.Printing.{row_line}
 use Rattle.dbl_lines.specs.declared.status.Status.{Status}
-use Rattle.dbl_lines.specs.declared.status.Status.TheVariants.{Done, InvalidArguments, StartMismatch, Unsupported}
-use Rattle.dbl_lines.specs.declared.status.Status.TheVariants.{SourceFailed, StdinFailed, OutOfMemory, InvalidInput, InvalidStore}
-use Rattle.dbl_lines.specs.declared.run_error.RunError.{RunError}
-use Rattle.dbl_lines.specs.declared.run_error.RunError.TheVariants.{BadLine, InputFailed, InputTooLong, Memory, Usage}
-use Rattle.dblog_run.specs.Run.{RunAnswer, Applies, EncodesStrings, Replays, applied, done, fault, line_fault, log_answer, long_input, refused, replayed, unread}
+use Rattle.dbl_lines.specs.declared.status.Status.TheVariants.{Done, InvalidArguments, StartMismatch, Unsupported, SourceFailed, OutOfMemory, InvalidInput}
+use Rattle.dbl_lines.specs.declared.status.Status.TheVariants.{InvalidStore}
+use Rattle.dbl_lines.specs.declared.run_error.RunError.TheVariants.{Usage}
+use Rattle.dblog_streams.specs.Answers.{RunAnswer, done, fault}
 use Rattle.dblog_run.specs.Disks.{store_answer, store_fault}
-use Rattle.dblog_run.specs.Means.{Answers, RunInput, Means, given_init, made, log_options, spelled, usage}
+use Rattle.dblog_run.specs.Means.{Answers, RunInput, Means, given_init, spelled, usage}
 use Rattle.dbl_journal.specs.declared.error.JournalError.TheVariants as journal
 use Rattle.dblog_init.specs.DemoWorkload.declared.error.DemoError.{DemoError}
 use Rattle.dblog_init.specs.DemoWorkload.declared.error.DemoError.TheVariants as demo
@@ -31,9 +27,14 @@ use Rattle.dblog_init.specs.Answers.AnswersInput.{too_long as too_long_input, re
 use Rattle.dblog_init.specs.Errors.{demo_error}
 use Rattle.dblog_run.specs.Inits.{init_answer, init_fault}
 use Rattle.dblog_run.specs.Laws.{AreFull, AreRefused, StoreFaultsAreTold, StoresTell}
-use Rattle.dblog_run.proofs.ReplayRunLemmas.{end_known}
-use Rattle.dblog_run.proofs.StatusLemmas.{replay_other}
 use Rattle.dblog_run.proofs.StoreRunLemmas.{apply_refuses, offsets_refuse, topics_refuse}
+use Rattle.dbl_cli.specs.declared.commands.ReplayOptions.{ReplayOptions}
+use Rattle.dblog_streams.specs.Applies.{Applies}
+use Rattle.dblog_streams.specs.Generates.{made}
+use Rattle.dblog_streams.specs.Replays.{Replays}
+use Rattle.dblog_streams.proofs.ApplyRunLemmas.{applies_known}
+use Rattle.dblog_streams.proofs.ReplayRunLemmas.{replays_known}
+use Rattle.dblog_streams.proofs.StatusLemmas.{lines_other, replay_other}
 
 abbrev Refuses : Status → Type 0
 Refuses status = (status ≡ StartMismatch) ⊎ (status ≡ InvalidStore)
@@ -53,23 +54,18 @@ stores_told : (Allows : StoreAnswer → Type 0) (answer : RunAnswer) (P : Type 0
 stores_told Allows answer P next refuses (Ok lines) told is = absurd (other_status Done (λ e. cc) (λ e. cc) answer.status (status_is answer (store_answer (Ok lines)) is) refuses)
 stores_told Allows answer P next refuses (Err e) told is = next e told is
 
-encoding_refuses : (bytes : List ℕ) (error : RunError) (answer : RunAnswer) → EncodesStrings bytes (Err error) → answer ≡ fault error → Refuses answer.status → ⊥
-encoding_refuses bytes InputTooLong answer encodes is refuses = other_status InvalidInput (λ e. cc) (λ e. cc) answer.status (status_is answer (fault InputTooLong) is) refuses
-encoding_refuses bytes (BadLine n) answer encodes is refuses = other_status InvalidInput (λ e. cc) (λ e. cc) answer.status (status_is answer (fault (BadLine n)) is) refuses
-encoding_refuses bytes Usage answer encodes is refuses = other_status InvalidArguments (λ e. cc) (λ e. cc) answer.status (status_is answer (fault Usage) is) refuses
-encoding_refuses bytes InputFailed answer encodes is refuses = other_status StdinFailed (λ e. cc) (λ e. cc) answer.status (status_is answer (fault InputFailed) is) refuses
-encoding_refuses bytes Memory answer encodes is refuses = other_status OutOfMemory (λ e. cc) (λ e. cc) answer.status (status_is answer (fault Memory) is) refuses
-
-replay_refuses : (options : LogOptions) (now : ℤ) (bytes : List ℕ) (answer : RunAnswer) → Replays options now bytes answer → Refuses answer.status → ⊥
-replay_refuses options now bytes answer (unread error encodes is) refuses = encoding_refuses bytes error answer encodes is refuses
-replay_refuses options now bytes answer (replayed lines end log is) refuses =
-    other_status (end_status end) (replay_other StartMismatch (end_status end) (λ e. cc, λ e. cc, λ e. cc, λ e. cc) (λ e. cc, λ e. cc, λ e. cc) (end_known end))
-    (replay_other InvalidStore (end_status end) (λ e. cc, λ e. cc, λ e. cc, λ e. cc) (λ e. cc, λ e. cc, λ e. cc) (end_known end)) answer.status (status_is answer (log_answer lines end) is) refuses
+replay_refuses : (options : ReplayOptions) (now : ℤ) (bytes : List ℕ) (answer : RunAnswer) → Replays options now bytes answer → Refuses answer.status → ⊥
+replay_refuses options now bytes answer replays (inl is) =
+    replay_other StartMismatch answer.status (λ e. cc, λ e. cc, λ e. cc, λ e. cc) (λ e. cc, λ e. cc, λ e. cc)
+    (replays_known options now bytes answer replays) is
+replay_refuses options now bytes answer replays (inr is) =
+    replay_other InvalidStore answer.status (λ e. cc, λ e. cc, λ e. cc, λ e. cc) (λ e. cc, λ e. cc, λ e. cc) (replays_known options now bytes answer replays) is
 
 lines_refuse : (placeholder bytes : List ℕ) (answer : RunAnswer) → Applies placeholder bytes answer → Refuses answer.status → ⊥
-lines_refuse placeholder bytes answer (long_input long is) refuses = other_status InvalidInput (λ e. cc) (λ e. cc) answer.status (status_is answer (fault InputTooLong) is) refuses
-lines_refuse placeholder bytes answer (refused at within found is) refuses = other_status InvalidInput (λ e. cc) (λ e. cc) answer.status (status_is answer (line_fault at) is) refuses
-lines_refuse placeholder bytes answer (applied rows within (none, are) is) refuses = other_status Done (λ e. cc) (λ e. cc) answer.status (status_is answer (done (map row_line rows)) is) refuses
+lines_refuse placeholder bytes answer applies (inl is) =
+    lines_other StartMismatch answer.status (λ e. cc, λ e. cc) (λ e. cc, λ e. cc, λ e. cc) (applies_known placeholder bytes answer applies) is
+lines_refuse placeholder bytes answer applies (inr is) =
+    lines_other InvalidStore answer.status (λ e. cc, λ e. cc) (λ e. cc, λ e. cc, λ e. cc) (applies_known placeholder bytes answer applies) is
 
 -- what the input means is told with another status
 demo_refuses : (e : DemoError) (answer : RunAnswer) → answer ≡ init_fault (demo_error e) → Refuses answer.status → ⊥
@@ -114,7 +110,7 @@ forth words now given answer (command.Resume options) spells is refuses = absurd
 forth words now given answer (command.Apply true placeholder) spells is refuses = absurd (lines_refuse placeholder given.input answer is refuses)
 forth words now given answer (command.Apply false placeholder) spells is refuses =
     stores_told (AnswersApply given.topics given.offsets) answer (IsRefused words given answer) (λ e told same. inl (e, record { command = command.Apply false placeholder; spells = spells; tells = told; answer_is = same })) refuses is.0 is.1 is.2
-forth words now given answer (command.Replay options) spells is refuses = absurd (replay_refuses (log_options options) now given.input answer is refuses)
+forth words now given answer (command.Replay options) spells is refuses = absurd (replay_refuses options now given.input answer is refuses)
 forth words now given answer (command.Gen number rows groups true) spells is refuses = absurd is
 forth words now given answer (command.Gen number rows groups false) spells is refuses = absurd (other_status Done (λ e. cc) (λ e. cc) answer.status (status_is answer (made number rows groups) is) refuses)
 

@@ -1,39 +1,21 @@
 -- Words and bytes have an answer at each moment.
-use Rattle.std.proofs.Common.{◌≡◌, ◌⊎◌, inl, inr, ℕ, ℤ, ◌<◌, ◌≤◌, true, false, Option, Some, None, List, length, map, refl}
-use Rattle.dbl_base.specs.Streams.{input_limit}
-use Rattle.dbl_base.specs.Lines.{lines_of}
+use Rattle.std.proofs.Common.{◌≡◌, ◌⊎◌, inl, inr, ℕ, ℤ, true, false, List, refl}
 use Rattle.dbl_pgmsg.specs.Faults.{AreBytes}
-use Rattle.dbl_consume.specs.Printing.{row_line}
-use Rattle.dbl_consume.proofs.StandLemmas.{rows_stand}
 use Rattle.dbl_cli.specs.declared.commands.Command.{Command}
 use Rattle.dbl_cli.specs.declared.commands.Command.TheVariants as command
 use Rattle.dbl_cli.specs.Commands.{Spells as Spelled}
 use Rattle.dbl_cli.proofs.SpelledLemmas.{spelled_or_not}
-use Rattle.dblog_replay.specs.declared.apply.FaultAt.{FaultAt}
-use Rattle.dbl_lines.specs.declared.run_error.RunError.TheVariants.{Usage, InputTooLong}
-use Rattle.dblog_replay.specs.Apply.{first_line_fault, readings_of_lines}
-use Rattle.dblog_run.specs.Run.{RunAnswer, fault, done, line_fault, Applies, long_input, refused, applied}
-use Rattle.dblog_run.proofs.InputLemmas.{replay_exists, within_or_not}
+use Rattle.dbl_lines.specs.declared.run_error.RunError.TheVariants.{Usage}
+use Rattle.dblog_streams.specs.Answers.{RunAnswer, fault}
+use Rattle.dblog_streams.proofs.InputLemmas.{replay_exists, apply_exists}
 use Rattle.dblog_stores.specs.Answers.{LinesAnswer as StoreAnswer, AnswersTopics, AnswersOffsets, AnswersApply}
 use Rattle.dblog_stores.proofs.StandLaws.{topics_stand, offsets_stand, apply_stands as consumer_stands}
 use Rattle.dblog_run.specs.Disks.{IsAnswerOf, store_answer}
 use Rattle.dblog_init.proofs.StandLaws.{answers_stand}
 use Rattle.dblog_run.specs.Inits.{init_answer}
-use Rattle.dblog_run.specs.Means.{made, log_options, connects, RunInput, given_init, Answers, Means, SpellNone, usage, spelled}
+use Rattle.dblog_streams.specs.Generates.{made}
+use Rattle.dblog_run.specs.Means.{connects, RunInput, given_init, Answers, Means, SpellNone, usage, spelled}
 use Rattle.dblog_run.proofs.StatusLemmas.{switched}
-
-apply_stands : (placeholder bytes : List ℕ) → (answer : RunAnswer) × Applies placeholder bytes answer
-apply_stands placeholder bytes = by_length (within_or_not (length bytes))
-  where
-    by_lines : length bytes ≤ input_limit → (o : Option FaultAt) → first_line_fault placeholder (lines_of bytes) ≡ o → (answer : RunAnswer) × Applies placeholder bytes answer
-    by_lines within (Some at) is = (line_fault at, refused at within is refl)
-    by_lines within None is =
-        let rows = rows_stand placeholder (readings_of_lines (lines_of bytes)) in
-        (done (map row_line rows.0), applied rows.0 within (is, rows.1) refl)
-
-    by_length : (length bytes ≤ input_limit) ⊎ (input_limit < length bytes) → (answer : RunAnswer) × Applies placeholder bytes answer
-    by_length (inl within) = by_lines within _ refl
-    by_length (inr long) = (fault InputTooLong, long_input long refl)
 
 stores_stand : (Allows : StoreAnswer → Type 0) → (found : StoreAnswer) → Allows found → (answer : RunAnswer) × IsAnswerOf Allows answer
 stores_stand Allows found told = (store_answer found, (found, told, refl))
@@ -44,10 +26,10 @@ command_stands command.Topics now given none t f = let found = topics_stand give
 command_stands command.Offsets now given none t f = let found = offsets_stand given.offsets f in stores_stand (AnswersOffsets given.offsets) found.0 found.1
 command_stands (command.Capture options) now given none t f = absurd (switched none)
 command_stands (command.Resume options) now given none t f = absurd (switched none)
-command_stands (command.Apply true placeholder) now given none t f = apply_stands placeholder given.input
+command_stands (command.Apply true placeholder) now given none t f = apply_exists placeholder given.input
 command_stands (command.Apply false placeholder) now given none t f =
     let found = consumer_stands given.topics given.offsets t f in stores_stand (AnswersApply given.topics given.offsets) found.0 found.1
-command_stands (command.Replay options) now given none t f = replay_exists (log_options options) now given.input
+command_stands (command.Replay options) now given none t f = replay_exists options now given.input
 command_stands (command.Gen number rows groups true) now given none t f = absurd (switched none)
 command_stands (command.Gen number rows groups false) now given none t f = (made number rows groups, refl)
 

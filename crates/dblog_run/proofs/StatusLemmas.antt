@@ -4,39 +4,23 @@ use Rattle.dbl_base.specs.Streams.{FaultCounted}
 use Rattle.dbl_cli.specs.declared.commands.Command.{Command}
 use Rattle.dbl_cli.specs.declared.commands.Command.TheVariants as command
 use Rattle.dbl_lines.specs.declared.status.Status.{Status}
-use Rattle.dbl_lines.specs.declared.status.Status.TheVariants.{Done, StartMismatch, MalformedLog, Unsupported, SourceFailed, TopicsFailed}
-use Rattle.dbl_lines.specs.declared.status.Status.TheVariants.{OffsetsFailed, StdinFailed, StdoutFailed, OutOfMemory, InvalidInput, InvalidStore}
+use Rattle.dbl_lines.specs.declared.status.Status.TheVariants.{Done, StartMismatch, Unsupported, SourceFailed, TopicsFailed, OffsetsFailed, StdinFailed}
+use Rattle.dbl_lines.specs.declared.status.Status.TheVariants.{StdoutFailed, OutOfMemory, InvalidInput, InvalidStore}
 use Rattle.dbl_lines.specs.declared.run_error.RunError.{RunError}
 use Rattle.dbl_lines.specs.declared.run_error.RunError.TheVariants.{Usage, Memory}
 use Rattle.dbl_lines.specs.Faults.{status_of}
-use Rattle.dblog_run.specs.Run.{IsApplyStatus, IsExternalStatus, IsReplayStatus}
 use Rattle.dblog_run.specs.Inits.{IsInitStatus}
-use Rattle.dblog_run.specs.Means.{HasOpenedOffsets, HasOpenedTopics, IsOffsetsStatus, IsRowsStatus, IsStatusOf, IsTopicsStatus, opens_offsets, opens_topics, reads, uses_offsets, uses_topics, writes}
+use Rattle.dblog_run.specs.Means.{HasOpenedOffsets, HasOpenedTopics, IsOffsetsStatus, IsRowsStatus, IsStatusOf, IsTopicsStatus, opens_offsets, opens_topics}
+use Rattle.dblog_run.specs.Means.{reads, uses_offsets, uses_topics, writes}
 use Rattle.dblog_capture.specs.Connect.declared.asked.Asked.{Asked}
 use Rattle.dblog_capture.specs.Connect.declared.asked.Asked.TheVariants.{First, Again}
 use Rattle.dblog_run.specs.Sessions.{asked_by}
-use Rattle.dblog_run.proofs.ApplyRunLemmas.{says_is}
+use Rattle.dblog_streams.proofs.AnswerLemmas.{says_is}
 use Rattle.dbl_lines.proofs.SayLemmas.{cut_other}
 use Rattle.dbl_lines.specs.Says.{IsCutShort, Says}
+use Rattle.dblog_streams.proofs.StatusLemmas.{replay_other, lines_other}
 
 -- ---- by the kind of the command
-
-outside_other : (n status : Status) → (n ≢ StdinFailed) × (n ≢ StdoutFailed) × (n ≢ OutOfMemory) → IsExternalStatus status → status ≡ n → ⊥
-outside_other n status other (inl is) same = other.0 (sym same ∙ is)
-outside_other n status other (inr (inl is)) same = other.1 (sym same ∙ is)
-outside_other n status other (inr (inr is)) same = other.2 (sym same ∙ is)
-
-pub replay_other : (n status : Status) → (n ≢ Done) × (n ≢ MalformedLog) × (n ≢ Unsupported) × (n ≢ InvalidInput) → (n ≢ StdinFailed) × (n ≢ StdoutFailed) × (n ≢ OutOfMemory) → IsReplayStatus status → status ≡ n → ⊥
-replay_other n status own other (inl (inl is)) same = own.0 (sym same ∙ is)
-replay_other n status own other (inl (inr (inl is))) same = own.1 (sym same ∙ is)
-replay_other n status own other (inl (inr (inr (inl is)))) same = own.2 (sym same ∙ is)
-replay_other n status own other (inl (inr (inr (inr is)))) same = own.3 (sym same ∙ is)
-replay_other n status own other (inr outside) same = outside_other n status other outside same
-
-lines_other : (n status : Status) → (n ≢ Done) × (n ≢ InvalidInput) → (n ≢ StdinFailed) × (n ≢ StdoutFailed) × (n ≢ OutOfMemory) → IsApplyStatus status → status ≡ n → ⊥
-lines_other n status own other (inl is) same = own.0 (sym same ∙ is)
-lines_other n status own other (inr (inl is)) same = own.1 (sym same ∙ is)
-lines_other n status own other (inr (inr outside)) same = outside_other n status other outside same
 
 -- the commands with one status of their own
 one_other : (m n status : Status) → m ≢ n → (n ≢ StdoutFailed) × (n ≢ OutOfMemory) → (status ≡ m) ⊎ IsCutShort status → status ≡ n → ⊥
@@ -126,7 +110,8 @@ no_wal (command.Capture options) status none known same = switched none
 no_wal (command.Resume options) status none known same = switched none
 no_wal (command.Apply true placeholder) status none known same = lines_other SourceFailed status (λ e. cc, λ e. cc) (λ e. cc, λ e. cc, λ e. cc) known same
 no_wal (command.Apply false placeholder) status none known same = rows_other SourceFailed status (λ e. cc) (λ e. cc, λ e. cc, λ e. cc, λ e. cc) (λ e. cc, λ e. cc) known same
-no_wal (command.Replay options) status none known same = replay_other SourceFailed status (λ e. cc, λ e. cc, λ e. cc, λ e. cc) (λ e. cc, λ e. cc, λ e. cc) known same
+no_wal (command.Replay options) status none known same =
+    replay_other SourceFailed status (λ e. cc, λ e. cc, λ e. cc, λ e. cc) (λ e. cc, λ e. cc, λ e. cc) known same
 no_wal (command.Gen number rows groups true) status none known same = switched none
 no_wal (command.Gen number rows groups false) status none known same = one_other Done SourceFailed status (λ e. cc) (λ e. cc, λ e. cc) known same
 
@@ -151,7 +136,8 @@ refused_unread P (command.Capture options) status known unread full is = unread 
 refused_unread P (command.Resume options) status known unread full is = unread refl
 refused_unread P (command.Apply true placeholder) status known unread full is = absurd (lines_other InvalidStore status (λ e. cc, λ e. cc) (λ e. cc, λ e. cc, λ e. cc) known is)
 refused_unread P (command.Apply false placeholder) status known unread full is = unread refl
-refused_unread P (command.Replay options) status known unread full is = absurd (replay_other InvalidStore status (λ e. cc, λ e. cc, λ e. cc, λ e. cc) (λ e. cc, λ e. cc, λ e. cc) known is)
+refused_unread P (command.Replay options) status known unread full is =
+    absurd (replay_other InvalidStore status (λ e. cc, λ e. cc, λ e. cc, λ e. cc) (λ e. cc, λ e. cc, λ e. cc) known is)
 refused_unread P (command.Gen number rows groups run) status known unread full is = unread refl
 
 -- nor does a disk that the command doesn't read
@@ -163,7 +149,8 @@ no_topics (command.Capture options) status known shut same = switched shut
 no_topics (command.Resume options) status known shut same = switched shut
 no_topics (command.Apply true placeholder) status known shut same = lines_other TopicsFailed status (λ e. cc, λ e. cc) (λ e. cc, λ e. cc, λ e. cc) known same
 no_topics (command.Apply false placeholder) status known shut same = switched shut
-no_topics (command.Replay options) status known shut same = replay_other TopicsFailed status (λ e. cc, λ e. cc, λ e. cc, λ e. cc) (λ e. cc, λ e. cc, λ e. cc) known same
+no_topics (command.Replay options) status known shut same =
+    replay_other TopicsFailed status (λ e. cc, λ e. cc, λ e. cc, λ e. cc) (λ e. cc, λ e. cc, λ e. cc) known same
 no_topics (command.Gen number rows groups true) status known shut same = switched shut
 no_topics (command.Gen number rows groups false) status known shut same = one_other Done TopicsFailed status (λ e. cc) (λ e. cc, λ e. cc) known same
 
@@ -175,7 +162,8 @@ no_offsets (command.Capture options) status known shut same = switched shut
 no_offsets (command.Resume options) status known shut same = switched shut
 no_offsets (command.Apply true placeholder) status known shut same = lines_other OffsetsFailed status (λ e. cc, λ e. cc) (λ e. cc, λ e. cc, λ e. cc) known same
 no_offsets (command.Apply false placeholder) status known shut same = switched shut
-no_offsets (command.Replay options) status known shut same = replay_other OffsetsFailed status (λ e. cc, λ e. cc, λ e. cc, λ e. cc) (λ e. cc, λ e. cc, λ e. cc) known same
+no_offsets (command.Replay options) status known shut same =
+    replay_other OffsetsFailed status (λ e. cc, λ e. cc, λ e. cc, λ e. cc) (λ e. cc, λ e. cc, λ e. cc) known same
 no_offsets (command.Gen number rows groups true) status known shut same = switched shut
 no_offsets (command.Gen number rows groups false) status known shut same = one_other Done OffsetsFailed status (λ e. cc) (λ e. cc, λ e. cc) known same
 

@@ -15,7 +15,7 @@ use Rattle.dbl_lines.specs.declared.status.Status.{Status}
 use Rattle.dbl_lines.specs.declared.status.Status.TheVariants.{Done, TopicsFailed, OffsetsFailed, StdoutFailed, OutOfMemory}
 use Rattle.dbl_lines.specs.declared.run_error.RunError.TheVariants.{Memory}
 use Rattle.dbl_lines.specs.Faults.{fault_line}
-use Rattle.dblog_run.specs.Run.{RunAnswer, done, Ends, IsExternalStatus}
+use Rattle.dblog_streams.specs.Answers.{RunAnswer, done, Ends, IsExternalStatus}
 use Rattle.dbl_lines.specs.Says.{IsCutShort, Writes}
 
 -- The statuses of a run in which a disk failed that a command over the stores reads.

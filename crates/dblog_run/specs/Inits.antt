@@ -15,7 +15,7 @@ use Rattle.dbl_lines.specs.declared.status.Status.{Status}
 use Rattle.dbl_lines.specs.declared.status.Status.TheVariants.{Done, Unsupported, SourceFailed, TopicsFailed}
 use Rattle.dbl_lines.specs.declared.status.Status.TheVariants.{OffsetsFailed, StdinFailed, InvalidInput, InvalidStore}
 use Rattle.dblog_capture.specs.Ends.{store_status}
-use Rattle.dblog_run.specs.Run.{RunAnswer, done}
+use Rattle.dblog_streams.specs.Answers.{RunAnswer, done}
 use Rattle.dbl_lines.specs.Says.{IsCutShort}
 
 -- The answer of an `init` with this error: the line of the error.

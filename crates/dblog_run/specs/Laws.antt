@@ -11,7 +11,7 @@ use Rattle.dblog_init.specs.declared.error.InitError.TheVariants.{NotEmpty}
 use Rattle.dblog_init.specs.declared.error.Store.{Store}
 use Rattle.dblog_init.specs.declared.error.Store.TheVariants as init
 use Rattle.dblog_init.specs.declared.error.Store.TheVariants.{Wal}
-use Rattle.dblog_run.specs.Run.{RunAnswer}
+use Rattle.dblog_streams.specs.Answers.{RunAnswer}
 use Rattle.dblog_run.specs.Inits.{init_fault}
 use Rattle.dblog_run.specs.Disks.{store_fault}
 use Rattle.dblog_run.specs.Means.{RunInput, Means, SpellNone, connects}

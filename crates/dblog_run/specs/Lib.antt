@@ -1,5 +1,6 @@
 pub use Rattle.dblog_capture.specs as Capture
-pub use Rattle.dblog_replay.specs as Replay
+pub use Rattle.dblog_streams.specs as Streams
+pub use Rattle.dblog_streams.specs.Replay
 pub use Rattle.dblog_capture.specs.Connect
 pub use Rattle.dblog_capture.specs.Connect.Promise
 pub use Rattle.dblog_capture.specs.Connect.CaptureLaws
@@ -12,5 +13,4 @@ pub mod Disks
 pub mod Inits
 pub mod Laws
 pub mod Means
-pub mod Run
 pub mod Sessions

@@ -1,38 +1,26 @@
 -- The meaning of the arguments of a command line, with the contents of the input and the disks.
-use Rattle.std.specs.Prelude.{◌≡◌, ◌⊎◌, ℕ, ℤ, ◌||◌, Bool, true, false, Option, Some, List, []}
+use Rattle.std.specs.Prelude.{◌≡◌, ◌⊎◌, ℕ, ℤ, ◌||◌, Bool, true, false, Option, Some, List}
 use Rattle.dbl_record.specs.declared.record.Record.{Record}
 use Rattle.dbl_topic.specs.Logs.{IsLog}
-use Rattle.dbl_gen.specs.Workload.{workload_lines}
 use Rattle.dbl_cli.specs.declared.commands.Command.{Command}
-use Rattle.dbl_cli.specs.declared.commands.ReplayOptions.{ReplayOptions}
 use Rattle.dbl_cli.specs.declared.commands.Command.TheVariants.{Init, Topics, Offsets, Capture, Resume, Replay, Apply, Gen}
 use Rattle.dbl_cli.specs.Commands.{Spells}
 use Rattle.dblog_init.specs.Answers as inits
 use Rattle.dbl_lines.specs.declared.status.Status.{Status}
-use Rattle.dbl_lines.specs.declared.status.Status.TheVariants.{Done, StartMismatch, TopicsFailed}
-use Rattle.dbl_lines.specs.declared.status.Status.TheVariants.{OffsetsFailed, InvalidInput, InvalidStore}
+use Rattle.dbl_lines.specs.declared.status.Status.TheVariants.{Done, StartMismatch, TopicsFailed, OffsetsFailed, InvalidInput, InvalidStore}
 use Rattle.dbl_lines.specs.declared.run_error.RunError.TheVariants.{Usage}
-use Rattle.dblog_replay.specs.declared.options.LogOptions.{LogOptions}
 use Rattle.dblog_stores.specs.Answers.{AnswersTopics, AnswersOffsets, AnswersApply}
 use Rattle.dblog_stores.specs.declared.error.Store.{Store}
 use Rattle.dblog_capture.specs.Ends.{IsSessionStatus}
 use Rattle.dblog_capture.specs.Generated.{IsGeneratedStatus}
 use Rattle.dblog_run.specs.Disks.{EndsOrFails, IsAnswerOf, IsDiskStatus}
 use Rattle.dblog_run.specs.Inits.{AnswersInit, FailsSource, IsInitAnswer, IsInitStatus}
-use Rattle.dblog_run.specs.Run.{RunAnswer, fault, Replays, Applies, FailsReading}
-use Rattle.dblog_run.specs.Run.{IsExternalStatus, IsReplayAnswer, IsReplayStatus, IsApplyStatus}
+use Rattle.dblog_streams.specs.Answers.{RunAnswer, fault, FailsReading, IsExternalStatus}
+use Rattle.dblog_streams.specs.Replays.{Replays}
+use Rattle.dblog_streams.specs.Applies.{Applies}
+use Rattle.dblog_streams.specs.Statuses.{IsReplayAnswer, IsReplayStatus, IsApplyStatus}
 use Rattle.dbl_lines.specs.Says.{IsCutShort}
-
--- The answer of `gen`: the lines of the workload, which are written at once.
-abbrev pub made : ℕ → ℕ → ℕ → RunAnswer
-made number rows groups = record { status = Done; lines = workload_lines number rows groups; one_by_one = [] }
-
--- The options of the log that `replay` with these options replays.
-abbrev pub log_options : ReplayOptions → LogOptions
-log_options options = record {
-  identity = record { prefix = options.prefix; db = options.db; placeholder = options.placeholder };
-  keys = options.keys;
-}
+use Rattle.dblog_streams.specs.Generates.{made}
 
 -- The contents that a run reads: the unread bytes of the input, and those of the three disks.
 pub record RunInput : Type 0 where
@@ -48,7 +36,7 @@ given_init given = record { wal = given.wal; topics = given.topics; offsets = gi
 -- The answer of a command at a time for these contents. The result of a session isn't determined by them, as its source and stores may fail
 -- at any call (`RunsSession`, and `EndsGenerated` for a generated workload).
 abbrev pub Answers : Command → ℤ → RunInput → RunAnswer → Type 0
-Answers (Replay options) now given answer = Replays (log_options options) now given.input answer
+Answers (Replay options) now given answer = Replays options now given.input answer
 Answers (Apply true placeholder) now given answer = Applies placeholder given.input answer
 Answers (Apply false placeholder) now given answer = IsAnswerOf (AnswersApply given.topics given.offsets) answer
 Answers Topics now given answer = IsAnswerOf (AnswersTopics given.topics) answer

@@ -12,7 +12,7 @@ ghost use Rattle.dblog_run.specs.Disks.{OfDisk};
 ghost use Rattle.dblog_run.specs.Inits.{FailsSource, FinishesInit, IsInitAnswer};
 ghost use Rattle.dblog_run.specs.Inits.{IsInitLeft, IsInitStatus, AreUntouched};
 ghost use Rattle.dblog_run.specs.Means.{RunsInit};
-ghost use Rattle.dblog_run.specs.Run.{FailsReading};
+ghost use Rattle.dblog_streams.specs.Answers.{FailsReading};
 
 use dbl_base::{Input, Output};
 use dbl_disk::Disk;

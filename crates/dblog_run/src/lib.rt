@@ -5,7 +5,6 @@ mod initializing;
 pub mod laws;
 mod program;
 mod stores;
-mod streams;
 
 pub use dbl_lines::{RunError, Status, say};
 pub use dblog_init::{Disks, Outcome};

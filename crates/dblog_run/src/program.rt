@@ -1,17 +1,15 @@
-ghost use Rattle.std.specs.Prelude.{◌≡◌, ◌≢◌, ◌⊎◌, true, false, ℕ, ◌≤◌};
+ghost use Rattle.std.specs.Prelude.{◌≡◌, ◌⊎◌, true, false, ℕ, ◌≤◌};
 ghost use Rattle.std.specs.Prelude.{List, [], length, Some, IsSome, Err};
 ghost use Rattle.dbl_base.specs.Streams.{FaultCounted, input_limit};
-ghost use Rattle.dblog_replay.specs.declared.options.LogOptions.{LogOptions};
 ghost use Rattle.dbl_cli.specs.declared.commands.Command.{Command};
 ghost use Rattle.dbl_cli.specs.Commands.{Spells};
 ghost use Rattle.dbl_cli.specs.Limits.{IsWithin};
 ghost use Rattle.dblog_stores.specs.Ends.{IsSynced};
-ghost use Rattle.dblog_run.specs.Means.{made, log_options, ReadsGivenInput, RunInput};
-ghost use Rattle.dblog_run.specs.Means.{HasOpenedOffsets, HasOpenedTopics, InputFails, Runs};
-ghost use Rattle.dblog_run.specs.Means.{RunsCommand, SpellNone, SpellSome, Tell, WalFails};
-ghost use Rattle.dblog_run.specs.Means.{connects, makes, reads, writes, opens_offsets};
-ghost use Rattle.dblog_run.specs.Means.{opens_topics, uses_offsets, uses_topics, StandsAlone};
-ghost use Rattle.dblog_run.specs.Means.{ReportsInputStatus, IsStatusOf};
+ghost use Rattle.dblog_run.specs.Means.{ReadsGivenInput, RunInput, HasOpenedOffsets};
+ghost use Rattle.dblog_run.specs.Means.{HasOpenedTopics, InputFails, Runs, RunsCommand, SpellNone};
+ghost use Rattle.dblog_run.specs.Means.{SpellSome, Tell, WalFails, connects, makes, reads, writes};
+ghost use Rattle.dblog_run.specs.Means.{opens_offsets, opens_topics, uses_offsets, uses_topics};
+ghost use Rattle.dblog_run.specs.Means.{StandsAlone, ReportsInputStatus, IsStatusOf};
 ghost use Rattle.dblog_init.specs.DemoLaws.Made.{IsFreshWal};
 ghost use Rattle.dblog_init.specs.declared.error.Store.TheVariants.{Wal, Topics, Offsets};
 ghost use Rattle.dblog_init.specs.Disks.{HasStoredBytes, HoldSomeBytes};
@@ -30,7 +28,7 @@ ghost use Rattle.dblog_run.specs.Sessions.{IsCompleteRun, asked_by, asks_by};
 ghost use Rattle.dblog_run.specs.Disks.{IsOnlyRead, OfDisk};
 ghost use Rattle.dbl_record.specs.declared.record.Record.{Record};
 ghost use Rattle.dbl_topic.specs.Logs.{IsLog};
-ghost use Rattle.dblog_run.specs.Run.{RunAnswer, FailsReading, EndsAs};
+ghost use Rattle.dblog_streams.specs.Answers.{RunAnswer, FailsReading, EndsAs};
 ghost use Rattle.dbl_lines.specs.declared.status.Status.TheVariants.{Done, SourceFailed};
 ghost use Rattle.dbl_lines.specs.declared.status.Status.TheVariants.{TopicsFailed, OffsetsFailed};
 ghost use Rattle.dbl_lines.specs.declared.status.Status.TheVariants.{StdinFailed, StdoutFailed};
@@ -39,16 +37,13 @@ ghost use Rattle.dbl_lines.specs.Says.{Says};
 
 use crate::initializing::run_init;
 use crate::stores::{run_apply, run_offsets, run_topics};
-use crate::streams::{apply_lines, replay_lines};
 use dbl_base::{Input, Output, Text};
-use dbl_cli::{CliError, Command, ReplayOptions};
+use dbl_cli::{CliError, Command};
 use dbl_disk::Disk;
-use dbl_gen::script;
-use dbl_lines::{RunError, Status, say, write_text};
-use dbl_model_table::Identity;
+use dbl_lines::{RunError, Status, say};
 use dblog_capture::{Asked, run_generated, run_session};
 use dblog_init::{Disks, Outcome};
-use dblog_replay::LogOptions;
+use dblog_streams::{apply_lines, print_workload, replay_lines};
 use std::alloc::Global;
 
 /// Runs the program on its arguments, at a time in milliseconds since 1970, over the disks of the
@@ -335,7 +330,7 @@ fn run_command<I: Input, O: Output, W: Disk, T: Disk, F: Disk>(
     match command {
         Command::Replay { options } => Outcome {
             disks,
-            end: replay_lines(alloc, log_options(options), now_ms, input, output),
+            end: replay_lines(alloc, options, now_ms, input, output),
         },
         Command::Apply {
             lines: true,
@@ -371,45 +366,5 @@ fn run_command<I: Input, O: Output, W: Disk, T: Disk, F: Disk>(
             run_session(alloc, asked, now_ms, output, disks)
         }
         Command::Apply { .. } => run_apply(alloc, output, disks),
-    }
-}
-
-fn log_options(options: ReplayOptions) -> LogOptions
-    ensures { result ≡ log_options options }
-{
-    let ReplayOptions {
-        prefix,
-        db,
-        placeholder,
-        keys,
-    } = options;
-    LogOptions {
-        identity: Identity {
-            prefix,
-            db,
-            placeholder,
-        },
-        keys,
-    }
-}
-
-fn print_workload<O: Output>(
-    alloc: Global,
-    number: u64,
-    rows: u32,
-    groups: u32,
-    output: &mut O,
-) -> Status
-    requires rows { rows ≤ 400_000 }
-    requires groups { groups ≤ 90_000 }
-    ensures ends { EndsAs (made number rows groups) result
-        (O.written output.old) (O.written output.new) }
-    ensures not_input { result ≢ StdinFailed }
-    ensures output_failed { result ≡ StdoutFailed →
-        FaultCounted (O.faults output.old) (O.faults output.new) }
-{
-    match script(alloc, number, rows, groups) {
-        Ok(text) => write_text(text.as_str(), Status::Done, output),
-        Err(_) => say(alloc, RunError::Memory, output),
     }
 }

@@ -2,7 +2,9 @@ use Rattle.dbl_lines.proofs.PutLemmas.{putting_begins, putting_starves}
 use Rattle.dblog_replay.proofs.log.put_log.Goals as goal
 
 pub returns-in-Err-clause-puts : goal.returns-in-Err-clause-puts
-returns-in-Err-clause-puts g c = λ pieces read lines end writes. putting_starves lines lines c.args.lines.now c.args.lines.now _ _ (putting_begins lines c.args.lines.now (g.O.Output.written c.args.output.now))
+returns-in-Err-clause-puts g c =
+    λ pieces read lines end writes. putting_starves lines lines c.args.lines.now c.args.lines.now _ _
+    (putting_begins lines c.args.lines.now (g.O.Output.written c.args.output.now))
 
 pub put_messages-requires : goal.put_messages-requires
 put_messages-requires g c = (c.args.options, c.in-Ok.ensures)

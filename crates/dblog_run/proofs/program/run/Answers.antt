@@ -15,8 +15,9 @@ use Rattle.dblog_run.specs.Means.{HasOpenedOffsets, RunsCommand, SpellSome, Stan
 use Rattle.dbl_base.specs.Streams.{FaultCounted}
 use Rattle.dblog_stores.specs.declared.error.Store.{Store}
 use Rattle.dblog_run.specs.Disks.{OfDisk}
-use Rattle.dblog_run.specs.Run.{FailsReading}
-use Rattle.dblog_run.proofs.CommandLemmas.{cut_short, wider_or_fails, spelled_or_fails, usage_runs, memory_runs, as_spelled, memory_alone, memory_status, memory_tells}
+use Rattle.dblog_streams.specs.Answers.{FailsReading}
+use Rattle.dblog_streams.proofs.AnswerLemmas.{starved}
+use Rattle.dblog_run.proofs.CommandLemmas.{cut_short, wider_or_fails, spelled_or_fails, usage_runs, memory_runs, as_spelled, memory_status, memory_tells}
 use Rattle.dblog_run.proofs.DiskLemmas.{not_read, read_or_not}
 use Rattle.dblog_run.proofs.GeneratedLemmas.{full_by, made_by, same_short, unmade}
 use Rattle.dblog_run.proofs.KeptLemmas.{before_promised, offsets_bounded, run_kept, run_promised, run_stays, topics_bounded, wal_bounded}
@@ -114,7 +115,7 @@ pub returns-in-Err-Memory-clause-told : goal.returns-in-Err-Memory-clause-told
 returns-in-Err-Memory-clause-told g c = λ given none tell. inl (memory_runs _ c.args.now_ms given _ _ _ _ c.say-in-Err-Memory.ensures.says)
 
 pub returns-in-Err-Memory-clause-alone : goal.returns-in-Err-Memory-clause-alone
-returns-in-Err-Memory-clause-alone g c = λ command answer spells alone. memory_alone answer _ _ _ c.say-in-Err-Memory.ensures.says
+returns-in-Err-Memory-clause-alone g c = λ command answer spells alone. starved answer _ _ _ c.say-in-Err-Memory.ensures.says
 
 pub returns-in-Err-Memory-clause-whole : goal.returns-in-Err-Memory-clause-whole
 returns-in-Err-Memory-clause-whole g c = λ bytes command told spells within tells. absurd (memory_tells command c.say-in-Err-Memory.result _ _ c.say-in-Err-Memory.ensures.says tells)

@@ -6,7 +6,8 @@ use Rattle.dblog_stores.specs.Answers.{AnswersApply, AnswersOffsets, AnswersTopi
 use Rattle.dblog_capture.specs.Connect.declared.asked.Asked.{Asked}
 use Rattle.dblog_capture.specs.Connect.declared.asked.Asked.TheVariants.{First, Again}
 use Rattle.dblog_run.specs.Disks.{OfDisk}
-use Rattle.dblog_run.specs.Means.{IsStatusOf, given_init, made, connects, makes, opens_topics, reads, uses_offsets, uses_topics, writes}
+use Rattle.dblog_run.specs.Means.{IsStatusOf, given_init, connects, makes, opens_topics, reads, uses_offsets, uses_topics, writes}
+use Rattle.dblog_streams.specs.Generates.{made}
 use Rattle.dblog_capture.specs.Runs.{RunsConnected}
 use Rattle.dblog_capture.specs.Generated.{RunsGenerated}
 use Rattle.dblog_run.specs.Sessions.{asked_by}
@@ -20,7 +21,7 @@ use Rattle.dblog_run.proofs.program.run_command.Goals as goal
 pub returns-in-Replay-clause-told : goal.returns-in-Replay-clause-told
 returns-in-Replay-clause-told g c = λ given none told.
     let here = c.in-Replay in
-    or_source (replay_command c.args.command here.options c.log_options.result c.args.now_ms.now given _ _ _ _ _ _ here.is c.log_options.ensures
+    or_source (replay_command c.args.command here.options c.args.now_ms.now given _ _ _ _ _ _ here.is
     (c.replay_lines.ensures.told given.input (told.input_is (ap reads here.is))))
 
 pub returns-in-Apply-true-default-clause-told : goal.returns-in-Apply-true-default-clause-told

@@ -10,4 +10,5 @@ returns-in_err-prepare c = λ options ms follows. (
 pub returns : goal.returns
 returns c = λ options ms follows.
     let ready = c.in_ok-prepare.ensures options ms follows in
-    put_takes options ms c.args.number c.args.message c.prepare.new.self c.append.new.self c.append.result ready c.requires follows.fields (c.append.ensures options ready.infos ms ready.replayed)
+    put_takes options ms c.args.number c.args.message c.prepare.new.self c.append.new.self c.append.result ready c.requires follows.fields
+    (c.append.ensures options ready.infos ms ready.replayed)

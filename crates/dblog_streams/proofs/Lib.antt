@@ -1,0 +1,9 @@
+pub use Rattle.dblog_replay.proofs.CaptureLemmas as ReplayCaptureLemmas
+pub use Rattle.dblog_replay.proofs.PieceLemmas as ReplayPieceLemmas
+pub mod AnswerLemmas
+pub mod ApplyLaws
+pub mod ApplyRunLemmas
+pub mod InputLemmas
+pub mod ReplayLaws
+pub mod ReplayRunLemmas
+pub mod StatusLemmas

@@ -1,0 +1,6 @@
+pub use Rattle.dblog_replay.specs as Replay
+pub mod Answers
+pub mod Applies
+pub mod Generates
+pub mod Replays
+pub mod Statuses

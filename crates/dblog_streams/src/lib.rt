@@ -1,0 +1,12 @@
+//! The commands over the input and the output alone: `replay`, `apply --lines` and `gen`.
+#![tactic(auto)]
+
+mod applying;
+mod generating;
+mod input;
+pub mod laws;
+mod replaying;
+
+pub use applying::apply_lines;
+pub use generating::print_workload;
+pub use replaying::replay_lines;

@@ -3,3 +3,4 @@ pub mod RowTexts
 pub mod Holdings
 pub mod Printing
 pub mod Rows
+pub mod Kinds

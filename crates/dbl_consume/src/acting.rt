@@ -49,7 +49,7 @@ fn payload(value: &Value) -> Option<&Value>
 
 /// The payload of an object that consists of `schema` and `payload`, if that is an object, else the
 /// value itself.
-fn bare_value(value: &Value) -> &Value
+pub(crate) fn bare_value(value: &Value) -> &Value
     ensures { view result.now ≡ spec.bare_value (view value.now) }
 {
     match payload(value) {
@@ -74,7 +74,7 @@ fn operation_of(op: &str) -> Option<Operation>
     }
 }
 
-fn operation_in(value: &Value) -> Result<Operation, ConsumeError>
+pub(crate) fn operation_in(value: &Value) -> Result<Operation, ConsumeError>
     ensures { spec.operation_in (view value.now) ≡ result }
 {
     match value.get("op").and_then(Value::as_str) {
@@ -106,7 +106,7 @@ fn check_cell(alloc: Global, column: &str, cell: &Value) -> Result<(), ConsumeEr
     }
 }
 
-fn check_cells(alloc: Global, cells: &Map<String, Value>) -> Result<(), ConsumeError>
+pub(crate) fn check_cells(alloc: Global, cells: &Map<String, Value>) -> Result<(), ConsumeError>
     ensures ok { OnOk result (spec.first_error (members_view cells.now.entries) ≡ None) }
     ensures err { IfErr result
         (λ e. e ≢ Memory → spec.first_error (members_view cells.now.entries) ≡ Some e) }
@@ -150,7 +150,7 @@ fn cells_of(
     Ok(Seq::make(given))
 }
 
-fn key_text(alloc: Global, key: &Value) -> Result<Text, ConsumeError>
+pub(crate) fn key_text(alloc: Global, key: &Value) -> Result<Text, ConsumeError>
     ensures ok { IfOk result (λ text. spec.key_text (view key.now) ≡ Some text) }
     ensures err { IfErr result
         (λ e. e ≢ Memory → (spec.key_text (view key.now) ≡ None) × (e ≡ NoKey)) }
@@ -230,7 +230,7 @@ fn act_of(
     }
 }
 
-fn is_progress(topic: &Text) -> bool
+pub(crate) fn is_progress(topic: &Text) -> bool
     ensures { result ≡ spec.is_progress topic.now }
 {
     topic.as_str().as_bytes().ends_with(b".dblog-progress")
@@ -260,7 +260,7 @@ pub(crate) fn act_of_values(
 
 /// Parses a text as JSON.
 #[tactic(auto, unfolding(dbl_record::specs::Acts::json_in))]
-fn value_of(alloc: Global, text: &Text) -> Result<Value, ConsumeError>
+pub(crate) fn value_of(alloc: Global, text: &Text) -> Result<Value, ConsumeError>
     ensures ok { IfOk result (λ v. json_in text.now ≡ Some (view v)) }
     ensures bad { IfErr result (λ e. e ≢ Memory → (json_in text.now ≡ None) × (e ≡ BadJson)) }
 {

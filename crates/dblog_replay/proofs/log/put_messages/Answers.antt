@@ -39,13 +39,13 @@ returns-in-Ok-Some-clause-puts g c = λ options pieces follows read.
     let split : c.messages.bytes-iterator.rest.items ≡ c.in-Some.bytes ∷ c.next.new.self.rest.items = search rules in
     let is = reading_same options c.args.now_ms.now so_far.ms _ c.in-Some.bytes _ _ c.put_bytes.new.replayer c.in-Ok-Some.field-0 (Some c.in-Ok-Some.fault) _ _
     (c.in-Ok-Some.ensures.steps options so_far.ms so_far.follows) c.in-Ok-Some.field-0-is in
-    logging_stops _ _ _ _ _ _ _ _ _ _ _ _ _ _ _ c.in-Ok-Some.fault so_far split is
+    logging_stops _ _ _ _ _ _ _ _ _ _ _ _ _ _ c.put_bytes.new.replayer c.in-Ok-Some.fault so_far split is
 
 pub returns-in-Err-clause-puts : goal.returns-in-Err-clause-puts
 returns-in-Err-clause-puts g c = λ options pieces follows read.
     let so_far = c.messages.invariant.0 options pieces follows read in
     let split : c.messages.bytes-iterator.rest.items ≡ c.in-Some.bytes ∷ c.next.new.self.rest.items = search rules in
-    logging_fails _ _ _ _ _ _ _ _ _ _ _ _ _ _ _ _ so_far split (c.in-Err.ensures.steps options so_far.ms so_far.follows)
+    logging_fails _ _ _ _ _ _ _ _ c.put_bytes.new.lines _ _ _ _ _ c.put_bytes.new.replayer _ so_far split (c.in-Err.ensures.steps options so_far.ms so_far.follows)
 
 pub returns-clause-puts : goal.returns-clause-puts
 returns-clause-puts g c = λ options pieces follows read.

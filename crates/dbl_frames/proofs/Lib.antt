@@ -1,0 +1,4 @@
+pub mod HeadLemmas
+pub mod FrameLemmas
+pub mod StreamLemmas
+pub mod StepLemmas

@@ -1,0 +1,4 @@
+pub mod Form
+pub mod Faults
+pub mod Stream
+pub mod Steps

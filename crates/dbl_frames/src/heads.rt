@@ -1,0 +1,129 @@
+//! The head of a frame: its kind, its length and the first byte of its content; and the fields of a
+//! whole frame.
+
+ghost use Rattle.std.specs.Prelude.{◌≡◌, ℕ, ◌+◌, ◌^◌, ◌<◌, ◌≤◌, length, take, slice_index, IfOk, OnOk};
+ghost use Rattle.std.specs.Int.{w32, w64, from_be_bytes};
+ghost use Rattle.dbl_frames.specs.Faults.{content_fault, length_fault, head_fault, wanted_size};
+ghost use Rattle.dbl_frames.specs.Steps.{frame_at};
+
+use crate::{Frame, FrameError};
+use dbl_base::Bytes;
+use std::alloc::{AllocError, Global};
+
+// The lengths that a frame may declare: of a content of one byte, and of XLogData with a payload of
+// 16 MiB.
+const LEAST_LENGTH: u32 = 5;
+
+const GREATEST_LENGTH: u32 = 16_777_245;
+
+// The length of XLogData without its payload, and of a keepalive.
+const DATA_LENGTH: u32 = 29;
+
+const KEEPALIVE_LENGTH: u32 = 22;
+
+// The number of bytes of a head.
+const HEAD: usize = 6;
+
+fn read_int32(bytes: &[u8]) -> u32
+    requires { 4 ≤ length bytes.now }
+    ensures { result ≡ from_be_bytes w32 (take 4 bytes.now) }
+{
+    let (front, _) = bytes.split_at(4);
+    u32::from_be_bytes([front[0], front[1], front[2], front[3]])
+}
+
+fn read_int64(bytes: &[u8]) -> u64
+    requires { 8 ≤ length bytes.now }
+    ensures { result ≡ from_be_bytes w64 (take 8 bytes.now) }
+{
+    let (front, _) = bytes.split_at(8);
+    u64::from_be_bytes([
+        front[0], front[1], front[2], front[3], front[4], front[5], front[6], front[7],
+    ])
+}
+
+#[tactic(auto, unfolding(crate::specs::Faults::content_fault))]
+fn find_content_fault(at: u64, length: u32, content: &[u8]) -> Option<FrameError>
+    ensures { result ≡ content_fault at length content.now }
+{
+    match content {
+        [] => None,
+        [b'w', ..] => {
+            if length >= DATA_LENGTH {
+                None
+            } else {
+                Some(FrameError::BadSize { at })
+            }
+        }
+        [b'k', ..] => {
+            if length == KEEPALIVE_LENGTH {
+                None
+            } else {
+                Some(FrameError::BadSize { at })
+            }
+        }
+        [byte, ..] => Some(FrameError::BadInner { at, byte: *byte }),
+    }
+}
+
+#[tactic(auto, unfolding(crate::specs::Faults::length_fault, crate::specs::Faults::sized_fault))]
+fn find_length_fault(at: u64, bytes: &[u8]) -> Option<FrameError>
+    ensures { result ≡ length_fault at bytes.now }
+{
+    if bytes.len() < 4 {
+        return None;
+    }
+    let length = read_int32(bytes);
+    if LEAST_LENGTH <= length && length <= GREATEST_LENGTH {
+        find_content_fault(at, length, bytes.split_at(4).1)
+    } else {
+        Some(FrameError::BadLength { at })
+    }
+}
+
+// The fault of the frame at the front of the bytes, as far as they show one.
+#[tactic(auto, unfolding(crate::specs::Faults::head_fault))]
+pub(crate) fn find_head_fault(at: u64, bytes: &[u8]) -> Option<FrameError>
+    ensures { result ≡ head_fault at bytes.now }
+{
+    match bytes {
+        [] => None,
+        [b'd', rest @ ..] => find_length_fault(at, rest),
+        [byte, ..] => Some(FrameError::BadKind { at, byte: *byte }),
+    }
+}
+
+// The number of bytes of the frame at the front, or of a head if that isn't there yet.
+#[tactic(auto, unfolding(crate::specs::Faults::wanted_size))]
+pub(crate) fn measure_frame(bytes: &[u8]) -> usize
+    ensures { result ≡ wanted_size bytes.now }
+{
+    if bytes.len() < HEAD {
+        return HEAD;
+    }
+    read_int32(bytes.split_at(1).1) as usize + 1
+}
+
+// Reads the fields of a whole frame without a fault, and copies its payload.
+#[tactic(auto, unfolding(crate::specs::Steps::frame_at))]
+pub(crate) fn read_frame(alloc: Global, bytes: &[u8]) -> Result<Frame, AllocError>
+    requires keepalive { 23 ≤ length bytes.now }
+    requires payload { slice_index bytes.now 5 ≡ 119 → 30 ≤ length bytes.now }
+    ensures frame { IfOk result (λ frame. frame ≡ frame_at bytes.now) }
+    ensures bytes { OnOk result ((i : ℕ) → slice_index bytes.now i < 2 ^ 8) }
+{
+    if bytes[5] == b'w' {
+        Ok(Frame::Data {
+            start: read_int64(bytes.split_at(6).1),
+            end: read_int64(bytes.split_at(14).1),
+            time: read_int64(bytes.split_at(22).1).cast_signed(),
+            payload: Bytes::make(bytes.split_at(30).1.to_vec(alloc)?),
+        })
+    } else {
+        Ok(Frame::Keepalive {
+            end: read_int64(bytes.split_at(6).1),
+            time: read_int64(bytes.split_at(14).1).cast_signed(),
+            reply: bytes[22],
+        })
+    }
+}

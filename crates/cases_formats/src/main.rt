@@ -8,6 +8,7 @@
 mod ageing;
 mod commits;
 mod consumers;
+mod frames;
 mod histories;
 mod messages;
 mod records;
@@ -26,6 +27,7 @@ fn answer(alloc: Global, shown: &mut String, name: &str, arguments: &str) -> Res
         "ageing" => ageing::answer(alloc, shown, call, arguments),
         "consume" => consumers::answer(alloc, shown, call, arguments),
         "envelope" => histories::answer(alloc, shown, call, arguments),
+        "frames" => frames::answer(alloc, shown, call, arguments),
         "model" => histories::answer(alloc, shown, call, arguments),
         "pgmsg" => messages::answer(alloc, shown, call, arguments),
         "record" => records::answer(alloc, shown, call, arguments),

@@ -29,6 +29,8 @@ pub struct ReplayOptions {
     pub placeholder: Text,
     /// The keys of tables that aren't to be read from the log.
     pub keys: Seq<TableKey>,
+    /// The input is a replication stream as the server sent it, instead of lines.
+    pub raw: bool,
 }
 
 /// A parsed command line; absent options have their defaults.

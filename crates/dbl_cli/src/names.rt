@@ -67,7 +67,7 @@ static APPLY: [Name; 2] = [
     },
 ];
 
-static REPLAY: [Name; 3] = [
+static REPLAY: [Name; 4] = [
     Name {
         text: "prefix",
         has_value: true,
@@ -79,6 +79,10 @@ static REPLAY: [Name; 3] = [
     Name {
         text: "placeholder",
         has_value: true,
+    },
+    Name {
+        text: "raw",
+        has_value: false,
     },
 ];
 

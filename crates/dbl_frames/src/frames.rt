@@ -189,7 +189,11 @@ fn finish_frame(
 }
 
 // Appends a whole frame to those read, and begins the next one.
-fn append_frame(alloc: Global, partial: &mut Partial, out: &mut Vec<Frame>) -> Result<(), AllocError>
+fn append_frame(
+    alloc: Global,
+    partial: &mut Partial,
+    out: &mut Vec<Frame>,
+) -> Result<(), AllocError>
     requires sound { head_fault partial.old.at partial.old.bytes.items ≡ None }
     requires whole { length partial.old.bytes.items ≡ wanted_size partial.old.bytes.items }
     requires room { partial.old.at + length partial.old.bytes.items < 2 ^ 64 }

@@ -21,10 +21,10 @@ abbrev pub AnswersAreOne : Type 0
 AnswersAreOne = (words : List (List ℕ)) (now : ℤ) (given : RunInput) (a b : RunAnswer) → Means words now given a
     → Means words now given b → a ≡ b
 
--- Arguments that request no session have an answer at each time, for any input and contents.
+-- Arguments that request no session have an answer at each time, for any bytes of the input and the disks.
 abbrev pub AnswersStand : Type 0
-AnswersStand = (words : List (List ℕ)) (now : ℤ) (given : RunInput) → SpellNone words connects → AreBytes given.topics
-    → AreBytes given.offsets
+AnswersStand = (words : List (List ℕ)) (now : ℤ) (given : RunInput) → SpellNone words connects → AreBytes given.input
+    → AreBytes given.topics → AreBytes given.offsets
     → (answer : RunAnswer) × Means words now given answer
 
 -- Why the stores that a command reads aren't what it needs.

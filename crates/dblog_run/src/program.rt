@@ -43,7 +43,7 @@ use dbl_disk::Disk;
 use dbl_lines::{RunError, Status, say};
 use dblog_capture::{Asked, run_generated, run_session};
 use dblog_init::{Disks, Outcome};
-use dblog_streams::{apply_lines, print_workload, replay_lines};
+use dblog_streams::{apply_lines, print_workload, replay_input};
 use std::alloc::Global;
 
 /// Runs the program on its arguments, at a time in milliseconds since 1970, over the disks of the
@@ -330,7 +330,7 @@ fn run_command<I: Input, O: Output, W: Disk, T: Disk, F: Disk>(
     match command {
         Command::Replay { options } => Outcome {
             disks,
-            end: replay_lines(alloc, options, now_ms, input, output),
+            end: replay_input(alloc, options, now_ms, input, output),
         },
         Command::Apply {
             lines: true,

@@ -1,5 +1,5 @@
 -- An input has some answer of `replay`, and of `apply --lines`.
-use Rattle.std.proofs.Common.{◌≡◌, ◌⊎◌, inl, inr, ℕ, ℤ, ◌<◌, ◌≤◌, Bool, true, false, Option, Some, None, Result, Ok, Err, List, length, refl, sym, subst, map}
+use Rattle.std.proofs.Common.{◌≡◌, ◌⊎◌, inl, inr, ℕ, ℤ, ◌<◌, ◌≤◌, Bool, true, false, Option, Some, None, Ok, Err, List, length, refl, sym, subst, map}
 use Rattle.std.specs.Prelude.{nat_lt}
 use Rattle.std.specs.List.{AllByRecursion}
 use Rattle.std.proofs.lemmas.Bool.{ltb-false}
@@ -7,17 +7,18 @@ use Rattle.std.proofs.lemmas.Bool.Decides.{Decides-ltb}
 use Rattle.dbl_base.specs.Streams.{input_limit}
 use Rattle.dbl_base.specs.Lines.{lines_of}
 use Rattle.dbl_pgmsg.specs.Faults.{AreBytes}
-use Rattle.dbl_lines.specs.declared.run_error.RunError.{RunError}
 use Rattle.dbl_lines.specs.declared.run_error.RunError.TheVariants.{BadLine, InputTooLong}
 use Rattle.dbl_cli.specs.declared.commands.ReplayOptions.{ReplayOptions}
 use Rattle.dblog_replay.specs.Lines.{message_bytes_in, first_bad_line}
 use Rattle.dblog_replay.proofs.CommitLaws.{replays_exist}
 use Rattle.dblog_replay.proofs.DigitLemmas.{messages_small}
 use Rattle.dblog_replay.proofs.PieceLemmas.{pieces_exist, pieces_fit}
-use Rattle.dblog_streams.proofs.ReplayLaws.{ok_one}
+use Rattle.dblog_streams.proofs.ReplayLaws.{Encoded, ok_one, ok_or_answer}
+use Rattle.dblog_streams.proofs.FrameInputLemmas.{payloads_small, frames_exist}
 use Rattle.dblog_streams.specs.Answers.{RunAnswer, fault, done}
-use Rattle.dblog_streams.specs.Replays.{EncodesStrings, too_long, bad_line, encoded, log_options, log_answer, Replays, unread, replayed, StringsExist}
-use Rattle.dblog_streams.specs.Replays.{ReplayAnswersExist}
+use Rattle.dblog_streams.specs.Inputs.{payloads_of, EncodesLines, bad_line, good_lines, bad_frame, cut_frame, whole_frames, EncodesWithin}
+use Rattle.dblog_streams.specs.Inputs.{EncodesStrings, too_long, encoded}
+use Rattle.dblog_streams.specs.Replays.{AreInputBytes, log_options, log_answer, Replays, unread, replayed, StringsExist, ReplayAnswersExist}
 use Rattle.dblog_streams.specs.Applies.{line_fault, Applies, long_input, refused, applied, ApplyAnswersExist}
 use Rattle.dbl_consume.specs.Printing.{row_line}
 use Rattle.dbl_consume.proofs.StandLemmas.{rows_stand}
@@ -31,39 +32,49 @@ within_or_not n = go _ refl
     go true h = inr ((Decides-ltb input_limit n).0 h)
     go false h = inl (ltb-false _ _ h)
 
--- what an input encodes are bytes
-pub strings_small : (bytes : List ℕ) (strings : List (List ℕ)) → EncodesStrings bytes (Ok strings) → AllByRecursion AreBytes strings
-strings_small bytes strings (too_long long is) = cc
-strings_small bytes strings (bad_line n within bad is) = cc
-strings_small bytes strings (encoded within good is) =
+-- what lines or frames encode are bytes
+within_small : (raw : Bool) (bytes : List ℕ) (strings : List (List ℕ)) → EncodesWithin raw bytes (Ok strings) → AllByRecursion AreBytes strings
+within_small true bytes strings (bad_frame frames reason are is) = absurd (ok_or_answer strings _ is)
+within_small true bytes strings (cut_frame frames rest are some is) = absurd (ok_or_answer strings _ is)
+within_small true bytes strings (whole_frames frames are is) =
+    subst (λ (bs : List (List ℕ)). AllByRecursion AreBytes bs) (sym (ok_one strings (payloads_of frames) is)) (payloads_small frames are.begins.each)
+within_small false bytes strings (bad_line n bad is) = absurd (ok_or_answer strings _ is)
+within_small false bytes strings (good_lines good is) =
     subst (λ (bs : List (List ℕ)). AllByRecursion AreBytes bs) (sym (ok_one strings (message_bytes_in (lines_of bytes)) is)) (messages_small (lines_of bytes))
 
-abbrev HasStrings : List ℕ → Type 0
-HasStrings bytes = (result : Result (List (List ℕ)) RunError) × EncodesStrings bytes result
+-- what an input encodes are bytes
+pub strings_small : (raw : Bool) (bytes : List ℕ) (strings : List (List ℕ)) → EncodesStrings raw bytes (Ok strings) → AllByRecursion AreBytes strings
+strings_small raw bytes strings (too_long long is) = absurd (ok_or_answer strings _ is)
+strings_small raw bytes strings (encoded within enc) = within_small raw bytes strings enc
 
-by_lines : (bytes : List ℕ) → length bytes ≤ input_limit → (o : Option ℕ) → first_bad_line (lines_of bytes) ≡ o → HasStrings bytes
-by_lines bytes within (Some number) is = (Err (BadLine number), bad_line number within is refl)
-by_lines bytes within None is = (Ok (message_bytes_in (lines_of bytes)), encoded within is refl)
+by_lines : (bytes : List ℕ) → (o : Option ℕ) → first_bad_line (lines_of bytes) ≡ o → (result : Encoded) × EncodesLines bytes result
+by_lines bytes (Some number) is = (Err (fault (BadLine number)), bad_line number is refl)
+by_lines bytes None is = (Ok (message_bytes_in (lines_of bytes)), good_lines is refl)
 
-by_length : (bytes : List ℕ) → (length bytes ≤ input_limit) ⊎ (input_limit < length bytes) → HasStrings bytes
-by_length bytes (inl within) = by_lines bytes within _ refl
-by_length bytes (inr long) = (Err InputTooLong, too_long long refl)
+by_form : (raw : Bool) (bytes : List ℕ) → AreInputBytes raw bytes → (result : Encoded) × EncodesWithin raw bytes result
+by_form true bytes small = frames_exist bytes (small refl)
+by_form false bytes small = by_lines bytes _ refl
 
--- an input encodes some byte strings, or has some error
+by_length : (raw : Bool) (bytes : List ℕ) → AreInputBytes raw bytes → (length bytes ≤ input_limit) ⊎ (input_limit < length bytes)
+    → (result : Encoded) × EncodesStrings raw bytes result
+by_length raw bytes small (inl within) = let form = by_form raw bytes small in (form.0, encoded within form.1)
+by_length raw bytes small (inr long) = (Err (fault InputTooLong), too_long long refl)
+
+-- an input encodes some byte strings, or has some answer
 pub strings_exist : StringsExist
-strings_exist bytes = by_length bytes (within_or_not (length bytes))
+strings_exist raw bytes small = by_length raw bytes small (within_or_not (length bytes))
 
-by_strings : (options : ReplayOptions) (now : ℤ) (bytes : List ℕ) (result : Result (List (List ℕ)) RunError) → EncodesStrings bytes result
+by_strings : (options : ReplayOptions) (now : ℤ) (bytes : List ℕ) (result : Encoded) → EncodesStrings options.raw bytes result
     → (answer : RunAnswer) × Replays options now bytes answer
-by_strings options now bytes (Err halt) encodes = (fault halt, unread halt encodes refl)
+by_strings options now bytes (Err answer) encodes = (answer, unread encodes)
 by_strings options now bytes (Ok strings) encodes =
-    let some = pieces_exist 1 strings (strings_small bytes strings encodes) in
+    let some = pieces_exist 1 strings (strings_small options.raw bytes strings encodes) in
     let log = replays_exist (log_options options) now some.0 (pieces_fit 1 strings some.0 some.1) in
     (log_answer log.0 log.1, replayed log.0 log.1 (record { strings = strings; pieces = some.0; encodes = encodes; read = some.1; replayed = log.2 }) refl)
 
 -- bytes have some answer
 pub replay_exists : ReplayAnswersExist
-replay_exists options now bytes = let strings = strings_exist bytes in by_strings options now bytes strings.0 strings.1
+replay_exists options now bytes small = let strings = strings_exist options.raw bytes small in by_strings options now bytes strings.0 strings.1
 
 -- ---- `apply --lines`
 

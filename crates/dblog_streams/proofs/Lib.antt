@@ -3,6 +3,7 @@ pub use Rattle.dblog_replay.proofs.PieceLemmas as ReplayPieceLemmas
 pub mod AnswerLemmas
 pub mod ApplyLaws
 pub mod ApplyRunLemmas
+pub mod FrameInputLemmas
 pub mod InputLemmas
 pub mod ReplayLaws
 pub mod ReplayRunLemmas

@@ -1,5 +1,6 @@
 -- How a run of `replay` ends.
-use Rattle.std.proofs.Common.{◌≡◌, ◌≢◌, ◌⊎◌, inl, inr, ◌∙◌, ℕ, ℤ, Option, Some, None, Ok, Err, List, [], ◌∷◌, ◌++◌, take, refl, sym, ap, ap₂, subst}
+use Rattle.std.proofs.Common.{◌≡◌, ◌≢◌, ◌⊎◌, inl, inr, ◌∙◌, ℕ, ℤ, Bool, true, false, Option, Some, None, Ok, Err, List, [], ◌∷◌, ◌++◌, length, take, refl, sym, ap, ap₂, subst}
+use Rattle.std.proofs.Math.Seq.{take-nil}
 use Rattle.dbl_base.specs.Lines.{lines_text}
 use Rattle.dbl_base.specs.Streams.{FaultCounted}
 use Rattle.dbl_model_commit.specs.declared.txn_error.TxnError.{TxnError}
@@ -17,19 +18,21 @@ use Rattle.dblog_replay.specs.Pieces.{Piece, AreRead}
 use Rattle.dblog_replay.specs.Log.{LogWrites, end_status, end_lines}
 use Rattle.dblog_replay.specs.LogFaults.{transaction_status}
 use Rattle.dblog_replay.specs.LogPrinting.{IsLogPrinted, LogFails}
-use Rattle.dblog_streams.specs.Answers.{RunAnswer, fault, whole, out_of_memory, Ends, FailsReading}
+use Rattle.dblog_streams.specs.Answers.{RunAnswer, fault, MayEnd, whole, out_of_memory, Ends, EndsAs, FailsReading, IsExternalStatus}
 use Rattle.dblog_streams.specs.Statuses.{IsReplayAnswer, IsReplayStatus}
-use Rattle.dblog_streams.proofs.AnswerLemmas.{memory_outside, memory_written, says_is, outside_of, says_ends, memory_ends, written_or_outside, memory_is_outside}
-use Rattle.dblog_streams.proofs.AnswerLemmas.{writes_then}
+use Rattle.dblog_streams.proofs.AnswerLemmas.{memory_outside, memory_written, memory_ends, writes_then}
 use Rattle.dblog_replay.proofs.CommitLaws.{commits_written, replayed_written}
 use Rattle.dblog_replay.proofs.LogLemmas.{log_one}
 use Rattle.dblog_replay.proofs.PieceLemmas.{pieces_exist, pieces_fit}
 use Rattle.dblog_streams.proofs.InputLemmas.{strings_small}
-use Rattle.dbl_lines.specs.Says.{Says}
+use Rattle.dbl_lines.specs.Says.{Says, Writes}
 use Rattle.dbl_lines.specs.declared.status.Status.TheVariants.{StdoutFailed, InvalidInput}
-use Rattle.dblog_streams.specs.Replays.{EncodesStrings, too_long, bad_line, encoded, log_options, ReplaysLog, log_answer, Replays, unread, replayed}
-use Rattle.dblog_streams.specs.Replays.{HaltsReading, RunsLog, RunsReplaying}
-use Rattle.dblog_streams.proofs.ReplayLaws.{strings_one, ok_one, error_one, ok_or_error, replays_one}
+use Rattle.dblog_streams.specs.declared.unread.Unread.{Unread}
+use Rattle.dblog_streams.specs.declared.unread.Unread.TheVariants.{Run, BadFrame, CutFrame}
+use Rattle.dblog_streams.specs.Inputs.{frame_text, cut_text, invalid_input, EncodesLines, bad_line, good_lines, EncodesFrames, bad_frame, cut_frame, whole_frames}
+use Rattle.dblog_streams.specs.Inputs.{EncodesWithin, EncodesStrings, too_long, encoded, unread_answer, IsFailure, HaltsReading}
+use Rattle.dblog_streams.specs.Replays.{log_options, ReplaysLog, log_answer, Replays, unread, replayed, RunsLog, RunsReplaying}
+use Rattle.dblog_streams.proofs.ReplayLaws.{strings_one, ok_one, answer_one, ok_or_answer, replays_one}
 
 -- ---- how a run over pieces ends
 
@@ -136,23 +139,69 @@ pub printed_no_input : (options : LogOptions) (now : ℤ) (pieces : List Piece) 
 printed_no_input options now pieces status before after is same = (end_other is.end).1 (sym is.is ∙ same)
 
 -- the status of an answer
-encoding_known : (bytes : List ℕ) (error : RunError) → EncodesStrings bytes (Err error) → status_of error ≡ InvalidInput
-encoding_known bytes error (too_long long is) = ap status_of (error_one error InputTooLong is)
-encoding_known bytes error (bad_line n within bad is) = ap status_of (error_one error (BadLine n) is)
-encoding_known bytes error (encoded within good is) = absurd (ok_or_error _ error (sym is))
+lines_known : (bytes : List ℕ) (answer : RunAnswer) → EncodesLines bytes (Err answer) → answer.status ≡ InvalidInput
+lines_known bytes answer (bad_line n bad is) = ap (λ (a : RunAnswer). a.status) (answer_one answer (fault (BadLine n)) is)
+lines_known bytes answer (good_lines good is) = absurd (ok_or_answer _ answer (sym is))
+
+frames_known : (bytes : List ℕ) (answer : RunAnswer) → EncodesFrames bytes (Err answer) → answer.status ≡ InvalidInput
+frames_known bytes answer (bad_frame frames reason are is) = ap (λ (a : RunAnswer). a.status) (answer_one answer (invalid_input (frame_text reason)) is)
+frames_known bytes answer (cut_frame frames rest are some is) =
+    ap (λ (a : RunAnswer). a.status) (answer_one answer (invalid_input (cut_text (length bytes))) is)
+frames_known bytes answer (whole_frames frames are is) = absurd (ok_or_answer _ answer (sym is))
+
+within_known : (raw : Bool) (bytes : List ℕ) (answer : RunAnswer) → EncodesWithin raw bytes (Err answer) → answer.status ≡ InvalidInput
+within_known true bytes answer enc = frames_known bytes answer enc
+within_known false bytes answer enc = lines_known bytes answer enc
+
+encoding_known : (raw : Bool) (bytes : List ℕ) (answer : RunAnswer) → EncodesStrings raw bytes (Err answer) → answer.status ≡ InvalidInput
+encoding_known raw bytes answer (too_long long is) = ap (λ (a : RunAnswer). a.status) (answer_one answer (fault InputTooLong) is)
+encoding_known raw bytes answer (encoded within enc) = within_known raw bytes answer enc
 
 pub replays_known : (options : ReplayOptions) (now : ℤ) (bytes : List ℕ) (answer : RunAnswer) → Replays options now bytes answer → IsReplayStatus answer.status
-replays_known options now bytes answer (unread error encodes is) =
-    inl (inr (inr (inr (ap (λ (a : RunAnswer). a.status) is ∙ encoding_known bytes error encodes))))
+replays_known options now bytes answer (unread enc) = inl (inr (inr (inr (encoding_known options.raw bytes answer enc))))
 replays_known options now bytes answer (replayed lines end log is) = subst (λ (a : RunAnswer). IsReplayStatus a.status) (sym is) (end_known end)
 
--- a fault before the messages was said
-pub replay_said : (halt : RunError) (status : Status) (before after : Option (List ℕ)) → halt ≢ Usage → Says halt status before after → IsReplayStatus status
-replay_said Usage status before after other says = absurd (other refl)
-replay_said InputFailed status before after other says = elim (says_is InputFailed status before after says) [ inl is ↦ inr (inl is) | inr outside ↦ inr (outside_of status outside) ]
-replay_said Memory status before after other says = elim (says_is Memory status before after says) [ inl is ↦ inr (inr (inr is)) | inr outside ↦ inr (outside_of status outside) ]
-replay_said (BadLine number) status before after other says = elim (says_is (BadLine number) status before after says) [ inl is ↦ inl (inr (inr (inr is))) | inr outside ↦ inr (outside_of status outside) ]
-replay_said InputTooLong status before after other says = elim (says_is InputTooLong status before after says) [ inl is ↦ inl (inr (inr (inr is))) | inr outside ↦ inr (outside_of status outside) ]
+-- the status of an error of reading
+unread_known : (u : Unread) → u ≢ Run Usage → IsReplayStatus (unread_answer u).status
+unread_known (Run Usage) other = absurd (other refl)
+unread_known (Run InputFailed) other = inr (inl refl)
+unread_known (Run Memory) other = inr (inr (inr refl))
+unread_known (Run (BadLine number)) other = inl (inr (inr (inr refl)))
+unread_known (Run InputTooLong) other = inl (inr (inr (inr refl)))
+unread_known (BadFrame reason) other = inl (inr (inr (inr refl)))
+unread_known (CutFrame size) other = inl (inr (inr (inr refl)))
+
+-- an error of reading was said
+pub unread_said : (u : Unread) (status : Status) (before after : Option (List ℕ)) → u ≢ Run Usage → EndsAs (unread_answer u) status before after
+    → IsReplayStatus status
+unread_said u status before after other ends = elim ends.told [ inl outside ↦ inr outside | inr is ↦ subst IsReplayStatus is (unread_known u other) ]
+
+-- a run's status is its answer's, unless the output failed or memory ran out
+ended_is : (answer : RunAnswer) (status : Status) (before after : Option (List ℕ)) → Ends answer status before after
+    → (status ≡ answer.status) ⊎ ((status ≡ StdoutFailed) ⊎ (status ≡ status_of Memory))
+ended_is answer status before after ends = elim ends.writes [ inl wrote ↦ by_status ends.may wrote.0 | inr cut ↦ inr (inl cut.0) ]
+  where
+    by_status : MayEnd answer ends.wanted ends.text → status ≡ ends.wanted
+        → (status ≡ answer.status) ⊎ ((status ≡ StdoutFailed) ⊎ (status ≡ status_of Memory))
+    by_status (whole is text_is) same = inl (same ∙ is)
+    by_status (out_of_memory n is text_is) same = inr (inr (same ∙ is))
+
+input_error : (u : Unread) → (unread_answer u).status ≡ status_of InputFailed → u ≡ Run InputFailed
+input_error (Run Usage) is = cc
+input_error (Run InputFailed) is = refl
+input_error (Run Memory) is = cc
+input_error (Run (BadLine number)) is = cc
+input_error (Run InputTooLong) is = cc
+input_error (BadFrame reason) is = cc
+input_error (CutFrame size) is = cc
+
+-- only a failed input has its status
+pub unread_input : (u : Unread) (status : Status) (before after : Option (List ℕ)) → EndsAs (unread_answer u) status before after
+    → status ≡ status_of InputFailed → u ≡ Run InputFailed
+unread_input u status before after ends same = elim (ended_is (unread_answer u) status before after ends.ended) [
+  | inl is ↦ input_error u (sym is ∙ same)
+  | inr outside ↦ elim outside [ inl is ↦ cc | inr is ↦ cc ]
+]
 
 -- out of memory, or a fault of the input, tells nothing of what it means
 memory_no_answer : (status : Status) → (status ≡ StdoutFailed) ⊎ (status ≡ status_of Memory) → IsReplayAnswer status → ⊥
@@ -171,58 +220,71 @@ input_no_answer status is (inr (inl told)) = cc
 input_no_answer status is (inr (inr (inl told))) = cc
 input_no_answer status is (inr (inr (inr told))) = cc
 
-pub outside_no_answer : (halt : RunError) (status : Status) (before after : Option (List ℕ)) → (halt ≡ InputFailed) ⊎ (halt ≡ Memory) → Says halt status before after → IsReplayAnswer status → ⊥
-outside_no_answer halt status before after (inl is) says told =
-    elim (says_is halt status before after says) [ inl same ↦ input_no_answer status (same ∙ ap status_of is) told | inr outside ↦ memory_no_answer status outside told ]
-outside_no_answer halt status before after (inr is) says told =
-    elim (says_is halt status before after says) [ inl same ↦ memory_no_answer status (inr (same ∙ ap status_of is)) told | inr outside ↦ memory_no_answer status outside told ]
+outside_no_answer : (status : Status) → IsExternalStatus status → IsReplayAnswer status → ⊥
+outside_no_answer status (inl is) answer = input_no_answer status is answer
+outside_no_answer status (inr outside) answer = memory_no_answer status outside answer
+
+failure_outside : (u : Unread) → IsFailure u → IsExternalStatus (unread_answer u).status
+failure_outside u (inl is) = inl (ap (λ (v : Unread). (unread_answer v).status) is)
+failure_outside u (inr is) = inr (inr (ap (λ (v : Unread). (unread_answer v).status) is))
+
+pub failure_no_answer : (u : Unread) (status : Status) (before after : Option (List ℕ)) → IsFailure u → EndsAs (unread_answer u) status before after
+    → IsReplayAnswer status → ⊥
+failure_no_answer u status before after fails ends answer = elim ends.told [
+  | inl outside ↦ outside_no_answer status outside answer
+  | inr is ↦ outside_no_answer status (subst IsExternalStatus is (failure_outside u fails)) answer
+]
 
 -- ---- how a run over bytes ends
 
-answered : (options : ReplayOptions) (now : ℤ) (bytes : List ℕ) (halt : RunError) (status : Status) (before after : Option (List ℕ))
-    → EncodesStrings bytes (Err halt) → Says halt status before after → RunsReplaying options now bytes status before after
-answered options now bytes halt status before after encodes (inl writes) =
-    let replays : Replays options now bytes (fault halt) = unread halt encodes refl in
-    record {
-      ended = λ answer other. subst (λ a. Ends a status before after) (replays_one options now bytes (fault halt) answer replays other)
-          (says_ends halt status before after (inl writes));
-      meant = elim (written_or_outside _ _ status before after writes) [ inl is ↦ inr (fault halt, replays, sym is) | inr outside ↦ inl outside ];
-    }
-answered options now bytes halt status before after encodes (inr writes) = record {
-  ended = λ answer other. memory_ends answer status before after writes;
-  meant = inl (memory_is_outside status (written_or_outside _ _ status before after writes));
+-- a run with an error's answer wrote the error's line, unless memory ran out
+ends_says : (halt : RunError) (status : Status) (before after : Option (List ℕ)) → Ends (fault halt) status before after → Says halt status before after
+ends_says halt status before after ends = by_text ends.may
+  where
+    by_text : MayEnd (fault halt) ends.wanted ends.text → Says halt status before after
+    by_text (whole is text_is) =
+        inl (subst (λ (l : List ℕ). Writes (status_of halt) l status before after) text_is (subst (λ (s : Status). Writes s ends.text status before after) is ends.writes))
+    by_text (out_of_memory n is text_is) =
+        inr (subst (λ (l : List ℕ). Writes (status_of Memory) l status before after)
+        (text_is ∙ ap (λ (ls : List (List ℕ)). lines_text ls ++ lines_text (fault_line Memory ∷ [])) (take-nil n))
+        (subst (λ (s : Status). Writes s ends.text status before after) is ends.writes))
+
+answered : (options : ReplayOptions) (now : ℤ) (bytes : List ℕ) (answer : RunAnswer) (status : Status) (before after : Option (List ℕ))
+    → EncodesStrings options.raw bytes (Err answer) → EndsAs answer status before after → RunsReplaying options now bytes status before after
+answered options now bytes answer status before after encodes ends = record {
+  ended = λ other replays. subst (λ (a : RunAnswer). Ends a status before after) (replays_one options now bytes answer other (unread encodes) replays) ends.ended;
+  meant = elim ends.told [ inl outside ↦ inl outside | inr is ↦ inr (answer, unread encodes, is) ];
 }
 
--- an error of the lines was said
-pub halt_replays : (options : ReplayOptions) (now : ℤ) (bytes : List ℕ) (halt : RunError) (status : Status) (before after : Option (List ℕ))
-    → HaltsReading bytes halt → halt ≢ InputFailed
-    → Says halt status before after → RunsReplaying options now bytes status before after
-halt_replays options now bytes Usage status before after halts read says = absurd halts
-halt_replays options now bytes InputFailed status before after halts read says = absurd (read refl)
-halt_replays options now bytes Memory status before after halts read says = record {
+starved_replays : (options : ReplayOptions) (now : ℤ) (bytes : List ℕ) (status : Status) (before after : Option (List ℕ))
+    → Says Memory status before after → RunsReplaying options now bytes status before after
+starved_replays options now bytes status before after says = record {
   ended = λ answer replays. memory_ends answer status before after (memory_written status before after says);
   meant = inl (memory_outside status before after says);
 }
-halt_replays options now bytes (BadLine number) status before after halts read says = answered options now bytes (BadLine number) status before after halts says
-halt_replays options now bytes InputTooLong status before after halts read says = answered options now bytes InputTooLong status before after halts says
 
--- an error of reading the lines was said
-pub read_replays : (options : ReplayOptions) (now : ℤ) (bytes : List ℕ) (halt : RunError) (was later : ℕ) (status : Status) (before after : Option (List ℕ))
-    → HaltsReading bytes halt → (halt ≡ InputFailed → FaultCounted was later)
-    → Says halt status before after → RunsReplaying options now bytes status before after ⊎ FailsReading was later status before after
-read_replays options now bytes Usage was later status before after halts failed says = absurd halts
-read_replays options now bytes InputFailed was later status before after halts failed says = inr (record { rose = failed refl; says = says })
-read_replays options now bytes Memory was later status before after halts failed says = inl (halt_replays options now bytes Memory status before after halts (λ is. cc) says)
-read_replays options now bytes (BadLine number) was later status before after halts failed says = inl (answered options now bytes (BadLine number) status before after halts says)
-read_replays options now bytes InputTooLong was later status before after halts failed says = inl (answered options now bytes InputTooLong status before after halts says)
+-- the line of an error of reading was to be written
+pub unread_replays : (options : ReplayOptions) (now : ℤ) (bytes : List ℕ) (u : Unread) (was later : ℕ) (status : Status) (before after : Option (List ℕ))
+    → HaltsReading options.raw bytes u → (u ≡ Run InputFailed → FaultCounted was later)
+    → EndsAs (unread_answer u) status before after → RunsReplaying options now bytes status before after ⊎ FailsReading was later status before after
+unread_replays options now bytes u was later status before after (inr encodes) failed ends =
+    inl (answered options now bytes (unread_answer u) status before after encodes ends)
+unread_replays options now bytes u was later status before after (inl (inl is)) failed ends =
+    inr (record {
+      rose = failed is;
+      says = ends_says InputFailed status before after (subst (λ (v : Unread). Ends (unread_answer v) status before after) is ends.ended);
+    })
+unread_replays options now bytes u was later status before after (inl (inr is)) failed ends =
+    inl (starved_replays options now bytes status before after
+    (ends_says Memory status before after (subst (λ (v : Unread). Ends (unread_answer v) status before after) is ends.ended)))
 
 -- the byte strings were replayed
 pub strings_replay : (options : ReplayOptions) (now : ℤ) (bytes : List ℕ) (strings : List (List ℕ)) (status : Status) (before after : Option (List ℕ))
-    → EncodesStrings bytes (Ok strings)
+    → EncodesStrings options.raw bytes (Ok strings)
     → ((pieces : List Piece) → AreRead 1 strings pieces → RunsLog (log_options options) now pieces status before after)
     → RunsReplaying options now bytes status before after
 strings_replay options now bytes strings status before after encodes runs =
-    let some = pieces_exist 1 strings (strings_small bytes strings encodes) in
+    let some = pieces_exist 1 strings (strings_small options.raw bytes strings encodes) in
     record {
       ended = ends;
       meant = elim (runs some.0 some.1).meant [
@@ -242,9 +304,9 @@ strings_replay options now bytes strings status before after encodes runs =
     }
 
     ends : (answer : RunAnswer) → Replays options now bytes answer → Ends answer status before after
-    ends answer (unread halt encodes' is) = absurd (ok_or_error strings halt (strings_one bytes (Ok strings) (Err halt) encodes encodes'))
+    ends answer (unread encodes') = absurd (ok_or_answer strings answer (strings_one options.raw bytes (Ok strings) (Err answer) encodes encodes'))
     ends answer (replayed lines end log is) =
-        let same = ok_one log.strings strings (strings_one bytes (Ok log.strings) (Ok strings) log.encodes encodes) in
+        let same = ok_one log.strings strings (strings_one options.raw bytes (Ok log.strings) (Ok strings) log.encodes encodes) in
         let read : AreRead 1 strings log.pieces = subst (λ (bs : List (List ℕ)). AreRead 1 bs log.pieces) same log.read in
         subst (λ (a : RunAnswer). Ends a status before after) (sym is)
         ((runs log.pieces read).ended lines end

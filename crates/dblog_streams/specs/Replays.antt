@@ -1,29 +1,18 @@
 -- What `replay` makes of an input, stage by stage: the byte strings that it encodes, the pieces that these are read as, and the lines of
 -- the pieces.
-use Rattle.std.specs.Prelude.{◌≡◌, ◌⊎◌, ℕ, ℤ, ◌<◌, ◌≤◌, Option, Some, None, Result, Ok, Err, List, [], ◌++◌, length}
-use Rattle.dbl_base.specs.Lines.{lines_of}
-use Rattle.dbl_base.specs.Streams.{input_limit}
+use Rattle.std.specs.Prelude.{◌≡◌, ◌⊎◌, ℕ, ℤ, Bool, true, Option, Result, Ok, Err, List, [], ◌++◌}
 use Rattle.dbl_lines.specs.declared.status.Status.{Status}
-use Rattle.dbl_lines.specs.declared.run_error.RunError.{RunError}
-use Rattle.dbl_lines.specs.declared.run_error.RunError.TheVariants.{Usage, BadLine, InputTooLong, InputFailed, Memory}
-use Rattle.dblog_streams.specs.Answers.{RunAnswer, fault, Ends, IsExternalStatus}
+use Rattle.dblog_streams.specs.Answers.{RunAnswer, Ends, IsExternalStatus}
+use Rattle.dbl_pgmsg.specs.Faults.{AreBytes}
 use Rattle.dbl_cli.specs.declared.commands.ReplayOptions.{ReplayOptions}
 use Rattle.dblog_replay.specs.declared.log_fault.LogFault.{LogFault}
 use Rattle.dblog_replay.specs.declared.options.LogOptions.{LogOptions}
-use Rattle.dblog_replay.specs.Lines.{message_bytes_in, first_bad_line}
 use Rattle.dblog_replay.specs.Pieces.{Piece, AreRead}
 use Rattle.dblog_replay.specs.Log.{LogWrites, end_status, end_lines}
 use Rattle.dblog_replay.specs.Replay.{IsReplayed}
+use Rattle.dblog_streams.specs.Inputs.{EncodesStrings}
 
 -- ---- stages
-
--- The byte strings that the lines of an input with these bytes encode; or why it has none: the input is too long, or a line is bad.
-pub data EncodesStrings (bytes : List ℕ) (result : Result (List (List ℕ)) RunError) : Type 0 where
-  too_long : input_limit < length bytes → result ≡ Err InputTooLong → EncodesStrings bytes result
-  bad_line : (number : ℕ) → length bytes ≤ input_limit → first_bad_line (lines_of bytes) ≡ Some number → result ≡ Err (BadLine number)
-      → EncodesStrings bytes result
-  encoded : length bytes ≤ input_limit → first_bad_line (lines_of bytes) ≡ None → result ≡ Ok (message_bytes_in (lines_of bytes))
-      → EncodesStrings bytes result
 
 -- The options of the log that `replay` with these options replays.
 abbrev pub log_options : ReplayOptions → LogOptions
@@ -38,7 +27,7 @@ pub record ReplaysLog (options : ReplayOptions) (now : ℤ) (bytes : List ℕ) (
     (end : Option LogFault) : Type 0 where
   pub strings : List (List ℕ)
   pub pieces : List Piece
-  pub encodes : EncodesStrings bytes (Ok strings)
+  pub encodes : EncodesStrings options.raw bytes (Ok strings)
   pub read : AreRead 1 strings pieces
   pub replayed : IsReplayed (log_options options) now pieces lines end
 
@@ -50,7 +39,7 @@ log_answer lines end = record { status = end_status end; lines = lines ++ end_li
 
 -- The answer of `replay` with these options at a time for an input with these bytes.
 pub data Replays (options : ReplayOptions) (now : ℤ) (bytes : List ℕ) (answer : RunAnswer) : Type 0 where
-  unread : (error : RunError) → EncodesStrings bytes (Err error) → answer ≡ fault error → Replays options now bytes answer
+  unread : EncodesStrings options.raw bytes (Err answer) → Replays options now bytes answer
   replayed : (lines : List (List ℕ)) (end : Option LogFault) → ReplaysLog options now bytes lines end → answer ≡ log_answer lines end
       → Replays options now bytes answer
 
@@ -58,12 +47,17 @@ pub data Replays (options : ReplayOptions) (now : ℤ) (bytes : List ℕ) (answe
 
 -- An input encodes at most one list of byte strings, or has at most one error.
 abbrev pub StringsAreOne : Type 0
-StringsAreOne = (bytes : List ℕ) (one other : Result (List (List ℕ)) RunError) → EncodesStrings bytes one → EncodesStrings bytes other
-    → one ≡ other
+StringsAreOne = (raw : Bool) (bytes : List ℕ) (one other : Result (List (List ℕ)) RunAnswer) → EncodesStrings raw bytes one
+    → EncodesStrings raw bytes other → one ≡ other
+
+-- The numbers of an input of frames are bytes; lines are read from any numbers.
+abbrev pub AreInputBytes : Bool → List ℕ → Type 0
+AreInputBytes raw bytes = raw ≡ true → AreBytes bytes
 
 -- An input encodes some byte strings, or has some error.
 abbrev pub StringsExist : Type 0
-StringsExist = (bytes : List ℕ) → (result : Result (List (List ℕ)) RunError) × EncodesStrings bytes result
+StringsExist = (raw : Bool) (bytes : List ℕ) → AreInputBytes raw bytes
+    → (result : Result (List (List ℕ)) RunAnswer) × EncodesStrings raw bytes result
 
 -- An input has at most one answer of `replay`.
 abbrev pub ReplayAnswersAreOne : Type 0
@@ -72,17 +66,10 @@ ReplayAnswersAreOne = (options : ReplayOptions) (now : ℤ) (bytes : List ℕ) (
 
 -- An input has some answer of `replay`.
 abbrev pub ReplayAnswersExist : Type 0
-ReplayAnswersExist = (options : ReplayOptions) (now : ℤ) (bytes : List ℕ) → (answer : RunAnswer) × Replays options now bytes answer
+ReplayAnswersExist = (options : ReplayOptions) (now : ℤ) (bytes : List ℕ) → AreInputBytes options.raw bytes
+    → (answer : RunAnswer) × Replays options now bytes answer
 
 -- ---- runs
-
--- For private clauses: an error of reading the input is why it encodes no byte strings, unless it is a failure.
-abbrev pub HaltsReading : List ℕ → RunError → Type 0
-HaltsReading bytes Usage = ⊥
-HaltsReading bytes InputFailed = Unit {0}
-HaltsReading bytes Memory = Unit {0}
-HaltsReading bytes (BadLine number) = EncodesStrings bytes (Err (BadLine number))
-HaltsReading bytes InputTooLong = EncodesStrings bytes (Err InputTooLong)
 
 -- For private clauses: the end of a run of these pieces.
 pub record RunsLog (options : LogOptions) (now : ℤ) (pieces : List Piece) (status : Status)

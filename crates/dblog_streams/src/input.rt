@@ -1,9 +1,10 @@
 //! The input of a command, read whole.
 ghost use Rattle.std.specs.Prelude.{◌≡◌, ◌≢◌, ◌⊎◌, ℕ, ◌≤◌, List, []};
-ghost use Rattle.std.specs.Prelude.{length, Some, Err, IfOk, IfErr, OnOk};
+ghost use Rattle.std.specs.Prelude.{length, false, Some, Err, IfOk, IfErr, OnOk};
 ghost use Rattle.dbl_base.specs.Streams.{FaultCounted, input_limit};
 ghost use Rattle.dblog_streams.specs.Applies.{HaltsApplying};
-ghost use Rattle.dblog_streams.specs.Replays.{HaltsReading};
+ghost use Rattle.dblog_streams.specs.Inputs.{HaltsReading};
+ghost use Rattle.dblog_streams.specs.declared.unread.Unread.TheVariants.{Run};
 
 use dbl_base::{Bytes, Input, InputError, read_all};
 use dbl_lines::RunError;
@@ -17,7 +18,7 @@ pub(crate) fn read_input<I: Input>(alloc: Global, input: &mut I) -> Result<Bytes
         OnOk result (I.left input.new ≡ Some []) }
     ensures within { IfOk result (λ read. length read ≤ input_limit) }
     ensures halts { (bytes : List ℕ) → I.left input.old ≡ Some bytes →
-        IfErr result (HaltsReading bytes) }
+        IfErr result (λ reason. HaltsReading false bytes (Run reason)) }
     ensures long { (bytes : List ℕ) → I.left input.old ≡ Some bytes → length bytes ≤ input_limit →
         IfErr result (λ halt. (halt ≡ RunError.InputFailed) ⊎ (halt ≡ RunError.Memory)) }
     ensures applying { (bytes placeholder : List ℕ) → I.left input.old ≡ Some bytes →

@@ -2,11 +2,13 @@
 #![tactic(auto)]
 
 mod applying;
+mod frames;
 mod generating;
 mod input;
 pub mod laws;
 mod replaying;
+mod unread;
 
 pub use applying::apply_lines;
 pub use generating::print_workload;
-pub use replaying::replay_lines;
+pub use replaying::replay_input;

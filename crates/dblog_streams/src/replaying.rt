@@ -1,16 +1,19 @@
 //! The command `replay`: byte strings of the input, their messages, and the lines of these.
-ghost use Rattle.std.specs.Prelude.{◌≡◌, ◌≢◌, ◌⊎◌, ℕ, ◌≤◌, List, [], length, Some, Ok, IfOk, IfErr};
+ghost use Rattle.std.specs.Prelude.{◌≡◌, ◌≢◌, ◌⊎◌, ℕ, ◌≤◌, List, [], length, false};
+ghost use Rattle.std.specs.Prelude.{Some, Ok, Err, IfOk, IfErr, OnOk};
 ghost use Rattle.std.specs.List.{AllByRecursion};
 ghost use Rattle.dbl_base.specs.Streams.{FaultCounted, input_limit};
 ghost use Rattle.dbl_lines.specs.declared.status.Status.TheVariants.{StdinFailed, StdoutFailed};
 ghost use Rattle.dblog_streams.specs.Answers.{FailsReading};
 ghost use Rattle.dbl_pgmsg.specs.Faults.{AreBytes};
 ghost use Rattle.dblog_replay.specs.Pieces.{Piece, AreRead};
-ghost use Rattle.dblog_streams.specs.Replays.{EncodesStrings, HaltsReading};
+ghost use Rattle.dblog_streams.specs.Inputs.{EncodesStrings, HaltsReading, IsFailure};
 ghost use Rattle.dblog_streams.specs.Replays.{RunsLog, RunsReplaying, log_options};
 ghost use Rattle.dblog_streams.specs.Statuses.{IsReplayAnswer, IsReplayStatus};
 
+use crate::frames::read_payloads;
 use crate::input::read_input;
+use crate::unread::{Unread, say_unread};
 use dbl_base::{Bytes, Input, Output};
 use dbl_cli::ReplayOptions;
 use dbl_lines::{RunError, Status, say};
@@ -18,18 +21,65 @@ use dbl_model_table::Identity;
 use dblog_replay::{LineError, LogOptions, PrintError, print_log};
 use std::alloc::Global;
 
-// The byte strings that an input within the limit encodes, which is freed.
-fn strings_of(alloc: Global, text: Bytes) -> Result<Vec<Bytes>, RunError>
+// The byte strings that the lines of an input within the limit encode, which is freed.
+fn strings_of(alloc: Global, text: Bytes) -> Result<Vec<Bytes>, Unread>
     requires { length text ≤ input_limit }
-    ensures encodes { IfOk result (λ strings. EncodesStrings text (Ok strings.items)) }
-    ensures halts { IfErr result (HaltsReading text) }
-    ensures kinds { IfErr result (λ halt. halt ≢ RunError.InputFailed) }
-    ensures command { IfErr result (λ halt. halt ≢ RunError.Usage) }
+    ensures encodes { IfOk result (λ strings. EncodesStrings false text (Ok strings.items)) }
+    ensures halts { IfErr result (HaltsReading false text) }
+    ensures kinds { IfErr result (λ unread. unread ≢ Unread.Run RunError.InputFailed) }
+    ensures command { IfErr result (λ unread. unread ≢ Unread.Run RunError.Usage) }
 {
     match dblog_replay::messages(alloc, text.items().as_slice()) {
         Ok(strings) => Ok(strings),
-        Err(LineError::BadLine { number }) => Err(RunError::BadLine { number }),
-        Err(LineError::Memory) => Err(RunError::Memory),
+        Err(LineError::BadLine { number }) => Err(Unread::Run {
+            reason: RunError::BadLine { number },
+        }),
+        Err(LineError::Memory) => Err(Unread::Run {
+            reason: RunError::Memory,
+        }),
+    }
+}
+
+// The byte strings of the lines of the input, which is read to its end, unless it is too long.
+fn read_lines<I: Input>(alloc: Global, input: &mut I) -> Result<Vec<Bytes>, Unread>
+    ensures encodes { (bytes : List ℕ) → I.left input.old ≡ Some bytes →
+        IfOk result (λ strings. EncodesStrings false bytes (Ok strings.items)) }
+    ensures small { IfOk result (λ strings. AllByRecursion AreBytes strings.items) }
+    ensures halts { (bytes : List ℕ) → I.left input.old ≡ Some bytes →
+        IfErr result (HaltsReading false bytes) }
+    ensures end { (bytes : List ℕ) → I.left input.old ≡ Some bytes →
+        OnOk result (I.left input.new ≡ Some []) }
+    ensures whole { (bytes : List ℕ) → I.left input.old ≡ Some bytes → length bytes ≤ input_limit →
+        IfErr result (λ unread. IsFailure unread ⊎ (I.left input.new ≡ Some [])) }
+    ensures failed { result ≡ Err (Unread.Run RunError.InputFailed) →
+        FaultCounted (I.faults input.old) (I.faults input.new) }
+    ensures command { IfErr result (λ unread. unread ≢ Unread.Run RunError.Usage) }
+{
+    match read_input(alloc, input) {
+        Ok(text) => strings_of(alloc, text),
+        Err(reason) => Err(Unread::Run { reason }),
+    }
+}
+
+// The byte strings of the input, as frames if it is `raw`, else as lines.
+fn read_strings<I: Input>(alloc: Global, raw: bool, input: &mut I) -> Result<Vec<Bytes>, Unread>
+    ensures encodes { (bytes : List ℕ) → I.left input.old ≡ Some bytes →
+        IfOk result (λ strings. EncodesStrings raw bytes (Ok strings.items)) }
+    ensures small { IfOk result (λ strings. AllByRecursion AreBytes strings.items) }
+    ensures halts { (bytes : List ℕ) → I.left input.old ≡ Some bytes →
+        IfErr result (HaltsReading raw bytes) }
+    ensures end { (bytes : List ℕ) → I.left input.old ≡ Some bytes →
+        OnOk result (I.left input.new ≡ Some []) }
+    ensures whole { (bytes : List ℕ) → I.left input.old ≡ Some bytes → length bytes ≤ input_limit →
+        IfErr result (λ unread. IsFailure unread ⊎ (I.left input.new ≡ Some [])) }
+    ensures failed { result ≡ Err (Unread.Run RunError.InputFailed) →
+        FaultCounted (I.faults input.old) (I.faults input.new) }
+    ensures command { IfErr result (λ unread. unread ≢ Unread.Run RunError.Usage) }
+{
+    if raw {
+        read_payloads(alloc, input)
+    } else {
+        read_lines(alloc, input)
     }
 }
 
@@ -64,6 +114,7 @@ fn log_options(options: ReplayOptions) -> LogOptions
         db,
         placeholder,
         keys,
+        raw: _,
     } = options;
     LogOptions {
         identity: Identity {
@@ -75,29 +126,8 @@ fn log_options(options: ReplayOptions) -> LogOptions
     }
 }
 
-fn replay_text<O: Output>(
-    alloc: Global,
-    options: ReplayOptions,
-    text: Bytes,
-    now_ms: &i64,
-    output: &mut O,
-) -> Status
-    requires { length text ≤ input_limit }
-    ensures told { RunsReplaying options now_ms.now text result
-        (O.written output.old) (O.written output.new) }
-    ensures output_failed { result ≡ StdoutFailed →
-        FaultCounted (O.faults output.old) (O.faults output.new) }
-    ensures not_input { result ≢ StdinFailed }
-    ensures known { IsReplayStatus result }
-{
-    match strings_of(alloc, text) {
-        Ok(strings) => replay_strings(alloc, log_options(options), strings, now_ms, output),
-        Err(halt) => say(alloc, halt, output),
-    }
-}
-
 /// Reads the input whole, replays its messages, and returns the status.
-pub fn replay_lines<I: Input, O: Output>(
+pub fn replay_input<I: Input, O: Output>(
     alloc: Global,
     options: ReplayOptions,
     now_ms: &i64,
@@ -116,8 +146,8 @@ pub fn replay_lines<I: Input, O: Output>(
     ensures output_failed { result ≡ StdoutFailed →
         FaultCounted (O.faults output.old) (O.faults output.new) }
 {
-    match read_input(alloc, input) {
-        Ok(bytes) => replay_text(alloc, options, bytes, now_ms, output),
-        Err(halt) => say(alloc, halt, output),
+    match read_strings(alloc, options.raw, input) {
+        Ok(strings) => replay_strings(alloc, log_options(options), strings, now_ms, output),
+        Err(unread) => say_unread(alloc, unread, output),
     }
 }

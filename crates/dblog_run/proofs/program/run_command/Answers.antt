@@ -22,7 +22,7 @@ pub returns-in-Replay-clause-told : goal.returns-in-Replay-clause-told
 returns-in-Replay-clause-told g c = λ given none told.
     let here = c.in-Replay in
     or_source (replay_command c.args.command here.options c.args.now_ms.now given _ _ _ _ _ _ here.is
-    (c.replay_lines.ensures.told given.input (told.input_is (ap reads here.is))))
+    (c.replay_input.ensures.told given.input (told.input_is (ap reads here.is))))
 
 pub returns-in-Apply-true-default-clause-told : goal.returns-in-Apply-true-default-clause-told
 returns-in-Apply-true-default-clause-told g c = λ given none told.

@@ -1,0 +1,7 @@
+pub mod Kept
+pub mod Refusals
+pub mod Ended
+pub mod Compactors
+pub mod Passes
+pub mod Marks
+pub mod Laws

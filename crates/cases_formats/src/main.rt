@@ -7,6 +7,7 @@
 
 mod ageing;
 mod commits;
+mod compactions;
 mod consumers;
 mod frames;
 mod histories;
@@ -25,6 +26,7 @@ fn answer(alloc: Global, shown: &mut String, name: &str, arguments: &str) -> Res
     let (call, _) = words::split(rest, " ");
     match family {
         "ageing" => ageing::answer(alloc, shown, call, arguments),
+        "compact" => compactions::answer(alloc, shown, call, arguments),
         "consume" => consumers::answer(alloc, shown, call, arguments),
         "envelope" => histories::answer(alloc, shown, call, arguments),
         "frames" => frames::answer(alloc, shown, call, arguments),

@@ -66,7 +66,8 @@ pub fn read_record(alloc: Global, text: &str) -> Result<Record> {
     Ok(record_of(alloc, position, ordinal, last, words::all(alloc, texts)?))
 }
 
-fn records(alloc: Global, arguments: &str) -> Result<Vec<Record>> {
+/// The records of a case.
+pub fn records(alloc: Global, arguments: &str) -> Result<Vec<Record>> {
     let mut records = Vec::new(alloc);
     for text in arguments.split(" | ") {
         if !text.is_empty() {

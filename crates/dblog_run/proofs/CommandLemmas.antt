@@ -210,7 +210,7 @@ memory_tells (command.Capture options) status before after says told = told
 memory_tells (command.Resume options) status before after says told = told
 memory_tells (command.Apply true placeholder) status before after says told = apply_apart status (cut_short status before after says) told
 memory_tells (command.Apply false placeholder) status before after says told = told
-memory_tells (command.Replay options) status before after says told = outside_no_answer Memory status before after (inr refl) says told
+memory_tells (command.Replay options) status before after says told = outside_no_answer status (memory_outside status before after says) told
 memory_tells (command.Gen number rows groups true) status before after says told = told
 memory_tells (command.Gen number rows groups false) status before after says told = told
 

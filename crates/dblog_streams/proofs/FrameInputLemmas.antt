@@ -1,5 +1,5 @@
 -- The frames of an input: their payloads are bytes, and bytes have some frames.
-use Rattle.std.proofs.Common.{◌≡◌, ◌≢◌, ◌+◌, ◌^◌, ◌<◌, ◌≤◌, ◌∙◌, ℕ, Option, Some, None, Result, Ok, Err, List, [], ◌∷◌, ◌++◌, length, length-append, refl, sym, ap, subst, arith}
+use Rattle.std.proofs.Common.{◌≡◌, ◌≢◌, ◌+◌, ◌^◌, ◌<◌, ◌≤◌, ◌∙◌, ℕ, true, false, Option, Some, None, is_some, Result, Ok, Err, List, [], ◌∷◌, ◌++◌, length, length-append, take, refl, sym, ap, subst, arith}
 use Rattle.std.specs.List.{All, AllByRecursion, cons_option}
 use Rattle.std.proofs.lemmas.List.Elements.{All-head, All-tail, filter_map-append}
 use Rattle.dbl_frames.specs.declared.error.FrameError.{FrameError}
@@ -8,13 +8,15 @@ use Rattle.dbl_frames.specs.declared.frame.Frame.TheVariants.{Data, Keepalive}
 use Rattle.dbl_frames.specs.Form.{FitsFrame}
 use Rattle.dbl_frames.specs.Stream.{AreFramesOf, Rest, Unfinished, Faulty, WasFed, bytes_fed}
 use Rattle.dbl_frames.proofs.StreamLemmas.{faulty_stays, some_reading}
+use Rattle.dbl_base.specs.Streams.{input_limit}
+use Rattle.dbl_base.proofs.Readings.{IsReading}
 use Rattle.dblog_streams.specs.Answers.{RunAnswer}
 use Rattle.dbl_pgmsg.specs.Faults.{AreBytes}
 use Rattle.dblog_streams.specs.declared.frames.Stream.{Stream}
 use Rattle.dblog_streams.specs.declared.unread.Unread.TheVariants.{BadFrame, CutFrame}
-use Rattle.dblog_streams.specs.Inputs.{frame_text, cut_text, invalid_input, payload_of, payloads_of, unread_answer}
+use Rattle.dblog_streams.specs.Inputs.{frame_text, cut_text, invalid_input, payload_of, payloads_of}
 use Rattle.dblog_streams.specs.Inputs.{EncodesFrames, bad_frame, cut_frame, whole_frames}
-use Rattle.dblog_streams.specs.Streaming.{HasPayloads, sound, faulty, HasRead}
+use Rattle.dblog_streams.specs.Streaming.{sound, faulty, HasRead, unread_answer}
 
 -- ---- payloads
 
@@ -60,44 +62,57 @@ more_size : (bytes piece : List ℕ) (old new : ℕ) → old ≡ length bytes �
 more_size bytes piece old new was is = omega (arith, was, is, length-append bytes piece)
 
 -- after a fault nothing more is read
-pub read_past : (bytes piece : List ℕ) (old new : Stream) (reason : FrameError) → HasRead bytes old → old.fault ≡ Some reason → new.fault ≡ old.fault
+pub read_past : (bytes piece : List ℕ) (old new : Stream) → HasRead bytes old → old.fault ≢ None → new.fault ≡ old.fault
     → new.size ≡ old.size + length piece → HasRead (bytes ++ piece) new
-read_past bytes piece old new reason read is same more = record {
+read_past bytes piece old new read ended same more = record {
   size = more_size bytes piece old.size new.size read.size more;
   has = elim read.has [
-    | sound frames clean fed are ↦ let never : Some reason ≡ None = sym is ∙ clean in absurd cc
+    | sound frames clean fed are ↦ absurd (ended clean)
     | faulty frames first was are ↦ faulty frames first (same ∙ was) (faulty_stays bytes piece frames first are)
   ];
 }
 
+-- the frames that a reader gained
+abbrev Gains : List Frame → List Frame → (List Frame → Type 0) → Type 0
+Gains start gained P = (more : List Frame) × (gained ≡ start ++ more) × P more
+
 -- the frames of one more piece
-pub read_more : (bytes piece : List ℕ) (gained : List Frame) (old new : Stream) → HasRead bytes old → old.fault ≡ None → new.fault ≡ None
-    → new.size ≡ old.size + length piece
-    → ((frames : List Frame) → WasFed bytes frames old.frames → (more : List Frame) × (gained ≡ [] ++ more) × WasFed (bytes ++ piece) (frames ++ more) new.frames)
+pub read_more : (bytes piece : List ℕ) (start gained : List Frame) (old new : Stream) → HasRead bytes old → old.fault ≡ None → new.fault ≡ None
+    → new.size ≡ old.size + length piece → start ≡ []
+    → ((frames : List Frame) → WasFed bytes frames old.frames → Gains start gained (λ more. WasFed (bytes ++ piece) (frames ++ more) new.frames))
     → new.payloads.items ≡ old.payloads.items ++ payloads_of gained → HasRead (bytes ++ piece) new
-read_more bytes piece gained old new read clean clean' more feeds adds = record {
+read_more bytes piece start gained old new read clean clean' more none feeds adds = record {
   size = more_size bytes piece old.size new.size read.size more;
   has = elim read.has [
     | sound frames was fed are ↦
         let next = feeds frames fed in
+        let all : gained ≡ next.0 = next.1 ∙ ap (λ (fs : List Frame). fs ++ next.0) none in
         sound (frames ++ next.0) clean' next.2 (adds ∙ ap (λ (l : List (List ℕ)). l ++ payloads_of gained) are
-        ∙ ap (λ (fs : List Frame). payloads_of frames ++ payloads_of fs) next.1 ∙ sym (filter_map-append payload_of frames next.0))
+        ∙ ap (λ (fs : List Frame). payloads_of frames ++ payloads_of fs) all ∙ sym (filter_map-append payload_of frames next.0))
     | faulty frames reason is are ↦ let never : Some reason ≡ None = sym is ∙ clean in absurd cc
   ];
 }
 
 -- the first fault, in one more piece
-pub read_fault : (bytes piece : List ℕ) (reason : FrameError) (gained : List Frame) (old new : Stream) → HasRead bytes old → old.fault ≡ None
+pub read_fault : (bytes piece : List ℕ) (reason : FrameError) (start gained : List Frame) (old new : Stream) → HasRead bytes old → old.fault ≡ None
     → new.fault ≡ Some reason → new.size ≡ old.size + length piece
-    → ((frames : List Frame) → WasFed bytes frames old.frames → (more : List Frame) × (gained ≡ [] ++ more) × AreFramesOf (bytes ++ piece) (frames ++ more) (Faulty reason))
+    → ((frames : List Frame) → WasFed bytes frames old.frames → Gains start gained (λ more. AreFramesOf (bytes ++ piece) (frames ++ more) (Faulty reason)))
     → HasRead (bytes ++ piece) new
-read_fault bytes piece reason gained old new read clean is more feeds = record {
+read_fault bytes piece reason start gained old new read clean is more feeds = record {
   size = more_size bytes piece old.size new.size read.size more;
   has = elim read.has [
     | sound frames was fed are ↦ let next = feeds frames fed in faulty (frames ++ next.0) reason is next.2
     | faulty frames first is' are ↦ let never : Some first ≡ None = sym is' ∙ clean in absurd cc
   ];
 }
+
+pub not_some : (o : Option FrameError) → is_some o ≡ false → o ≡ None
+not_some None is = refl
+not_some (Some reason) is = cc
+
+pub not_none : (o : Option FrameError) → is_some o ≡ true → o ≢ None
+not_none None is same = cc
+not_none (Some reason) is same = cc
 
 -- ---- at the end
 
@@ -128,3 +143,21 @@ ends_whole bytes stream read clean none = elim read.has [
       whole_frames frames (subst (λ (l : List ℕ). AreFramesOf bytes frames (Unfinished l)) (none_left stream.frames.unfinished none) fed.read) (ap Ok are)
   | faulty frames first is are ↦ let never : Some first ≡ None = sym is ∙ clean in absurd cc
 ]
+
+-- the bytes of a stream within the limit
+pub read_within : (bytes : List ℕ) (stream : Stream) → HasRead bytes stream → stream.size ≤ input_limit → length bytes ≤ input_limit
+read_within bytes stream read within = omega (arith, read.size, within)
+
+-- ---- pieces of an input
+
+pub size_after : (bytes piece : List ℕ) (old new : Stream) → HasRead bytes old → HasRead (bytes ++ piece) new → new.size ≡ old.size + length piece
+size_after bytes piece old new read next = omega (arith, read.size, next.size, length-append bytes piece)
+
+-- a piece of nothing comes where nothing is left
+pub read_all_of : (first now : Option (List ℕ)) (bytes buffer : List ℕ) (n : ℕ) (stream : Stream) → n ≡ 0 → IsReading first now bytes
+    → ((rest : List ℕ) → now ≡ Some rest → rest ≡ []) → HasRead (bytes ++ take n buffer) stream → (all : List ℕ) → first ≡ Some all → HasRead all stream
+read_all_of first now bytes buffer n stream none reading end read all is =
+    let now_is = reading.told all is in
+    let left : now_is.0 ≡ [] = end now_is.0 now_is.1 in
+    subst (λ (l : List ℕ). HasRead l stream)
+    (ap (λ (m : ℕ). bytes ++ take m buffer) none ∙ ap (λ (l : List ℕ). bytes ++ l) (sym left) ∙ sym now_is.2) read

@@ -30,8 +30,9 @@ use Rattle.dbl_lines.specs.declared.status.Status.TheVariants.{StdoutFailed, Inv
 use Rattle.dblog_streams.specs.declared.unread.Unread.{Unread}
 use Rattle.dblog_streams.specs.declared.unread.Unread.TheVariants.{Run, BadFrame, CutFrame}
 use Rattle.dblog_streams.specs.Inputs.{frame_text, cut_text, invalid_input, EncodesLines, bad_line, good_lines, EncodesFrames, bad_frame, cut_frame, whole_frames}
-use Rattle.dblog_streams.specs.Inputs.{EncodesWithin, EncodesStrings, too_long, encoded, unread_answer, IsFailure, HaltsReading}
+use Rattle.dblog_streams.specs.Inputs.{EncodesWithin, EncodesStrings, too_long, encoded}
 use Rattle.dblog_streams.specs.Replays.{log_options, ReplaysLog, log_answer, Replays, unread, replayed, RunsLog, RunsReplaying}
+use Rattle.dblog_streams.specs.Streaming.{HaltsReading, IsFailure, unread_answer}
 use Rattle.dblog_streams.proofs.ReplayLaws.{strings_one, ok_one, answer_one, ok_or_answer, replays_one}
 
 -- ---- how a run over pieces ends
@@ -220,7 +221,7 @@ input_no_answer status is (inr (inl told)) = cc
 input_no_answer status is (inr (inr (inl told))) = cc
 input_no_answer status is (inr (inr (inr told))) = cc
 
-outside_no_answer : (status : Status) → IsExternalStatus status → IsReplayAnswer status → ⊥
+pub outside_no_answer : (status : Status) → IsExternalStatus status → IsReplayAnswer status → ⊥
 outside_no_answer status (inl is) answer = input_no_answer status is answer
 outside_no_answer status (inr outside) answer = memory_no_answer status outside answer
 

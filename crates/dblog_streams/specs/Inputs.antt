@@ -1,6 +1,6 @@
 -- The byte strings that an input encodes, which are the bytes of a log's messages: those of its lines, or with `--raw` the payloads of the
 -- frames of a replication stream.
-use Rattle.std.specs.Prelude.{◌≡◌, ◌≢◌, ◌⊎◌, ℕ, ◌<◌, ◌≤◌, Bool, true, false, Option, Some, None, Result, Ok, Err, List, [], ◌∷◌, ◌++◌}
+use Rattle.std.specs.Prelude.{◌≡◌, ◌≢◌, ℕ, ◌<◌, ◌≤◌, Bool, true, false, Option, Some, None, Result, Ok, Err, List, [], ◌∷◌, ◌++◌}
 use Rattle.std.specs.Prelude.{length, codes, decimal}
 use Rattle.std.specs.List.{filter_map}
 use Rattle.dbl_base.specs.Lines.{lines_of}
@@ -14,8 +14,6 @@ use Rattle.dbl_lines.specs.declared.status.Status.TheVariants.{InvalidInput}
 use Rattle.dbl_lines.specs.declared.run_error.RunError.TheVariants as run
 use Rattle.dblog_streams.specs.Answers.{RunAnswer, fault}
 use Rattle.dblog_replay.specs.Lines.{message_bytes_in, first_bad_line}
-use Rattle.dblog_streams.specs.declared.unread.Unread.{Unread}
-use Rattle.dblog_streams.specs.declared.unread.Unread.TheVariants.{Run, BadFrame, CutFrame}
 
 -- ---- the answers of an input that encodes no byte strings
 
@@ -70,19 +68,3 @@ EncodesWithin false bytes result = EncodesLines bytes result
 pub data EncodesStrings (raw : Bool) (bytes : List ℕ) (result : Result (List (List ℕ)) RunAnswer) : Type 0 where
   too_long : input_limit < length bytes → result ≡ Err (fault run.InputTooLong) → EncodesStrings raw bytes result
   encoded : length bytes ≤ input_limit → EncodesWithin raw bytes result → EncodesStrings raw bytes result
-
--- ---- reading them
-
--- For private clauses: the answer of an error of reading.
-abbrev pub unread_answer : Unread → RunAnswer
-unread_answer (Run reason) = fault reason
-unread_answer (BadFrame reason) = invalid_input (frame_text reason)
-unread_answer (CutFrame size) = invalid_input (cut_text size)
-
--- For private clauses: the input failed, or memory ran out.
-abbrev pub IsFailure : Unread → Type 0
-IsFailure unread = (unread ≡ Run run.InputFailed) ⊎ (unread ≡ Run run.Memory)
-
--- For private clauses: an error of reading an input with these bytes is its answer, unless it is a failure.
-abbrev pub HaltsReading : Bool → List ℕ → Unread → Type 0
-HaltsReading raw bytes unread = IsFailure unread ⊎ EncodesStrings raw bytes (Err (unread_answer unread))

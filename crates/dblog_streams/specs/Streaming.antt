@@ -1,10 +1,28 @@
--- For private clauses: a replication stream that is read piece by piece.
-use Rattle.std.specs.Prelude.{◌≡◌, ℕ, Some, None, List, length}
+-- For private clauses: errors of reading an input, and a replication stream that is read piece by piece.
+use Rattle.std.specs.Prelude.{◌≡◌, ◌⊎◌, ℕ, Bool, Some, None, Err, List, length}
 use Rattle.dbl_frames.specs.declared.error.FrameError.{FrameError}
 use Rattle.dbl_frames.specs.declared.frame.Frame.{Frame}
 use Rattle.dbl_frames.specs.Stream.{AreFramesOf, Faulty, WasFed}
+use Rattle.dbl_lines.specs.declared.run_error.RunError.TheVariants as run
+use Rattle.dblog_streams.specs.Answers.{RunAnswer, fault}
 use Rattle.dblog_streams.specs.declared.frames.Stream.{Stream}
-use Rattle.dblog_streams.specs.Inputs.{payloads_of}
+use Rattle.dblog_streams.specs.declared.unread.Unread.{Unread}
+use Rattle.dblog_streams.specs.declared.unread.Unread.TheVariants.{Run, BadFrame, CutFrame}
+use Rattle.dblog_streams.specs.Inputs.{frame_text, cut_text, invalid_input, payloads_of, EncodesStrings}
+
+-- The answer of an error of reading.
+abbrev pub unread_answer : Unread → RunAnswer
+unread_answer (Run reason) = fault reason
+unread_answer (BadFrame reason) = invalid_input (frame_text reason)
+unread_answer (CutFrame size) = invalid_input (cut_text size)
+
+-- The input failed, or memory ran out.
+abbrev pub IsFailure : Unread → Type 0
+IsFailure unread = (unread ≡ Run run.InputFailed) ⊎ (unread ≡ Run run.Memory)
+
+-- An error of reading an input with these bytes is its answer, unless it is a failure.
+abbrev pub HaltsReading : Bool → List ℕ → Unread → Type 0
+HaltsReading raw bytes unread = IsFailure unread ⊎ EncodesStrings raw bytes (Err (unread_answer unread))
 
 -- The bytes have no fault so far, and the stream has the payloads of their frames; or it has their fault.
 pub data HasPayloads (bytes : List ℕ) (stream : Stream) : Type 0 where

@@ -4,10 +4,11 @@ ghost use Rattle.std.specs.Prelude.{take, drop, true, Some, Ok, Err, IfOk, IfErr
 ghost use Rattle.std.specs.List.{AllByRecursion};
 ghost use Rattle.std.specs.Option.{option_to_list};
 ghost use Rattle.dbl_base.specs.Streams.{FaultCounted, FailsOnlyIfCounted, input_limit};
+ghost use Rattle.dbl_lines.specs.declared.run_error.RunError.{RunError};
 ghost use Rattle.dbl_pgmsg.specs.Faults.{AreBytes};
 ghost use Rattle.dblog_streams.specs.Inputs.{payload_of, payloads_of, EncodesFrames};
-ghost use Rattle.dblog_streams.specs.Inputs.{EncodesStrings, HaltsReading, IsFailure, unread_answer};
-ghost use Rattle.dblog_streams.specs.Streaming.{HasRead};
+ghost use Rattle.dblog_streams.specs.Inputs.{EncodesStrings};
+ghost use Rattle.dblog_streams.specs.Streaming.{HasRead, HaltsReading, IsFailure, unread_answer};
 
 use crate::unread::Unread;
 use dbl_base::{Bytes, INPUT_LIMIT, Input};
@@ -98,6 +99,8 @@ impl Stream {
             IfOk result (λ strings. EncodesFrames bytes (Ok strings.items)) }
         ensures invalid { (bytes : List ℕ) → HasRead bytes self →
             IfErr result (λ unread. EncodesFrames bytes (Err (unread_answer unread))) }
+        ensures stream { (reason : RunError) →
+            IfErr result (λ unread. unread ≢ Unread.Run reason) }
     {
         let Stream {
             alloc: _,

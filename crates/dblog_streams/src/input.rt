@@ -3,8 +3,8 @@ ghost use Rattle.std.specs.Prelude.{◌≡◌, ◌≢◌, ◌⊎◌, ℕ, ◌≤
 ghost use Rattle.std.specs.Prelude.{length, false, Some, Err, IfOk, IfErr, OnOk};
 ghost use Rattle.dbl_base.specs.Streams.{FaultCounted, input_limit};
 ghost use Rattle.dblog_streams.specs.Applies.{HaltsApplying};
-ghost use Rattle.dblog_streams.specs.Inputs.{HaltsReading};
 ghost use Rattle.dblog_streams.specs.declared.unread.Unread.TheVariants.{Run};
+ghost use Rattle.dblog_streams.specs.Streaming.{HaltsReading};
 
 use dbl_base::{Bytes, Input, InputError, read_all};
 use dbl_lines::RunError;

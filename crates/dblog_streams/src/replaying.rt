@@ -7,9 +7,10 @@ ghost use Rattle.dbl_lines.specs.declared.status.Status.TheVariants.{StdinFailed
 ghost use Rattle.dblog_streams.specs.Answers.{FailsReading};
 ghost use Rattle.dbl_pgmsg.specs.Faults.{AreBytes};
 ghost use Rattle.dblog_replay.specs.Pieces.{Piece, AreRead};
-ghost use Rattle.dblog_streams.specs.Inputs.{EncodesStrings, HaltsReading, IsFailure};
+ghost use Rattle.dblog_streams.specs.Inputs.{EncodesStrings};
 ghost use Rattle.dblog_streams.specs.Replays.{RunsLog, RunsReplaying, log_options};
 ghost use Rattle.dblog_streams.specs.Statuses.{IsReplayAnswer, IsReplayStatus};
+ghost use Rattle.dblog_streams.specs.Streaming.{HaltsReading, IsFailure};
 
 use crate::frames::read_payloads;
 use crate::input::read_input;

@@ -5,7 +5,8 @@ ghost use Rattle.dbl_base.specs.Lines.{lines_text};
 ghost use Rattle.dbl_base.specs.Streams.{FaultCounted};
 ghost use Rattle.dbl_lines.specs.declared.status.Status.TheVariants.{StdoutFailed};
 ghost use Rattle.dblog_streams.specs.Answers.{EndsAs};
-ghost use Rattle.dblog_streams.specs.Inputs.{cut_text, frame_text, unread_answer};
+ghost use Rattle.dblog_streams.specs.Inputs.{cut_text, frame_text};
+ghost use Rattle.dblog_streams.specs.Streaming.{unread_answer};
 
 use dbl_base::Output;
 use dbl_frames::FrameError;

@@ -1,7 +1,8 @@
-use Rattle.std.proofs.Common.{◌⊎◌, ℕ, List, Ok, inr, subst}
+use Rattle.std.proofs.Common.{ℕ, List, Ok, subst}
 use Rattle.std.specs.Prelude.{IfOk, IfErr, false}
 use Rattle.std.proofs.lemmas.Result.{IfOk-weaker}
-use Rattle.dblog_streams.specs.Inputs.{EncodesStrings, HaltsReading}
+use Rattle.dblog_streams.specs.Inputs.{EncodesStrings}
+use Rattle.dblog_streams.specs.Streaming.{HaltsReading}
 use Rattle.dblog_streams.proofs.InputLemmas.{strings_small}
 use Rattle.dblog_streams.proofs.replaying.read_lines.Goals as goal
 

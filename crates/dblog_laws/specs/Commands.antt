@@ -37,7 +37,7 @@ pub record CanApplyLines (placeholder : List ℕ) (given : RunInput) : Type 0 wh
   pub short : length given.input ≤ input_limit
   pub clean : first_line_fault placeholder (lines_of given.input) ≡ None
 
--- The lines of the input encode valid messages, and end outside a transaction: these are replayed to some lines without an error.
+-- The input encodes valid messages, and ends outside a transaction: these are replayed to some lines without an error.
 abbrev pub CanReplay : ReplayOptions → ℤ → RunInput → Type 0
 CanReplay options now given = (lines : List (List ℕ)) × ReplaysLog options now given.input lines None
 

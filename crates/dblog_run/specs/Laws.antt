@@ -3,7 +3,8 @@ use Rattle.std.specs.Prelude.{◌≡◌, ◌≢◌, ◌⊎◌, ◌↔◌, ℕ, �
 use Rattle.dbl_lines.specs.declared.status.Status.TheVariants.{StartMismatch, InvalidStore}
 use Rattle.dbl_pgmsg.specs.Faults.{AreBytes}
 use Rattle.dbl_cli.specs.declared.commands.Command.{Command}
-use Rattle.dbl_cli.specs.declared.commands.Command.TheVariants.{Init, Topics, Offsets, Apply}
+use Rattle.dbl_cli.specs.declared.commands.Command.TheVariants.{Init, Topics, Offsets, Apply, Replay}
+use Rattle.dbl_cli.specs.declared.commands.ReplayOptions.{ReplayOptions}
 use Rattle.dbl_cli.specs.Commands.{Spells}
 use Rattle.dblog_stores.specs.declared.error.CommandError.{CommandError}
 use Rattle.dblog_stores.specs.Answers.{AppliesNot, HasNoOffset, IsNoLog}
@@ -12,6 +13,7 @@ use Rattle.dblog_init.specs.declared.error.Store.{Store}
 use Rattle.dblog_init.specs.declared.error.Store.TheVariants as init
 use Rattle.dblog_init.specs.declared.error.Store.TheVariants.{Wal}
 use Rattle.dblog_streams.specs.Answers.{RunAnswer}
+use Rattle.dblog_streams.specs.Replays.{IsReadable}
 use Rattle.dblog_run.specs.Inits.{init_fault}
 use Rattle.dblog_run.specs.Disks.{store_fault}
 use Rattle.dblog_run.specs.Means.{RunInput, Means, SpellNone, connects}
@@ -21,9 +23,11 @@ abbrev pub AnswersAreOne : Type 0
 AnswersAreOne = (words : List (List ℕ)) (now : ℤ) (given : RunInput) (a b : RunAnswer) → Means words now given a
     → Means words now given b → a ≡ b
 
--- Arguments that request no session have an answer at each time, for any bytes of the input and the disks.
+-- Arguments that request no session have an answer at each time, for any input that `replay`, if they request it, can read, and for any
+-- bytes of the disks.
 abbrev pub AnswersStand : Type 0
-AnswersStand = (words : List (List ℕ)) (now : ℤ) (given : RunInput) → SpellNone words connects → AreBytes given.input
+AnswersStand = (words : List (List ℕ)) (now : ℤ) (given : RunInput) → SpellNone words connects
+    → ((options : ReplayOptions) → Spells words (Replay options) → IsReadable options given.input)
     → AreBytes given.topics → AreBytes given.offsets
     → (answer : RunAnswer) × Means words now given answer
 

@@ -5,7 +5,7 @@ pub fn answers_are_one()
     ensures { AnswersAreOne }
 {}
 
-/// Arguments that request no session have an answer at each time, for all contents.
+/// Arguments that request no session have an answer at each time, for any bytes.
 pub fn answers_stand()
     ensures { AnswersStand }
 {}

@@ -17,7 +17,7 @@ use Rattle.dblog_replay.specs.Lines.{message_bytes_in, first_bad_line}
 
 -- ---- the answers of an input that encodes no byte strings
 
--- The words for a frame that isn't valid.
+-- The text for a frame that isn't valid.
 abbrev pub frame_text : FrameError → List ℕ
 frame_text (error.BadKind at byte) = codes "frame at " ++ (decimal at ++ (codes ": F1 bad kind " ++ decimal byte))
 frame_text (error.BadLength at) = codes "frame at " ++ (decimal at ++ codes ": F2 bad length")
@@ -25,13 +25,13 @@ frame_text (error.BadInner at byte) = codes "frame at " ++ (decimal at ++ (codes
 frame_text (error.BadSize at) = codes "frame at " ++ (decimal at ++ codes ": F4 bad size")
 frame_text error.Memory = codes "out of memory"
 
--- The words for an input of this length that ends inside a frame.
+-- The text for an input of this length that ends inside a frame.
 abbrev pub cut_text : ℕ → List ℕ
 cut_text size = codes "frame cut at " ++ decimal size
 
--- The answer of an input that isn't valid: its status, and one line with these words.
+-- The answer of an input that isn't valid: its status, and one line with this text.
 abbrev pub invalid_input : List ℕ → RunAnswer
-invalid_input words = record { status = InvalidInput; lines = (codes "dblog: " ++ words) ∷ []; one_by_one = [] }
+invalid_input text = record { status = InvalidInput; lines = (codes "dblog: " ++ text) ∷ []; one_by_one = [] }
 
 -- ---- byte strings
 

@@ -54,6 +54,10 @@ StringsAreOne = (raw : Bool) (bytes : List ℕ) (one other : Result (List (List 
 abbrev pub AreInputBytes : Bool → List ℕ → Type 0
 AreInputBytes raw bytes = raw ≡ true → AreBytes bytes
 
+-- An input with these numbers can be read with these options.
+abbrev pub IsReadable : ReplayOptions → List ℕ → Type 0
+IsReadable options bytes = AreInputBytes options.raw bytes
+
 -- An input encodes some byte strings, or has some error.
 abbrev pub StringsExist : Type 0
 StringsExist = (raw : Bool) (bytes : List ℕ) → AreInputBytes raw bytes
@@ -66,7 +70,7 @@ ReplayAnswersAreOne = (options : ReplayOptions) (now : ℤ) (bytes : List ℕ) (
 
 -- An input has some answer of `replay`.
 abbrev pub ReplayAnswersExist : Type 0
-ReplayAnswersExist = (options : ReplayOptions) (now : ℤ) (bytes : List ℕ) → AreInputBytes options.raw bytes
+ReplayAnswersExist = (options : ReplayOptions) (now : ℤ) (bytes : List ℕ) → IsReadable options bytes
     → (answer : RunAnswer) × Replays options now bytes answer
 
 -- ---- runs

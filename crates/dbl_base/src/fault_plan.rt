@@ -7,7 +7,7 @@ use std::marker::Model;
 
 /// The calls of an in-memory object that are to fail, numbered from 1, and the object's fault
 /// count.
-#[derive(Debug, Drop)]
+#[derive(Drop)]
 pub struct FaultPlan {
     planned: Vec<u64>,
     calls: u64,

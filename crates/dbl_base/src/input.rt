@@ -40,7 +40,7 @@ pub trait Input {
 }
 
 /// Why an input couldn't be read.
-#[derive(Clone, Copy, Debug, PartialEq, Eq, Error)]
+#[derive(Clone, Copy, Debug, Error)]
 pub enum InputError {
     #[error("input failed")]
     Failed,

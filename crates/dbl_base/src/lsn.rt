@@ -2,7 +2,7 @@ use std::fmt;
 
 /// A log sequence number: a position in the source's log, as PostgreSQL's `pg_lsn`. It prints as a
 /// decimal number.
-#[derive(Clone, Copy, Debug, PartialEq, Eq, PartialOrd, Ord, Hash)]
+#[derive(Clone, Copy, Debug)]
 pub struct Lsn(pub u64);
 
 impl fmt::Display for Lsn {

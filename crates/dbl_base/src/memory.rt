@@ -8,7 +8,7 @@ use std::alloc::Global;
 use std::marker::Model;
 
 /// An in-memory input.
-#[derive(Debug, Drop)]
+#[derive(Drop)]
 pub struct MemInput {
     bytes: Vec<u8>,
     place: usize,
@@ -79,7 +79,7 @@ impl Input for MemInput {
 }
 
 /// An in-memory output. Running out of memory counts as a fault.
-#[derive(Debug, Drop)]
+#[derive(Drop)]
 pub struct MemOutput {
     bytes: Vec<u8>,
     plan: FaultPlan,

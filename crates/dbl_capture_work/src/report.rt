@@ -1,5 +1,5 @@
 /// How a session ended normally.
-#[derive(Clone, Copy, Debug, PartialEq, Eq)]
+#[derive(Clone, Copy)]
 pub enum Ending {
     /// Every table and the log were read to their end.
     Complete,
@@ -8,7 +8,7 @@ pub enum Ending {
 }
 
 /// What a session did.
-#[derive(Clone, Copy, Debug, PartialEq, Eq)]
+#[derive(Clone, Copy)]
 pub struct Report {
     /// Messages that were read.
     pub messages: u64,

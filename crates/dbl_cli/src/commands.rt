@@ -2,7 +2,7 @@ use dbl_base::{Seq, Text};
 use dbl_model_table::{TableKey, TableName};
 
 /// The options of a capture.
-#[derive(Debug, Drop)]
+#[derive(Drop)]
 pub struct CaptureOptions {
     pub prefix: Text,
     pub db: Text,
@@ -34,7 +34,7 @@ pub struct ReplayOptions {
 }
 
 /// A parsed command line; absent options have their defaults.
-#[derive(Debug, Drop)]
+#[derive(Drop)]
 pub enum Command {
     Init,
     Topics,

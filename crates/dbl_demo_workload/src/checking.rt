@@ -31,7 +31,7 @@ pub struct Checked {
 }
 
 /// Why an entry isn't accepted.
-#[derive(Clone, Copy, Debug, PartialEq, Eq)]
+#[derive(Clone, Copy)]
 enum Doubt {
     /// The entry isn't what the workload commits.
     Bad,

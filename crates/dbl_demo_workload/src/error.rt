@@ -5,7 +5,7 @@ use std::alloc::{AllocError, AllocFailed};
 use thiserror::Error;
 
 /// Why a workload or a log of one isn't accepted.
-#[derive(Debug, Drop, PartialEq, Eq, Error)]
+#[derive(Debug, Drop, Error)]
 pub enum DemoError {
     /// The disk failed, or its bytes are no journal.
     #[error("{0}")]

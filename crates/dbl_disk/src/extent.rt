@@ -1,5 +1,5 @@
 /// A range of a disk: `length` bytes from offset `at` on.
-#[derive(Clone, Copy, Debug, PartialEq, Eq)]
+#[derive(Clone, Copy)]
 pub struct Extent {
     pub at: u64,
     pub length: u64,

@@ -10,7 +10,7 @@ use dbl_base::Failed;
 use std::marker::Model;
 
 /// A disk that forwards a given number of calls to another disk, and then fails every call.
-#[derive(Debug, Drop)]
+#[derive(Drop)]
 pub struct FuseDisk<D> {
     inner: D,
     left: u64,

@@ -15,7 +15,7 @@ use std::alloc::{AllocError, Global};
 use std::marker::Model;
 
 /// What a crash leaves of an in-memory disk.
-#[derive(Clone, Copy, Debug, PartialEq, Eq)]
+#[derive(Clone, Copy)]
 pub enum Choice {
     /// The contents at the last sync.
     Old,
@@ -27,7 +27,7 @@ pub enum Choice {
 }
 
 /// An in-memory disk. Running out of memory counts as a fault.
-#[derive(Debug, Drop)]
+#[derive(Drop)]
 pub struct MemDisk {
     alloc: Global,
     stable: Vec<u8>,

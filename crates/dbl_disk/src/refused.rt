@@ -1,5 +1,5 @@
 /// A refusal that returns the disk.
-#[derive(Debug, Drop)]
+#[derive(Drop)]
 pub struct Refused<D, E> {
     pub disk: D,
     pub error: E,

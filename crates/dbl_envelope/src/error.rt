@@ -4,7 +4,7 @@ use std::alloc::{AllocError, AllocFailed};
 use thiserror::Error;
 
 /// Why no records are made.
-#[derive(Debug, Drop, PartialEq, Eq, Error)]
+#[derive(Debug, Drop, Error)]
 pub enum EnvelopeError {
     /// A cell that would be printed in `before` or `after` has the placeholder of unsent cells as
     /// its JSON string.

@@ -12,7 +12,7 @@ use std::marker::Model;
 
 /// The writer of one connector's records. It is made once, as it sorts the columns of each captured
 /// table.
-#[derive(Debug, Drop)]
+#[derive(Drop)]
 pub struct EventWriter {
     identity: Identity,
     infos: Vec<TableInfo>,

@@ -8,7 +8,7 @@ use std::alloc::{AllocError, Global};
 use std::collections::BTreeMap;
 
 /// A column's name, and the index of its cell in a row.
-#[derive(Debug, Drop)]
+#[derive(Drop)]
 pub struct Place {
     pub name: Text,
     pub index: usize,
@@ -16,7 +16,7 @@ pub struct Place {
 
 /// The layout of one table's records: their topic, and the columns of their rows and keys in byte
 /// order of the names. It is made once per table.
-#[derive(Debug, Drop)]
+#[derive(Drop)]
 pub struct Layout {
     pub topic: Text,
     pub columns: Seq<Place>,

@@ -1,5 +1,5 @@
 /// A record's index within its commit.
-#[derive(Clone, Copy, Debug)]
+#[derive(Clone, Copy)]
 pub struct Stamp {
     /// The index, from 0.
     pub ordinal: u64,

@@ -3,7 +3,7 @@ use std::alloc::{AllocError, AllocFailed};
 use thiserror::Error;
 
 /// Why the records of a commit can't be built.
-#[derive(Debug, Drop, PartialEq, Eq, Error)]
+#[derive(Debug, Drop, Error)]
 pub enum FollowError {
     /// A cell that its records would print equals the placeholder. Never wraps `Memory`.
     #[error("{0}")]

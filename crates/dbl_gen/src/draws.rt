@@ -2,7 +2,7 @@ ghost use Rattle.std.specs.Prelude.{◌≡◌};
 ghost use Rattle.dbl_gen.specs.Draws.{next_state, drawn};
 
 /// A linear congruential generator, with the constants of Knuth's MMIX.
-#[derive(Debug, Drop)]
+#[derive(Drop)]
 pub struct Draws {
     pub state: u64,
 }

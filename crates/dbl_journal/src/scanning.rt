@@ -14,7 +14,7 @@ use dbl_disk::{Disk, Extent};
 use std::alloc::Global;
 
 // The offset of the unset commit byte, and the extent of each entry.
-#[derive(Debug, Drop)]
+#[derive(Drop)]
 pub(crate) struct Found {
     pub(crate) gate: u64,
     pub(crate) places: Vec<Extent>,

@@ -2,7 +2,7 @@ use std::alloc::{AllocError, AllocFailed};
 use thiserror::Error;
 
 /// Why some or all lines weren't written.
-#[derive(Clone, Copy, Debug, Drop, PartialEq, Eq, Error)]
+#[derive(Clone, Copy, Debug, Drop, Error)]
 pub enum PrintError {
     /// The output failed, and its fault count rose.
     #[error("output failed")]

@@ -7,7 +7,7 @@ use crate::status::Status;
 use std::alloc::{AllocError, Global};
 
 /// Why a run ends with a line of its own instead of records.
-#[derive(Clone, Copy, Debug, PartialEq, Eq)]
+#[derive(Clone, Copy)]
 pub enum RunError {
     Usage,
     InputFailed,

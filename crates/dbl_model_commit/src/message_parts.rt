@@ -5,7 +5,7 @@ use dbl_model_table::TableName;
 use dbl_pgmsg::{OldTuple, RelationColumn, Tuple};
 
 /// A table as a Relation message describes it.
-#[derive(Debug, Drop)]
+#[derive(Drop)]
 pub struct Relation {
     pub name: TableName,
     /// The replica identity: `d` the primary key, `n` nothing, `f` all columns, `i` an index.
@@ -14,7 +14,7 @@ pub struct Relation {
 }
 
 /// The row change of an Insert, an Update or a Delete message.
-#[derive(Debug, Drop)]
+#[derive(Drop)]
 pub enum RowChange {
     Insert(Tuple),
     /// The old key or the old row, if one was sent, and the new row.
@@ -23,7 +23,7 @@ pub enum RowChange {
 }
 
 /// The kind of a table to the reader of the log.
-#[derive(Clone, Copy, Debug, PartialEq, Eq)]
+#[derive(Clone, Copy, PartialEq, Eq)]
 pub enum Target {
     /// The watermark table.
     Watermark,

@@ -5,7 +5,7 @@ use std::alloc::{AllocError, AllocFailed};
 use thiserror::Error;
 
 /// Why a message states no part of a commit at its position.
-#[derive(Debug, Drop, PartialEq, Eq, Error)]
+#[derive(Debug, Drop, Error)]
 pub enum TxnError {
     /// A Commit, an Origin or a change outside a transaction.
     #[error("outside a transaction")]

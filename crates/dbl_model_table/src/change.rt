@@ -7,14 +7,14 @@ use dbl_value::Val;
 
 /// A cell of an update: sent with a value, or left unsent because it is stored out of line and
 /// didn't change.
-#[derive(Debug, Drop)]
+#[derive(Drop)]
 pub enum Cell {
     Given(Val),
     Unchanged,
 }
 
 /// A change of a captured table. `table` is the table's index among the captured ones.
-#[derive(Debug, Drop)]
+#[derive(Drop)]
 pub enum Change {
     Insert {
         table: u32,
@@ -64,7 +64,7 @@ impl Change {
 }
 
 /// What a commit did.
-#[derive(Debug, Drop)]
+#[derive(Drop)]
 pub enum Body {
     Changes(Seq<Change>),
     /// The one change was the watermark's, to this value.
@@ -72,7 +72,7 @@ pub enum Body {
 }
 
 /// A committed transaction.
-#[derive(Debug, Drop)]
+#[derive(Drop)]
 pub struct Commit {
     /// The LSN of the commit record, which is the commit's position.
     pub lsn: Lsn,

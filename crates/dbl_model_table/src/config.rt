@@ -2,7 +2,7 @@ use crate::{Identity, TableName};
 use dbl_base::Seq;
 
 /// What a session captures, and how.
-#[derive(Debug, Drop)]
+#[derive(Drop)]
 pub struct Config {
     pub identity: Identity,
     /// The tables that are captured, in the order in which their snapshots are read.

@@ -4,7 +4,7 @@ use std::alloc::{AllocError, AllocFailed};
 use thiserror::Error;
 
 /// Why a table can't be captured.
-#[derive(Debug, Drop, PartialEq, Eq, Error)]
+#[derive(Debug, Drop, Error)]
 pub enum ModelError {
     /// The schema or the name isn't 1 to 63 letters, digits, `_` and `-`, or the name is
     /// `dblog-progress`, or it is the watermark table.

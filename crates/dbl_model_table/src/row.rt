@@ -14,7 +14,7 @@ pub struct Key {
 }
 
 /// A row: one cell for each column of its table.
-#[derive(Debug, Drop)]
+#[derive(Drop)]
 pub struct Row {
     pub cells: Seq<Val>,
 }

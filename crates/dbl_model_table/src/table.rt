@@ -9,7 +9,7 @@ use std::alloc::{AllocError, Global};
 use std::fmt;
 
 /// The name of a table with its schema.
-#[derive(Debug, Drop, PartialEq, Eq, PartialOrd, Ord)]
+#[derive(Debug, Drop, PartialEq, Eq)]
 pub struct TableName {
     pub schema: Text,
     pub name: Text,
@@ -102,14 +102,14 @@ pub struct RawTable {
 }
 
 /// A table's key as specified by a user: the names of its columns, in key order.
-#[derive(Debug, Drop)]
+#[derive(Drop)]
 pub struct TableKey {
     pub table: TableName,
     pub columns: Seq<Text>,
 }
 
 /// A row as returned by the source: a text or null for each column.
-#[derive(Debug, Drop)]
+#[derive(Drop)]
 pub struct RawRow {
     pub cells: Seq<Option<Text>>,
 }

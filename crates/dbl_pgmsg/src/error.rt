@@ -5,7 +5,7 @@ use std::alloc::{AllocError, AllocFailed};
 use thiserror::Error;
 
 /// Why bytes aren't a message; `at` is the offset of a byte, from 0.
-#[derive(Debug, Drop, PartialEq, Eq, Error)]
+#[derive(Debug, Drop, Error)]
 pub enum MsgError {
     /// The first byte is no message's tag.
     #[error("unknown tag {byte}")]

@@ -3,7 +3,7 @@ use std::alloc::{AllocError, AllocFailed};
 use thiserror::Error;
 
 /// A cell of a row in a consumer's state.
-#[derive(Debug, Drop, PartialEq, Eq)]
+#[derive(Drop)]
 pub enum HeldCell {
     /// The compact JSON text of its value.
     Known(Text),
@@ -13,14 +13,14 @@ pub enum HeldCell {
 
 /// A cell of an event's row, with its compact JSON text, or none if the value is the placeholder of
 /// values that weren't sent.
-#[derive(Debug, Drop, PartialEq, Eq)]
+#[derive(Drop)]
 pub struct GivenCell {
     pub column: Text,
     pub text: Option<Text>,
 }
 
 /// The kind of a change event. A create, a snapshot read and an update all put a row.
-#[derive(Clone, Copy, Debug, Drop, PartialEq, Eq)]
+#[derive(Clone, Copy, Drop)]
 pub enum Operation {
     Put,
     Delete,
@@ -29,7 +29,7 @@ pub enum Operation {
 }
 
 /// The effect of a record on the rows of its topic.
-#[derive(Debug, Drop, PartialEq, Eq)]
+#[derive(Drop)]
 pub enum Act {
     Nothing,
     /// The row of the key is set to these cells, in byte order of their columns.
@@ -40,7 +40,7 @@ pub enum Act {
 }
 
 /// Why a consumer refuses a record.
-#[derive(Debug, Drop, PartialEq, Eq, Error)]
+#[derive(Debug, Drop, Error)]
 pub enum ConsumeError {
     /// The key or the value isn't JSON.
     #[error("bad json")]

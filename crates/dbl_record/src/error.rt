@@ -2,7 +2,7 @@ use std::alloc::{AllocError, AllocFailed};
 use thiserror::Error;
 
 /// Why a record can't be read or written. Writing fails only with `Memory`.
-#[derive(Clone, Copy, Debug, Drop, PartialEq, Eq, Error)]
+#[derive(Clone, Copy, Debug, Drop, Error)]
 pub enum RecordError {
     /// A line isn't a JSON object with a string `topic`, and `at` is 0; or bytes aren't an encoded
     /// group, and `at` is the first offset at which they differ from every encoding.

@@ -15,7 +15,7 @@ use std::alloc::{AllocError, Global};
 
 /// A record as a consumer reads it: a topic, and the JSON texts of the key and the value, `null` if
 /// absent.
-#[derive(Debug, Drop, PartialEq, Eq)]
+#[derive(Drop)]
 pub struct Line {
     pub topic: Text,
     pub key: Text,

@@ -5,7 +5,7 @@ use std::alloc::{AllocError, Global};
 
 /// A record of a topic: a change event, a tombstone or a progress record. Keys and values are
 /// compact JSON texts, but the type allows any text.
-#[derive(Debug, Drop, PartialEq, Eq)]
+#[derive(Drop, PartialEq, Eq)]
 pub struct Record {
     pub topic: Text,
     pub key: Option<Text>,

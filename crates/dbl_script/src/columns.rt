@@ -19,7 +19,7 @@ use std::alloc::{AllocError, Global};
 const COLUMNS: usize = 1600;
 
 /// A column, and whether it is a key column.
-#[derive(Debug, Drop)]
+#[derive(Drop)]
 pub struct ColumnWord {
     pub column: RawColumn,
     pub is_key: bool,

@@ -1,7 +1,7 @@
 use thiserror::Error;
 
 /// Why bytes are no script.
-#[derive(Clone, Copy, Debug, PartialEq, Eq, Error)]
+#[derive(Clone, Copy, Debug, Error)]
 pub enum ScriptError {
     /// The number, from 1, of the first line that is invalid or not allowed at its place, or the
     /// number after the last line if no line is bad and there is no table.

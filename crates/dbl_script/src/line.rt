@@ -15,7 +15,7 @@ use dbl_base::is_blank_or_comment;
 use std::alloc::Global;
 
 /// The content of a line.
-#[derive(Debug, Drop)]
+#[derive(Drop)]
 pub enum Line {
     Passed,
     Table(ScriptTable),

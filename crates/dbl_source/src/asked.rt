@@ -7,7 +7,7 @@ use dbl_source_model::Started;
 use std::alloc::{AllocError, Global};
 
 // The arguments of a select, and the numbers of commits at its call and at its return.
-#[derive(Debug, Drop)]
+#[derive(Drop)]
 pub(crate) struct Asked {
     pub table: TableName,
     pub above: Option<Key>,
@@ -18,7 +18,7 @@ pub(crate) struct Asked {
 
 // The last answer: an entry by its table's index, a message as the newest one read, rows by their
 // index in the script.
-#[derive(Clone, Copy, Debug, PartialEq, Eq)]
+#[derive(Clone, Copy)]
 pub(crate) enum Last {
     Described(Option<usize>),
     Head(Lsn),

@@ -13,7 +13,7 @@ pub const COMMIT_LIMIT: usize = 1 << 40;
 
 /// The commits of other clients at one call: each inner list has the change messages of one commit,
 /// in order.
-#[derive(Debug, Drop)]
+#[derive(Drop)]
 pub struct Move {
     /// Commits before the call reads the log.
     pub before: Seq<Seq<Message>>,

@@ -3,14 +3,14 @@ use dbl_model_table::RawTable;
 use dbl_pgmsg::Message;
 
 /// A table of a log. Its replica identity is full if `full` is set, otherwise the primary key.
-#[derive(Debug, Drop)]
+#[derive(Drop)]
 pub struct LogTable {
     pub raw: RawTable,
     pub full: bool,
 }
 
 /// The contents of one commit of a log.
-#[derive(Debug, Drop)]
+#[derive(Drop)]
 pub enum Logged {
     /// The change messages, in order.
     Changes(Seq<Message>),

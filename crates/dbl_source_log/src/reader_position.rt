@@ -1,7 +1,7 @@
 use dbl_base::Lsn;
 
 /// The position of a reader of a log.
-#[derive(Clone, Copy, Debug, PartialEq, Eq)]
+#[derive(Clone, Copy)]
 pub struct ReaderPosition {
     /// The LSN after which reading began.
     pub after: Lsn,

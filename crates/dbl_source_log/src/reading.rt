@@ -22,7 +22,7 @@ use std::alloc::{AllocError, Global};
 use std::collections::BTreeSet;
 
 /// The next message: its bytes, the reader's position after it, and the table that it describes.
-#[derive(Debug, Drop)]
+#[derive(Drop)]
 pub struct Step {
     pub bytes: Bytes,
     pub place: ReaderPosition,
@@ -31,7 +31,7 @@ pub struct Step {
 
 /// The Relation of a table that a change names and that wasn't described yet. `table` counts the
 /// tables up to it.
-#[derive(Debug, Drop)]
+#[derive(Drop)]
 struct Missing {
     relation: Message,
     table: usize,

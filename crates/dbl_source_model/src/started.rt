@@ -1,7 +1,7 @@
 use dbl_base::Lsn;
 
 /// The answer of a source to a request to begin reading after an LSN.
-#[derive(Clone, Copy, Debug, PartialEq, Eq)]
+#[derive(Clone, Copy)]
 pub enum Started {
     /// Reading begins with the first commit after it.
     Ready,

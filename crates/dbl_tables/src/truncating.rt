@@ -102,7 +102,7 @@ fn truncate_all(alloc: Global, tables: &mut Vec<Rows>, places: &[usize], mut nam
 
 /// A planned truncate: its message, the size of the entry with it, the indices of its tables, and
 /// the session's name for each.
-#[derive(Debug, Drop)]
+#[derive(Drop)]
 pub struct Cut {
     pub message: Message,
     pub size: u64,

@@ -8,7 +8,7 @@ use dbl_tables_rows::{HeldKey, empty_size};
 use std::alloc::Global;
 
 /// The changes of an open session. `size` is that of the entry of its commit.
-#[derive(Debug, Drop)]
+#[derive(Drop)]
 pub struct Session {
     pub messages: Vec<Message>,
     pub size: u64,

@@ -4,7 +4,7 @@ use thiserror::Error;
 
 /// Why a session's step isn't accepted: the first cause of this list, except that a locked row or
 /// table comes after an unreadable row, and before a missing or an existing row.
-#[derive(Debug, Drop, PartialEq, Eq, Error)]
+#[derive(Debug, Drop, Error)]
 pub enum StepError {
     /// The session has begun already.
     #[error("already open")]

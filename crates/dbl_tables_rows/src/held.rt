@@ -8,7 +8,7 @@ use dbl_model_table::Key;
 use std::alloc::{AllocError, Global};
 
 /// A key that the session may have locked, with the index of its table.
-#[derive(Debug, Drop)]
+#[derive(Drop)]
 pub struct HeldKey {
     pub table: usize,
     pub key: Key,

@@ -15,14 +15,14 @@ use std::alloc::{AllocError, Global};
 use std::collections::BTreeMap;
 
 /// A lock, with the row that its session sees under it.
-#[derive(Debug, Drop)]
+#[derive(Drop)]
 pub struct Held {
     pub by: Text,
     pub row: Option<RawRow>,
 }
 
 /// The state of a key. No session sees a slot with neither part.
-#[derive(Debug, Drop)]
+#[derive(Drop)]
 pub struct Slot {
     pub committed: Option<RawRow>,
     pub held: Option<Held>,

@@ -4,7 +4,7 @@ use std::alloc::{AllocError, AllocFailed};
 use thiserror::Error;
 
 /// Why a group wasn't appended.
-#[derive(Clone, Copy, Debug, PartialEq, Eq, Error)]
+#[derive(Clone, Copy, Debug, Error)]
 pub enum SinkError {
     #[error("sink failed")]
     Failed,
@@ -66,7 +66,7 @@ impl From<JournalError> for SinkError {
 }
 
 /// Why a topic log couldn't be made, opened or read.
-#[derive(Clone, Copy, Debug, PartialEq, Eq, Error)]
+#[derive(Clone, Copy, Debug, Error)]
 pub enum TopicError {
     /// The journal's error, other than `Memory`.
     #[error("{0}")]

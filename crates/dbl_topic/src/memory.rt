@@ -14,7 +14,7 @@ use std::alloc::{AllocError, Global};
 use std::marker::Model;
 
 /// An in-memory sink.
-#[derive(Debug, Drop)]
+#[derive(Drop)]
 pub struct MemSink {
     alloc: Global,
     records: Vec<Record>,

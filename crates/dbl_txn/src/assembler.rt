@@ -29,14 +29,14 @@ use indexmap::IndexMap;
 use std::alloc::{AllocError, Global};
 
 // A table as its last Relation describes it.
-#[derive(Debug, Drop)]
+#[derive(Drop)]
 struct Known {
     relation: Relation,
     target: Target,
 }
 
 // The open transaction.
-#[derive(Debug, Drop)]
+#[derive(Drop)]
 struct Block {
     lsn: Lsn,
     time: i64,

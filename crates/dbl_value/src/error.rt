@@ -2,7 +2,7 @@ use std::alloc::{AllocError, AllocFailed};
 use thiserror::Error;
 
 /// Why an OID has no type, or a value can't be parsed, printed or encoded.
-#[derive(Debug, Drop, PartialEq, Eq, Error)]
+#[derive(Debug, Drop, Error)]
 pub enum ValueError {
     /// The type is float4 or float8, whose texts don't survive a round trip through JSON.
     #[error("float type")]

@@ -5,7 +5,7 @@ use std::alloc::{AllocError, AllocFailed};
 use thiserror::Error;
 
 /// Why a step of a window failed.
-#[derive(Debug, Drop, PartialEq, Eq, Error)]
+#[derive(Debug, Drop, Error)]
 pub enum WindowError {
     /// The first row, counted from 0, that is past the limit, has another number of cells than its
     /// table, a null cell of its key, or a key that isn't above the one before it.

@@ -5,7 +5,7 @@ use dbl_model_table::{Key, TableInfo};
 use std::alloc::Global;
 
 // The plan of a window and the numbers of its watermarks. Every state of the window has one.
-#[derive(Debug, Drop)]
+#[derive(Drop)]
 pub(crate) struct Frame {
     pub alloc: Global,
     pub info: TableInfo,

@@ -36,7 +36,7 @@ use std::alloc::{AllocError, Global};
 use std::marker::Model;
 
 /// The initial state. Contracts see a window's plan.
-#[derive(Debug, Drop)]
+#[derive(Drop)]
 pub struct Idle {
     frame: Frame,
 }
@@ -52,7 +52,7 @@ impl Model for Idle {
 }
 
 /// The low watermark was written.
-#[derive(Debug, Drop)]
+#[derive(Drop)]
 pub struct Marked {
     frame: Frame,
     // The texts of both watermarks, so that later steps take no memory for them.

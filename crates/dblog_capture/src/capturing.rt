@@ -17,7 +17,7 @@ use dblog_init::{Disks, Outcome, init};
 use std::alloc::{AllocError, Global};
 
 /// The workload of which a run makes its stores, and what it captures then.
-#[derive(Debug, Drop)]
+#[derive(Drop)]
 struct Plan {
     workload: WorkloadText,
     options: CaptureOptions,

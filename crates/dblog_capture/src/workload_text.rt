@@ -5,7 +5,7 @@ use dbl_base::{Failed, Input, Text};
 use std::marker::Model;
 
 /// The text of a workload, as the input that `init` reads. No read of it fails.
-#[derive(Debug, Drop)]
+#[derive(Drop)]
 pub(crate) struct WorkloadText {
     text: Text,
     place: usize,

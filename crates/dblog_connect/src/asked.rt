@@ -16,7 +16,7 @@ use dbl_offset::Offset;
 use std::alloc::{AllocError, Global};
 
 /// The session that a command's arguments request.
-#[derive(Debug, Drop)]
+#[derive(Drop)]
 pub enum Asked {
     /// A first session, of these tables, or of all tables of the workload if none is named.
     First { options: CaptureOptions },

@@ -1,5 +1,5 @@
 /// The disks of the program's three stores.
-#[derive(Debug, Drop)]
+#[derive(Drop)]
 pub struct Disks<W, T, F> {
     /// The disk of the source's log.
     pub wal: W,
@@ -10,7 +10,7 @@ pub struct Disks<W, T, F> {
 }
 
 /// The disks after a command, and how it ended.
-#[derive(Debug, Drop)]
+#[derive(Drop)]
 pub struct Outcome<W, T, F, E> {
     /// The disks that the command was passed.
     pub disks: Disks<W, T, F>,

@@ -10,7 +10,7 @@ use std::fmt;
 use thiserror::Error;
 
 /// A store of the program, each on a disk of its own.
-#[derive(Clone, Copy, Debug, PartialEq, Eq)]
+#[derive(Clone, Copy, Debug)]
 pub enum Store {
     Wal,
     Topics,
@@ -33,7 +33,7 @@ impl fmt::Display for Store {
 }
 
 /// Why the stores weren't made.
-#[derive(Debug, Drop, PartialEq, Eq, Error)]
+#[derive(Debug, Drop, Error)]
 pub enum InitError {
     /// A disk failed.
     #[error("{store} failed")]

@@ -18,7 +18,7 @@ use std::alloc::{AllocError, Global};
 use std::str;
 
 /// Why a line isn't applied.
-#[derive(Debug, Drop, PartialEq, Eq)]
+#[derive(Drop)]
 pub enum LineFault {
     /// The line isn't UTF-8, or is no record.
     BadRecord,
@@ -28,7 +28,7 @@ pub enum LineFault {
 }
 
 /// The first line that isn't applied.
-#[derive(Debug, Drop, PartialEq, Eq)]
+#[derive(Drop)]
 pub struct FaultAt {
     /// The line's number, counted from 1.
     pub number: u64,

@@ -14,7 +14,7 @@ use std::alloc::{AllocError, AllocFailed, Global};
 use thiserror::Error;
 
 /// Why lines are no messages.
-#[derive(Clone, Copy, Debug, PartialEq, Eq, Error)]
+#[derive(Clone, Copy, Debug, Error)]
 pub enum LineError {
     /// The line's number, counted from 1.
     #[error("line {number}: bad line")]

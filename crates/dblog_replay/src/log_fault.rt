@@ -15,7 +15,7 @@ use dbl_value::ValueError;
 use std::alloc::{AllocError, Global};
 
 /// Why a log is replayed no further. Messages are counted from 1.
-#[derive(Debug, Drop, PartialEq, Eq)]
+#[derive(Drop)]
 pub enum LogFault {
     /// The bytes are no message.
     Message { number: u64, error: MsgError },

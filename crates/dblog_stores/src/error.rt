@@ -12,7 +12,7 @@ use std::fmt;
 use thiserror::Error;
 
 /// A store of the program, each on a disk of its own.
-#[derive(Clone, Copy, Debug, PartialEq, Eq)]
+#[derive(Clone, Copy, Debug)]
 pub enum Store {
     Topics,
     Offsets,
@@ -33,7 +33,7 @@ impl fmt::Display for Store {
 }
 
 /// Why a command over the stores writes no text, or not all of it.
-#[derive(Clone, Copy, Debug, PartialEq, Eq, Error)]
+#[derive(Clone, Copy, Debug, Error)]
 pub enum CommandError {
     #[error("output failed")]
     OutputFailed,

@@ -1,6 +1,6 @@
 //! Decoding of messages.
 
-ghost use Rattle.std.specs.Prelude.{◌≡◌, ◌⊎◌, length, IfOk, IfErr};
+ghost use Rattle.std.specs.Prelude.{◌≡◌, ◌⊎◌, ◌∷◌, length, IfOk, IfErr};
 ghost use Rattle.dbl_pgmsg.specs.declared.messages.Message.{Message};
 ghost use Rattle.dbl_pgmsg.specs.Grammar.{Spells};
 ghost use Rattle.dbl_pgmsg.specs.Faults.{IsFault};
@@ -18,40 +18,54 @@ use std::alloc::Global;
 pub const LIMIT: usize = 16_777_216;
 
 #[tactic(auto, unfolding(crate::specs::Reading::message_at))]
-fn read_message(alloc: Global, total: usize, bytes: &[u8]) -> Result<(Message, &[u8]), MsgError>
-    ensures { Gives (λ x. (x.0, x.1.now)) result (message_at total bytes.now) }
+fn read_message(
+    alloc: Global,
+    total: usize,
+    tag: u8,
+    fields: &[u8],
+) -> Result<(Message, &[u8]), MsgError>
+    ensures { Gives (λ x. (x.0, x.1.now)) result (message_at total (tag ∷ fields.now)) }
 {
-    match bytes {
-        [] => Err(MsgError::Truncated { at: total as u64 }),
-        [b'B', rest @ ..] => read_begin(total, rest),
-        [b'C', rest @ ..] => read_commit(total, rest),
-        [b'O', rest @ ..] => read_origin(alloc, total, rest),
-        [b'Y', rest @ ..] => read_type_name(alloc, total, rest),
-        [b'R', rest @ ..] => read_relation(alloc, total, rest),
-        [b'I', rest @ ..] => read_insert(alloc, total, rest),
-        [b'U', rest @ ..] => read_update(alloc, total, rest),
-        [b'D', rest @ ..] => read_delete(alloc, total, rest),
-        [b'T', rest @ ..] => read_truncate(alloc, total, rest),
-        [b'M', rest @ ..] => read_logical(alloc, total, rest),
-        [byte, ..] => Err(MsgError::UnknownTag { byte: *byte }),
+    match tag {
+        b'B' => read_begin(total, fields),
+        b'C' => read_commit(total, fields),
+        b'O' => read_origin(alloc, total, fields),
+        b'Y' => read_type_name(alloc, total, fields),
+        b'R' => read_relation(alloc, total, fields),
+        b'I' => read_insert(alloc, total, fields),
+        b'U' => read_update(alloc, total, fields),
+        b'D' => read_delete(alloc, total, fields),
+        b'T' => read_truncate(alloc, total, fields),
+        b'M' => read_logical(alloc, total, fields),
+        byte => Err(MsgError::UnknownTag { byte }),
     }
 }
 
 #[tactic(auto, unfolding(crate::specs::Reading::whole, crate::specs::Reading::ended))]
-fn read_whole(alloc: Global, bytes: &[u8]) -> Result<Message, MsgError>
-    ensures { Gives (λ m. m) result (whole bytes.now) }
+fn read_fields(alloc: Global, tag: u8, fields: &[u8]) -> Result<Message, MsgError>
+    ensures { Gives (λ m. m) result (whole (tag ∷ fields.now)) }
 {
-    let total = bytes.len();
+    let total = fields.len() + 1;
     if total > LIMIT {
         return Err(MsgError::TooLong { len: total as u64 });
     }
-    let (message, rest) = read_message(alloc, total, bytes)?;
+    let (message, rest) = read_message(alloc, total, tag, fields)?;
     if !rest.is_empty() {
         return Err(MsgError::TrailingBytes {
             at: place(total, rest),
         });
     }
     Ok(message)
+}
+
+#[tactic(auto, unfolding(crate::specs::Reading::whole, crate::specs::Reading::message_at))]
+fn read_whole(alloc: Global, bytes: &[u8]) -> Result<Message, MsgError>
+    ensures { Gives (λ m. m) result (whole bytes.now) }
+{
+    match bytes {
+        [] => Err(MsgError::Truncated { at: 0 }),
+        [tag, fields @ ..] => read_fields(alloc, *tag, fields),
+    }
 }
 
 /// Decodes the message that the bytes encode, or returns their first fault ("Logical Replication
@@ -65,4 +79,18 @@ pub fn decode(alloc: Global, bytes: &[u8]) -> Result<Message, MsgError>
         (result ≡ Err MsgError.Memory) }
 {
     read_whole(alloc, bytes)
+}
+
+/// Decodes the message with this tag and these bytes after it, as `decode` does, without a copy of
+/// them.
+pub fn decode_fields(alloc: Global, tag: u8, fields: &[u8]) -> Result<Message, MsgError>
+    ensures read { IfOk result (λ message. Spells (tag ∷ fields.now) message) }
+    ensures spelled { (message : Message) → Spells (tag ∷ fields.now) message →
+        (result ≡ Ok message) ⊎ (result ≡ Err MsgError.Memory) }
+    ensures refused { IfErr result
+        (λ error. (error ≡ MsgError.Memory) ⊎ IsFault (tag ∷ fields.now) error) }
+    ensures faulty { (error : MsgError) → IsFault (tag ∷ fields.now) error →
+        (result ≡ Err error) ⊎ (result ≡ Err MsgError.Memory) }
+{
+    read_fields(alloc, tag, fields)
 }

@@ -13,7 +13,7 @@ mod reading;
 mod rows;
 mod writing;
 
-pub use decoding::decode;
+pub use decoding::{decode, decode_fields};
 pub use encoding::{append_message, encode};
 pub use error::MsgError;
 pub use laws::{

@@ -1,2 +1,6 @@
 mod ToldLemmas
 mod MomentLemmas
+mod PlainRowLemmas
+mod PlainJsonLemmas
+mod PlainEventLemmas
+mod PlainAgeLemmas

@@ -23,7 +23,7 @@ use Rattle.dbl_model_event.specs.Snapshots.{progress_data}
 use Rattle.dbl_consume_laws.specs.Prints.{ReportsProgress}
 use Rattle.dbl_consume_laws.proofs.Prints.{progress_one}
 use Rattle.dbl_consume_laws.specs.KnownKeys.{IsTold}
-use Rattle.dbl_consume_laws.proofs.PlainLemmas.{instead}
+use Rattle.cases_ages.proofs.PlainAgeLemmas.{instead}
 use Rattle.cases_ages.specs.Trace.{Tests, IsProgress, IsAlike, IsBeside, IsProgressOfTable, IsToldBy, IsToldIn, AreUnlistedOf, AreUnlisted}
 
 -- ---- keys of a table

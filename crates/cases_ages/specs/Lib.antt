@@ -1,1 +1,4 @@
 pub mod Trace
+pub mod PlainRows
+pub mod PlainEvents
+pub mod PlainAges

@@ -5,8 +5,8 @@ ghost use Rattle.dbl_model_table.specs.Rows.{all_changes};
 ghost use Rattle.dbl_consume_laws.specs.KnownKeys.{IsKnown};
 ghost use Rattle.cases_ages.specs.Trace.{Tests, AreUnlisted};
 
+use crate::plain_ages::is_touched;
 use crate::progress::{Log, is_told};
-use dbl_consume_laws::is_touched;
 use dbl_model_table::{Commit, Key};
 use std::alloc::{AllocError, Global};
 

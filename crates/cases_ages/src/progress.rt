@@ -10,8 +10,8 @@ ghost use Rattle.dbl_consume_laws.specs.KnownKeys.{IsTold};
 ghost use Rattle.cases_ages.specs.Trace.{Tests, IsProgress, IsBeside, IsAlike, IsProgressOfTable, IsToldBy, IsUnlisted, IsToldIn};
 ghost use Rattle.cases_ages.specs.Trace.{AreUnlisted, AreUnlistedOf};
 
+use crate::plain_ages::covers;
 use dbl_base::{Lsn, Text};
-use dbl_consume_laws::covers;
 use dbl_envelope_json::{Frame, Layout, progress_record, tail_text};
 use dbl_model_history::{Cursor, key_fits};
 use dbl_model_table::{Body, Commit, Identity, Key, TableInfo};

@@ -2,10 +2,9 @@
 //! by the plain functions whose contracts are the definitions.
 
 use anyhow::{Result, bail};
+use cases_ages::{image_text, plain_envelopes, row_at};
 use cases_items::{items, shown, words};
 use dbl_base::{Seq, Text};
-use dbl_model_event::plain_envelopes;
-use dbl_model_history::{image_text, row_at};
 use dbl_model_table::{Commit, Identity, Key, RawTable, TableInfo};
 use std::alloc::Global;
 use std::fmt::Write;

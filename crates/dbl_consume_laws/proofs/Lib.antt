@@ -39,4 +39,3 @@ pub mod Snapshot
 pub mod Between
 pub mod Rows
 pub mod AgeingNames
-pub mod PlainLemmas

@@ -16,4 +16,3 @@ pub mod ChangeLaws
 pub mod SnapshotLaws
 pub mod SessionAges
 pub mod RowLaws
-pub mod PlainAges

@@ -5,7 +5,6 @@
 mod ageing_laws;
 mod agreement_laws;
 mod moment_laws;
-mod plain_ages;
 mod record_laws;
 mod row_laws;
 mod session_laws;
@@ -23,7 +22,6 @@ pub use moment_laws::{
     events_stand_for_changes, fit_histories_have_fit_commits, later_places_stand_later,
     marks_stand_for_commits, records_reach_their_top, told_bounds_are_told,
 };
-pub use plain_ages::{covers, is_aged_cell, is_touched, occurs};
 pub use record_laws::{
     cells_go_alone, changes_change_cells, commits_lack_placeholders, consumers_hold_cells,
     events_change_cells, events_have_letters, fit_changes_are_wide, fitting_changes_are_wide,

@@ -1,4 +1,2 @@
 pub mod EventLemmas
-pub mod PlainJsonLemmas
-pub mod PlainEventLemmas
 pub mod SnapshotLemmas

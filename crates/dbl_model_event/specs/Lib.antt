@@ -4,5 +4,4 @@ pub mod EventJson
 pub mod Clashes
 pub mod Snapshots
 pub mod EventLaws
-pub mod PlainEvents
 pub mod SnapshotLists

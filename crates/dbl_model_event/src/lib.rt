@@ -1,15 +1,12 @@
-//! Change events: the records of commits and of snapshots, as definitions and by plain functions.
+//! Change events: the records of commits and of snapshots, as definitions.
 #![tactic(auto)]
 
 mod closed;
 mod event_laws;
-mod plain_json;
-mod plain_records;
 mod snapshot_laws;
 mod time;
 
 pub use closed::{Closed, KeyedRows};
 pub use event_laws::{commits_are_numbered, small_inserts_are, times_are_rounded_down};
-pub use plain_records::plain_envelopes;
 pub use snapshot_laws::{keys_of_rows_rise, snapshots_have_one_row_a_key};
 pub use time::milliseconds;

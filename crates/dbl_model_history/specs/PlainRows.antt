@@ -1,5 +1,5 @@
--- Definitions for the plain functions that compute rows for tests.
-use Rattle.std.specs.Prelude.{ℕ, Bool, true, false, Option, Some, None, option_map, List, [], ◌∷◌}
+-- The row of one table and key while changes follow one another.
+use Rattle.std.specs.Prelude.{ℕ, Bool, true, false, Option, option_map, List, [], ◌∷◌}
 use Rattle.dbl_value.specs.declared.value.Val.{Val}
 use Rattle.dbl_model_table.specs.declared.row.Key.{Key}
 use Rattle.dbl_model_table.specs.declared.row.Row.{Row}
@@ -17,12 +17,6 @@ plain_row_cells row = option_map (λ r. r.cells) row
 abbrev pub is_sent : Cell → Bool
 is_sent (Given v) = true
 is_sent Unchanged = false
-
--- A cell of the row after an update: the sent value, or the old one.
-abbrev pub over : Option Cell → Val → Val
-over None old = old
-over (Some (Given v)) old = v
-over (Some Unchanged) old = old
 
 -- The row of one table and key after changes.
 abbrev pub row_from : List TableInfo → ℕ → Key → Option (List Val) → List Change → Option (List Val)

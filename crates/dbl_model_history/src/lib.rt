@@ -4,9 +4,8 @@
 mod bound_laws;
 mod cursor;
 mod fitting_keys;
+mod keys;
 mod laws;
-mod plain_image;
-mod plain_rows;
 mod window_laws;
 
 pub use bound_laws::{
@@ -14,12 +13,11 @@ pub use bound_laws::{
 };
 pub use cursor::Cursor;
 pub use fitting_keys::key_fits;
+pub use keys::{given_or_nulls, is_same, key_at};
 pub use laws::{
     fit_changes_fit_infos, fit_rows_are_rows, infos_are_in_range, key_texts_name_keys,
     moments_are_changes, positions_are_moments, rows_have_one_image, typed_commits_are_in_range,
 };
-pub use plain_image::image_text;
-pub use plain_rows::{given_or_nulls, is_same, key_at, row_at};
 pub use window_laws::{
     first_rows_are_one, fit_changes_fit_one_by_one, left_rows_are_rows, lost_rows_were_touched,
     names_are_one, touched_keys_are_parted, whole_changes_are_cases,

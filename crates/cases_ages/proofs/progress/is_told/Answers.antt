@@ -4,7 +4,7 @@ use Rattle.std.proofs.lemmas.Bool.Decides.{Decides-ltb}
 use Rattle.std.proofs.lemmas.Option.{slice_get_read, slice_get_past}
 use Rattle.std.proofs.lemmas.Result.{IfOk-weaker}
 use Rattle.dbl_model_table.specs.declared.table.TableInfo.{TableInfo}
-use Rattle.dbl_consume_laws.proofs.PlainLemmas.{fails}
+use Rattle.cases_ages.proofs.PlainAgeLemmas.{fails}
 use Rattle.cases_ages.proofs.ToldLemmas.{told_in_table, untold_elsewhere}
 use Rattle.cases_ages.proofs.progress.is_told.Goals as goal
 

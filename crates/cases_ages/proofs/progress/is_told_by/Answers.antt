@@ -3,7 +3,7 @@ use Rattle.std.specs.Prelude.{slice_get}
 use Rattle.std.proofs.lemmas.Option.{slice_get_read}
 use Rattle.dbl_model_history.specs.declared.cursor.Cursor.{Cursor}
 use Rattle.dbl_consume_laws.specs.Prints.{ReportsProgress}
-use Rattle.dbl_consume_laws.proofs.PlainLemmas.{refuted}
+use Rattle.cases_ages.proofs.PlainAgeLemmas.{refuted}
 use Rattle.cases_ages.proofs.ToldLemmas.{told_decides, none_more, none_at}
 use Rattle.cases_ages.proofs.progress.is_told_by.Goals as goal
 

@@ -1,5 +1,0 @@
-use Rattle.dbl_consume_laws.proofs.PlainLemmas.{IsLeft}
-use Rattle.dbl_consume_laws.proofs.plain_ages.is_touched.Given as goal
-
-abbrev pub invariant-loop-commit : goal.invariant-loop-commit
-invariant-loop-commit l = IsLeft l.infos.items l.table l.key l.commits.items l.from l.to l.commit-index l.left_from l.left_to

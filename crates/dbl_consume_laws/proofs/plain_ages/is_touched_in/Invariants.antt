@@ -1,5 +1,0 @@
-use Rattle.dbl_consume_laws.proofs.PlainLemmas.{AreUntouched}
-use Rattle.dbl_consume_laws.proofs.plain_ages.is_touched_in.Given as goal
-
-abbrev pub invariant-loop-i : goal.invariant-loop-i
-invariant-loop-i l = AreUntouched l.infos.items l.table l.key l.changes l.from l.to l.i

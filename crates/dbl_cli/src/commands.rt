@@ -14,7 +14,7 @@ pub struct CaptureOptions {
 }
 
 /// The options of a resumed capture.
-#[derive(Debug, Drop)]
+#[derive(Drop)]
 pub struct ResumeOptions {
     pub chunk: u32,
     pub every: u32,
@@ -22,7 +22,7 @@ pub struct ResumeOptions {
 }
 
 /// The options of `replay`.
-#[derive(Debug, Drop)]
+#[derive(Drop)]
 pub struct ReplayOptions {
     pub prefix: Text,
     pub db: Text,

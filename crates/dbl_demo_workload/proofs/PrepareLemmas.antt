@@ -1,5 +1,5 @@
 -- A workload that is taken line by line: its tables, then its rows, up to the first that can't be.
-use Rattle.std.proofs.Common.{◌≡◌, ◌∙◌, ◌⊎◌, ℕ, zero, suc, ◌<◌, ◌≤◌, true, false, None, Some, List, [], ◌∷◌, ◌++◌, length, map, take, get_or, refl, sym, ap, subst, arith, inl, inr}
+use Rattle.std.proofs.Common.{◌≡◌, ◌∙◌, ◌⊎◌, ℕ, zero, suc, ◌<◌, ◌≤◌, Bool, true, false, None, Some, List, [], ◌∷◌, ◌++◌, length, map, take, get_or, refl, sym, ap, ap₂, subst, arith, inl, inr}
 use Rattle.std.specs.Prelude.{◌≢◌, ◌↔◌, Result, Ok, Err, IsOk, is_ok, IfSome, option_to_list}
 use Rattle.std.specs.List.{AllByRecursion, AllZip}
 use Rattle.std.proofs.lemmas.Bool.{cases_lt}
@@ -9,10 +9,8 @@ use Rattle.dbl_pgmsg.specs.declared.messages.Message.{Message}
 use Rattle.dbl_model_table.specs.declared.named_cell.NamedCell.{NamedCell}
 use Rattle.dbl_model_table.specs.declared.table.RawTable.{RawTable}
 use Rattle.dbl_model_table.specs.declared.table.TableName.{TableName}
-use Rattle.dbl_model_table.specs.declared.table.TableInfo.{TableInfo}
 use Rattle.dbl_model_table.specs.declared.error.ModelError.{ModelError}
 use Rattle.dbl_model_table.specs.declared.error.ModelError.TheVariants as model
-use Rattle.dbl_model_table.specs.Infos.{IsInfoOf}
 use Rattle.dbl_model_table.specs.Made.{table_fault}
 use Rattle.dbl_source_log.specs.declared.logged.LogTable.{LogTable}
 use Rattle.dbl_script.specs.declared.error.ScriptError.{ScriptError}
@@ -39,7 +37,7 @@ use Rattle.dbl_demo_workload.specs.declared.error.DemoError.TheVariants as demo
 use Rattle.dbl_demo_workload.proofs.OneOfLaws.{all_accepted, begun, same_calls}
 use Rattle.dbl_demo_workload.proofs.RunLemmas.{commit_act, insert_silent, log_onto}
 use Rattle.dbl_demo_workload.specs.Errors.{model_error, script_error}
-use Rattle.dbl_demo_workload.specs.Preparing.{initial_row_calls, row_error, AreTablesRead, CommitsRows, HasBadRowIn, HasBadTableIn, InsertsRow, InsertsRows, IsReadyOf, IsRefusedBy}
+use Rattle.dbl_demo_workload.specs.Preparing.{initial_row_calls, row_error, AreReadSoFar, AreTablesRead, CommitsRows, HasBadRowIn, HasBadTable, HasBadTableIn, InsertsRow, InsertsRows, IsReadyOf, IsRefusedBy}
 use Rattle.dbl_demo_workload.specs.Ready.{IsReady}
 use Rattle.dbl_demo_workload.specs.Refusals.{HasGoodLines, IsRefused, row_calls}
 use Rattle.dbl_demo_workload.specs.Steps.{IsShortCommit}
@@ -62,11 +60,6 @@ take_here {A = A} (y ∷ xs) (suc n) x lt is = ap (λ (l : List A). y ∷ l) (ta
 
 -- ---- tables
 
--- the tables of these lines were read, and none has a fault
-pub record AreReadSoFar (lines : List ScriptTable) (names : List TableName) (tables : List DemoTable) (log : List LogTable) : Type 0 where
-  pub read : AreTablesRead lines names tables log
-  pub good : AllByRecursion (λ other. table_fault other.raw ≡ None) lines
-
 pub none_read : AreReadSoFar [] [] [] []
 none_read = record { read = record { are = tt; named = refl; log_is = refl }; good = tt }
 
@@ -80,15 +73,14 @@ all_on : {A : Type 0} (P : A → Type 0) (xs : List A) (x : A) → AllByRecursio
 all_on P [] x all here = (here, tt)
 all_on P (y ∷ xs) x all here = (all.0, all_on P xs x all.1 here)
 
-pub one_read : (lines : List ScriptTable) (names : List TableName) (tables : List DemoTable) (log : List LogTable) (line : ScriptTable) (name : TableName) (info : TableInfo) → AreReadSoFar lines names tables log → IsInfoOf line.raw info → table_fault line.raw ≡ None
-    → name ≡ line.raw.name → AreReadSoFar (lines ++ line ∷ []) (names ++ name ∷ []) (tables ++ record { info = info; full = line.full; toast = line.toast } ∷ []) (log ++ record { raw = line.raw; full = line.full } ∷ [])
-one_read lines names tables log line name info so is none named =
-    let table : DemoTable = record { info = info; full = line.full; toast = line.toast } in
-    let same : name ≡ table.info.name = named ∙ ap (λ (raw : RawTable). raw.name) (sym is) in
-    let entry : record { raw = line.raw; full = line.full } ≡ log_table table = ap (λ (raw : RawTable). let t : LogTable = record { raw = raw; full = line.full } in t) (sym is) in
+pub one_read : (lines : List ScriptTable) (names : List TableName) (tables : List DemoTable) (log : List LogTable) (line : ScriptTable) (name : TableName) (table : DemoTable) → AreReadSoFar lines names tables log → IsTableOf line table → table_fault line.raw ≡ None
+    → name ≡ line.raw.name → AreReadSoFar (lines ++ line ∷ []) (names ++ name ∷ []) (tables ++ table ∷ []) (log ++ record { raw = line.raw; full = line.full } ∷ [])
+one_read lines names tables log line name table so is none named =
+    let same : name ≡ table.info.name = named ∙ ap (λ (raw : RawTable). raw.name) (sym is.info) in
+    let entry : record { raw = line.raw; full = line.full } ≡ log_table table = ap₂ (λ (raw : RawTable) (full : Bool). let t : LogTable = record { raw = raw; full = full } in t) (sym is.info) (sym is.full) in
     record {
       read = record {
-        are = zip_on IsTableOf lines tables line table so.read.are (record { info = is; full = refl; toast = refl });
+        are = zip_on IsTableOf lines tables line table so.read.are is;
         named = ap (λ (l : List TableName). l ++ name ∷ []) so.read.named ∙ ap (λ (n : TableName). map (λ (t : DemoTable). t.info.name) tables ++ n ∷ []) same ∙ sym (map-append (λ (t : DemoTable). t.info.name) tables (table ∷ []));
         log_is = ap (λ (l : List LogTable). l ++ record { raw = line.raw; full = line.full } ∷ []) so.read.log_is ∙ ap (λ (e : LogTable). log_tables tables ++ e ∷ []) entry ∙ sym (map-append log_table tables (table ∷ []));
       };
@@ -104,15 +96,20 @@ told_model (model.FloatColumn name column) = inr refl
 told_model (model.NoKey name) = inr refl
 told_model (model.KeyType name column) = inr refl
 
-pub bad_table : (lines : List ScriptTable) (n : ℕ) (line : ScriptTable) (e : ModelError) (f : DemoError) → n < length lines → line ≡ get_or lines n line → AllByRecursion (λ other. table_fault other.raw ≡ None) (take n lines)
-    → (e ≡ model.Memory) ⊎ (table_fault line.raw ≡ Some e) → f ≡ model_error e → (f ≡ demo.Memory) ⊎ HasBadTableIn lines f
-bad_table lines n line e f lt is good (inl memory) told = inl (told ∙ ap model_error memory)
-bad_table lines n line e f lt is good (inr fault) told =
-    let split = split_here lines n line lt is in
+pub bad_table : (line : ScriptTable) (e : ModelError) (f : DemoError) → (e ≡ model.Memory) ⊎ (table_fault line.raw ≡ Some e) → f ≡ model_error e → HasBadTable line f
+bad_table line e f (inl memory) told = inl (told ∙ ap model_error memory)
+bad_table line e f (inr fault) told =
     elim (told_model e) [
       | inl memory ↦ inl (told ∙ memory)
-      | inr model ↦ inr (record { before = take n lines; table = line; subsequent = split.0; are = split.1; good = good; fault = e; is_fault = fault; is = told ∙ model })
+      | inr model ↦ inr (e, (fault, told ∙ model))
     ]
+
+pub bad_table_in : (lines : List ScriptTable) (n : ℕ) (line : ScriptTable) (f : DemoError) → n < length lines → line ≡ get_or lines n line → AllByRecursion (λ other. table_fault other.raw ≡ None) (take n lines)
+    → HasBadTable line f → (f ≡ demo.Memory) ⊎ HasBadTableIn lines f
+bad_table_in lines n line f lt is good (inl memory) = inl memory
+bad_table_in lines n line f lt is good (inr bad) =
+    let split = split_here lines n line lt is in
+    inr (record { before = take n lines; table = line; subsequent = split.0; are = split.1; good = good; fault = bad.0; is_fault = bad.1.0; is = bad.1.1 })
 
 -- ---- rows
 

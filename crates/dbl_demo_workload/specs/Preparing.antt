@@ -34,6 +34,15 @@ pub record AreTablesRead (lines : List ScriptTable) (names : List TableName) (ta
   pub named : names ≡ map (λ table. table.info.name) tables
   pub log_is : log ≡ log_tables tables
 
+-- The tables of these lines were read, and each can be captured.
+pub record AreReadSoFar (lines : List ScriptTable) (names : List TableName) (tables : List DemoTable) (log : List LogTable) : Type 0 where
+  pub read : AreTablesRead lines names tables log
+  pub good : AllByRecursion (λ other. table_fault other.raw ≡ None) lines
+
+-- Memory ran out, or the error is why the line's table can't be captured.
+abbrev pub HasBadTable : ScriptTable → DemoError → Type 0
+HasBadTable line e = (e ≡ demo.Memory) ⊎ ((fault : ModelError) × (table_fault line.raw ≡ Some fault) × (e ≡ demo.Model fault))
+
 -- The error is of the first of these lines whose table can't be captured.
 pub record HasBadTableIn (lines : List ScriptTable) (e : DemoError) : Type 0 where
   pub before : List ScriptTable

@@ -1,12 +1,15 @@
 //! From a workload's bytes to its tables, its rows in the store, and its steps.
 
-ghost use Rattle.std.specs.Prelude.{◌≡◌, ◌⊎◌, ◌<◌, [], IfOk, IfErr, IfSome, OnOk, List, length};
+ghost use Rattle.std.specs.Prelude.{◌≡◌, ◌⊎◌, ◌<◌, ◌++◌, ◌∷◌, [], None, IfOk, IfErr, IfSome};
+ghost use Rattle.std.specs.Prelude.{OnOk, List, length};
+ghost use Rattle.dbl_model_table.specs.Made.{table_fault};
 ghost use Rattle.dbl_script.specs.declared.script.ScriptRow.{ScriptRow};
 ghost use Rattle.dbl_script.specs.declared.script.ScriptTable.{ScriptTable};
 ghost use Rattle.dbl_demo_wal.specs.Contents.{HasFewTables};
 ghost use Rattle.dbl_tables_rows.specs.declared.demo_table.DemoTable.{DemoTable};
-ghost use Rattle.dbl_demo_wal.specs.Workloads.{IsWorkload, Workload};
-ghost use Rattle.dbl_demo_workload.specs.Preparing.{AreTablesRead, HasBadTableIn, HasRows};
+ghost use Rattle.dbl_demo_wal.specs.Workloads.{IsTableOf, IsWorkload, Workload};
+ghost use Rattle.dbl_demo_workload.specs.Preparing.{AreReadSoFar, AreTablesRead, HasBadTable};
+ghost use Rattle.dbl_demo_workload.specs.Preparing.{HasBadTableIn, HasRows};
 ghost use Rattle.dbl_demo_workload.specs.Preparing.{InsertsRows, IsReadyOf, IsRefusedBy};
 ghost use Rattle.dbl_demo_workload.specs.Preparing.{IsRowRefused, row_error};
 ghost use Rattle.dbl_demo_workload.specs.Ready.{IsReady};
@@ -39,10 +42,44 @@ pub struct Prepared {
 }
 
 // The tables in three forms: their names, those of the store, and those of the log.
+#[derive(Drop)]
 struct TablesRead {
     names: Vec<TableName>,
     demo: Vec<DemoTable>,
     log: Vec<LogTable>,
+}
+
+fn demo_table(alloc: Global, line: &ScriptTable) -> Result<DemoTable, DemoError>
+    ensures read { IfOk result (IsTableOf line.now) }
+    ensures good { OnOk result (table_fault line.now.raw ≡ None) }
+    ensures refused { IfErr result (HasBadTable line.now) }
+{
+    let info = TableInfo::make(alloc, &line.raw)?;
+    Ok(DemoTable {
+        info,
+        full: line.full,
+        toast: line.toast,
+    })
+}
+
+// Adds the table of a line.
+fn read_table(alloc: Global, read: &mut TablesRead, line: ScriptTable) -> Result<(), DemoError>
+    ensures read { (lines : List ScriptTable) →
+        AreReadSoFar lines read.old.names.items read.old.demo.items read.old.log.items →
+        OnOk result (AreReadSoFar (lines ++ line ∷ [])
+        read.new.names.items read.new.demo.items read.new.log.items) }
+    ensures refused { IfErr result (HasBadTable line) }
+{
+    read.names.push(line.raw.name.copy(alloc)?)?;
+    read.demo.push(demo_table(alloc, &line)?)?;
+    let ScriptTable {
+        raw,
+        full,
+        toast: _,
+        line: _,
+    } = line;
+    read.log.push(LogTable { raw, full })?;
+    Ok(())
 }
 
 fn read_tables(alloc: Global, lines: Vec<ScriptTable>) -> Result<TablesRead, DemoError>
@@ -51,22 +88,15 @@ fn read_tables(alloc: Global, lines: Vec<ScriptTable>) -> Result<TablesRead, Dem
     ensures refused { IfErr result (λ e.
         (e ≡ DemoError.Memory) ⊎ HasBadTableIn lines.items e) }
 {
-    let mut names = Vec::with_capacity(alloc, lines.len())?;
-    let mut demo = Vec::with_capacity(alloc, lines.len())?;
-    let mut log = Vec::with_capacity(alloc, lines.len())?;
+    let mut read = TablesRead {
+        names: Vec::new(alloc),
+        demo: Vec::new(alloc),
+        log: Vec::new(alloc),
+    };
     for line in lines {
-        let ScriptTable {
-            raw,
-            full,
-            toast,
-            line: _,
-        } = line;
-        let info = TableInfo::make(alloc, &raw)?;
-        names.push(raw.name.copy(alloc)?)?;
-        demo.push(DemoTable { info, full, toast })?;
-        log.push(LogTable { raw, full })?;
+        read_table(alloc, &mut read, line)?;
     }
-    Ok(TablesRead { names, demo, log })
+    Ok(read)
 }
 
 fn row_error(error: StepError, line: u32) -> DemoError

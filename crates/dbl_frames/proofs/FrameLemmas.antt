@@ -1,5 +1,6 @@
 -- Whole bytes are the form of one frame, and the form of a frame is whole.
-use Rattle.std.proofs.Common.{◌≡◌, ◌∙◌, ℕ, ℤ, ◌+◌, ◌^◌, ◌<◌, ◌≤◌, eqb, List, [], ◌∷◌, ◌++◌, length, get_or, take, drop, None, refl, sym, ap, subst, inl, inr, arith}
+use Rattle.std.proofs.Common.{◌≡◌, ◌∙◌, ℕ, ℤ, ◌+◌, ◌^◌, ◌<◌, ◌≤◌, eqb, List, [], ◌∷◌, ◌++◌, length, get_or, take, drop, None, refl, sym, ap, subst, inl, inr}
+use Rattle.std.proofs.Common.{arith}
 use Rattle.std.specs.Prelude.{FitsSigned}
 use Rattle.std.specs.Int.{w32, w64, from_be_bytes, to_be_bytes, cast_signed, cast_unsigned}
 use Rattle.std.proofs.lemmas.Bool.{eq-eqb, cond-true, cond-false}
@@ -120,7 +121,8 @@ data_frame bytes = Data (int64_at 6 bytes) (int64_at 14 bytes) (cast_signed w64 
 keepalive_frame : List ℕ → Frame
 keepalive_frame bytes = Keepalive (int64_at 6 bytes) (cast_signed w64 (int64_at 14 bytes)) (get_or bytes 22 0)
 
-encodes_data : (bytes : List ℕ) → HasBytes bytes → get_or bytes 5 0 ≡ 119 → 30 ≤ length bytes → length bytes ≤ 16777246 → EncodesContent bytes (data_frame bytes)
+encodes_data : (bytes : List ℕ) → HasBytes bytes → get_or bytes 5 0 ≡ 119 → 30 ≤ length bytes → length bytes ≤ 16777246
+    → EncodesContent bytes (data_frame bytes)
 unfolding data_frame
 encodes_data bytes are is long short =
     record {

@@ -1,6 +1,7 @@
 -- The fault of the frame at the front of the bytes, once the byte that shows it is there: the kind, the last byte of the length, or the
 -- first byte of the content. `at` is the frame's offset in the stream.
-use Rattle.std.specs.Prelude.{ℕ, ◌+◌, ◌==◌, ◌&&◌, Bool, List, [], ◌∷◌, length, take, drop, Option, Some, None, nat_lt, nat_le, if◌then◌else◌}
+use Rattle.std.specs.Prelude.{ℕ, ◌+◌, ◌==◌, ◌&&◌, Bool, List, [], ◌∷◌, length, take, drop, Option, Some, None, nat_lt, nat_le}
+use Rattle.std.specs.Prelude.{if◌then◌else◌}
 use Rattle.std.specs.Str.{byte}
 use Rattle.std.specs.Int.{w32, from_be_bytes}
 use Rattle.dbl_frames.specs.declared.error.FrameError.{FrameError}

@@ -1,7 +1,7 @@
 use dbl_base::Bytes;
 
 /// A frame of the stream. Positions are LSNs; times are microseconds since 2000-01-01 UTC.
-#[derive(Debug, Drop, PartialEq, Eq)]
+#[derive(Drop)]
 pub enum Frame {
     /// XLogData: `start` is the position of the payload, a message of the output plugin, and `end`
     /// that of the server's log.

@@ -1,9 +1,11 @@
-ghost use Rattle.std.specs.Prelude.{◌≡◌, ◌≢◌, ◌⊎◌, ℕ, ◌+◌, ◌^◌, ◌<◌, ◌≤◌, List, [], ◌++◌, length, Some, None};
+ghost use Rattle.std.specs.Prelude.{◌≡◌, ◌≢◌, ◌⊎◌, ℕ, ◌+◌, ◌^◌, ◌<◌, ◌≤◌, List, [], ◌++◌, length};
+ghost use Rattle.std.specs.Prelude.{Some, None};
 ghost use Rattle.std.specs.Prelude.{IfOk, IfErr, OnOk, OnErr};
 ghost use Rattle.dbl_frames.specs.declared.error.FrameError.{FrameError};
 ghost use Rattle.dbl_frames.specs.declared.frame.Frame.{Frame};
 ghost use Rattle.dbl_frames.specs.Faults.{head_fault, wanted_size};
-ghost use Rattle.dbl_frames.specs.Stream.{AreFramesOf, BeginsWith, Faulty, IsUnfinished, WasFed, bytes_fed};
+ghost use Rattle.dbl_frames.specs.Stream.{AreFramesOf, BeginsWith, Faulty, IsUnfinished, WasFed};
+ghost use Rattle.dbl_frames.specs.Stream.{bytes_fed};
 ghost use Rattle.dbl_frames.specs.Steps.{IsWithinFrame, ReadsFrames, StopsReading};
 
 use crate::heads::{find_head_fault, measure_frame, read_frame};

@@ -1,7 +1,8 @@
 //! The head of a frame: its kind, its length and the first byte of its content; and the fields of a
 //! whole frame.
 
-ghost use Rattle.std.specs.Prelude.{◌≡◌, ℕ, ◌+◌, ◌^◌, ◌<◌, ◌≤◌, length, take, slice_index, IfOk, OnOk};
+ghost use Rattle.std.specs.Prelude.{◌≡◌, ℕ, ◌+◌, ◌^◌, ◌<◌, ◌≤◌, length, take, slice_index, IfOk};
+ghost use Rattle.std.specs.Prelude.{OnOk};
 ghost use Rattle.std.specs.Int.{w32, w64, from_be_bytes};
 ghost use Rattle.dbl_frames.specs.Faults.{content_fault, length_fault, head_fault, wanted_size};
 ghost use Rattle.dbl_frames.specs.Steps.{frame_at};

@@ -8,3 +8,4 @@ pub mod Grammar
 pub mod Scripts
 pub mod Building
 pub mod Ranges
+pub mod TypeNames

@@ -9,14 +9,14 @@ ghost use Rattle.dbl_script.specs.Words.{parts_at};
 ghost use Rattle.dbl_script.specs.Reads.{Reads, Gives};
 ghost use Rattle.dbl_script.specs.Texts.{utf8_text, name_of, table_name_of, is_session_byte};
 ghost use Rattle.dbl_script.specs.Texts.{session_of, is_column_byte, column_name_of, number_of};
-ghost use Rattle.dbl_script.specs.Texts.{measured_oid_of, listed_oid_of, oid_of, escape_of};
+ghost use Rattle.dbl_script.specs.Texts.{listed_oid_of, oid_of, escape_of};
 ghost use Rattle.dbl_script.specs.Texts.{escapes_of, unescaped_bytes, text_of};
+ghost use Rattle.dbl_script.specs.TypeNames.{all_named, first_oid};
 
 use crate::fault::Fault;
 use crate::parts::{Parts, cut};
 use dbl_base::Text;
 use dbl_model_table::TableName;
-use dbl_value::PgType;
 use std::alloc::Global;
 
 /// Whether the word is this text.
@@ -126,58 +126,104 @@ pub fn number(word: &[u8]) -> Option<u32>
     digits_value(word)
 }
 
-#[tactic(auto, unfolding(crate::specs::Texts::measured_oid_of))]
-fn measured_oid(word: &[u8]) -> Option<u32>
-    ensures { result ≡ measured_oid_of word.now }
-{
-    if is_word(word, "bool") {
-        Some(dbl_value::oid(PgType::Bool))
-    } else if is_word(word, "int2") {
-        Some(dbl_value::oid(PgType::Int2))
-    } else if is_word(word, "int4") {
-        Some(dbl_value::oid(PgType::Int4))
-    } else if is_word(word, "int8") {
-        Some(dbl_value::oid(PgType::Int8))
-    } else if is_word(word, "float4") {
-        Some(700)
-    } else if is_word(word, "float8") {
-        Some(701)
-    } else if is_word(word, "date") {
-        Some(dbl_value::oid(PgType::Date))
-    } else if is_word(word, "time") {
-        Some(dbl_value::oid(PgType::Time))
-    } else if is_word(word, "timestamp") {
-        Some(dbl_value::oid(PgType::Timestamp))
-    } else if is_word(word, "timestamptz") {
-        Some(dbl_value::oid(PgType::Timestamptz))
-    } else {
-        None
-    }
+/// The name of a PostgreSQL type, and its OID (catalog `pg_type`).
+#[derive(Clone, Copy)]
+struct NamedType {
+    name: &'static str,
+    oid: u32,
 }
 
-#[tactic(auto, unfolding(crate::specs::Texts::listed_oid_of))]
+static TYPES: [NamedType; 18] = [
+    NamedType {
+        name: "text",
+        oid: 25,
+    },
+    NamedType {
+        name: "varchar",
+        oid: 1043,
+    },
+    NamedType {
+        name: "bpchar",
+        oid: 1042,
+    },
+    NamedType {
+        name: "json",
+        oid: 114,
+    },
+    NamedType {
+        name: "jsonb",
+        oid: 3802,
+    },
+    NamedType {
+        name: "numeric",
+        oid: 1700,
+    },
+    NamedType {
+        name: "uuid",
+        oid: 2950,
+    },
+    NamedType {
+        name: "bytea",
+        oid: 17,
+    },
+    NamedType {
+        name: "bool",
+        oid: 16,
+    },
+    NamedType {
+        name: "int2",
+        oid: 21,
+    },
+    NamedType {
+        name: "int4",
+        oid: 23,
+    },
+    NamedType {
+        name: "int8",
+        oid: 20,
+    },
+    NamedType {
+        name: "float4",
+        oid: 700,
+    },
+    NamedType {
+        name: "float8",
+        oid: 701,
+    },
+    NamedType {
+        name: "date",
+        oid: 1082,
+    },
+    NamedType {
+        name: "time",
+        oid: 1083,
+    },
+    NamedType {
+        name: "timestamp",
+        oid: 1114,
+    },
+    NamedType {
+        name: "timestamptz",
+        oid: 1184,
+    },
+];
+
+/// The OID of the first of these types that has the name.
+fn first_oid(types: &[NamedType], word: &[u8]) -> Option<u32>
+    ensures { result ≡ first_oid (all_named types.now) word.now }
+{
+    for ty in types {
+        if is_word(word, ty.name) {
+            return Some(ty.oid);
+        }
+    }
+    None
+}
+
 fn listed_oid(word: &[u8]) -> Option<u32>
     ensures { result ≡ listed_oid_of word.now }
 {
-    if is_word(word, "text") {
-        Some(dbl_value::oid(PgType::Text))
-    } else if is_word(word, "varchar") {
-        Some(dbl_value::oid(PgType::Varchar))
-    } else if is_word(word, "bpchar") {
-        Some(dbl_value::oid(PgType::Bpchar))
-    } else if is_word(word, "json") {
-        Some(dbl_value::oid(PgType::Json))
-    } else if is_word(word, "jsonb") {
-        Some(dbl_value::oid(PgType::Jsonb))
-    } else if is_word(word, "numeric") {
-        Some(dbl_value::oid(PgType::Numeric))
-    } else if is_word(word, "uuid") {
-        Some(dbl_value::oid(PgType::Uuid))
-    } else if is_word(word, "bytea") {
-        Some(dbl_value::oid(PgType::Bytea))
-    } else {
-        measured_oid(word)
-    }
+    first_oid(TYPES.as_slice(), word)
 }
 
 /// Reads a type's OID, by the type's name or as a number.

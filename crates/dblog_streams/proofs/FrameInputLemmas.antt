@@ -1,5 +1,6 @@
 -- The frames of an input: their payloads are bytes, and bytes have some frames.
-use Rattle.std.proofs.Common.{◌≡◌, ◌≢◌, ◌+◌, ◌^◌, ◌<◌, ◌≤◌, ◌∙◌, ℕ, true, false, Option, Some, None, is_some, Result, Ok, Err, List, [], ◌∷◌, ◌++◌, length, length-append, take, refl, sym, ap, subst, arith}
+use Rattle.std.proofs.Common.{◌≡◌, ◌≢◌, ◌+◌, ◌^◌, ◌<◌, ◌≤◌, ◌∙◌, ℕ, true, false, Option, Some, None, is_some, Result, Ok, Err, List, [], ◌∷◌, ◌++◌, length}
+use Rattle.std.proofs.Common.{length-append, take, refl, sym, ap, subst, arith}
 use Rattle.std.specs.List.{All, AllByRecursion, cons_option}
 use Rattle.std.proofs.lemmas.List.Elements.{All-head, All-tail, filter_map-append}
 use Rattle.dbl_frames.specs.declared.error.FrameError.{FrameError}
@@ -120,7 +121,9 @@ pub ends_bad : (bytes : List ℕ) (stream : Stream) (reason : FrameError) → Ha
     → EncodesFrames bytes (Err (unread_answer (BadFrame reason)))
 ends_bad bytes stream reason read is = elim read.has [
   | sound frames clean fed are ↦ let never : Some reason ≡ None = sym is ∙ clean in absurd cc
-  | faulty frames first was are ↦ let same : first ≡ reason = cc in bad_frame frames first are (ap (λ (e : FrameError). Err (invalid_input (frame_text e))) (sym same))
+  | faulty frames first was are ↦
+      let same : first ≡ reason = cc in
+      bad_frame frames first are (ap (λ (e : FrameError). Err (invalid_input (frame_text e))) (sym same))
 ]
 
 pub ends_cut : (bytes : List ℕ) (stream : Stream) (size : ℕ) → HasRead bytes stream → stream.fault ≡ None → 0 < length stream.frames.unfinished

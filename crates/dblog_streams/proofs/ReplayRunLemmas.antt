@@ -1,5 +1,6 @@
 -- How a run of `replay` ends.
-use Rattle.std.proofs.Common.{◌≡◌, ◌≢◌, ◌⊎◌, inl, inr, ◌∙◌, ℕ, ℤ, Bool, true, false, Option, Some, None, Ok, Err, List, [], ◌∷◌, ◌++◌, length, take, refl, sym, ap, ap₂, subst}
+use Rattle.std.proofs.Common.{◌≡◌, ◌≢◌, ◌⊎◌, inl, inr, ◌∙◌, ℕ, ℤ, Bool, true, false, Option, Some, None, Ok, Err, List, [], ◌∷◌, ◌++◌, length, take, refl, sym}
+use Rattle.std.proofs.Common.{ap, ap₂, subst}
 use Rattle.std.proofs.Math.Seq.{take-nil}
 use Rattle.dbl_base.specs.Lines.{lines_text}
 use Rattle.dbl_base.specs.Streams.{FaultCounted}
@@ -29,7 +30,8 @@ use Rattle.dbl_lines.specs.Says.{Says, Writes}
 use Rattle.dbl_lines.specs.declared.status.Status.TheVariants.{StdoutFailed, InvalidInput}
 use Rattle.dblog_streams.specs.declared.unread.Unread.{Unread}
 use Rattle.dblog_streams.specs.declared.unread.Unread.TheVariants.{Run, BadFrame, CutFrame}
-use Rattle.dblog_streams.specs.Inputs.{frame_text, cut_text, invalid_input, EncodesLines, bad_line, good_lines, EncodesFrames, bad_frame, cut_frame, whole_frames}
+use Rattle.dblog_streams.specs.Inputs.{frame_text, cut_text, invalid_input, EncodesLines, bad_line, good_lines, EncodesFrames, bad_frame, cut_frame}
+use Rattle.dblog_streams.specs.Inputs.{whole_frames}
 use Rattle.dblog_streams.specs.Inputs.{EncodesWithin, EncodesStrings, too_long, encoded}
 use Rattle.dblog_streams.specs.Replays.{log_options, ReplaysLog, log_answer, Replays, unread, replayed, RunsLog, RunsReplaying}
 use Rattle.dblog_streams.specs.Streaming.{HaltsReading, IsFailure, unread_answer}
@@ -51,7 +53,12 @@ pub cut_runs : (options : LogOptions) (now : ℤ) (pieces : List Piece) (status 
     → ((lines : List (List ℕ)) (end : Option LogFault) → LogWrites options now [] pieces lines end → LogFails lines end print_error.OutputFailed before after)
     → RunsLog options now pieces status before after
 cut_runs options now pieces status before after is fails = record {
-  ended = λ lines end writes. record { wanted = end_status end; text = lines_text (lines ++ end_lines end); may = whole refl refl; writes = inr (is, fails lines end writes) };
+  ended = λ lines end writes. record {
+    wanted = end_status end;
+    text = lines_text (lines ++ end_lines end);
+    may = whole refl refl;
+    writes = inr (is, fails lines end writes);
+  };
   meant = inl (inr (inl is));
 }
 
@@ -244,7 +251,8 @@ ends_says halt status before after ends = by_text ends.may
   where
     by_text : MayEnd (fault halt) ends.wanted ends.text → Says halt status before after
     by_text (whole is text_is) =
-        inl (subst (λ (l : List ℕ). Writes (status_of halt) l status before after) text_is (subst (λ (s : Status). Writes s ends.text status before after) is ends.writes))
+        inl (subst (λ (l : List ℕ). Writes (status_of halt) l status before after) text_is
+        (subst (λ (s : Status). Writes s ends.text status before after) is ends.writes))
     by_text (out_of_memory n is text_is) =
         inr (subst (λ (l : List ℕ). Writes (status_of Memory) l status before after)
         (text_is ∙ ap (λ (ls : List (List ℕ)). lines_text ls ++ lines_text (fault_line Memory ∷ [])) (take-nil n))
@@ -253,7 +261,8 @@ ends_says halt status before after ends = by_text ends.may
 answered : (options : ReplayOptions) (now : ℤ) (bytes : List ℕ) (answer : RunAnswer) (status : Status) (before after : Option (List ℕ))
     → EncodesStrings options.raw bytes (Err answer) → EndsAs answer status before after → RunsReplaying options now bytes status before after
 answered options now bytes answer status before after encodes ends = record {
-  ended = λ other replays. subst (λ (a : RunAnswer). Ends a status before after) (replays_one options now bytes answer other (unread encodes) replays) ends.ended;
+  ended = λ other replays.
+      subst (λ (a : RunAnswer). Ends a status before after) (replays_one options now bytes answer other (unread encodes) replays) ends.ended;
   meant = elim ends.told [ inl outside ↦ inl outside | inr is ↦ inr (answer, unread encodes, is) ];
 }
 

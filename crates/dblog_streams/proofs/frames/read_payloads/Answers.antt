@@ -11,7 +11,8 @@ use Rattle.dblog_streams.proofs.frames.read_payloads.Goals as goal
 pub returns-in-Ok-clause-encodes : goal.returns-in-Ok-clause-encodes
 returns-in-Ok-clause-encodes g c = λ bytes told.
     let read = c.in-Ok.ensures.all bytes told in
-    IfOk-weaker c.finish.result _ _ (λ strings enc. encoded (read_within bytes c.in-Ok.stream read c.in-Ok.ensures.within) enc) (c.finish.ensures.encodes bytes read)
+    IfOk-weaker c.finish.result _ _ (λ strings enc. encoded (read_within bytes c.in-Ok.stream read c.in-Ok.ensures.within) enc)
+    (c.finish.ensures.encodes bytes read)
 
 pub returns-in-Ok-clause-small : goal.returns-in-Ok-clause-small
 returns-in-Ok-clause-small g c =
@@ -23,7 +24,8 @@ returns-in-Ok-clause-small g c =
 pub returns-in-Ok-clause-halts : goal.returns-in-Ok-clause-halts
 returns-in-Ok-clause-halts g c = λ bytes told.
     let read = c.in-Ok.ensures.all bytes told in
-    IfErr-weaker c.finish.result _ _ (λ unread enc. inr (encoded (read_within bytes c.in-Ok.stream read c.in-Ok.ensures.within) enc)) (c.finish.ensures.invalid bytes read)
+    IfErr-weaker c.finish.result _ _ (λ unread enc. inr (encoded (read_within bytes c.in-Ok.stream read c.in-Ok.ensures.within) enc))
+    (c.finish.ensures.invalid bytes read)
 
 pub returns-in-Ok-clause-failed : goal.returns-in-Ok-clause-failed
 returns-in-Ok-clause-failed g c = λ is.

@@ -81,21 +81,9 @@ fn show_piece(
     let fault = feeding.feed(piece, &mut out)?;
     show_frames(alloc, shown, &out)?;
     match fault {
-        Some(fault) => show_fault(shown, fault),
+        Some(error) => words::said(shown, &error),
         None => show_rest(shown, &feeding.frames),
     }
-}
-
-// The fault, the offset of its frame, and the byte that shows it.
-fn show_fault(shown: &mut String, fault: FrameError) -> Result<()> {
-    match fault {
-        FrameError::BadKind { at, byte } => write!(shown, "F1 at {at}: {byte}")?,
-        FrameError::BadLength { at } => write!(shown, "F2 at {at}")?,
-        FrameError::BadInner { at, byte } => write!(shown, "F3 at {at}: {byte}")?,
-        FrameError::BadSize { at } => write!(shown, "F4 at {at}")?,
-        FrameError::Memory => bail!("out of memory"),
-    }
-    Ok(())
 }
 
 fn show_rest(shown: &mut String, frames: &Frames) -> Result<()> {
@@ -143,10 +131,10 @@ fn show_bytes(alloc: Global, shown: &mut String, bytes: &[u8]) -> Result<()> {
     let mut feeding = Feeding::make(alloc);
     let mut out = Vec::new(alloc);
     for (at, byte) in bytes.iter().enumerate() {
-        if let Some(fault) = feeding.feed(&[*byte], &mut out)? {
+        if let Some(error) = feeding.feed(&[*byte], &mut out)? {
             show_frames(alloc, shown, &out)?;
-            write!(shown, "byte {at}: ")?;
-            return show_fault(shown, fault);
+            write!(shown, "byte {at}: {error}")?;
+            return Ok(());
         }
     }
     show_frames(alloc, shown, &out)?;

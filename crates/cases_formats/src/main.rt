@@ -14,6 +14,7 @@ mod histories;
 mod messages;
 mod records;
 mod scripts;
+mod streams;
 mod values;
 
 use anyhow::{Result, bail};
@@ -34,6 +35,7 @@ fn answer(alloc: Global, shown: &mut String, name: &str, arguments: &str) -> Res
         "pgmsg" => messages::answer(alloc, shown, call, arguments),
         "record" => records::answer(alloc, shown, call, arguments),
         "script" => scripts::answer(alloc, shown, call, arguments),
+        "stream" => streams::answer(alloc, shown, call, arguments),
         "txn" => commits::answer(alloc, shown, call, arguments),
         "value" => values::answer(alloc, shown, call, arguments),
         _ => bail!("no such family"),

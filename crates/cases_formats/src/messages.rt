@@ -37,7 +37,8 @@ fn zeros(alloc: Global, shown: &mut String, count: usize) -> Result<()> {
     show_decoded(alloc, shown, &vec![in alloc; 0u8; count]?)
 }
 
-fn show_written(alloc: Global, shown: &mut String, message: &Message) -> Result<()> {
+/// The bytes of a message, if it has an encoding.
+pub fn show_written(alloc: Global, shown: &mut String, message: &Message) -> Result<()> {
     if !message.fits() {
         return words::add(shown, "doesn't fit");
     }

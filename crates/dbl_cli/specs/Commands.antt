@@ -48,7 +48,7 @@ names_of verb.Offsets = []
 names_of verb.Capture = naming ++ pacing
 names_of verb.Resume = pacing
 names_of verb.Apply = flag (codes "lines") ∷ option (codes "placeholder") ∷ []
-names_of verb.Replay = naming ++ (flag (codes "raw") ∷ [])
+names_of verb.Replay = naming ++ (flag (codes "raw") ∷ flag (codes "stream") ∷ [])
 names_of verb.Gen = option (codes "rows") ∷ option (codes "groups") ∷ flag (codes "run") ∷ []
 
 -- the minimum number of positional arguments of a command
@@ -151,14 +151,15 @@ abbrev pub apply_of : Bool → Option (List ℕ) → Command
 apply_of lines placeholder = command.Apply lines (placeholder_or_own placeholder)
 
 -- the command of `replay` with these values
-abbrev pub replay_of : Option (List ℕ) → Option (List ℕ) → Option (List ℕ) → Bool → List (List ℕ) → Command
-replay_of prefix db placeholder raw texts =
+abbrev pub replay_of : Option (List ℕ) → Option (List ℕ) → Option (List ℕ) → Bool → Bool → List (List ℕ) → Command
+replay_of prefix db placeholder raw stream texts =
     command.Replay (record {
       prefix = name_or_demo prefix;
       db = name_or_demo db;
       placeholder = placeholder_or_own placeholder;
       keys = map key_in texts;
       raw = raw;
+      stream = stream;
     })
 
 -- the command of `gen` with these values
@@ -178,7 +179,7 @@ command_of verb.Resume settings texts =
 command_of verb.Apply settings texts = apply_of (is_given (codes "lines") settings) (value_of (codes "placeholder") settings)
 command_of verb.Replay settings texts =
     replay_of (value_of (codes "prefix") settings) (value_of (codes "db") settings) (value_of (codes "placeholder") settings)
-    (is_given (codes "raw") settings) texts
+    (is_given (codes "raw") settings) (is_given (codes "stream") settings) texts
 command_of verb.Gen settings texts =
     gen_of texts (value_of (codes "rows") settings) (value_of (codes "groups") settings) (is_given (codes "run") settings)
 

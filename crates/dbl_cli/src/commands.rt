@@ -31,6 +31,8 @@ pub struct ReplayOptions {
     pub keys: Seq<TableKey>,
     /// The input is a replication stream as the server sent it, instead of lines.
     pub raw: bool,
+    /// The log has protocol version 2: transactions may be streamed before they commit.
+    pub stream: bool,
 }
 
 /// A parsed command line; absent options have their defaults.

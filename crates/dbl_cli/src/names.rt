@@ -67,7 +67,7 @@ static APPLY: [Name; 2] = [
     },
 ];
 
-static REPLAY: [Name; 4] = [
+static REPLAY: [Name; 5] = [
     Name {
         text: "prefix",
         has_value: true,
@@ -82,6 +82,10 @@ static REPLAY: [Name; 4] = [
     },
     Name {
         text: "raw",
+        has_value: false,
+    },
+    Name {
+        text: "stream",
         has_value: false,
     },
 ];

@@ -151,12 +151,17 @@ fn apply(alloc: Global, lines: bool, placeholder: Option<&str>) -> Result<Comman
     Ok(Command::Apply { lines, placeholder })
 }
 
-fn replay(alloc: Global, found: &ArgMatches<'_>, raw: bool) -> Result<Command, CliError>
+fn replay(
+    alloc: Global,
+    found: &ArgMatches<'_>,
+    raw: bool,
+    stream: bool,
+) -> Result<Command, CliError>
     ensures { Reads
         (replay_passes (option_in found.now (codes "prefix")) (option_in found.now (codes "db"))
         (option_in found.now (codes "placeholder")) (places_in found.now))
         (replay_of (option_in found.now (codes "prefix")) (option_in found.now (codes "db"))
-        (option_in found.now (codes "placeholder")) raw (places_in found.now)) result }
+        (option_in found.now (codes "placeholder")) raw stream (places_in found.now)) result }
 {
     let Names {
         prefix,
@@ -171,6 +176,7 @@ fn replay(alloc: Global, found: &ArgMatches<'_>, raw: bool) -> Result<Command, C
             placeholder,
             keys,
             raw,
+            stream,
         },
     })
 }
@@ -216,7 +222,7 @@ pub fn read(alloc: Global, verb: Verb, found: &ArgMatches<'_>) -> Result<Command
         Verb::Capture => capture(alloc, found),
         Verb::Resume => resume(found),
         Verb::Apply => apply(alloc, found.get_flag("lines"), found.get_str("placeholder")),
-        Verb::Replay => replay(alloc, found, found.get_flag("raw")),
+        Verb::Replay => replay(alloc, found, found.get_flag("raw"), found.get_flag("stream")),
         Verb::Gen => generate(found, found.get_flag("run")),
     }
 }

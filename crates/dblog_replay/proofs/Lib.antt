@@ -11,3 +11,5 @@ pub mod PieceLemmas
 pub mod PrintLemmas
 pub mod SuitLemmas
 pub mod LogPrintLemmas
+pub mod StreamLemmas
+pub mod StreamingLemmas

@@ -9,3 +9,5 @@ pub mod LogFaults
 pub mod LogPrinting
 pub mod Pieces
 pub mod Replay
+pub mod Streams
+pub mod Streaming

@@ -4,6 +4,8 @@ use Rattle.dbl_lines.specs.declared.status.Status.{Status}
 use Rattle.dbl_lines.specs.declared.status.Status.TheVariants.{MalformedLog, Unsupported, OutOfMemory}
 use Rattle.dbl_pgmsg.specs.declared.error.MsgError.{MsgError}
 use Rattle.dbl_pgmsg.specs.declared.error.MsgError.TheVariants as bytes
+use Rattle.dbl_stream2.specs.declared.error.StreamError.{StreamError}
+use Rattle.dbl_stream2.specs.declared.error.StreamError.TheVariants as stream
 use Rattle.dbl_value.specs.declared.error.ValueError.{ValueError}
 use Rattle.dbl_value.specs.declared.error.ValueError.TheVariants as value
 use Rattle.dbl_model_table.specs.declared.error.ModelError.{ModelError}
@@ -13,7 +15,7 @@ use Rattle.dbl_model_commit.specs.declared.txn_error.TxnError.TheVariants as txn
 use Rattle.dbl_model_table.specs.declared.table.TableName.{TableName}
 use Rattle.dbl_model_table.specs.Tables.{full_name}
 use Rattle.dblog_replay.specs.declared.log_fault.LogFault.{LogFault}
-use Rattle.dblog_replay.specs.declared.log_fault.LogFault.TheVariants.{Message, Transaction, Table, TooManyTables}
+use Rattle.dblog_replay.specs.declared.log_fault.LogFault.TheVariants.{Message, Stream, Transaction, Table, TooManyTables}
 use Rattle.dblog_replay.specs.declared.log_fault.LogFault.TheVariants.{Placeholder, Unfinished, Memory}
 
 -- The words for bytes that are no message.
@@ -30,6 +32,15 @@ message_text (bytes.BinaryColumn at) = codes "binary column at " ++ decimal at
 message_text (bytes.TooLong len) = codes "too long " ++ decimal len
 message_text (bytes.TooManyColumns at) = codes "too many columns at " ++ decimal at
 message_text bytes.Memory = codes "out of memory"
+
+-- The words for a message that can't follow in a stream of protocol version 2.
+abbrev pub stream_text : StreamError → List ℕ
+stream_text stream.NestedStream = codes "nested stream"
+stream_text stream.NotStreaming = codes "not streaming"
+stream_text (stream.UnknownStream xid) = codes "unknown stream " ++ decimal xid
+stream_text (stream.PlainInside tag) = codes "plain message in stream"
+stream_text (stream.Message error) = message_text error
+stream_text stream.Memory = codes "out of memory"
 
 -- A column as `<schema>.<table>.<column>`.
 abbrev pub column_text : TableName → List ℕ → List ℕ
@@ -90,6 +101,7 @@ transaction_status txn.BadMark = MalformedLog
 -- The status of an error of a log.
 abbrev pub log_status : LogFault → Status
 log_status (Message number error) = MalformedLog
+log_status (Stream number error) = MalformedLog
 log_status (Transaction number error) = transaction_status error
 log_status (Table error) = Unsupported
 log_status TooManyTables = Unsupported
@@ -111,6 +123,7 @@ transaction_line number error =
 -- The line of an error, without its newline.
 abbrev pub log_line : LogFault → List ℕ
 log_line (Message number error) = codes "dblog: message " ++ (decimal number ++ (codes ": " ++ message_text error))
+log_line (Stream number error) = codes "dblog: message " ++ (decimal number ++ (codes ": " ++ stream_text error))
 log_line (Transaction number error) = transaction_line number error
 log_line (Table error) = codes "dblog: " ++ table_text error
 log_line TooManyTables = codes "dblog: too many tables"

@@ -2,6 +2,8 @@
 
 ghost use Rattle.dblog_replay.specs.Pieces.{MessagesAreSpelled, PiecesAreOne};
 ghost use Rattle.dblog_replay.specs.Pieces.{PiecesExist, PiecesFit};
+ghost use Rattle.dblog_replay.specs.Streams.{StreamPiecesAreOne, StreamPiecesExist};
+ghost use Rattle.dblog_replay.specs.Streams.{StreamPiecesFit, StreamsAreFlattened};
 ghost use Rattle.dblog_replay.specs.Replay.{CommitsAreWritten, ReplaysAreOne, ReplaysExist};
 
 /// Byte strings are read as exactly one list of pieces, whose messages are within their formats'
@@ -10,6 +12,20 @@ pub fn pieces_are_read()
     ensures one { PiecesAreOne }
     ensures some { PiecesExist }
     ensures fit { PiecesFit }
+{}
+
+/// Byte strings of a log of protocol version 2 are read as exactly one list of pieces, whose
+/// messages are within their formats' ranges.
+pub fn streams_are_read()
+    ensures one { StreamPiecesAreOne }
+    ensures some { StreamPiecesExist }
+    ensures fit { StreamPiecesFit }
+{}
+
+/// The messages that a log of protocol version 2 is read as are the flattened stream of its
+/// messages, up to the first refusal.
+pub fn streams_are_flattened()
+    ensures { StreamsAreFlattened }
 {}
 
 /// The messages of the first pieces are the first byte strings, each at its index, and the others

@@ -12,6 +12,7 @@ mod options;
 mod printing;
 mod reader;
 mod replay;
+mod streaming;
 
 pub use apply::{FaultAt, LineFault, consume};
 pub use dbl_lines::PrintError;

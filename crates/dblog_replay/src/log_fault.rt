@@ -2,7 +2,8 @@
 
 ghost use Rattle.std.specs.Prelude.{◌≡◌, IfOk};
 ghost use Rattle.std.specs.String.{string_bytes};
-ghost use Rattle.dblog_replay.specs.LogFaults.{message_text, value_words, transaction_text};
+ghost use Rattle.dblog_replay.specs.LogFaults.{message_text, stream_text};
+ghost use Rattle.dblog_replay.specs.LogFaults.{value_words, transaction_text};
 ghost use Rattle.dblog_replay.specs.LogFaults.{table_text, log_line, is_malformed, log_status};
 ghost use Rattle.dblog_replay.specs.LogFaults.{transaction_status, transaction_line};
 
@@ -11,6 +12,7 @@ use dbl_lines::Status;
 use dbl_model_commit::TxnError;
 use dbl_model_table::{ModelError, TableName};
 use dbl_pgmsg::MsgError;
+use dbl_stream2::StreamError;
 use dbl_value::ValueError;
 use std::alloc::{AllocError, Global};
 
@@ -19,6 +21,8 @@ use std::alloc::{AllocError, Global};
 pub enum LogFault {
     /// The bytes are no message.
     Message { number: u64, error: MsgError },
+    /// The message can't follow in a stream of protocol version 2.
+    Stream { number: u64, error: StreamError },
     /// The message can't follow those before it.
     Transaction { number: u64, error: TxnError },
     /// A table can't be captured.
@@ -48,6 +52,19 @@ fn message_text(alloc: Global, error: &MsgError) -> Result<String, AllocError>
         MsgError::TooLong { len } => format!(in alloc; "too long {len}"),
         MsgError::TooManyColumns { at } => format!(in alloc; "too many columns at {at}"),
         MsgError::Memory => String::from_str(alloc, "out of memory"),
+    }
+}
+
+fn stream_text(alloc: Global, error: &StreamError) -> Result<String, AllocError>
+    ensures { IfOk result (λ text. string_bytes text ≡ stream_text error.now) }
+{
+    match error {
+        StreamError::NestedStream => String::from_str(alloc, "nested stream"),
+        StreamError::NotStreaming => String::from_str(alloc, "not streaming"),
+        StreamError::UnknownStream { xid } => format!(in alloc; "unknown stream {xid}"),
+        StreamError::PlainInside { .. } => String::from_str(alloc, "plain message in stream"),
+        StreamError::Message { error } => message_text(alloc, error),
+        StreamError::Memory => String::from_str(alloc, "out of memory"),
     }
 }
 
@@ -162,6 +179,7 @@ impl LogFault {
     {
         match self {
             LogFault::Message { .. } => Status::MalformedLog,
+            LogFault::Stream { .. } => Status::MalformedLog,
             LogFault::Transaction { number: _, error } => transaction_status(error),
             LogFault::Table { .. } => Status::Unsupported,
             LogFault::TooManyTables => Status::Unsupported,
@@ -178,6 +196,10 @@ impl LogFault {
         let line = match self {
             LogFault::Message { number, error } => {
                 let text = message_text(alloc, error)?;
+                return format!(in alloc; "dblog: message {number}: {text}");
+            }
+            LogFault::Stream { number, error } => {
+                let text = stream_text(alloc, error)?;
                 return format!(in alloc; "dblog: message {number}: {text}");
             }
             LogFault::Transaction { number, error } => {

@@ -12,7 +12,7 @@ use Rattle.dbl_cli.specs.declared.commands.ReplayOptions.{ReplayOptions}
 use Rattle.dblog_replay.specs.Lines.{message_bytes_in, first_bad_line}
 use Rattle.dblog_replay.proofs.CommitLaws.{replays_exist}
 use Rattle.dblog_replay.proofs.DigitLemmas.{messages_small}
-use Rattle.dblog_replay.proofs.PieceLemmas.{pieces_exist, pieces_fit}
+use Rattle.dblog_replay.proofs.StreamLemmas.{reads_exist, reads_fit}
 use Rattle.dblog_streams.proofs.ReplayLaws.{Encoded, ok_one, ok_or_answer}
 use Rattle.dblog_streams.proofs.FrameInputLemmas.{payloads_small, frames_exist}
 use Rattle.dblog_streams.specs.Answers.{RunAnswer, fault, done}
@@ -68,8 +68,8 @@ by_strings : (options : ReplayOptions) (now : ℤ) (bytes : List ℕ) (result : 
     → (answer : RunAnswer) × Replays options now bytes answer
 by_strings options now bytes (Err answer) encodes = (answer, unread encodes)
 by_strings options now bytes (Ok strings) encodes =
-    let some = pieces_exist 1 strings (strings_small options.raw bytes strings encodes) in
-    let log = replays_exist (log_options options) now some.0 (pieces_fit 1 strings some.0 some.1) in
+    let some = reads_exist options.stream strings (strings_small options.raw bytes strings encodes) in
+    let log = replays_exist (log_options options) now some.0 (reads_fit options.stream strings some.0 some.1) in
     (log_answer log.0 log.1, replayed log.0 log.1 (record { strings = strings; pieces = some.0; encodes = encodes; read = some.1; replayed = log.2 }) refl)
 
 -- bytes have some answer

@@ -7,10 +7,11 @@ use Rattle.dbl_frames.proofs.StreamLemmas.{not_both, one_fault, one_reading}
 use Rattle.dbl_lines.specs.declared.run_error.RunError.TheVariants.{BadLine}
 use Rattle.dblog_replay.specs.declared.log_fault.LogFault.{LogFault}
 use Rattle.dbl_cli.specs.declared.commands.ReplayOptions.{ReplayOptions}
-use Rattle.dblog_replay.specs.Pieces.{Piece, AreRead}
+use Rattle.dblog_replay.specs.Pieces.{Piece}
+use Rattle.dblog_replay.specs.Streams.{ReadsPieces}
 use Rattle.dblog_replay.specs.Replay.{IsReplayed}
 use Rattle.dblog_replay.proofs.CommitLaws.{replayed_once}
-use Rattle.dblog_replay.proofs.PieceLemmas.{pieces_one, pieces_fit}
+use Rattle.dblog_replay.proofs.StreamLemmas.{reads_one, reads_fit}
 use Rattle.dblog_streams.specs.Answers.{RunAnswer, fault}
 use Rattle.dblog_streams.specs.Inputs.{frame_text, invalid_input, payloads_of, EncodesLines, bad_line, good_lines}
 use Rattle.dblog_streams.specs.Inputs.{EncodesFrames, bad_frame, cut_frame, whole_frames, EncodesWithin, too_long, encoded}
@@ -81,8 +82,8 @@ pub logs_one : (options : ReplayOptions) (now : ℤ) (bytes : List ℕ) (l k : L
     → ReplaysLog options now bytes k e → (l ≡ k) × (d ≡ e)
 logs_one options now bytes l k d e one two =
     let strings = ok_one one.strings two.strings (strings_one options.raw bytes (Ok one.strings) (Ok two.strings) one.encodes two.encodes) in
-    let pieces = pieces_one 1 two.strings one.pieces two.pieces (subst (λ (bs : List (List ℕ)). AreRead 1 bs one.pieces) strings one.read) two.read in
-    replayed_once (log_options options) now two.pieces l k d e (pieces_fit 1 two.strings two.pieces two.read)
+    let pieces = reads_one options.stream two.strings one.pieces two.pieces (subst (λ (bs : List (List ℕ)). ReadsPieces options.stream bs one.pieces) strings one.read) two.read in
+    replayed_once (log_options options) now two.pieces l k d e (reads_fit options.stream two.strings two.pieces two.read)
     (subst (λ (ps : List Piece). IsReplayed (log_options options) now ps l d) pieces one.replayed) two.replayed
 
 -- bytes have one answer

@@ -15,7 +15,8 @@ use Rattle.dblog_replay.specs.declared.options.LogOptions.{LogOptions}
 use Rattle.dbl_cli.specs.declared.commands.ReplayOptions.{ReplayOptions}
 use Rattle.dbl_lines.specs.declared.error.PrintError.TheVariants as print_error
 use Rattle.dbl_lines.specs.Faults.{status_of, fault_line}
-use Rattle.dblog_replay.specs.Pieces.{Piece, AreRead}
+use Rattle.dblog_replay.specs.Pieces.{Piece}
+use Rattle.dblog_replay.specs.Streams.{ReadsPieces}
 use Rattle.dblog_replay.specs.Log.{LogWrites, end_status, end_lines}
 use Rattle.dblog_replay.specs.LogFaults.{transaction_status}
 use Rattle.dblog_replay.specs.LogPrinting.{IsLogPrinted, LogFails}
@@ -24,7 +25,7 @@ use Rattle.dblog_streams.specs.Statuses.{IsReplayAnswer, IsReplayStatus}
 use Rattle.dblog_streams.proofs.AnswerLemmas.{memory_outside, memory_written, memory_ends, writes_then}
 use Rattle.dblog_replay.proofs.CommitLaws.{commits_written, replayed_written}
 use Rattle.dblog_replay.proofs.LogLemmas.{log_one}
-use Rattle.dblog_replay.proofs.PieceLemmas.{pieces_exist, pieces_fit}
+use Rattle.dblog_replay.proofs.StreamLemmas.{reads_exist, reads_fit}
 use Rattle.dblog_streams.proofs.InputLemmas.{strings_small}
 use Rattle.dbl_lines.specs.Says.{Says, Writes}
 use Rattle.dbl_lines.specs.declared.status.Status.TheVariants.{StdoutFailed, InvalidInput}
@@ -99,6 +100,7 @@ transaction_known txn.BadMark = inl (inr (inl refl))
 pub end_known : (end : Option LogFault) → IsReplayStatus (end_status end)
 end_known None = inl (inl refl)
 end_known (Some (log.Message number error)) = inl (inr (inl refl))
+end_known (Some (log.Stream number error)) = inl (inr (inl refl))
 end_known (Some (log.Transaction number error)) = transaction_known error
 end_known (Some (log.Table error)) = inl (inr (inr (inl refl)))
 end_known (Some log.TooManyTables) = inl (inr (inr (inl refl)))
@@ -131,6 +133,7 @@ transaction_other txn.BadMark = (λ is. cc, λ is. cc)
 end_other : (end : Option LogFault) → (end_status end ≢ StdoutFailed) × (end_status end ≢ status_of InputFailed)
 end_other None = (λ is. cc, λ is. cc)
 end_other (Some (log.Message number error)) = (λ is. cc, λ is. cc)
+end_other (Some (log.Stream number error)) = (λ is. cc, λ is. cc)
 end_other (Some (log.Transaction number error)) = transaction_other error
 end_other (Some (log.Table error)) = (λ is. cc, λ is. cc)
 end_other (Some log.TooManyTables) = (λ is. cc, λ is. cc)
@@ -291,10 +294,10 @@ unread_replays options now bytes u was later status before after (inl (inr is)) 
 -- the byte strings were replayed
 pub strings_replay : (options : ReplayOptions) (now : ℤ) (bytes : List ℕ) (strings : List (List ℕ)) (status : Status) (before after : Option (List ℕ))
     → EncodesStrings options.raw bytes (Ok strings)
-    → ((pieces : List Piece) → AreRead 1 strings pieces → RunsLog (log_options options) now pieces status before after)
+    → ((pieces : List Piece) → ReadsPieces options.stream strings pieces → RunsLog (log_options options) now pieces status before after)
     → RunsReplaying options now bytes status before after
 strings_replay options now bytes strings status before after encodes runs =
-    let some = pieces_exist 1 strings (strings_small options.raw bytes strings encodes) in
+    let some = reads_exist options.stream strings (strings_small options.raw bytes strings encodes) in
     record {
       ended = ends;
       meant = elim (runs some.0 some.1).meant [
@@ -303,21 +306,21 @@ strings_replay options now bytes strings status before after encodes runs =
       ];
     }
   where
-    logged : (pieces : List Piece) → AreRead 1 strings pieces → (lines : List (List ℕ)) (end : Option LogFault)
+    logged : (pieces : List Piece) → ReadsPieces options.stream strings pieces → (lines : List (List ℕ)) (end : Option LogFault)
         → LogWrites (log_options options) now [] pieces lines end → ReplaysLog options now bytes lines end
     logged pieces read lines end writes = record {
       strings = strings;
       pieces = pieces;
       encodes = encodes;
       read = read;
-      replayed = commits_written (log_options options) now pieces lines end (pieces_fit 1 strings pieces read) writes;
+      replayed = commits_written (log_options options) now pieces lines end (reads_fit options.stream strings pieces read) writes;
     }
 
     ends : (answer : RunAnswer) → Replays options now bytes answer → Ends answer status before after
     ends answer (unread encodes') = absurd (ok_or_answer strings answer (strings_one options.raw bytes (Ok strings) (Err answer) encodes encodes'))
     ends answer (replayed lines end log is) =
         let same = ok_one log.strings strings (strings_one options.raw bytes (Ok log.strings) (Ok strings) log.encodes encodes) in
-        let read : AreRead 1 strings log.pieces = subst (λ (bs : List (List ℕ)). AreRead 1 bs log.pieces) same log.read in
+        let read : ReadsPieces options.stream strings log.pieces = subst (λ (bs : List (List ℕ)). ReadsPieces options.stream bs log.pieces) same log.read in
         subst (λ (a : RunAnswer). Ends a status before after) (sym is)
         ((runs log.pieces read).ended lines end
-        (replayed_written (log_options options) now log.pieces lines end (pieces_fit 1 strings log.pieces read) log.replayed))
+        (replayed_written (log_options options) now log.pieces lines end (reads_fit options.stream strings log.pieces read) log.replayed))

@@ -7,7 +7,8 @@ use Rattle.dbl_pgmsg.specs.Faults.{AreBytes}
 use Rattle.dbl_cli.specs.declared.commands.ReplayOptions.{ReplayOptions}
 use Rattle.dblog_replay.specs.declared.log_fault.LogFault.{LogFault}
 use Rattle.dblog_replay.specs.declared.options.LogOptions.{LogOptions}
-use Rattle.dblog_replay.specs.Pieces.{Piece, AreRead}
+use Rattle.dblog_replay.specs.Pieces.{Piece}
+use Rattle.dblog_replay.specs.Streams.{ReadsPieces}
 use Rattle.dblog_replay.specs.Log.{LogWrites, end_status, end_lines}
 use Rattle.dblog_replay.specs.Replay.{IsReplayed}
 use Rattle.dblog_streams.specs.Inputs.{EncodesStrings}
@@ -22,13 +23,13 @@ log_options options = record {
 }
 
 -- The lines, and the error or none, that `replay` with these options makes at a time of an input with these bytes: the input encodes byte
--- strings, these are read as pieces, numbered from 1, and the pieces are replayed.
+-- strings, these are read as pieces, as a log of the protocol version that the options give, and the pieces are replayed.
 pub record ReplaysLog (options : ReplayOptions) (now : ℤ) (bytes : List ℕ) (lines : List (List ℕ))
     (end : Option LogFault) : Type 0 where
   pub strings : List (List ℕ)
   pub pieces : List Piece
   pub encodes : EncodesStrings options.raw bytes (Ok strings)
-  pub read : AreRead 1 strings pieces
+  pub read : ReadsPieces options.stream strings pieces
   pub replayed : IsReplayed (log_options options) now pieces lines end
 
 -- ---- the answer

@@ -6,7 +6,8 @@ ghost use Rattle.dbl_base.specs.Streams.{FaultCounted, input_limit};
 ghost use Rattle.dbl_lines.specs.declared.status.Status.TheVariants.{StdinFailed, StdoutFailed};
 ghost use Rattle.dblog_streams.specs.Answers.{FailsReading};
 ghost use Rattle.dbl_pgmsg.specs.Faults.{AreBytes};
-ghost use Rattle.dblog_replay.specs.Pieces.{Piece, AreRead};
+ghost use Rattle.dblog_replay.specs.Pieces.{Piece};
+ghost use Rattle.dblog_replay.specs.Streams.{ReadsPieces};
 ghost use Rattle.dblog_streams.specs.Inputs.{EncodesStrings};
 ghost use Rattle.dblog_streams.specs.Replays.{RunsLog, RunsReplaying, log_options};
 ghost use Rattle.dblog_streams.specs.Statuses.{IsReplayAnswer, IsReplayStatus};
@@ -88,19 +89,20 @@ fn read_strings<I: Input>(alloc: Global, raw: bool, input: &mut I) -> Result<Vec
 fn replay_strings<O: Output>(
     alloc: Global,
     options: LogOptions,
+    stream: bool,
     strings: Vec<Bytes>,
     now_ms: &i64,
     output: &mut O,
 ) -> Status
     requires { AllByRecursion AreBytes strings.items }
-    ensures told { (pieces : List Piece) → AreRead 1 strings.items pieces →
+    ensures told { (pieces : List Piece) → ReadsPieces stream strings.items pieces →
         RunsLog options now_ms.now pieces result (O.written output.old) (O.written output.new) }
     ensures output_failed { result ≡ StdoutFailed →
         FaultCounted (O.faults output.old) (O.faults output.new) }
     ensures not_input { result ≢ StdinFailed }
     ensures known { IsReplayStatus result }
 {
-    match print_log(alloc, options, strings, now_ms, output) {
+    match print_log(alloc, options, stream, strings, now_ms, output) {
         Ok(status) => status,
         Err(PrintError::OutputFailed) => Status::StdoutFailed,
         Err(PrintError::Memory) => say(alloc, RunError::Memory, output),
@@ -116,6 +118,7 @@ fn log_options(options: ReplayOptions) -> LogOptions
         placeholder,
         keys,
         raw: _,
+        stream: _,
     } = options;
     LogOptions {
         identity: Identity {
@@ -148,7 +151,10 @@ pub fn replay_input<I: Input, O: Output>(
         FaultCounted (O.faults output.old) (O.faults output.new) }
 {
     match read_strings(alloc, options.raw, input) {
-        Ok(strings) => replay_strings(alloc, log_options(options), strings, now_ms, output),
+        Ok(strings) => {
+            let stream = options.stream;
+            replay_strings(alloc, log_options(options), stream, strings, now_ms, output)
+        }
         Err(unread) => say_unread(alloc, unread, output),
     }
 }

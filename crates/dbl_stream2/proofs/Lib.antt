@@ -1,0 +1,7 @@
+pub mod FlatLemmas
+pub mod MapLemmas
+pub mod Steps
+pub mod ReadingLaws
+pub mod Places
+pub mod Refusals
+pub mod FitLemmas

@@ -100,6 +100,7 @@ command_within : (v : Verb) (settings : List Setting) (texts : List (List ℕ)) 
 command_within verb.Init settings texts pass few = tt
 command_within verb.Topics settings texts pass few = tt
 command_within verb.Offsets settings texts pass few = tt
+command_within verb.Compact settings texts pass few = tt
 command_within verb.Capture settings texts pass few =
     let outer = and_parts (names_pass (value_of (codes "prefix") settings) (value_of (codes "db") settings) (value_of (codes "placeholder") settings)) _ pass in
     let inner = and_parts (pace_passes (value_of (codes "chunk") settings) (value_of (codes "every") settings) (value_of (codes "messages") settings)) _ outer.1 in (

@@ -55,6 +55,7 @@ pub are_names : (v : Verb) → AreNames (names_of v)
 are_names verb.Init = record { plain = all_plain [] refl; no_place = refl; flags = refl }
 are_names verb.Topics = record { plain = all_plain [] refl; no_place = refl; flags = refl }
 are_names verb.Offsets = record { plain = all_plain [] refl; no_place = refl; flags = refl }
+are_names verb.Compact = record { plain = all_plain [] refl; no_place = refl; flags = refl }
 are_names verb.Capture = record { plain = all_plain (names_of verb.Capture) refl; no_place = refl; flags = refl }
 are_names verb.Resume = record { plain = all_plain (names_of verb.Resume) refl; no_place = refl; flags = refl }
 are_names verb.Apply = record { plain = all_plain (names_of verb.Apply) refl; no_place = refl; flags = refl }
@@ -159,16 +160,18 @@ verb_by name =
     if bytes_eq name (codes "init") then Some verb.Init
     else (if bytes_eq name (codes "topics") then Some verb.Topics
     else (if bytes_eq name (codes "offsets") then Some verb.Offsets
+    else (if bytes_eq name (codes "compact") then Some verb.Compact
     else (if bytes_eq name (codes "capture") then Some verb.Capture
     else (if bytes_eq name (codes "resume") then Some verb.Resume
     else (if bytes_eq name (codes "apply") then Some verb.Apply
     else (if bytes_eq name (codes "replay") then Some verb.Replay
-    else (if bytes_eq name (codes "gen") then Some verb.Gen else None)))))))
+    else (if bytes_eq name (codes "gen") then Some verb.Gen else None))))))))
 
 pub verb_named : (v : Verb) → verb_by (name_of v) ≡ Some v
 verb_named verb.Init = refl
 verb_named verb.Topics = refl
 verb_named verb.Offsets = refl
+verb_named verb.Compact = refl
 verb_named verb.Capture = refl
 verb_named verb.Resume = refl
 verb_named verb.Apply = refl
@@ -225,6 +228,7 @@ module _ (words : List Text) (front : List Setting) (texts : List Text) (back fr
       go verb.Init options flags same = refl
       go verb.Topics options flags same = refl
       go verb.Offsets options flags same = refl
+      go verb.Compact options flags same = refl
       go verb.Capture options flags same =
           (λ i. capture_of (options (codes "prefix") refl i) (options (codes "db") refl i) (options (codes "placeholder") refl i) (options (codes "chunk") refl i) (options (codes "every") refl i) (options (codes "messages") refl i) (same i))
       go verb.Resume options flags same = (λ i. resume_of (options (codes "chunk") refl i) (options (codes "every") refl i) (options (codes "messages") refl i))

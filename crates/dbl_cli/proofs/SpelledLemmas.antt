@@ -30,11 +30,12 @@ verb_is name =
     by_name name verb.Init _ _ refl
     (by_name name verb.Topics _ _ refl
     (by_name name verb.Offsets _ _ refl
+    (by_name name verb.Compact _ _ refl
     (by_name name verb.Capture _ _ refl
     (by_name name verb.Resume _ _ refl
     (by_name name verb.Apply _ _ refl
     (by_name name verb.Replay _ _ refl
-    (by_name name verb.Gen _ _ refl (λ w none. cc))))))))
+    (by_name name verb.Gen _ _ refl (λ w none. cc)))))))))
 
 -- ---- two readings of the same words pass both or neither
 
@@ -50,6 +51,7 @@ module _ (words : List Text) (front : List Setting) (texts : List Text) (back fr
       go verb.Init options flags same = refl
       go verb.Topics options flags same = refl
       go verb.Offsets options flags same = refl
+      go verb.Compact options flags same = refl
       go verb.Capture options flags same =
           (λ i. capture_passes (options (codes "prefix") refl i) (options (codes "db") refl i) (options (codes "placeholder") refl i) (options (codes "chunk") refl i) (options (codes "every") refl i) (options (codes "messages") refl i) (same i))
       go verb.Resume options flags same = (λ i. pace_passes (options (codes "chunk") refl i) (options (codes "every") refl i) (options (codes "messages") refl i))

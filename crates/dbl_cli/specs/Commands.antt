@@ -18,6 +18,7 @@ abbrev pub name_of : Verb → List ℕ
 name_of verb.Init = codes "init"
 name_of verb.Topics = codes "topics"
 name_of verb.Offsets = codes "offsets"
+name_of verb.Compact = codes "compact"
 name_of verb.Capture = codes "capture"
 name_of verb.Resume = codes "resume"
 name_of verb.Apply = codes "apply"
@@ -45,6 +46,7 @@ abbrev pub names_of : Verb → List Named
 names_of verb.Init = []
 names_of verb.Topics = []
 names_of verb.Offsets = []
+names_of verb.Compact = []
 names_of verb.Capture = naming ++ pacing
 names_of verb.Resume = pacing
 names_of verb.Apply = flag (codes "lines") ∷ option (codes "placeholder") ∷ []
@@ -102,6 +104,7 @@ abbrev pub values_pass : Verb → List Setting → List (List ℕ) → Bool
 values_pass verb.Init settings texts = true
 values_pass verb.Topics settings texts = true
 values_pass verb.Offsets settings texts = true
+values_pass verb.Compact settings texts = true
 values_pass verb.Capture settings texts =
     capture_passes (value_of (codes "prefix") settings) (value_of (codes "db") settings) (value_of (codes "placeholder") settings)
     (value_of (codes "chunk") settings) (value_of (codes "every") settings) (value_of (codes "messages") settings) texts
@@ -171,6 +174,7 @@ abbrev pub command_of : Verb → List Setting → List (List ℕ) → Command
 command_of verb.Init settings texts = command.Init
 command_of verb.Topics settings texts = command.Topics
 command_of verb.Offsets settings texts = command.Offsets
+command_of verb.Compact settings texts = command.Compact
 command_of verb.Capture settings texts =
     capture_of (value_of (codes "prefix") settings) (value_of (codes "db") settings) (value_of (codes "placeholder") settings)
     (value_of (codes "chunk") settings) (value_of (codes "every") settings) (value_of (codes "messages") settings) texts

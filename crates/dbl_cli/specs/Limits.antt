@@ -5,7 +5,7 @@ use Rattle.dbl_model_table.specs.declared.table.TableKey.{TableKey}
 use Rattle.dbl_model_table.specs.declared.table.TableName.{TableName}
 use Rattle.dbl_model_table.specs.Tables.{is_name, same_name, are_distinct}
 use Rattle.dbl_cli.specs.declared.commands.Command.{Command}
-use Rattle.dbl_cli.specs.declared.commands.Command.TheVariants.{Init, Topics, Offsets, Capture, Resume, Apply, Replay, Gen}
+use Rattle.dbl_cli.specs.declared.commands.Command.TheVariants.{Init, Topics, Offsets, Compact, Capture, Resume, Apply, Replay, Gen}
 use Rattle.dbl_cli.specs.Values.{is_placeholder, is_named, is_column, tables_in}
 
 -- the number is within the bounds
@@ -44,6 +44,7 @@ abbrev pub IsWithin : Command → Type 0
 IsWithin Init = Unit {0}
 IsWithin Topics = Unit {0}
 IsWithin Offsets = Unit {0}
+IsWithin Compact = Unit {0}
 IsWithin (Capture options) = AreGoodNames options.prefix options.db options.placeholder
     × IsGoodPace options.chunk options.every options.messages × AreGoodTables options.tables
 IsWithin (Resume options) = IsGoodPace options.chunk options.every options.messages

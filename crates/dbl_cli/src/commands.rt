@@ -41,6 +41,7 @@ pub enum Command {
     Init,
     Topics,
     Offsets,
+    Compact,
     Capture {
         options: CaptureOptions,
     },

@@ -110,7 +110,7 @@ pub fn names_of(verb: Verb) -> &'static [Name]
     ensures { all_named result.now ≡ names_of verb }
 {
     match verb {
-        Verb::Init | Verb::Topics | Verb::Offsets => NONE.as_slice(),
+        Verb::Init | Verb::Topics | Verb::Offsets | Verb::Compact => NONE.as_slice(),
         Verb::Capture => CAPTURE.as_slice(),
         Verb::Resume => RESUME.as_slice(),
         Verb::Apply => APPLY.as_slice(),

@@ -219,6 +219,7 @@ pub fn read(alloc: Global, verb: Verb, found: &ArgMatches<'_>) -> Result<Command
         Verb::Init => Ok(Command::Init),
         Verb::Topics => Ok(Command::Topics),
         Verb::Offsets => Ok(Command::Offsets),
+        Verb::Compact => Ok(Command::Compact),
         Verb::Capture => capture(alloc, found),
         Verb::Resume => resume(found),
         Verb::Apply => apply(alloc, found.get_flag("lines"), found.get_str("placeholder")),

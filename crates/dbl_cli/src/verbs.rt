@@ -7,6 +7,7 @@ pub enum Verb {
     Init,
     Topics,
     Offsets,
+    Compact,
     Capture,
     Resume,
     Apply,
@@ -25,6 +26,8 @@ pub fn verb_of(word: &str) -> Option<Verb>
         Some(Verb::Topics)
     } else if word == "offsets" {
         Some(Verb::Offsets)
+    } else if word == "compact" {
+        Some(Verb::Compact)
     } else if word == "capture" {
         Some(Verb::Capture)
     } else if word == "resume" {

@@ -7,7 +7,8 @@ use Rattle.dbl_consume.proofs.StandLemmas.{rows_stand}
 use Rattle.dbl_cli.specs.declared.commands.Command.{Command}
 use Rattle.dbl_cli.specs.declared.commands.Command.TheVariants as command
 use Rattle.dblog_run.specs.Replay.Apply.{readings_of_lines}
-use Rattle.dblog_stores.specs.Answers.{offset_lines, topic_lines}
+use Rattle.dblog_stores.specs.Compacting.{kept_lines}
+use Rattle.dblog_stores.specs.Answers.{offset_lines, topic_lines, PrintsKept}
 use Rattle.dblog_stores.specs.Errors.{error_status}
 use Rattle.dblog_stores.specs.declared.error.CommandError.TheVariants as command_error
 use Rattle.dblog_stores.specs.declared.error.Store.{Store}
@@ -45,6 +46,12 @@ has_way command.Offsets now given can = (store_answer (Ok (offset_lines can.0)),
 has_way (command.Apply false placeholder) now given can =
     let printed = kept_logs_are_printed can.held can.offset given.wal given.topics given.offsets can.read can.kept can.stored in
     (store_answer (Ok printed.0), (Ok printed.0, printed.1, refl), refl)
+has_way command.Compact now given can =
+    let printed = (kept_logs_are_printed can.held can.offset given.wal given.topics given.offsets can.read can.kept can.stored).1 in
+    let lines = kept_lines printed.offset.identity.placeholder printed.groups in
+    let lists : PrintsKept given.topics given.offsets lines
+    = record { groups = printed.groups; offset = printed.offset; read = printed.read; taken = printed.taken; lines_are = refl } in
+    (store_answer (Ok lines), (Ok lines, lists, refl), refl)
 has_way (command.Apply true placeholder) now given can =
     let rows = rows_stand placeholder (readings_of_lines (lines_of given.input)) in
     (done (map row_line rows.0), applied rows.0 can.short (can.clean, rows.1) refl, refl)
@@ -105,6 +112,7 @@ alone_done (command.Gen number rows groups true) answer is = absurd is
 alone_done command.Init answer is = absurd is
 alone_done command.Topics answer is = absurd is
 alone_done command.Offsets answer is = absurd is
+alone_done command.Compact answer is = absurd is
 alone_done (command.Capture options) answer is = absurd is
 alone_done (command.Resume options) answer is = absurd is
 alone_done (command.Apply lines placeholder) answer is = absurd is

@@ -9,7 +9,7 @@ use Rattle.dbl_offset.specs.Stores.{IsStore}
 use Rattle.dbl_demo_wal.specs.Workloads.{IsWorkload, Workload}
 use Rattle.dbl_cli.specs.declared.commands.Command.{Command}
 use Rattle.dbl_cli.specs.declared.commands.ReplayOptions.{ReplayOptions}
-use Rattle.dbl_cli.specs.declared.commands.Command.TheVariants.{Init, Topics, Offsets, Capture, Resume, Replay, Apply, Gen}
+use Rattle.dbl_cli.specs.declared.commands.Command.TheVariants.{Init, Topics, Offsets, Compact, Capture, Resume, Replay, Apply, Gen}
 use Rattle.dblog_run.specs.Init.Answers.{AreEmpty}
 use Rattle.dblog_run.specs.Replay.Apply.{first_line_fault}
 use Rattle.dblog_run.specs.Promise.Contents.{Contents, ReadAs}
@@ -47,6 +47,7 @@ CanRun Init now given = CanMake given
 CanRun Topics now given = (groups : List (List Record)) × IsLog given.topics groups
 CanRun Offsets now given = (offset : Offset) × IsStore given.offsets (Some offset)
 CanRun (Apply false placeholder) now given = CanApply given
+CanRun Compact now given = CanApply given
 CanRun (Apply true placeholder) now given = CanApplyLines placeholder given
 CanRun (Replay options) now given = CanReplay options now given
 CanRun (Gen number rows groups false) now given = Unit {0}

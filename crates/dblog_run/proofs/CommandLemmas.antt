@@ -14,8 +14,9 @@ use Rattle.dbl_lines.specs.Faults.{status_of}
 use Rattle.dblog_streams.specs.Answers.{RunAnswer, fault, Ends, EndsAs, FailsReading}
 use Rattle.dblog_streams.specs.Replays.{RunsReplaying}
 use Rattle.dblog_streams.specs.Applies.{RunsApplying}
-use Rattle.dblog_stores.specs.Answers.{LinesAnswer as StoreAnswer, AnswersTopics, AnswersOffsets, AnswersApply}
-use Rattle.dblog_stores.proofs.OnceLaws.{topics_once, offsets_once, apply_once}
+use Rattle.dblog_stores.specs.declared.listing.Listing.TheVariants.{Rows, KeptRecords}
+use Rattle.dblog_stores.specs.Answers.{LinesAnswer as StoreAnswer, AnswersTopics, AnswersOffsets, AnswersApply, AnswersCompact}
+use Rattle.dblog_stores.proofs.OnceLaws.{topics_once, offsets_once, listings_once}
 use Rattle.dblog_stores.specs.declared.error.Store.{Store}
 use Rattle.dblog_run.specs.Disks.{EndsOrFails, IsAnswerOf, OfDisk, RunsStores, store_answer}
 use Rattle.dblog_init.proofs.AnswerLaws.{one_answer}
@@ -46,7 +47,8 @@ answers_one command.Offsets now given a b is is' = stores_one (AnswersOffsets gi
 answers_one (command.Capture options) now given a b is is' = absurd is
 answers_one (command.Resume options) now given a b is is' = absurd is
 answers_one (command.Apply true placeholder) now given a b is is' = applies_one placeholder given.input a b is is'
-answers_one (command.Apply false placeholder) now given a b is is' = stores_one (AnswersApply given.topics given.offsets) (apply_once given.topics given.offsets) a b is is'
+answers_one (command.Apply false placeholder) now given a b is is' = stores_one (AnswersApply given.topics given.offsets) (listings_once Rows given.topics given.offsets) a b is is'
+answers_one command.Compact now given a b is is' = stores_one (AnswersCompact given.topics given.offsets) (listings_once KeptRecords given.topics given.offsets) a b is is'
 answers_one (command.Replay options) now given a b is is' = replays_one _ now given.input a b is is'
 answers_one (command.Gen number rows groups true) now given a b is is' = absurd is
 answers_one (command.Gen number rows groups false) now given a b is is' = is ∙ sym is'
@@ -117,6 +119,7 @@ reads_topics (command.Capture options) opens = refl
 reads_topics (command.Resume options) opens = refl
 reads_topics (command.Apply true placeholder) opens = opens
 reads_topics (command.Apply false placeholder) opens = refl
+reads_topics command.Compact opens = refl
 reads_topics (command.Replay options) opens = opens
 reads_topics (command.Gen number rows groups true) opens = refl
 reads_topics (command.Gen number rows groups false) opens = opens
@@ -129,6 +132,7 @@ reads_offsets (command.Capture options) opens = refl
 reads_offsets (command.Resume options) opens = refl
 reads_offsets (command.Apply true placeholder) opens = opens
 reads_offsets (command.Apply false placeholder) opens = refl
+reads_offsets command.Compact opens = refl
 reads_offsets (command.Replay options) opens = opens
 reads_offsets (command.Gen number rows groups true) opens = refl
 reads_offsets (command.Gen number rows groups false) opens = opens
@@ -187,6 +191,7 @@ memory_status (command.Capture options) status before after says = inr (inr (inr
 memory_status (command.Resume options) status before after says = inr (inr (inr (inr (inr (inr (inr (inr (inr (cut_short status before after says)))))))))
 memory_status (command.Apply true placeholder) status before after says = inr (inr (memory_outside status before after says))
 memory_status (command.Apply false placeholder) status before after says = inr (inr (inr (inr (inr (cut_short status before after says)))))
+memory_status command.Compact status before after says = inr (inr (inr (inr (inr (cut_short status before after says)))))
 memory_status (command.Replay options) status before after says = inr (memory_outside status before after says)
 memory_status (command.Gen number rows groups true) status before after says = starved_known status before after says
 memory_status (command.Gen number rows groups false) status before after says = inr (cut_short status before after says)
@@ -210,6 +215,7 @@ memory_tells (command.Capture options) status before after says told = told
 memory_tells (command.Resume options) status before after says told = told
 memory_tells (command.Apply true placeholder) status before after says told = apply_apart status (cut_short status before after says) told
 memory_tells (command.Apply false placeholder) status before after says told = told
+memory_tells command.Compact status before after says told = told
 memory_tells (command.Replay options) status before after says told = outside_no_answer status (memory_outside status before after says) told
 memory_tells (command.Gen number rows groups true) status before after says told = told
 memory_tells (command.Gen number rows groups false) status before after says told = told

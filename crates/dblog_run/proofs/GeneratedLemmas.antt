@@ -42,6 +42,7 @@ makes_by (command.Gen number rows groups true) is = inr (number, rows, groups, r
 makes_by (command.Gen number rows groups false) is = absurd (switched (sym is))
 makes_by command.Topics is = absurd (switched (sym is))
 makes_by command.Offsets is = absurd (switched (sym is))
+makes_by command.Compact is = absurd (switched (sym is))
 makes_by (command.Capture options) is = absurd (switched (sym is))
 makes_by (command.Resume options) is = absurd (switched (sym is))
 makes_by (command.Apply lines placeholder) is = absurd (switched (sym is))

@@ -114,6 +114,7 @@ module _ {D : Type 0} (model : DiskModel D) where
   wal_untouched command.Init old new none full stays = full refl
   wal_untouched command.Topics old new none full stays = same_untouched old new (stays refl)
   wal_untouched command.Offsets old new none full stays = same_untouched old new (stays refl)
+  wal_untouched command.Compact old new none full stays = same_untouched old new (stays refl)
   wal_untouched (command.Capture options) old new none full stays = absurd (none_asked (First options) none)
   wal_untouched (command.Resume options) old new none full stays = absurd (none_asked (Again options) none)
   wal_untouched (command.Apply lines placeholder) old new none full stays = same_untouched old new (stays refl)
@@ -138,6 +139,7 @@ module _ {D : Type 0} (model : DiskModel D) where
   topics_untouched (command.Resume options) fault status old new none full reads stays = absurd (none_asked (Again options) none)
   topics_untouched (command.Apply true placeholder) fault status old new none full reads stays = same_untouched model old new (stays refl)
   topics_untouched (command.Apply false placeholder) fault status old new none full reads stays = read_untouched fault status old new (reads refl)
+  topics_untouched command.Compact fault status old new none full reads stays = read_untouched fault status old new (reads refl)
   topics_untouched (command.Replay options) fault status old new none full reads stays = same_untouched model old new (stays refl)
   topics_untouched (command.Gen number rows groups true) fault status old new none full reads stays = full refl
   topics_untouched (command.Gen number rows groups false) fault status old new none full reads stays = same_untouched model old new (stays refl)
@@ -151,6 +153,7 @@ module _ {D : Type 0} (model : DiskModel D) where
   offsets_untouched (command.Resume options) fault status old new none full reads stays = absurd (none_asked (Again options) none)
   offsets_untouched (command.Apply true placeholder) fault status old new none full reads stays = same_untouched model old new (stays refl)
   offsets_untouched (command.Apply false placeholder) fault status old new none full reads stays = read_untouched fault status old new (reads refl)
+  offsets_untouched command.Compact fault status old new none full reads stays = read_untouched fault status old new (reads refl)
   offsets_untouched (command.Replay options) fault status old new none full reads stays = same_untouched model old new (stays refl)
   offsets_untouched (command.Gen number rows groups true) fault status old new none full reads stays = full refl
   offsets_untouched (command.Gen number rows groups false) fault status old new none full reads stays = same_untouched model old new (stays refl)

@@ -5,7 +5,8 @@ use Rattle.dbl_cli.specs.declared.commands.Command.TheVariants as command
 use Rattle.dbl_cli.specs.Commands.{Spells}
 use Rattle.dblog_stores.specs.declared.error.CommandError.{CommandError}
 use Rattle.dblog_stores.specs.declared.error.CommandError.TheVariants as error
-use Rattle.dblog_stores.specs.Answers.{LinesAnswer as StoreAnswer, AnswersApply, AnswersOffsets, AnswersTopics}
+use Rattle.dblog_stores.specs.declared.listing.Listing.TheVariants.{Rows, KeptRecords}
+use Rattle.dblog_stores.specs.Answers.{LinesAnswer as StoreAnswer, AnswersApply, AnswersCompact, AnswersOffsets, AnswersTopics}
 use Rattle.dblog_stores.specs.Ends.{IsRefusal}
 use Rattle.dblog_stores.specs.Errors.{error_status}
 use Rattle.dbl_lines.specs.declared.status.Status.{Status}
@@ -110,6 +111,8 @@ forth words now given answer (command.Resume options) spells is refuses = absurd
 forth words now given answer (command.Apply true placeholder) spells is refuses = absurd (lines_refuse placeholder given.input answer is refuses)
 forth words now given answer (command.Apply false placeholder) spells is refuses =
     stores_told (AnswersApply given.topics given.offsets) answer (IsRefused words given answer) (λ e told same. inl (e, record { command = command.Apply false placeholder; spells = spells; tells = told; answer_is = same })) refuses is.0 is.1 is.2
+forth words now given answer command.Compact spells is refuses =
+    stores_told (AnswersCompact given.topics given.offsets) answer (IsRefused words given answer) (λ e told same. inl (e, record { command = command.Compact; spells = spells; tells = told; answer_is = same })) refuses is.0 is.1 is.2
 forth words now given answer (command.Replay options) spells is refuses = absurd (replay_refuses options now given.input answer is refuses)
 forth words now given answer (command.Gen number rows groups true) spells is refuses = absurd is
 forth words now given answer (command.Gen number rows groups false) spells is refuses = absurd (other_status Done (λ e. cc) (λ e. cc) answer.status (status_is answer (made number rows groups) is) refuses)
@@ -123,7 +126,8 @@ tells_refusal given command.Offsets e tells = offsets_refuse given.offsets e tel
 tells_refusal given (command.Capture options) e tells = absurd tells
 tells_refusal given (command.Resume options) e tells = absurd tells
 tells_refusal given (command.Apply true placeholder) e tells = absurd tells
-tells_refusal given (command.Apply false placeholder) e tells = apply_refuses given.topics given.offsets e tells
+tells_refusal given (command.Apply false placeholder) e tells = apply_refuses Rows given.topics given.offsets e tells
+tells_refusal given command.Compact e tells = apply_refuses KeptRecords given.topics given.offsets e tells
 tells_refusal given (command.Replay options) e tells = absurd tells
 tells_refusal given (command.Gen number rows groups run) e tells = absurd tells
 

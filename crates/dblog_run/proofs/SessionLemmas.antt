@@ -17,6 +17,7 @@ pub asked_or_not : (c : Command) → (asked_by c ≡ None) ⊎ ((asked : Asked) 
 asked_or_not command.Init = inl refl
 asked_or_not command.Topics = inl refl
 asked_or_not command.Offsets = inl refl
+asked_or_not command.Compact = inl refl
 asked_or_not (command.Capture options) = inr (First options, refl)
 asked_or_not (command.Resume options) = inr (Again options, refl)
 asked_or_not (command.Apply lines placeholder) = inl refl

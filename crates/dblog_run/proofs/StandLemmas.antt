@@ -10,8 +10,9 @@ use Rattle.dbl_lines.specs.declared.run_error.RunError.TheVariants.{Usage}
 use Rattle.dblog_streams.specs.Answers.{RunAnswer, fault}
 use Rattle.dblog_streams.specs.Replays.{IsReadable}
 use Rattle.dblog_streams.proofs.InputLemmas.{replay_exists, apply_exists}
-use Rattle.dblog_stores.specs.Answers.{LinesAnswer as StoreAnswer, AnswersTopics, AnswersOffsets, AnswersApply}
-use Rattle.dblog_stores.proofs.StandLaws.{topics_stand, offsets_stand, apply_stands as consumer_stands}
+use Rattle.dblog_stores.specs.declared.listing.Listing.TheVariants.{Rows, KeptRecords}
+use Rattle.dblog_stores.specs.Answers.{LinesAnswer as StoreAnswer, AnswersTopics, AnswersOffsets, AnswersApply, AnswersCompact}
+use Rattle.dblog_stores.proofs.StandLaws.{topics_stand, offsets_stand, listings_stand}
 use Rattle.dblog_run.specs.Disks.{IsAnswerOf, store_answer}
 use Rattle.dblog_init.proofs.StandLaws.{answers_stand}
 use Rattle.dblog_run.specs.Inits.{init_answer}
@@ -30,7 +31,9 @@ command_stands (command.Capture options) now given none b t f = absurd (switched
 command_stands (command.Resume options) now given none b t f = absurd (switched none)
 command_stands (command.Apply true placeholder) now given none b t f = apply_exists placeholder given.input
 command_stands (command.Apply false placeholder) now given none b t f =
-    let found = consumer_stands given.topics given.offsets t f in stores_stand (AnswersApply given.topics given.offsets) found.0 found.1
+    let found = listings_stand Rows given.topics given.offsets t f in stores_stand (AnswersApply given.topics given.offsets) found.0 found.1
+command_stands command.Compact now given none b t f =
+    let found = listings_stand KeptRecords given.topics given.offsets t f in stores_stand (AnswersCompact given.topics given.offsets) found.0 found.1
 command_stands (command.Replay options) now given none b t f = replay_exists options now given.input (b options refl)
 command_stands (command.Gen number rows groups true) now given none b t f = absurd (switched none)
 command_stands (command.Gen number rows groups false) now given none b t f = (made number rows groups, refl)

@@ -110,6 +110,7 @@ no_wal (command.Capture options) status none known same = switched none
 no_wal (command.Resume options) status none known same = switched none
 no_wal (command.Apply true placeholder) status none known same = lines_other SourceFailed status (λ e. cc, λ e. cc) (λ e. cc, λ e. cc, λ e. cc) known same
 no_wal (command.Apply false placeholder) status none known same = rows_other SourceFailed status (λ e. cc) (λ e. cc, λ e. cc, λ e. cc, λ e. cc) (λ e. cc, λ e. cc) known same
+no_wal command.Compact status none known same = rows_other SourceFailed status (λ e. cc) (λ e. cc, λ e. cc, λ e. cc, λ e. cc) (λ e. cc, λ e. cc) known same
 no_wal (command.Replay options) status none known same =
     replay_other SourceFailed status (λ e. cc, λ e. cc, λ e. cc, λ e. cc) (λ e. cc, λ e. cc, λ e. cc) known same
 no_wal (command.Gen number rows groups true) status none known same = switched none
@@ -120,6 +121,7 @@ pub wal_fails : (c : Command) (status : Status) (was now : ℕ) → IsStatusOf c
 wal_fails command.Init status was now known init fails makes is = init refl is
 wal_fails command.Topics status was now known init fails makes is = absurd (no_wal command.Topics status refl known is)
 wal_fails command.Offsets status was now known init fails makes is = absurd (no_wal command.Offsets status refl known is)
+wal_fails command.Compact status was now known init fails makes is = absurd (no_wal command.Compact status refl known is)
 wal_fails (command.Capture options) status was now known init fails makes is = fails (First options) refl is
 wal_fails (command.Resume options) status was now known init fails makes is = fails (Again options) refl is
 wal_fails (command.Apply lines placeholder) status was now known init fails makes is = absurd (no_wal (command.Apply lines placeholder) status refl known is)
@@ -136,6 +138,7 @@ refused_unread P (command.Capture options) status known unread full is = unread 
 refused_unread P (command.Resume options) status known unread full is = unread refl
 refused_unread P (command.Apply true placeholder) status known unread full is = absurd (lines_other InvalidStore status (λ e. cc, λ e. cc) (λ e. cc, λ e. cc, λ e. cc) known is)
 refused_unread P (command.Apply false placeholder) status known unread full is = unread refl
+refused_unread P command.Compact status known unread full is = unread refl
 refused_unread P (command.Replay options) status known unread full is =
     absurd (replay_other InvalidStore status (λ e. cc, λ e. cc, λ e. cc, λ e. cc) (λ e. cc, λ e. cc, λ e. cc) known is)
 refused_unread P (command.Gen number rows groups run) status known unread full is = unread refl
@@ -149,6 +152,7 @@ no_topics (command.Capture options) status known shut same = switched shut
 no_topics (command.Resume options) status known shut same = switched shut
 no_topics (command.Apply true placeholder) status known shut same = lines_other TopicsFailed status (λ e. cc, λ e. cc) (λ e. cc, λ e. cc, λ e. cc) known same
 no_topics (command.Apply false placeholder) status known shut same = switched shut
+no_topics command.Compact status known shut same = switched shut
 no_topics (command.Replay options) status known shut same =
     replay_other TopicsFailed status (λ e. cc, λ e. cc, λ e. cc, λ e. cc) (λ e. cc, λ e. cc, λ e. cc) known same
 no_topics (command.Gen number rows groups true) status known shut same = switched shut
@@ -162,6 +166,7 @@ no_offsets (command.Capture options) status known shut same = switched shut
 no_offsets (command.Resume options) status known shut same = switched shut
 no_offsets (command.Apply true placeholder) status known shut same = lines_other OffsetsFailed status (λ e. cc, λ e. cc) (λ e. cc, λ e. cc, λ e. cc) known same
 no_offsets (command.Apply false placeholder) status known shut same = switched shut
+no_offsets command.Compact status known shut same = switched shut
 no_offsets (command.Replay options) status known shut same =
     replay_other OffsetsFailed status (λ e. cc, λ e. cc, λ e. cc, λ e. cc) (λ e. cc, λ e. cc, λ e. cc) known same
 no_offsets (command.Gen number rows groups true) status known shut same = switched shut
@@ -177,6 +182,7 @@ topics_fail P (command.Capture options) status known init reads fails makes is =
 topics_fail P (command.Resume options) status known init reads fails makes is = fails (Again options) refl is
 topics_fail P (command.Apply true placeholder) status known init reads fails makes is = absurd (no_topics (command.Apply true placeholder) status known refl is)
 topics_fail P (command.Apply false placeholder) status known init reads fails makes is = reads refl is
+topics_fail P command.Compact status known init reads fails makes is = reads refl is
 topics_fail P (command.Replay options) status known init reads fails makes is = absurd (no_topics (command.Replay options) status known refl is)
 topics_fail P (command.Gen number rows groups true) status known init reads fails makes is = makes number rows groups refl is
 topics_fail P (command.Gen number rows groups false) status known init reads fails makes is = absurd (no_topics (command.Gen number rows groups false) status known refl is)
@@ -190,6 +196,7 @@ offsets_fail P (command.Capture options) status known init reads fails makes is 
 offsets_fail P (command.Resume options) status known init reads fails makes is = fails (Again options) refl is
 offsets_fail P (command.Apply true placeholder) status known init reads fails makes is = absurd (no_offsets (command.Apply true placeholder) status known refl is)
 offsets_fail P (command.Apply false placeholder) status known init reads fails makes is = reads refl is
+offsets_fail P command.Compact status known init reads fails makes is = reads refl is
 offsets_fail P (command.Replay options) status known init reads fails makes is = absurd (no_offsets (command.Replay options) status known refl is)
 offsets_fail P (command.Gen number rows groups true) status known init reads fails makes is = makes number rows groups refl is
 offsets_fail P (command.Gen number rows groups false) status known init reads fails makes is = absurd (no_offsets (command.Gen number rows groups false) status known refl is)
@@ -203,6 +210,7 @@ unused_topics (command.Capture options) none shut = none
 unused_topics (command.Resume options) none shut = none
 unused_topics (command.Apply true placeholder) none shut = refl
 unused_topics (command.Apply false placeholder) none shut = shut
+unused_topics command.Compact none shut = shut
 unused_topics (command.Replay options) none shut = shut
 unused_topics (command.Gen number rows groups run) none shut = none
 
@@ -214,6 +222,7 @@ unused_offsets (command.Capture options) none shut = none
 unused_offsets (command.Resume options) none shut = none
 unused_offsets (command.Apply true placeholder) none shut = refl
 unused_offsets (command.Apply false placeholder) none shut = shut
+unused_offsets command.Compact none shut = shut
 unused_offsets (command.Replay options) none shut = shut
 unused_offsets (command.Gen number rows groups run) none shut = none
 

@@ -8,11 +8,12 @@ use Rattle.dblog_stores.specs.declared.error.CommandError.{CommandError}
 use Rattle.dblog_stores.specs.declared.error.CommandError.TheVariants as error
 use Rattle.dblog_stores.specs.declared.error.Store.{Store}
 use Rattle.dblog_stores.specs.declared.error.Store.TheVariants as store
-use Rattle.dblog_stores.specs.Answers.{LinesAnswer as StoreAnswer, AnswersApply, AnswersOffsets, AnswersTopics, HasNoOffset, IsNoLog, no_log, no_offset, refused}
+use Rattle.dblog_stores.specs.declared.listing.Listing.{Listing}
+use Rattle.dblog_stores.specs.Answers.{LinesAnswer as StoreAnswer, AnswersListing, AnswersOffsets, AnswersTopics, HasNoOffset, IsNoLog, no_log, no_offset, refused}
 use Rattle.dblog_stores.specs.Ends.{CutsLines, CommandEnd, Ends as StoreEnds, EndsOutside, IsErrorOf, IsExternalCommandError as IsStoreOutside, IsRefusal, Runs as StoreRuns, answered, cut}
 use Rattle.dblog_stores.specs.Errors.{error_line, error_status}
 use Rattle.dblog_stores.proofs.ErrorLaws.{apart}
-use Rattle.dblog_stores.proofs.OnceLaws.{apply_once, offsets_once, topics_once}
+use Rattle.dblog_stores.proofs.OnceLaws.{listings_once, offsets_once, topics_once}
 use Rattle.dbl_lines.specs.declared.run_error.RunError.TheVariants.{Memory}
 use Rattle.dbl_lines.specs.Faults.{status_of, fault_line}
 use Rattle.dblog_streams.specs.Answers.{RunAnswer, done, out_of_memory, whole, IsExternalStatus}
@@ -210,10 +211,10 @@ offsets_refuse bytes error.NotStarted why = tt
 offsets_refuse bytes (error.NotAStore s at) why = tt
 offsets_refuse bytes (error.BadEntry s index) why = tt
 
-pub apply_refuses : (topics offsets : List ℕ) (e : CommandError) → AnswersApply topics offsets (Err e) → IsRefusal e
-apply_refuses topics offsets e (no_log why) = topics_refuse topics e why
-apply_refuses topics offsets e (no_offset groups log why) = offsets_refuse offsets e why
-apply_refuses topics offsets e (refused r) = subst (λ (x : CommandError). IsRefusal x) (sym r.error_is) tt
+pub apply_refuses : (listing : Listing) (topics offsets : List ℕ) (e : CommandError) → AnswersListing listing topics offsets (Err e) → IsRefusal e
+apply_refuses listing topics offsets e (no_log why) = topics_refuse topics e why
+apply_refuses listing topics offsets e (no_offset groups log why) = offsets_refuse offsets e why
+apply_refuses listing topics offsets e (refused r) = subst (λ (x : CommandError). IsRefusal x) (sym r.error_is) tt
 
 -- which disk failed
 topics_cause : (P : Type 0) (end : CommandEnd) → IfErr end (λ e. (e ≡ error.OutputFailed) ⊎ IsErrorOf store.Topics e) → (end ≡ end_of (error.Failed store.Topics) → P) → (s : Store) → end ≡ end_of (error.Failed s) → OfDisk P ⊥ s
@@ -255,7 +256,7 @@ pub offsets_run : (bytes : List ℕ) (P : Type 0) (end : CommandEnd) (status : S
 offsets_run bytes P end status before middle after kinds cause runs finishes =
     stores_run (AnswersOffsets bytes) (OfDisk ⊥ P) (offsets_once bytes) (offsets_refuse bytes) end (offsets_cause P end kinds cause) status before middle after runs finishes
 
-pub apply_run : (topics offsets : List ℕ) (P Q : Type 0) (end : CommandEnd) (status : Status) (before middle after : Option (List ℕ)) → (end ≡ end_of (error.Failed store.Topics) → P) → (end ≡ end_of (error.Failed store.Offsets) → Q)
-    → StoreRuns (AnswersApply topics offsets) end before middle → Finishes end status middle after → RunsStores (AnswersApply topics offsets) (OfDisk P Q) status before after
-apply_run topics offsets P Q end status before middle after first second runs finishes =
-    stores_run (AnswersApply topics offsets) (OfDisk P Q) (apply_once topics offsets) (apply_refuses topics offsets) end (apply_cause P Q end first second) status before middle after runs finishes
+pub apply_run : (listing : Listing) (topics offsets : List ℕ) (P Q : Type 0) (end : CommandEnd) (status : Status) (before middle after : Option (List ℕ)) → (end ≡ end_of (error.Failed store.Topics) → P) → (end ≡ end_of (error.Failed store.Offsets) → Q)
+    → StoreRuns (AnswersListing listing topics offsets) end before middle → Finishes end status middle after → RunsStores (AnswersListing listing topics offsets) (OfDisk P Q) status before after
+apply_run listing topics offsets P Q end status before middle after first second runs finishes =
+    stores_run (AnswersListing listing topics offsets) (OfDisk P Q) (listings_once listing topics offsets) (apply_refuses listing topics offsets) end (apply_cause P Q end first second) status before middle after runs finishes

@@ -3,7 +3,7 @@ use Rattle.std.specs.Prelude.{◌≡◌, ◌≢◌, ◌⊎◌, ◌↔◌, ℕ, �
 use Rattle.dbl_lines.specs.declared.status.Status.TheVariants.{StartMismatch, InvalidStore}
 use Rattle.dbl_pgmsg.specs.Faults.{AreBytes}
 use Rattle.dbl_cli.specs.declared.commands.Command.{Command}
-use Rattle.dbl_cli.specs.declared.commands.Command.TheVariants.{Init, Topics, Offsets, Apply, Replay}
+use Rattle.dbl_cli.specs.declared.commands.Command.TheVariants.{Init, Topics, Offsets, Compact, Apply, Replay}
 use Rattle.dbl_cli.specs.declared.commands.ReplayOptions.{ReplayOptions}
 use Rattle.dbl_cli.specs.Commands.{Spells}
 use Rattle.dblog_stores.specs.declared.error.CommandError.{CommandError}
@@ -36,6 +36,7 @@ abbrev pub StoresTell : Command → RunInput → CommandError → Type 0
 StoresTell Topics given error = IsNoLog given.topics error
 StoresTell Offsets given error = HasNoOffset given.offsets error
 StoresTell (Apply false placeholder) given error = AppliesNot given.topics given.offsets error
+StoresTell Compact given error = AppliesNot given.topics given.offsets error
 StoresTell command given error = ⊥
 
 -- The arguments are of a command over the stores, which aren't what it needs, and the answer is that error.

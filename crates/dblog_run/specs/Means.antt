@@ -3,13 +3,13 @@ use Rattle.std.specs.Prelude.{◌≡◌, ◌⊎◌, ℕ, ℤ, ◌||◌, Bool, tr
 use Rattle.dbl_record.specs.declared.record.Record.{Record}
 use Rattle.dbl_topic.specs.Logs.{IsLog}
 use Rattle.dbl_cli.specs.declared.commands.Command.{Command}
-use Rattle.dbl_cli.specs.declared.commands.Command.TheVariants.{Init, Topics, Offsets, Capture, Resume, Replay, Apply, Gen}
+use Rattle.dbl_cli.specs.declared.commands.Command.TheVariants.{Init, Topics, Offsets, Compact, Capture, Resume, Replay, Apply, Gen}
 use Rattle.dbl_cli.specs.Commands.{Spells}
 use Rattle.dblog_init.specs.Answers as inits
 use Rattle.dbl_lines.specs.declared.status.Status.{Status}
 use Rattle.dbl_lines.specs.declared.status.Status.TheVariants.{Done, StartMismatch, TopicsFailed, OffsetsFailed, InvalidInput, InvalidStore}
 use Rattle.dbl_lines.specs.declared.run_error.RunError.TheVariants.{Usage}
-use Rattle.dblog_stores.specs.Answers.{AnswersTopics, AnswersOffsets, AnswersApply}
+use Rattle.dblog_stores.specs.Answers.{AnswersTopics, AnswersOffsets, AnswersApply, AnswersCompact}
 use Rattle.dblog_stores.specs.declared.error.Store.{Store}
 use Rattle.dblog_capture.specs.Ends.{IsSessionStatus}
 use Rattle.dblog_capture.specs.Generated.{IsGeneratedStatus}
@@ -39,6 +39,7 @@ abbrev pub Answers : Command → ℤ → RunInput → RunAnswer → Type 0
 Answers (Replay options) now given answer = Replays options now given.input answer
 Answers (Apply true placeholder) now given answer = Applies placeholder given.input answer
 Answers (Apply false placeholder) now given answer = IsAnswerOf (AnswersApply given.topics given.offsets) answer
+Answers Compact now given answer = IsAnswerOf (AnswersCompact given.topics given.offsets) answer
 Answers Topics now given answer = IsAnswerOf (AnswersTopics given.topics) answer
 Answers Offsets now given answer = IsAnswerOf (AnswersOffsets given.offsets) answer
 Answers Init now given answer = AnswersInit (given_init given) answer
@@ -71,12 +72,14 @@ reads command = false
 abbrev pub opens_topics : Command → Bool
 opens_topics Topics = true
 opens_topics (Apply false placeholder) = true
+opens_topics Compact = true
 opens_topics command = false
 
 -- Whether the command only reads the disk of the offset.
 abbrev pub opens_offsets : Command → Bool
 opens_offsets Offsets = true
 opens_offsets (Apply false placeholder) = true
+opens_offsets Compact = true
 opens_offsets command = false
 
 -- Whether the command makes the stores, on all of the disks.
@@ -158,6 +161,7 @@ StandsAlone (Apply lines placeholder) answer = ⊥
 StandsAlone Init answer = ⊥
 StandsAlone Topics answer = ⊥
 StandsAlone Offsets answer = ⊥
+StandsAlone Compact answer = ⊥
 StandsAlone (Capture options) answer = ⊥
 StandsAlone (Resume options) answer = ⊥
 StandsAlone (Gen number rows groups false) answer = answer ≡ made number rows groups
@@ -179,7 +183,7 @@ abbrev pub IsOffsetsStatus : Status → Type 0
 IsOffsetsStatus status =
     (status ≡ Done) ⊎ ((status ≡ StartMismatch) ⊎ ((status ≡ OffsetsFailed) ⊎ ((status ≡ InvalidStore) ⊎ IsCutShort status)))
 
--- The statuses of `apply` over the stores, for every behaviour of the disks and the output.
+-- The statuses of `compact`, and of `apply` over the stores, for every behaviour of the disks and the output.
 abbrev pub IsRowsStatus : Status → Type 0
 IsRowsStatus status = (status ≡ TopicsFailed) ⊎ IsOffsetsStatus status
 
@@ -188,6 +192,7 @@ abbrev pub IsStatusOf : Command → Status → Type 0
 IsStatusOf (Replay options) status = IsReplayStatus status
 IsStatusOf (Apply true placeholder) status = IsApplyStatus status
 IsStatusOf (Apply false placeholder) status = IsRowsStatus status
+IsStatusOf Compact status = IsRowsStatus status
 IsStatusOf Init status = IsInitStatus status
 IsStatusOf Topics status = IsTopicsStatus status
 IsStatusOf Offsets status = IsOffsetsStatus status

@@ -36,13 +36,14 @@ ghost use Rattle.dbl_lines.specs.declared.status.Status.TheVariants.{InvalidStor
 ghost use Rattle.dbl_lines.specs.Says.{Says};
 
 use crate::initializing::run_init;
-use crate::stores::{run_apply, run_offsets, run_topics};
+use crate::stores::{run_listing, run_offsets, run_topics};
 use dbl_base::{Input, Output, Text};
 use dbl_cli::{CliError, Command};
 use dbl_disk::Disk;
 use dbl_lines::{RunError, Status, say};
 use dblog_capture::{Asked, run_generated, run_session};
 use dblog_init::{Disks, Outcome};
+use dblog_stores::Listing;
 use dblog_streams::{apply_lines, print_workload, replay_input};
 use std::alloc::Global;
 
@@ -112,7 +113,7 @@ pub fn run<I: Input, O: Output, W: Disk, T: Disk, F: Disk>(
         FaultCounted (W.faults disks.wal) (W.faults result.disks.wal) }
 
     // A disk that the command neither reads nor writes is returned as it was passed; so is the
-    // offset's if `apply` finds known contents that are no topic log.
+    // offset's if `apply` or `compact` finds known contents that are no topic log.
     ensures wal_stays { SpellNone words.now.items writes → result.disks.wal ≡ disks.wal }
     ensures topics_stay { SpellNone words.now.items uses_topics →
         result.disks.topics ≡ disks.topics }
@@ -365,6 +366,7 @@ fn run_command<I: Input, O: Output, W: Disk, T: Disk, F: Disk>(
             let asked = Asked::Again { options };
             run_session(alloc, asked, now_ms, output, disks)
         }
-        Command::Apply { .. } => run_apply(alloc, output, disks),
+        Command::Apply { .. } => run_listing(alloc, Listing::Rows, output, disks),
+        Command::Compact => run_listing(alloc, Listing::KeptRecords, output, disks),
     }
 }

@@ -1,4 +1,5 @@
-//! The commands that only read the stores: `topics`, `offsets`, and `apply` of the topic log.
+//! The commands that only read the stores: `topics`, `offsets`, `compact`, and `apply` of the topic
+//! log.
 ghost use Rattle.std.specs.Prelude.{◌≡◌, ◌≢◌, ◌⊎◌, ℕ, ◌≤◌, List, Err, Some};
 ghost use Rattle.dbl_lines.specs.declared.status.Status.TheVariants.{Done, StartMismatch};
 ghost use Rattle.dbl_lines.specs.declared.status.Status.TheVariants.{TopicsFailed, OffsetsFailed};
@@ -7,7 +8,7 @@ ghost use Rattle.dbl_lines.specs.declared.status.Status.TheVariants.{InvalidStor
 ghost use Rattle.dbl_base.specs.Streams.{FaultCounted};
 ghost use Rattle.dbl_record.specs.declared.record.Record.{Record};
 ghost use Rattle.dbl_topic.specs.Logs.{IsLog};
-ghost use Rattle.dblog_stores.specs.Answers.{AnswersApply, AnswersOffsets, AnswersTopics};
+ghost use Rattle.dblog_stores.specs.Answers.{AnswersListing, AnswersOffsets, AnswersTopics};
 ghost use Rattle.dblog_stores.specs.Ends.{IsSynced};
 ghost use Rattle.dblog_run.specs.Disks.{Finishes, IsOnlyRead, OfDisk, RunsStores, SaysError};
 ghost use Rattle.dblog_run.specs.Means.{HasOpenedTopics, IsOffsetsStatus};
@@ -17,7 +18,9 @@ use dbl_base::Output;
 use dbl_disk::Disk;
 use dbl_lines::{OUT_OF_MEMORY, Status, write_text};
 use dblog_init::{Disks, Outcome};
-use dblog_stores::{Applied, CommandError, Ended, apply, print_offset, print_topics};
+use dblog_stores::{
+    Applied, CommandError, Ended, Listing, print_listing, print_offset, print_topics,
+};
 use std::alloc::Global;
 
 /// Writes the lines of the topic log's records.
@@ -97,16 +100,16 @@ pub(crate) fn run_offsets<O: Output, W, T, F: Disk>(
     }
 }
 
-/// Writes a line for each row in the state of the topic log's consumer, with the stored
-/// placeholder.
-pub(crate) fn run_apply<O: Output, W, T: Disk, F: Disk>(
+/// Writes a listing of the topic log, with the stored placeholder.
+pub(crate) fn run_listing<O: Output, W, T: Disk, F: Disk>(
     alloc: Global,
+    listing: Listing,
     output: &mut O,
     disks: Disks<W, T, F>,
 ) -> Outcome<W, T, F, Status>
     ensures told { (t f : List ℕ) → T.seen disks.topics ≡ Some t →
         ((groups : List (List Record)) → ¬ IsLog t groups) ⊎ (F.seen disks.offsets ≡ Some f) →
-        RunsStores (AnswersApply t f)
+        RunsStores (AnswersListing listing t f)
         (OfDisk (FaultCounted (T.faults disks.topics) (T.faults result.disks.topics))
         (FaultCounted (F.faults disks.offsets) (F.faults result.disks.offsets)))
         result.end (O.written output.old) (O.written output.new) }
@@ -131,7 +134,7 @@ pub(crate) fn run_apply<O: Output, W, T: Disk, F: Disk>(
         topics,
         offsets,
     } = disks;
-    let applied = apply(alloc, topics, offsets, output);
+    let applied = print_listing(alloc, listing, topics, offsets, output);
     let Applied {
         topics: log,
         offsets: store,

@@ -4,6 +4,7 @@ pub mod ErrorLaws
 pub mod Opened
 pub mod Writing
 pub mod Consumed
+pub mod Marked
 pub mod Answering
 pub mod OnceLaws
 pub mod OffsetTexts

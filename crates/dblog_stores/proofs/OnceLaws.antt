@@ -3,7 +3,9 @@ use Rattle.std.proofs.Common.{◌≡◌, ◌∙◌, ℕ, Some, None, Ok, Err, Li
 use Rattle.dbl_record.specs.declared.record.Record.{Record}
 use Rattle.dbl_record.specs.Consumers.{consumer}
 use Rattle.dbl_record.specs.Cuts.{joined}
+use Rattle.dbl_record.specs.Line.{line_of}
 use Rattle.dbl_record.specs.Reading.{as_line}
+use Rattle.dbl_compact.specs.Kept.{kept}
 use Rattle.dbl_consume.specs.Printing.{AreRowsOf, row_line}
 use Rattle.dbl_consume.proofs.RowLemmas.{rows_are_one}
 use Rattle.dbl_journal.specs.Form.{IsFaultAt}
@@ -17,8 +19,10 @@ use Rattle.dbl_offset.proofs.StoreLaws.{no_bad_offset, no_fault, not_both, one_b
 use Rattle.dblog_stores.specs.declared.error.CommandError.{CommandError}
 use Rattle.dblog_stores.specs.declared.error.CommandError.TheVariants.{OutputFailed, Memory, Failed, NotStarted, NotAStore, BadEntry}
 use Rattle.dblog_stores.specs.declared.error.Store.TheVariants.{Topics, Offsets}
-use Rattle.dblog_stores.specs.Answers.{AppliesNot, HasNoOffset, IsNoLog, PrintsConsumer, RefusesGroup, first_refused, no_log, no_offset, offset_lines, refused, topic_lines}
-use Rattle.dblog_stores.specs.Laws.{ApplyAnswersOnce, OffsetsAnswerOnce, StoresAreReadOnce, TopicsAnswerOnce}
+use Rattle.dblog_stores.specs.declared.listing.Listing.{Listing}
+use Rattle.dblog_stores.specs.declared.listing.Listing.TheVariants.{Rows, KeptRecords}
+use Rattle.dblog_stores.specs.Answers.{AppliesNot, HasNoOffset, IsNoLog, PrintsConsumer, PrintsKept, PrintsListing, RefusesGroup, first_refused, no_log, no_offset, offset_lines, refused, topic_lines}
+use Rattle.dblog_stores.specs.Laws.{ListingAnswersOnce, OffsetsAnswerOnce, StoresAreReadOnce, TopicsAnswerOnce}
 
 pub stores_once : StoresAreReadOnce
 stores_once topics offsets first second a b =
@@ -139,10 +143,22 @@ module _ (topics offsets : List ℕ) where
   one_not first second (refused a) (no_offset groups log b) = absurd (offset_not offsets a.offset second a.read.store (no_offset_is offsets second b))
   one_not first second (refused a) (refused b) = one_refused first second a b
 
-  prints_not : (lines : List (List ℕ)) (error : CommandError) → PrintsConsumer topics offsets lines → AppliesNot topics offsets error → ⊥
-  prints_not lines error a (no_log b) = log_not topics a.groups error a.read.log (no_log_is topics error b)
-  prints_not lines error a (no_offset groups log b) = offset_not offsets a.offset error a.read.store (no_offset_is offsets error b)
-  prints_not lines error a (refused b) = none_number b.index (sym a.taken ∙ same_first a.groups b.groups a.offset b.offset a.read.log b.read.log a.read.store b.read.store ∙ b.first)
+  prints_not : (groups others : List (List Record)) (offset other : Offset) → IsLog topics groups → IsLog topics others → IsStore offsets (Some offset)
+      → IsStore offsets (Some other) → first_refused offset.identity.placeholder groups ≡ None
+      → (index : ℕ) → first_refused other.identity.placeholder others ≡ Some index → ⊥
+  prints_not groups others offset other log log' store store' none index some =
+      none_number index (sym none ∙ same_first groups others offset other log log' store store' ∙ some)
+
+  lists_not : (groups : List (List Record)) (offset : Offset) → IsLog topics groups → IsStore offsets (Some offset)
+      → first_refused offset.identity.placeholder groups ≡ None → (error : CommandError) → AppliesNot topics offsets error → ⊥
+  lists_not groups offset log store none error (no_log b) = log_not topics groups error log (no_log_is topics error b)
+  lists_not groups offset log store none error (no_offset groups' log' b) = offset_not offsets offset error store (no_offset_is offsets error b)
+  lists_not groups offset log store none error (refused b) = prints_not groups b.groups offset b.offset log b.read.log store b.read.store none b.index b.first
+
+  listing_not : (listing : Listing) (lines : List (List ℕ)) (error : CommandError) → PrintsListing listing topics offsets lines
+      → AppliesNot topics offsets error → ⊥
+  listing_not Rows lines error a b = lists_not a.groups a.offset a.read.log a.read.store a.taken error b
+  listing_not KeptRecords lines error a b = lists_not a.groups a.offset a.read.log a.read.store a.taken error b
 
   one_prints : (lines others : List (List ℕ)) → PrintsConsumer topics offsets lines → PrintsConsumer topics offsets others → lines ≡ others
   one_prints lines others a b =
@@ -152,8 +168,20 @@ module _ (topics offsets : List ℕ) where
       let there = subst (λ (o : Offset). AreRowsOf (consumer o.identity.placeholder (map as_line (joined b.groups))) a.rows) one here in
       a.lines_are ∙ ap (map row_line) (rows_are_one _ a.rows b.rows there b.are) ∙ sym b.lines_are
 
-pub apply_once : ApplyAnswersOnce
-apply_once topics offsets (Ok lines) (Ok others) a b = ap (λ ls. Ok ls) (one_prints topics offsets lines others a b)
-apply_once topics offsets (Ok lines) (Err error) a b = absurd (prints_not topics offsets lines error a b)
-apply_once topics offsets (Err error) (Ok lines) a b = absurd (prints_not topics offsets lines error b a)
-apply_once topics offsets (Err error) (Err other) a b = ap (λ e. Err e) (one_not topics offsets error other a b)
+  one_kept : (lines others : List (List ℕ)) → PrintsKept topics offsets lines → PrintsKept topics offsets others → lines ≡ others
+  one_kept lines others a b =
+      let same = one_log topics a.groups b.groups a.read.log b.read.log in
+      let one = one_offset offsets a.offset b.offset a.read.store b.read.store in
+      a.lines_are ∙ ap (λ (gs : List (List Record)). map line_of (kept a.offset.identity.placeholder (joined gs))) same
+      ∙ ap (λ (o : Offset). map line_of (kept o.identity.placeholder (joined b.groups))) one ∙ sym b.lines_are
+
+  one_listing : (listing : Listing) (lines others : List (List ℕ)) → PrintsListing listing topics offsets lines → PrintsListing listing topics offsets others
+      → lines ≡ others
+  one_listing Rows lines others a b = one_prints lines others a b
+  one_listing KeptRecords lines others a b = one_kept lines others a b
+
+pub listings_once : ListingAnswersOnce
+listings_once listing topics offsets (Ok lines) (Ok others) a b = ap (λ ls. Ok ls) (one_listing topics offsets listing lines others a b)
+listings_once listing topics offsets (Ok lines) (Err error) a b = absurd (listing_not topics offsets listing lines error a b)
+listings_once listing topics offsets (Err error) (Ok lines) a b = absurd (listing_not topics offsets listing lines error b a)
+listings_once listing topics offsets (Err error) (Err other) a b = ap (λ e. Err e) (one_not topics offsets error other a b)

@@ -11,11 +11,13 @@ use Rattle.dbl_record.specs.declared.record.Record.{Record}
 use Rattle.dbl_record.specs.declared.error.RecordError.{RecordError}
 use Rattle.dbl_record.specs.Cuts.{joined}
 use Rattle.dbl_record.specs.Groups.{IsGroup}
+use Rattle.dbl_record.specs.Line.{line_of}
 use Rattle.dbl_record.specs.Reading.{as_line}
 use Rattle.dbl_record.specs.Acts.{reading_of}
 use Rattle.dbl_record.proofs.FieldLaws.{IsBytes}
 use Rattle.dbl_record.proofs.GroupLaws.{either, not_both, one_group}
 use Rattle.dbl_consume.specs.Printing.{row_line}
+use Rattle.dbl_compact.specs.Kept.{kept}
 use Rattle.dbl_consume.proofs.StandLemmas.{rows_stand}
 use Rattle.dbl_journal.specs.Form.{HasBadMagic, HasNoBody, IsBroken, IsClosed, IsEntry, IsFaultAt, IsJournal, body, frame, up_to_gate, magic}
 use Rattle.dbl_journal.proofs.Appends.{length-body, length-magic}
@@ -30,8 +32,11 @@ use Rattle.dbl_offset.proofs.OffsetLaws.{no_entry, whole_takes}
 use Rattle.dblog_stores.specs.declared.error.CommandError.{CommandError}
 use Rattle.dblog_stores.specs.declared.error.CommandError.TheVariants.{NotStarted, NotAStore, BadEntry}
 use Rattle.dblog_stores.specs.declared.error.Store.TheVariants.{Topics, Offsets}
-use Rattle.dblog_stores.specs.Answers.{LinesAnswer, AnswersApply, HasNoOffset, IsNoLog, first_refused, no_log, no_offset, offset_lines, refused, topic_lines}
-use Rattle.dblog_stores.specs.Laws.{ApplyAnswersStand, OffsetsAnswersStand, TopicsAnswersStand}
+use Rattle.dblog_stores.specs.declared.listing.Listing.{Listing}
+use Rattle.dblog_stores.specs.declared.listing.Listing.TheVariants.{Rows, KeptRecords}
+use Rattle.dblog_stores.specs.Stores.{ReadAsStores}
+use Rattle.dblog_stores.specs.Answers.{LinesAnswer, AnswersListing, PrintsListing, HasNoOffset, IsNoLog, first_refused, no_log, no_offset, offset_lines, refused, topic_lines}
+use Rattle.dblog_stores.specs.Laws.{ListingAnswersStand, OffsetsAnswersStand, TopicsAnswersStand}
 
 -- ---- bytes
 
@@ -289,21 +294,32 @@ offsets_stand bytes fit =
       | inr none ↦ (Err none.0, none.1)
     ]
 
--- ---- `apply`
+-- ---- `apply` and `compact`
 
-consumed : (topics stored : List ℕ) (groups : List (List Record)) (offset : Offset) → IsLog topics groups → IsStore stored (Some offset) → (first : Option ℕ) → first_refused offset.identity.placeholder groups ≡ first → (answer : LinesAnswer) × AnswersApply topics stored answer
-consumed topics stored groups offset log store (Some index) is =
-    (Err (BadEntry Topics index), refused (record { groups = groups; offset = offset; read = record { log = log; store = store }; index = index; first = is; error_is = refl }))
-consumed topics stored groups offset log store None is =
+listing_stands : (listing : Listing) (topics stored : List ℕ) (groups : List (List Record)) (offset : Offset)
+    → ReadAsStores topics stored (record { groups = groups; offset = Some offset }) → first_refused offset.identity.placeholder groups ≡ None
+    → (lines : List (List ℕ)) × PrintsListing listing topics stored lines
+listing_stands Rows topics stored groups offset read none =
     let rows = rows_stand offset.identity.placeholder (map reading_of (map as_line (joined groups))) in
-    (Ok (map row_line rows.0), record { groups = groups; offset = offset; read = record { log = log; store = store }; taken = is; rows = rows.0; are = rows.1; lines_are = refl })
+    (map row_line rows.0, record { groups = groups; offset = offset; read = read; taken = none; rows = rows.0; are = rows.1; lines_are = refl })
+listing_stands KeptRecords topics stored groups offset read none =
+    (map line_of (kept offset.identity.placeholder (joined groups)), record { groups = groups; offset = offset; read = read; taken = none; lines_are = refl })
 
-pub apply_stands : ApplyAnswersStand
-apply_stands topics stored fit other =
+listed : (listing : Listing) (topics stored : List ℕ) (groups : List (List Record)) (offset : Offset) → IsLog topics groups → IsStore stored (Some offset)
+    → (first : Option ℕ) → first_refused offset.identity.placeholder groups ≡ first → (answer : LinesAnswer) × AnswersListing listing topics stored answer
+listed listing topics stored groups offset log store (Some index) is = (
+  Err (BadEntry Topics index),
+  refused (record { groups = groups; offset = offset; read = record { log = log; store = store }; index = index; first = is; error_is = refl }),
+)
+listed listing topics stored groups offset log store None is =
+    let found = listing_stands listing topics stored groups offset (record { log = log; store = store }) is in (Ok found.0, found.1)
+
+pub listings_stand : ListingAnswersStand
+listings_stand listing topics stored fit other =
     elim (log_stands topics fit) [
       | inr none ↦ (Err none.0, no_log none.1)
       | inl log ↦ elim (offset_stands stored other) [
         | inr none ↦ (Err none.0, no_offset log.0 log.1 none.1)
-        | inl found ↦ consumed topics stored log.0 found.0 log.1 found.1 (first_refused found.0.identity.placeholder log.0) refl
+        | inl found ↦ listed listing topics stored log.0 found.0 log.1 found.1 (first_refused found.0.identity.placeholder log.0) refl
       ]
     ]

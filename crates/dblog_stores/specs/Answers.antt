@@ -9,6 +9,7 @@ use Rattle.dbl_record.specs.Cuts.{joined}
 use Rattle.dbl_record.specs.Line.{line_of}
 use Rattle.dbl_record.specs.Reading.{as_line}
 use Rattle.dbl_consume.specs.Printing.{HeldRow, AreRowsOf, row_line}
+use Rattle.dbl_compact.specs.Kept.{kept}
 use Rattle.dbl_model_table.specs.declared.row.Key.{Key}
 use Rattle.dbl_model_table.specs.declared.table.TableInfo.{TableInfo}
 use Rattle.dbl_model_table.specs.Tables.{full_name}
@@ -21,6 +22,8 @@ use Rattle.dbl_offset.specs.Stores.{HasBadOffset, IsNoStoreAt, IsStore}
 use Rattle.dblog_stores.specs.declared.error.CommandError.{CommandError}
 use Rattle.dblog_stores.specs.declared.error.CommandError.TheVariants.{NotStarted, NotAStore, BadEntry}
 use Rattle.dblog_stores.specs.declared.error.Store.TheVariants.{Topics, Offsets}
+use Rattle.dblog_stores.specs.declared.listing.Listing.{Listing}
+use Rattle.dblog_stores.specs.declared.listing.Listing.TheVariants.{Rows, KeptRecords}
 use Rattle.dblog_stores.specs.Stores.{ReadAsStores}
 
 -- The lines to be written, or the error instead.
@@ -81,7 +84,7 @@ abbrev pub AnswersOffsets : List ℕ → LinesAnswer → Type 0
 AnswersOffsets bytes (Ok lines) = (offset : Offset) × IsStore bytes (Some offset) × (lines ≡ offset_lines offset)
 AnswersOffsets bytes (Err error) = HasNoOffset bytes error
 
--- ---- `apply`
+-- ---- `apply` and `compact`
 
 -- Whether the consumer accepts a record, with this placeholder of unsent values.
 abbrev pub accepts : List ℕ → Record → Bool
@@ -111,6 +114,14 @@ pub record PrintsConsumer (topics offsets : List ℕ) (lines : List (List ℕ)) 
   pub are : AreRowsOf (consumer offset.identity.placeholder (map as_line (joined groups))) rows
   pub lines_are : lines ≡ map row_line rows
 
+-- The lines of the records that a compaction of a topic log keeps, with the stored placeholder.
+pub record PrintsKept (topics offsets : List ℕ) (lines : List (List ℕ)) : Type 0 where
+  pub groups : List (List Record)
+  pub offset : Offset
+  pub read : ReadAsStores topics offsets (record { groups = groups; offset = Some offset })
+  pub taken : first_refused offset.identity.placeholder groups ≡ None
+  pub lines_are : lines ≡ map line_of (kept offset.identity.placeholder (joined groups))
+
 -- The first group with a record that the consumer refuses is a bad entry.
 pub record RefusesGroup (topics offsets : List ℕ) (error : CommandError) : Type 0 where
   pub groups : List (List Record)
@@ -120,13 +131,26 @@ pub record RefusesGroup (topics offsets : List ℕ) (error : CommandError) : Typ
   pub first : first_refused offset.identity.placeholder groups ≡ Some index
   pub error_is : error ≡ BadEntry Topics index
 
--- Why no rows are printed, in this order: the topic log, the offset, a record.
+-- Why nothing is listed, in this order: the topic log, the offset, a record.
 pub data AppliesNot (topics offsets : List ℕ) (error : CommandError) : Type 0 where
   no_log : IsNoLog topics error → AppliesNot topics offsets error
   no_offset : (groups : List (List Record)) → IsLog topics groups → HasNoOffset offsets error → AppliesNot topics offsets error
   refused : RefusesGroup topics offsets error → AppliesNot topics offsets error
 
--- The answer of `apply` for a topics disk and an offsets disk with these bytes.
+-- The lines of a listing of the stores that these bytes represent.
+abbrev pub PrintsListing : Listing → List ℕ → List ℕ → List (List ℕ) → Type 0
+PrintsListing Rows topics offsets lines = PrintsConsumer topics offsets lines
+PrintsListing KeptRecords topics offsets lines = PrintsKept topics offsets lines
+
+-- The answer of a command with this listing for a topics disk and an offsets disk with these bytes.
+abbrev pub AnswersListing : Listing → List ℕ → List ℕ → LinesAnswer → Type 0
+AnswersListing listing topics offsets (Ok lines) = PrintsListing listing topics offsets lines
+AnswersListing listing topics offsets (Err error) = AppliesNot topics offsets error
+
+-- The answer of `apply`.
 abbrev pub AnswersApply : List ℕ → List ℕ → LinesAnswer → Type 0
-AnswersApply topics offsets (Ok lines) = PrintsConsumer topics offsets lines
-AnswersApply topics offsets (Err error) = AppliesNot topics offsets error
+AnswersApply = AnswersListing Rows
+
+-- The answer of `compact`.
+abbrev pub AnswersCompact : List ℕ → List ℕ → LinesAnswer → Type 0
+AnswersCompact = AnswersListing KeptRecords

@@ -67,7 +67,7 @@ IsRefusal error = ⊥
 abbrev pub IsAfterJournalOpening : CommandError → Type 0
 IsAfterJournalOpening error = (store : Store) (at : ℕ) → error ≢ NotAStore store at
 
--- `apply`, which opens the topic log first, ended after it had opened the offset.
+-- A command that opens the topic log first ended after it had opened the offset.
 abbrev pub HasOpenedOffset : CommandEnd → Type 0
 HasOpenedOffset (Ok done) = Unit {0}
 HasOpenedOffset (Err OutputFailed) = Unit {0}

@@ -2,7 +2,8 @@
 use Rattle.std.specs.Prelude.{◌≡◌, ℕ, List}
 use Rattle.dbl_pgmsg.specs.Faults.{AreBytes}
 use Rattle.dblog_stores.specs.Stores.{Stores, ReadAsStores}
-use Rattle.dblog_stores.specs.Answers.{LinesAnswer, AnswersTopics, AnswersOffsets, AnswersApply}
+use Rattle.dblog_stores.specs.declared.listing.Listing.{Listing}
+use Rattle.dblog_stores.specs.Answers.{LinesAnswer, AnswersTopics, AnswersOffsets, AnswersListing}
 
 -- The contents of the disks represent one pair of stores at most.
 abbrev pub StoresAreReadOnce : Type 0
@@ -18,10 +19,10 @@ abbrev pub OffsetsAnswerOnce : Type 0
 OffsetsAnswerOnce = (bytes : List ℕ) (first second : LinesAnswer) → AnswersOffsets bytes first → AnswersOffsets bytes second
     → first ≡ second
 
--- `apply` has one answer at most.
-abbrev pub ApplyAnswersOnce : Type 0
-ApplyAnswersOnce = (topics offsets : List ℕ) (first second : LinesAnswer) → AnswersApply topics offsets first
-    → AnswersApply topics offsets second → first ≡ second
+-- `apply` and `compact` each have one answer at most.
+abbrev pub ListingAnswersOnce : Type 0
+ListingAnswersOnce = (listing : Listing) (topics offsets : List ℕ) (first second : LinesAnswer)
+    → AnswersListing listing topics offsets first → AnswersListing listing topics offsets second → first ≡ second
 
 -- `topics` has an answer for any contents of the disk.
 abbrev pub TopicsAnswersStand : Type 0
@@ -31,7 +32,7 @@ TopicsAnswersStand = (bytes : List ℕ) → AreBytes bytes → (answer : LinesAn
 abbrev pub OffsetsAnswersStand : Type 0
 OffsetsAnswersStand = (bytes : List ℕ) → AreBytes bytes → (answer : LinesAnswer) × AnswersOffsets bytes answer
 
--- `apply` has an answer for any contents of the disks.
-abbrev pub ApplyAnswersStand : Type 0
-ApplyAnswersStand = (topics offsets : List ℕ) → AreBytes topics → AreBytes offsets → (answer : LinesAnswer)
-    × AnswersApply topics offsets answer
+-- `apply` and `compact` each have an answer for any contents of the disks.
+abbrev pub ListingAnswersStand : Type 0
+ListingAnswersStand = (listing : Listing) (topics offsets : List ℕ) → AreBytes topics → AreBytes offsets → (answer : LinesAnswer)
+    × AnswersListing listing topics offsets answer

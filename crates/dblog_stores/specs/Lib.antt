@@ -4,4 +4,5 @@ pub mod Answers
 pub mod Ends
 pub mod Consuming
 pub mod Applying
+pub mod Compacting
 pub mod Laws

@@ -1,4 +1,4 @@
-//! `apply`: the rows of the state of a consumer of the topic log.
+//! `apply` and `compact`: what the topic log is to a consumer with the stored placeholder.
 ghost use Rattle.std.specs.Prelude.{◌≡◌, ◌≢◌, ◌⊎◌, ℕ, List, Ok, Err, Some, None, IfErr};
 ghost use Rattle.std.specs.Prelude.{IfSome, MatchResult, IsTrue, option_map, map};
 ghost use Rattle.dbl_base.specs.Streams.{FailsOnlyIfCounted};
@@ -9,15 +9,17 @@ ghost use Rattle.dbl_consume.specs.Holdings.{Took, placeholder_of};
 ghost use Rattle.dbl_topic.specs.Held.{HoldsGroups};
 ghost use Rattle.dbl_topic.specs.Logs.{IsLog};
 ghost use Rattle.dbl_offset.specs.declared.offset.Offset.{Offset};
-ghost use Rattle.dblog_stores.specs.Answers.{AnswersApply};
+ghost use Rattle.dblog_stores.specs.declared.listing.Listing.TheVariants.{Rows};
+ghost use Rattle.dblog_stores.specs.Answers.{AnswersListing};
 ghost use Rattle.dblog_stores.specs.Applying.{AppliesStores, AppliesGroups, PrintedRows};
 ghost use Rattle.dblog_stores.specs.Ends.{HasOpenedOffset, IsAfterJournalOpening};
 ghost use Rattle.dblog_stores.specs.Ends.{IsErrorOf, IsRefusal, IsSynced, Runs};
 ghost use Rattle.dbl_journal.specs.Calls.{Keeps};
 
+use crate::compacting::print_kept;
 use crate::consuming::consume;
 use crate::opening::{open_offsets, open_topics};
-use crate::{Applied, CommandError, Store};
+use crate::{Applied, CommandError, Listing, Store};
 use dbl_base::{Output, Text};
 use dbl_consume::Consumer;
 use dbl_disk::{Disk, Refused};
@@ -25,22 +27,23 @@ use dbl_offset::Offset;
 use dbl_topic::TopicLog;
 use std::alloc::Global;
 
-/// Writes a line for each row in the state of the consumer of the topic log, with the placeholder
-/// of the stored offset. Syncs each disk that it opens, first the topic log's.
-pub fn apply<T: Disk, F: Disk, O: Output>(
+/// Writes the lines of a listing of the topic log, with the placeholder of the stored offset. Syncs
+/// each disk that it opens, first the topic log's.
+pub fn print_listing<T: Disk, F: Disk, O: Output>(
     alloc: Global,
+    listing: Listing,
     topics: T,
     offsets: F,
     output: &mut O,
 ) -> Applied<T, F>
     // For disks with known contents, the output and the answer follow from these.
     ensures told { (t f : List ℕ) → T.seen topics ≡ Some t → F.seen offsets ≡ Some f →
-        Runs (AnswersApply t f) result.end (O.written output.old) (O.written output.new) }
+        Runs (AnswersListing listing t f) result.end (O.written output.old) (O.written output.new) }
 
     // If the topics disk has no valid log, that is the answer, and the offsets disk isn't called.
     ensures no_log { (t f : List ℕ) → T.seen topics ≡ Some t →
         ((groups : List (List Record)) → ¬ IsLog t groups) →
-        Runs (AnswersApply t f) result.end (O.written output.old) (O.written output.new) }
+        Runs (AnswersListing listing t f) result.end (O.written output.old) (O.written output.new) }
     ensures unopened { (t : List ℕ) → T.seen topics ≡ Some t →
         ((groups : List (List Record)) → ¬ IsLog t groups) → result.offsets ≡ offsets }
     ensures no_store { (at : ℕ) → result.end ≡ Err (CommandError.NotAStore Store.Topics at) →
@@ -57,7 +60,10 @@ pub fn apply<T: Disk, F: Disk, O: Output>(
         (result.end ≡ Err (CommandError.Failed Store.Topics)) topics result.topics }
     ensures keeps_offsets { Keeps F.Disk
         (result.end ≡ Err (CommandError.Failed Store.Offsets)) offsets result.offsets }
-    ensures unwritten { IfErr result.end (λ error. IsRefusal error → output.new ≡ output.old) }
+    ensures unwritten { listing ≡ Rows →
+        IfErr result.end (λ error. IsRefusal error → output.new ≡ output.old) }
+    ensures known_unwritten { (t f : List ℕ) → T.seen topics ≡ Some t → F.seen offsets ≡ Some f →
+        IfErr result.end (λ error. IsRefusal error → output.new ≡ output.old) }
     ensures output { FailsOnlyIfCounted (result.end ≡ Err CommandError.OutputFailed)
         (O.faults output.old) (O.faults output.new) }
 {
@@ -73,7 +79,7 @@ pub fn apply<T: Disk, F: Disk, O: Output>(
     };
     match open_offsets(alloc, offsets) {
         Ok(store) => {
-            let end = print_consumer(alloc, &mut log, store.load(), output);
+            let end = print_stored(alloc, listing, &mut log, store.load(), output);
             Applied {
                 topics: log.into_disk(),
                 offsets: store.into_disk(),
@@ -88,15 +94,16 @@ pub fn apply<T: Disk, F: Disk, O: Output>(
     }
 }
 
-fn print_consumer<D: Disk, O: Output>(
+fn print_stored<D: Disk, O: Output>(
     alloc: Global,
+    listing: Listing,
     log: &mut TopicLog<D>,
     loaded: Option<&Offset>,
     output: &mut O,
 ) -> Result<(), CommandError>
     requires { IsTrue log.old.live }
     ensures told { (groups : List (List Record)) → HoldsGroups D.Disk log.old groups →
-        AppliesStores groups (option_map (λ offset. offset.now) loaded.entry) result
+        AppliesStores listing groups (option_map (λ offset. offset.now) loaded.entry) result
         (O.written output.old) (O.written output.new) }
     ensures keeps { Keeps D.Disk
         (result ≡ Err (CommandError.Failed Store.Topics)) log.old.disk log.new.disk }
@@ -104,13 +111,47 @@ fn print_consumer<D: Disk, O: Output>(
         (λ error. (error ≡ CommandError.OutputFailed) ⊎
         ((error ≡ CommandError.NotStarted) ⊎ IsErrorOf Store.Topics error)) }
     ensures a_store { IfErr result IsAfterJournalOpening }
-    ensures unwritten { IfErr result (λ error. IsRefusal error → output.new ≡ output.old) }
+    ensures unwritten { listing ≡ Rows →
+        IfErr result (λ error. IsRefusal error → output.new ≡ output.old) }
+    ensures known_unwritten { (groups : List (List Record)) →
+        HoldsGroups D.Disk log.old groups →
+        IfErr result (λ error. IsRefusal error → output.new ≡ output.old) }
     ensures output { FailsOnlyIfCounted (result ≡ Err CommandError.OutputFailed)
         (O.faults output.old) (O.faults output.new) }
 {
     match loaded {
-        Some(offset) => print_groups(alloc, log, &offset.identity.placeholder, output),
+        Some(offset) => print_listed(alloc, listing, log, &offset.identity.placeholder, output),
         None => Err(CommandError::NotStarted),
+    }
+}
+
+fn print_listed<D: Disk, O: Output>(
+    alloc: Global,
+    listing: Listing,
+    log: &mut TopicLog<D>,
+    placeholder: &Text,
+    output: &mut O,
+) -> Result<(), CommandError>
+    requires { IsTrue log.old.live }
+    ensures told { (groups : List (List Record)) → HoldsGroups D.Disk log.old groups →
+        AppliesGroups listing placeholder.now groups result
+        (O.written output.old) (O.written output.new) }
+    ensures keeps { Keeps D.Disk
+        (result ≡ Err (CommandError.Failed Store.Topics)) log.old.disk log.new.disk }
+    ensures kinds { IfErr result
+        (λ error. (error ≡ CommandError.OutputFailed) ⊎ IsErrorOf Store.Topics error) }
+    ensures a_store { IfErr result IsAfterJournalOpening }
+    ensures unwritten { listing ≡ Rows →
+        IfErr result (λ error. IsRefusal error → output.new ≡ output.old) }
+    ensures known_unwritten { (groups : List (List Record)) →
+        HoldsGroups D.Disk log.old groups →
+        IfErr result (λ error. IsRefusal error → output.new ≡ output.old) }
+    ensures output { FailsOnlyIfCounted (result ≡ Err CommandError.OutputFailed)
+        (O.faults output.old) (O.faults output.new) }
+{
+    match listing {
+        Listing::Rows => print_groups(alloc, log, placeholder, output),
+        Listing::KeptRecords => print_kept(alloc, log, placeholder, output),
     }
 }
 
@@ -122,7 +163,8 @@ fn print_groups<D: Disk, O: Output>(
 ) -> Result<(), CommandError>
     requires { IsTrue log.old.live }
     ensures told { (groups : List (List Record)) → HoldsGroups D.Disk log.old groups →
-        AppliesGroups placeholder.now groups result (O.written output.old) (O.written output.new) }
+        AppliesGroups Rows placeholder.now groups result
+        (O.written output.old) (O.written output.new) }
     ensures keeps { Keeps D.Disk
         (result ≡ Err (CommandError.Failed Store.Topics)) log.old.disk log.new.disk }
     ensures kinds { IfErr result

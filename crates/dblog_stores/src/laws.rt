@@ -7,7 +7,7 @@ ghost use Rattle.dbl_topic.specs.Held.{HoldsGroups};
 ghost use Rattle.dbl_offset.specs.declared.offset.Offset.{Offset};
 ghost use Rattle.dbl_offset.specs.Stores.{HoldsOffset, StoreOn, disk_of};
 ghost use Rattle.dblog_stores.specs.Stores.{ReadAsStores};
-ghost use Rattle.dblog_stores.specs.Laws.{ApplyAnswersOnce, ApplyAnswersStand, OffsetsAnswerOnce};
+ghost use Rattle.dblog_stores.specs.Laws.{ListingAnswersOnce, ListingAnswersStand, OffsetsAnswerOnce};
 ghost use Rattle.dblog_stores.specs.Laws.{OffsetsAnswersStand, StoresAreReadOnce, TopicsAnswerOnce};
 ghost use Rattle.dblog_stores.specs.Laws.{TopicsAnswersStand};
 
@@ -30,12 +30,12 @@ pub fn held_stores_are_read<T: Disk, F: Disk>()
 pub fn answers_are_one()
     ensures topics { TopicsAnswerOnce }
     ensures offsets { OffsetsAnswerOnce }
-    ensures apply { ApplyAnswersOnce }
+    ensures listing { ListingAnswersOnce }
 {}
 
 /// Each of these commands has an answer, for any contents of their disks.
 pub fn answers_stand()
     ensures topics { TopicsAnswersStand }
     ensures offsets { OffsetsAnswersStand }
-    ensures apply { ApplyAnswersStand }
+    ensures listing { ListingAnswersStand }
 {}

@@ -2,7 +2,7 @@ use Rattle.std.proofs.Common.{◌≡◌, ◌∙◌, ℕ, List, true, false, inl,
 use Rattle.dbl_cli.specs.declared.commands.Command.{Command}
 use Rattle.dbl_cli.specs.declared.commands.Command.TheVariants as command
 use Rattle.dbl_base.specs.Streams.{FaultCounted}
-use Rattle.dblog_stores.specs.Answers.{AnswersApply, AnswersOffsets, AnswersTopics}
+use Rattle.dblog_stores.specs.Answers.{AnswersApply, AnswersCompact, AnswersOffsets, AnswersTopics}
 use Rattle.dblog_capture.specs.Connect.declared.asked.Asked.{Asked}
 use Rattle.dblog_capture.specs.Connect.declared.asked.Asked.TheVariants.{First, Again}
 use Rattle.dblog_run.specs.Disks.{OfDisk}
@@ -34,11 +34,20 @@ pub returns-in-Apply-clause-told : goal.returns-in-Apply-clause-told
 returns-in-Apply-clause-told g c = λ given none told.
     let here = c.in-Apply in
     let is = here.is ∙ ap (λ l. command.Apply l here.placeholder) here.lines-test in
-    let left = c.run_apply.result in
+    let left = c.run_listing.result in
     let topics : Type 0 = FaultCounted (g.T.Disk.faults c.args.disks.topics) (g.T.Disk.faults left.disks.topics) in
     let offsets : Type 0 = FaultCounted (g.F.Disk.faults c.args.disks.offsets) (g.F.Disk.faults left.disks.offsets) in
     inl (stores_command c.args.command (command.Apply false here.placeholder) c.args.now_ms.now given (AnswersApply given.topics given.offsets) (OfDisk topics offsets) (OfDisk ((uses_topics c.args.command ≡ true) × topics) ((uses_offsets c.args.command ≡ true) × offsets)) left.end _ _ is (both_opened _ _ topics offsets (ap uses_topics is) (ap uses_offsets is)) (λ answer means. means) (λ answer means. means)
-    (c.run_apply.ensures.told given.topics given.offsets (told.topics_are (ap uses_topics is)) (rows_offsets c.args.command given.topics _ (told.offsets_are (ap uses_offsets is)))))
+    (c.run_listing.ensures.told given.topics given.offsets (told.topics_are (ap uses_topics is)) (rows_offsets c.args.command given.topics _ (told.offsets_are (ap uses_offsets is)))))
+
+pub returns-in-Compact-clause-told : goal.returns-in-Compact-clause-told
+returns-in-Compact-clause-told g c = λ given none told.
+    let is = c.in-Compact.is in
+    let left = c.run_listing-in-Compact.result in
+    let topics : Type 0 = FaultCounted (g.T.Disk.faults c.args.disks.topics) (g.T.Disk.faults left.disks.topics) in
+    let offsets : Type 0 = FaultCounted (g.F.Disk.faults c.args.disks.offsets) (g.F.Disk.faults left.disks.offsets) in
+    inl (stores_command c.args.command command.Compact c.args.now_ms.now given (AnswersCompact given.topics given.offsets) (OfDisk topics offsets) (OfDisk ((uses_topics c.args.command ≡ true) × topics) ((uses_offsets c.args.command ≡ true) × offsets)) left.end _ _ is (both_opened _ _ topics offsets (ap uses_topics is) (ap uses_offsets is)) (λ answer means. means) (λ answer means. means)
+    (c.run_listing-in-Compact.ensures.told given.topics given.offsets (told.topics_are (ap uses_topics is)) (rows_offsets c.args.command given.topics _ (told.offsets_are (ap uses_offsets is)))))
 
 pub returns-else-is_run-clause-told : goal.returns-else-is_run-clause-told
 returns-else-is_run-clause-told g c = λ given none told.
@@ -116,6 +125,9 @@ returns-in-Apply-true-default-clause-generated g c = λ number rows groups is. a
 pub returns-in-Apply-clause-generated : goal.returns-in-Apply-clause-generated
 returns-in-Apply-clause-generated g c = λ number rows groups is. absurd (ungenerated c.args.command number rows groups (ap generates c.in-Apply.is) is)
 
+pub returns-in-Compact-clause-generated : goal.returns-in-Compact-clause-generated
+returns-in-Compact-clause-generated g c = λ number rows groups is. absurd (ungenerated c.args.command number rows groups (ap generates c.in-Compact.is) is)
+
 pub returns-else-is_run-clause-generated : goal.returns-else-is_run-clause-generated
 returns-else-is_run-clause-generated g c = λ number rows groups is. absurd (ungenerated c.args.command number rows groups (ap generates c.in-Gen.is ∙ c.if-is_run.false) is)
 
@@ -165,6 +177,9 @@ returns-in-Apply-true-default-clause-connected g c = λ asked is. absurd (unaske
 pub returns-in-Apply-clause-connected : goal.returns-in-Apply-clause-connected
 returns-in-Apply-clause-connected g c = λ asked is. absurd (unasked c.args.command asked (ap asked_by c.in-Apply.is) is)
 
+pub returns-in-Compact-clause-connected : goal.returns-in-Compact-clause-connected
+returns-in-Compact-clause-connected g c = λ asked is. absurd (unasked c.args.command asked (ap asked_by c.in-Compact.is) is)
+
 pub returns-then-is_run-clause-connected : goal.returns-then-is_run-clause-connected
 returns-then-is_run-clause-connected g c = λ asked is. absurd (unasked c.args.command asked (ap asked_by c.in-Gen.is) is)
 
@@ -189,4 +204,9 @@ pub returns-in-Apply-clause-offsets_synced : goal.returns-in-Apply-clause-offset
 returns-in-Apply-clause-offsets_synced g c = λ opens opened.
     let here = c.in-Apply in
     let is = here.is ∙ ap (λ l. command.Apply l here.placeholder) here.lines-test in
-    c.run_apply.ensures.offsets_synced (told_rows c.args.command c.run_apply.result.end (ap opens_topics is) opened)
+    c.run_listing.ensures.offsets_synced (told_rows c.args.command c.run_listing.result.end (ap opens_topics is) opened)
+
+pub returns-in-Compact-clause-offsets_synced : goal.returns-in-Compact-clause-offsets_synced
+returns-in-Compact-clause-offsets_synced g c = λ opens opened.
+    let is = c.in-Compact.is in
+    c.run_listing-in-Compact.ensures.offsets_synced (told_rows c.args.command c.run_listing-in-Compact.result.end (ap opens_topics is) opened)

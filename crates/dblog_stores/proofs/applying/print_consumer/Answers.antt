@@ -1,4 +1,0 @@
-use Rattle.dblog_stores.proofs.applying.print_consumer.Goals as goal
-
-pub returns-in-Some-clause-told : goal.returns-in-Some-clause-told
-returns-in-Some-clause-told g c groups held = rw c.in-Some.is (c.print_groups.ensures.told groups held)

@@ -1,0 +1,8 @@
+/// What a command over the topic log and the offset prints.
+#[derive(Clone, Copy, Debug, PartialEq, Eq)]
+pub enum Listing {
+    /// `apply`: a line for each row in the state of the consumer of the topic log.
+    Rows,
+    /// `compact`: the line of each record that a compaction of the topic log keeps.
+    KeptRecords,
+}

@@ -99,6 +99,31 @@ fn write_all<F: Write>(file: &mut F, faults: &mut u64, bytes: &[u8]) -> Result<(
     Err(count(faults))
 }
 
+fn read_from<F: Read + Seek>(
+    file: &mut F,
+    faults: &mut u64,
+    at: u64,
+    buffer: &mut [u8],
+) -> Result<usize, Failed>
+    ensures bound { IfOk result (λ n. n ≤ length buffer.old) }
+    ensures cause { FailsOnlyIfCounted (IsErr result) faults.old faults.new }
+{
+    count_fault(file.seek(SeekFrom::Start(at)), faults)?;
+    read_all(file, faults, buffer)
+}
+
+fn write_from<F: Write + Seek>(
+    file: &mut F,
+    faults: &mut u64,
+    at: u64,
+    bytes: &[u8],
+) -> Result<(), Failed>
+    ensures cause { FailsOnlyIfCounted (IsErr result) faults.old faults.new }
+{
+    count_fault(file.seek(SeekFrom::Start(at)), faults)?;
+    write_all(file, faults, bytes)
+}
+
 impl<'a, R: Files> FileDisk<'a, R> {
     /// Makes a disk over the file at this path. The disk's value in contracts is its fault count.
     pub fn make(files: &'a R, path: &'a str) -> FileDisk<'a, R>
@@ -112,14 +137,14 @@ impl<'a, R: Files> FileDisk<'a, R> {
         }
     }
 
-    // Takes the open file out; the caller returns it.
-    fn take_file(&mut self) -> Result<R::File, Failed>
+    // Opens the file, unless it is open.
+    fn open(&mut self) -> Result<(), Failed>
         ensures cause { FailsOnlyIfCounted (IsErr result) self.old self.new }
     {
-        match self.file.take() {
-            Some(file) => Ok(file),
-            None => count_fault(open(self.files, self.path), &mut self.faults),
+        if self.file.is_none() {
+            self.file = Some(count_fault(open(self.files, self.path), &mut self.faults)?);
         }
+        Ok(())
     }
 }
 
@@ -137,10 +162,11 @@ impl<'a, R: Files> Disk for FileDisk<'a, R> {
     ghost seen_may_be_left = { λ d bytes told. tt };
 
     fn len(&mut self) -> Result<u64, Failed> {
-        let file = self.take_file()?;
-        let metadata = count_fault(file.metadata(), &mut self.faults);
-        self.file = Some(file);
-        let length = metadata?.len();
+        self.open()?;
+        let length = match &self.file {
+            Some(file) => count_fault(file.metadata(), &mut self.faults)?.len(),
+            None => return Err(count(&mut self.faults)),
+        };
         if length >= DISK_LIMIT {
             return Err(count(&mut self.faults));
         }
@@ -148,32 +174,29 @@ impl<'a, R: Files> Disk for FileDisk<'a, R> {
     }
 
     fn read_at(&mut self, at: u64, buffer: &mut [u8]) -> Result<usize, Failed> {
-        let mut file = self.take_file()?;
-        let result = match count_fault(file.seek(SeekFrom::Start(at)), &mut self.faults) {
-            Ok(_) => read_all(&mut file, &mut self.faults, buffer),
-            Err(failed) => Err(failed),
-        };
-        self.file = Some(file);
-        result
+        self.open()?;
+        match &mut self.file {
+            Some(file) => read_from(file, &mut self.faults, at, buffer),
+            None => Err(count(&mut self.faults)),
+        }
     }
 
     fn write_at(&mut self, at: u64, bytes: &[u8]) -> Result<(), Failed> {
         if at >= DISK_LIMIT || bytes.len() as u64 >= DISK_LIMIT - at {
             return Err(count(&mut self.faults));
         }
-        let mut file = self.take_file()?;
-        let result = match count_fault(file.seek(SeekFrom::Start(at)), &mut self.faults) {
-            Ok(_) => write_all(&mut file, &mut self.faults, bytes),
-            Err(failed) => Err(failed),
-        };
-        self.file = Some(file);
-        result
+        self.open()?;
+        match &mut self.file {
+            Some(file) => write_from(file, &mut self.faults, at, bytes),
+            None => Err(count(&mut self.faults)),
+        }
     }
 
     fn sync(&mut self) -> Result<(), Failed> {
-        let file = self.take_file()?;
-        let result = count_fault(file.sync_all(), &mut self.faults);
-        self.file = Some(file);
-        result
+        self.open()?;
+        match &self.file {
+            Some(file) => count_fault(file.sync_all(), &mut self.faults),
+            None => Err(count(&mut self.faults)),
+        }
     }
 }

@@ -14,6 +14,7 @@ use Rattle.dbl_capture_work.specs.SourceModel.Calls.{Moved, IsConfirmed}
 use Rattle.dbl_capture_work.specs.Offset.declared.offset.Offset.{Offset}
 use Rattle.dbl_capture_work.specs.Offset.Stores.{StoreOn, HoldsOffset, IsStore, LeavesOffset, disk_of}
 use Rattle.dbl_capture_work.specs.Faithful.Kept.{HasGrown}
+use Rattle.dbl_capture_work.proofs.OffsetStoreLaws.{store_of}
 use Rattle.dbl_capture_work.proofs.WindowHonestLemmas.{captured_stays}
 use Rattle.dbl_capture_work.specs.CaptureModel.Entries.{SessionStart, WasFaithful}
 use Rattle.dbl_capture_work.specs.CaptureModel.Stages.{Stage, next_offset}
@@ -58,11 +59,9 @@ on_err (Err e) P p = p
 
 -- a store that holds an offset leaves it
 pub held_left : {D : Type 0} (model : DiskModel D) (store : StoreOn D) (offset : Option Offset) → HoldsOffset model store offset → LeavesOffset model (disk_of store) (λ left. left ≡ offset)
-held_left model store offset held crashed may = (
-  offset,
-  subst (λ (i : List ℕ). IsStore i offset) (sym (held.lists.only crashed may)) (record { entries = held.entries; journal = held.lists.spelled; each = held.each; last = held.last }),
-  refl,
-)
+held_left model store offset held crashed may =
+    let stores = store_of model store offset held in
+    (offset, subst (λ (i : List ℕ). IsStore i offset) (sym (stores.only crashed may)) stores.is, refl)
 
 pub left_weaker : {D : Type 0} (model : DiskModel D) (disk : D) (P Q : Option Offset → Type 0) → LeavesOffset model disk P → ((offset : Option Offset) → P offset → Q offset) → LeavesOffset model disk Q
 left_weaker model disk P Q leaves weaker crashed may = let found = leaves crashed may in (found.0, found.1, weaker found.0 found.2)

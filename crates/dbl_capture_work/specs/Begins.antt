@@ -2,7 +2,6 @@
 use Rattle.std.specs.Prelude.{◌≡◌, ◌⊎◌, ℕ, ◌+◌, ◌^◌, ◌<◌, ◌≤◌, Option, Some, None, List, ◌∷◌, ◌++◌, length, map}
 use Rattle.std.specs.List.{AllByRecursion}
 use Rattle.dbl_base.specs.declared.lsn.Lsn.{Lsn}
-use Rattle.dbl_journal.specs.Form.{entry_limit}
 use Rattle.dbl_model_table.specs.declared.config.Config.{Config}
 use Rattle.dbl_model_table.specs.declared.table.TableName.{TableName}
 use Rattle.dbl_model_table.specs.declared.table.RawTable.{RawTable}
@@ -18,7 +17,7 @@ use Rattle.dbl_source_model.specs.Standings.{SourceState, CrashState, left_of}
 use Rattle.dbl_source_model.specs.Trace.{Trace, Described}
 use Rattle.dbl_offset.specs.declared.offset.Offset.{Offset}
 use Rattle.dbl_offset.specs.Entries.{offset_bytes_form}
-use Rattle.dbl_offset.specs.Measures.{capped}
+use Rattle.dbl_offset.specs.Measures.{capped, offset_limit}
 use Rattle.dbl_capture_model.specs.Faithful.Lag.{IsUnread}
 use Rattle.dbl_capture_work.specs.declared.halt.Halt.{Halt}
 use Rattle.dbl_capture_work.specs.declared.halt.Halt.TheVariants as halt
@@ -115,9 +114,9 @@ IsOffsetFor config (Some stored) offset = offset ≡ record stored { incarnation
 
 -- ---- other errors
 
--- The encoding of the offset is too long for an entry of the journal, and the error has its length.
+-- The encoding of the offset is longer than the limit, and the error has its length.
 pub record IsTooLong (offset : Offset) (h : Halt) : Type 0 where
-  pub long : entry_limit < length (offset_bytes_form offset)
+  pub long : offset_limit < length (offset_bytes_form offset)
   pub is : h ≡ halt.OffsetTooLong (capped (length (offset_bytes_form offset)))
 
 -- The error says that the log after this LSN is gone.

@@ -3,7 +3,6 @@
 ghost use Rattle.std.specs.Prelude.{◌≡◌, ◌≢◌, ◌⊎◌, ◌^◌, ◌<◌, ◌≤◌, ◌∷◌, [], Contains, Option, None};
 ghost use Rattle.std.specs.Prelude.{Some, IfOk, IfErr, IfSome, IsTrue, OnOk, OnErr, length, map};
 ghost use Rattle.dbl_base.specs.Streams.{FailsOnlyIfCounted};
-ghost use Rattle.dbl_journal.specs.Form.{entry_limit};
 ghost use Rattle.dbl_model_table.specs.Configs.{IsGoodConfig};
 ghost use Rattle.dbl_model_history.specs.Fit.{AreInfosOf};
 ghost use Rattle.dbl_source_model.specs.Standings.{SourceState, MovesTo};
@@ -12,7 +11,7 @@ ghost use Rattle.dbl_source_model.specs.Leaves.{Leaves, LeavesSome, MayFollow};
 ghost use Rattle.dbl_source_model.specs.Trace.{Began, Head, IsTakenBy, IsTakenAnew, LastAnswerIs};
 ghost use Rattle.dbl_offset.specs.declared.offset.Offset.{Offset as SpecOffset};
 ghost use Rattle.dbl_offset.specs.Entries.{offset_bytes_form};
-ghost use Rattle.dbl_offset.specs.Measures.{capped};
+ghost use Rattle.dbl_offset.specs.Measures.{capped, offset_limit};
 ghost use Rattle.dbl_offset.specs.Offsets.{IsOffset};
 ghost use Rattle.dbl_offset.specs.Stores.{ExtendsOffsets, HoldsOffset};
 ghost use Rattle.dbl_offset.specs.Stores.{IsLive, LeavesOffset, disk_of};
@@ -207,7 +206,7 @@ pub fn put_offset<D: Disk>(
     ensures live { OnOk result (IsLive store.new) }
     ensures halt { IfErr result (λ h. (h ≡ Halt.Memory) ⊎ ((h ≡ Halt.Offsets)
         ⊎ IsTooLong offset h)) }
-    ensures long { entry_limit < length (offset_bytes_form offset) →
+    ensures long { offset_limit < length (offset_bytes_form offset) →
         result ≡ Err (Halt.OffsetTooLong (capped (length (offset_bytes_form offset)))) }
     ensures cause { FailsOnlyIfCounted (result ≡ Err Halt.Offsets)
         (D.faults (disk_of store.old)) (D.faults (disk_of store.new)) }

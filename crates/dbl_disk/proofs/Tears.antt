@@ -55,6 +55,13 @@ module _ (old : List ℕ) (at : ℕ) (bytes : List ℕ) where
       ∙ get_or-drop (at + length bytes) old (place - (at + length bytes)) 0
       ∙ ap (λ (n : ℕ). get_or old n 0) (omega arith)
 
+  pub inside_written : (j : ℕ) → j < length bytes → get_or (written old at bytes) (at + j) 0 ≡ get_or bytes j 0
+  unfolding front pad back
+  inside_written j below =
+      get_or_append_left front back 0 (at + j) (omega (arith, front_long))
+      ∙ get_or-append_right (take at pad) bytes at (at + j) 0 head_long (omega arith)
+      ∙ ap (λ (n : ℕ). get_or bytes n 0) (omega arith)
+
   pub torn_written : Torn at (length bytes) old (written old at bytes)
   torn_written = record {
     kept = λ place within outside. elim (aside (record { at = at; length = length bytes }) place outside) [

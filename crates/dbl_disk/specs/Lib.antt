@@ -2,3 +2,4 @@ pub mod Disks
 pub mod Fuse
 pub mod Memory
 pub mod Model
+pub mod Calls

@@ -4,4 +4,3 @@ pub mod Crashes
 pub mod Reading
 pub mod Scans
 pub mod Tears
-pub mod Calls

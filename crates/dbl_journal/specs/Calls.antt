@@ -1,31 +1,9 @@
--- The state of the disk after a call of a store.
-use Rattle.std.specs.Prelude.{◌≡◌, ℕ, ◌≤◌, Some, List, [], length, false}
-use Rattle.dbl_base.specs.Streams.{FaultCounted}
+-- The state of the disk after a call of a journal.
+pub use Rattle.dbl_disk.specs.Calls.{Keeps, Makes}
+use Rattle.dbl_disk.specs.Calls.{WritesDisk}
 use Rattle.dbl_disk.specs.Model.{DiskModel}
-use Rattle.dbl_journal.specs.Stored.{IsSteady, OnDisk}
+use Rattle.dbl_journal.specs.Stored.{OnDisk}
 
--- The effect of making a store on an empty disk: the disk then has at most this many bytes, and a failure is reported only if the fault
--- count rose, for a disk with known contents if and only if.
-pub record Makes {D : Type 0} (model : DiskModel D) (most : ℕ) (failed : Type 0) (old new : D) : Type 0 where
-  pub small : (bytes : List ℕ) → model.seen old ≡ Some [] → model.seen new ≡ Some bytes → length bytes ≤ most
-  pub later : model.faults old ≤ model.faults new
-  pub cause : failed → FaultCounted (model.faults old) (model.faults new)
-  pub steady : ¬ failed → IsSteady model old new
-
--- The effect of opening or reading on a disk: a read returns the same, a crash leaves nothing new, and a failure is reported only if the
--- fault count rose, for a disk with known contents if and only if.
-pub record Keeps {D : Type 0} (model : DiskModel D) (failed : Type 0) (old new : D) : Type 0 where
-  pub same : model.seen new ≡ model.seen old
-  pub crash : (crashed : List ℕ) → model.may_leave new crashed → model.may_leave old crashed
-  pub later : model.faults old ≤ model.faults new
-  pub cause : failed → FaultCounted (model.faults old) (model.faults new)
-  pub steady : ¬ failed → IsSteady model old new
-
--- The effect of an append on a journal: its contents stay known, and a failure, after which it is no longer usable, is reported only if the
--- fault count rose, for a disk with known contents if and only if.
-pub record PutLeaves {D : Type 0} (model : DiskModel D) (failed : Type 0) (old new : OnDisk D) : Type 0 where
-  pub told : (bytes : List ℕ) → model.seen old.disk ≡ Some bytes → (now : List ℕ) × (model.seen new.disk ≡ Some now)
-  pub later : model.faults old.disk ≤ model.faults new.disk
-  pub cause : failed → FaultCounted (model.faults old.disk) (model.faults new.disk)
-  pub dead : failed → new.live ≡ false
-  pub steady : ¬ failed → IsSteady model old.disk new.disk
+-- the effect of an append on a journal's disk, by whether the call failed
+abbrev pub PutLeaves : {D : Type 0} → DiskModel D → Type 0 → OnDisk D → OnDisk D → Type 0
+PutLeaves model failed old new = WritesDisk model failed old.disk new.disk new.live

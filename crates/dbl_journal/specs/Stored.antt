@@ -1,5 +1,6 @@
 -- A journal on a disk.
 use Rattle.std.specs.Prelude.{◌≡◌, ℕ, ◌+◌, ◌<◌, ◌≤◌, Bool, IsTrue, Some, List, [], ◌∷◌, length}
+pub use Rattle.dbl_disk.specs.Calls.{IsSteady}
 use Rattle.dbl_disk.specs.Disks.{IsOnly, disk_limit}
 use Rattle.dbl_disk.specs.Model.{DiskModel}
 use Rattle.dbl_disk.specs.declared.extent.Extent.{Extent}
@@ -35,10 +36,6 @@ pub record Lists {D : Type 0} (model : DiskModel D) (journal : OnDisk D) (entrie
   pub spelled : IsJournal bytes entries
   pub gate : journal.gate ≡ length (up_to_gate entries)
   pub places : journal.places ≡ places_from 8 entries
-
--- for a disk with known contents the fault count hasn't risen: no call failed and was retried
-abbrev pub IsSteady : {D : Type 0} → DiskModel D → D → D → Type 0
-IsSteady model old new = (bytes : List ℕ) → model.seen old ≡ Some bytes → model.faults new ≡ model.faults old
 
 -- a crash may leave a journal of these entries
 abbrev pub MayLeaveEntries : {D : Type 0} → DiskModel D → D → List (List ℕ) → Type 0

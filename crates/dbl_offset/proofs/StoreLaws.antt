@@ -1,24 +1,26 @@
 -- Stores: what their bytes are read as, and what a crash leaves of them.
-use Rattle.std.proofs.Common.{◌≡◌, ◌⊎◌, ◌∙◌, ℕ, ◌+◌, ◌^◌, ◌<◌, ◌≤◌, Option, Some, None, Result, Err, List, [], ◌∷◌, ◌++◌, length, take, refl, sym, ap, subst, arith, inl, inr}
+use Rattle.std.proofs.Common.{◌≡◌, ◌⊎◌, ◌∙◌, ℕ, ◌+◌, ◌^◌, ◌<◌, ◌≤◌, Option, Some, None, Result, Err, List, [], ◌∷◌, ◌++◌, length, take, refl, sym, ap, subst}
+use Rattle.std.proofs.Common.{arith, inl, inr, length-append}
 use Rattle.std.specs.Prelude.{max, slice_get}
-use Rattle.std.specs.List.{All}
+use Rattle.std.specs.List.{All, flat_map}
 use Rattle.std.proofs.lemmas.List.{length-take, get_or-take, take_more, take_all}
 use Rattle.std.proofs.lemmas.List.Elements.{All-get_or, All-push}
 use Rattle.std.proofs.lemmas.Bool.{cases_lt}
 use Rattle.std.proofs.lemmas.Option.{slice_get_within, get_or_from_slice_get}
 use Rattle.dbl_disk.specs.Model.{DiskModel}
-use Rattle.dbl_journal.specs.Form.{IsJournal, IsFaultAt, up_to_gate}
+use Rattle.dbl_journal.specs.Form.{IsClosed, IsJournal, frame, magic, up_to_gate}
 use Rattle.dbl_journal.specs.Stored.{LeavesEntries, size}
-use Rattle.dbl_journal.proofs.Appends.{length-up_to_gate-push}
+use Rattle.dbl_journal.proofs.Appends.{length-body, length-magic, length-up_to_gate-push}
 use Rattle.dbl_journal.proofs.Growth.{grown_from}
-use Rattle.dbl_journal.proofs.Reading.{one_journal, journal_or_fault}
+use Rattle.dbl_journal.proofs.Reading.{one_fault, one_journal, journal_or_fault}
 use Rattle.dbl_journal.specs.declared.error.JournalError.{JournalError}
 use Rattle.dbl_journal.specs.declared.error.JournalError.TheVariants as journal_error
 use Rattle.dbl_offset.specs.declared.offset.Offset.{Offset}
 use Rattle.dbl_offset.specs.declared.error.OffsetError.{OffsetError}
 use Rattle.dbl_offset.specs.declared.error.OffsetError.TheVariants as error
 use Rattle.dbl_offset.specs.Offsets.{EncodesOffset, IsOffsetEntry}
-use Rattle.dbl_offset.specs.Stores.{ExtendsOffsets, Counts, HasBadOffset, HoldsOffset, IsLastOf, IsStore, LeavesOffset, StoreOn, as_offset_error}
+use Rattle.dbl_offset.specs.Stores.{BeginsTorn, ExtendsOffsets, Counts, HasBadOffset, HoldsOffset, IsLastOf, IsNoStoreAt, IsStore, LeavesOffset, StoreOn}
+use Rattle.dbl_offset.specs.Stores.{StoresOffset, as_offset_error, disk_of}
 use Rattle.dbl_offset.proofs.OffsetLaws.{one_offset}
 
 -- ---- last entries
@@ -61,11 +63,14 @@ no_bad_offset bytes offset index store bad =
     let same : store.entries ≡ bad.entries = one_journal bytes store.entries bad.entries store.journal bad.journal in
     bad.bad (at_place bad.entries index bad.entry bad.there (subst (λ (l : List (List ℕ)). All IsOffsetEntry l) same store.each))
 
-pub no_fault : (bytes : List ℕ) (offset : Option Offset) (at : ℕ) → IsStore bytes offset → IsFaultAt bytes at → ⊥
-no_fault bytes offset at store fault = journal_or_fault bytes store.entries at store.journal fault
+pub no_fault : (bytes : List ℕ) (offset : Option Offset) (at : ℕ) → IsStore bytes offset → IsNoStoreAt bytes at → ⊥
+no_fault bytes offset at store none = journal_or_fault bytes store.entries at store.journal none.fault
 
-pub not_both : (bytes : List ℕ) (at index : ℕ) → IsFaultAt bytes at → HasBadOffset bytes index → ⊥
-not_both bytes at index fault bad = journal_or_fault bytes bad.entries at bad.journal fault
+pub not_both : (bytes : List ℕ) (at index : ℕ) → IsNoStoreAt bytes at → HasBadOffset bytes index → ⊥
+not_both bytes at index none bad = journal_or_fault bytes bad.entries at bad.journal none.fault
+
+pub one_no_store : (bytes : List ℕ) (first second : ℕ) → IsNoStoreAt bytes first → IsNoStoreAt bytes second → first ≡ second
+one_no_store bytes first second a b = one_fault bytes first second a.fault b.fault
 
 not_before : (bytes : List ℕ) (m n : ℕ) → HasBadOffset bytes m → HasBadOffset bytes n → m < n → ⊥
 not_before bytes m n first second lt =
@@ -81,6 +86,57 @@ one_bad_offset bytes m n first second =
         | inr ge ↦ omega arith
       ]
     ]
+
+-- ---- bytes with which a store begins
+
+closed_some : (first rest : List ℕ) → IsClosed rest → 1 ≤ length (first ++ rest)
+closed_some first [] closed = absurd closed
+closed_some first (gate ∷ rest) closed = omega (arith, length-append first (gate ∷ rest))
+
+pub nothing_is_no_store : (offset : Option Offset) → IsStore [] offset → ⊥
+nothing_is_no_store offset store =
+    let some = closed_some (up_to_gate store.entries) store.journal.rest store.journal.closed in
+    let none : 0 ≡ length (up_to_gate store.entries ++ store.journal.rest) = ap length store.journal.spelled in
+    omega (arith, some, none)
+
+-- an entry takes more bytes than a store without one
+entry_long : (entry : List ℕ) (entries : List (List ℕ)) → 10 ≤ length (up_to_gate (entry ∷ entries))
+unfolding up_to_gate
+entry_long entry entries =
+    omega (arith, length-append magic (flat_map frame (entry ∷ entries)), length-append (frame entry) (flat_map frame entries), length-body entry, length-magic)
+
+few_entries : (entries : List (List ℕ)) (rest bytes : List ℕ) → bytes ≡ up_to_gate entries ++ rest → length bytes ≤ 9 → entries ≡ []
+few_entries [] rest bytes is few = refl
+few_entries (entry ∷ entries) rest bytes is few =
+    let long = entry_long entry entries in
+    let sum = length-append (up_to_gate (entry ∷ entries)) rest in
+    let same = ap length is in
+    absurd (omega (arith, long, sum, same, few))
+
+unstored : (entries : List (List ℕ)) (offset : Option Offset) → entries ≡ [] → IsLastOf entries offset → offset ≡ None
+unstored entries None none last = refl
+unstored entries (Some offset) none last =
+    let same : [] ≡ last.before ++ last.entry ∷ [] = sym none ∙ last.last in
+    let many = ap length same in
+    absurd (omega (arith, many, length-append last.before (last.entry ∷ [])))
+
+-- what a store that is being made on an empty disk leaves is a store without an offset, or none
+pub torn_stores_are_empty : (bytes : List ℕ) (offset : Option Offset) → BeginsTorn [] bytes → IsStore bytes offset → IsStore bytes None
+torn_stores_are_empty bytes offset torn store =
+    let few : length bytes ≤ 9 = torn.no_longer in
+    let none = few_entries store.entries store.journal.rest bytes store.journal.spelled few in
+    subst (IsStore bytes) (unstored store.entries offset none store.last) store
+
+-- ---- a store's disk
+
+pub store_of : {D : Type 0} (model : DiskModel D) (store : StoreOn D) (offset : Option Offset) → HoldsOffset model store offset
+    → StoresOffset model (disk_of store) offset
+store_of model store offset held = record {
+  bytes = held.lists.bytes;
+  told = held.lists.told;
+  only = held.lists.only;
+  is = record { entries = held.entries; journal = held.lists.spelled; each = held.each; last = held.last };
+}
 
 -- ---- what is left while an offset is stored
 
@@ -156,6 +212,13 @@ not_long journal_error.Failed f len short gives is = let contra : error.Failed �
 not_long (journal_error.NotAJournal at) f len short gives is = let contra : error.NotAStore at ≡ error.TooLong len = sym gives ∙ is in cc
 not_long (journal_error.EntryTooLong n) f len short gives is = short n refl
 not_long journal_error.Memory f len short gives is = let contra : error.Memory ≡ error.TooLong len = sym gives ∙ is in cc
+
+-- the disk has no store where it has no journal
+pub no_journal_of : (e : JournalError) (f : OffsetError) (at : ℕ) → f ≡ as_offset_error e → f ≡ error.NotAStore at → e ≡ journal_error.NotAJournal at
+no_journal_of journal_error.Failed f at gives is = (let contra : error.Failed ≡ error.NotAStore at = sym gives ∙ is in cc)
+no_journal_of (journal_error.NotAJournal place) f at gives is = (let same : error.NotAStore place ≡ error.NotAStore at = sym gives ∙ is in cc)
+no_journal_of (journal_error.EntryTooLong len) f at gives is = (let contra : error.TooLong len ≡ error.NotAStore at = sym gives ∙ is in cc)
+no_journal_of journal_error.Memory f at gives is = (let contra : error.Memory ≡ error.NotAStore at = sym gives ∙ is in cc)
 
 -- the store failed where its journal did
 pub failed_of : (e : JournalError) (f : OffsetError) → f ≡ as_offset_error e → f ≡ error.Failed → e ≡ journal_error.Failed

@@ -1,7 +1,8 @@
 -- Offset stores: on bytes, on disks, and after a crash.
 use Rattle.std.specs.Prelude.{◌≡◌, ℕ, ◌+◌, IsTrue, Option, Some, None, List, [], ◌∷◌, ◌++◌, length, slice_get, take}
 use Rattle.std.specs.List.{All}
-use Rattle.dbl_disk.specs.Disks.{Torn}
+use Rattle.dbl_disk.specs.Calls.{WritesDisk}
+use Rattle.dbl_disk.specs.Disks.{IsOnly, Torn}
 use Rattle.dbl_disk.specs.Model.{DiskModel}
 use Rattle.dbl_journal.specs.Form.{IsFaultAt, IsJournal}
 use Rattle.dbl_journal.specs.Growth as growth
@@ -13,7 +14,6 @@ use Rattle.dbl_offset.specs.declared.error.OffsetError.{OffsetError}
 use Rattle.dbl_offset.specs.declared.error.OffsetError.TheVariants as error
 use Rattle.dbl_offset.specs.Entries.{offset_bytes_form}
 use Rattle.dbl_offset.specs.Offsets.{EncodesOffset, IsOffsetEntry}
-use Rattle.dbl_journal.specs.Calls as calls
 
 -- Whether the last of some entries encodes the offset.
 pub record EndsWith (entries : List (List ℕ)) (offset : Offset) : Type 0 where
@@ -44,8 +44,8 @@ pub record HasBadOffset (bytes : List ℕ) (index : ℕ) : Type 0 where
   pub bad : ¬ IsOffsetEntry entry
 
 -- Whether the bytes are no store, by an error at this position: they are no journal.
-abbrev pub IsNoStoreAt : List ℕ → ℕ → Type 0
-IsNoStoreAt bytes at = IsFaultAt bytes at
+pub record IsNoStoreAt (bytes : List ℕ) (at : ℕ) : Type 0 where
+  pub fault : IsFaultAt bytes at
 
 -- The number of valid bytes of a store, those of its journal up to and including the unset commit byte; bytes after them are ignored, and
 -- the next offset overwrites them.
@@ -86,7 +86,7 @@ ExtendsOffsets model old new = growth.ExtendsJournal model old.journal new.journ
 
 -- What storing an offset leaves of a store's disk, by whether the call failed.
 abbrev pub PutLeaves : {D : Type 0} → DiskModel D → Type 0 → StoreOn D → StoreOn D → Type 0
-PutLeaves model failed old new = calls.PutLeaves model failed old.journal new.journal
+PutLeaves model failed old new = WritesDisk model failed (disk_of old) (disk_of new) new.journal.live
 
 -- Whether the store has this offset: it can be used, its disk's contents are known and a store of the offset, and a crash leaves nothing
 -- else.
@@ -96,6 +96,13 @@ pub record HoldsOffset {D : Type 0} (model : DiskModel D) (store : StoreOn D) (o
   pub each : All IsOffsetEntry entries
   pub last : IsLastOf entries offset
   pub offset_is : store.offset ≡ offset
+
+-- Whether the disk's contents are known and a store of this offset, and a crash leaves nothing else.
+pub record StoresOffset {D : Type 0} (model : DiskModel D) (disk : D) (offset : Option Offset) : Type 0 where
+  pub bytes : List ℕ
+  pub told : model.seen disk ≡ Some bytes
+  pub only : IsOnly bytes (model.may_leave disk)
+  pub is : IsStore bytes offset
 
 -- Whether a crash may leave a store of this offset.
 abbrev pub MayLeaveOffset : {D : Type 0} → DiskModel D → D → Option Offset → Type 0

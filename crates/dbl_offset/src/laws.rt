@@ -26,8 +26,8 @@ pub fn stores_are_read_once()
         IsStore bytes second → first ≡ second }
 {}
 
-/// Bytes are at most one of: a store, no journal, a journal with a bad offset. The first bad offset
-/// is unique.
+/// Bytes are at most one of: a store, no store at a position, a store with a bad offset. The
+/// position is unique, and so is the bad offset's number.
 pub fn stores_or_faults()
     ensures no_fault { (bytes : List ℕ) (offset : Option Offset) (at : ℕ) → IsStore bytes offset →
         ¬ IsNoStoreAt bytes at }
@@ -35,6 +35,8 @@ pub fn stores_or_faults()
         IsStore bytes offset → ¬ HasBadOffset bytes index }
     ensures not_both { (bytes : List ℕ) (at index : ℕ) → IsNoStoreAt bytes at →
         ¬ HasBadOffset bytes index }
+    ensures one_no_store { (bytes : List ℕ) (first second : ℕ) → IsNoStoreAt bytes first →
+        IsNoStoreAt bytes second → first ≡ second }
     ensures one_bad_offset { (bytes : List ℕ) (first second : ℕ) → HasBadOffset bytes first →
         HasBadOffset bytes second → first ≡ second }
 {}

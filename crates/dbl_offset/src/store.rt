@@ -3,17 +3,16 @@ ghost use Rattle.std.specs.Prelude.{option_map, Option, Some, None, Ok, Err, IfO
 ghost use Rattle.std.specs.Prelude.{IfSome, OnOk, OnErr, MatchResult, IsTrue, take, slice_get};
 ghost use Rattle.std.specs.List.{All};
 ghost use Rattle.dbl_base.specs.Streams.{FailsOnlyIfCounted};
+ghost use Rattle.dbl_disk.specs.Calls.{IsSteady, Keeps, Makes};
 ghost use Rattle.dbl_disk.specs.Disks.{Follows, IsOnly};
-ghost use Rattle.dbl_journal.specs.Stored.{IsSteady, Lists};
+ghost use Rattle.dbl_journal.specs.Stored.{Lists};
 ghost use Rattle.dbl_offset.specs.declared.offset.Offset.{Offset};
 ghost use Rattle.dbl_offset.specs.Entries.{offset_bytes_form};
-ghost use Rattle.dbl_offset.specs.Measures.{capped};
+ghost use Rattle.dbl_offset.specs.Measures.{capped, offset_limit};
 ghost use Rattle.dbl_offset.specs.Offsets.{IsOffsetEntry, IsOffset, EncodesOffset};
 ghost use Rattle.dbl_offset.specs.Stores.{BeginsTorn, ExtendsOffsets, HasBadOffset, HoldsOffset};
 ghost use Rattle.dbl_offset.specs.Stores.{IsLastOf, IsLive, IsNoStoreAt, IsStore, LeavesOffset};
 ghost use Rattle.dbl_offset.specs.Stores.{disk_of, least_room, room_of, PutLeaves};
-ghost use Rattle.dbl_journal.specs.Form.{entry_limit};
-ghost use Rattle.dbl_journal.specs.Calls.{Keeps, Makes};
 
 use crate::decoding::decode;
 use crate::measuring::measure;
@@ -194,7 +193,7 @@ impl<D: Disk> OffsetStore<D> {
         ensures keeps { OnErr result (self.new.offset ≡ self.old.offset) }
         ensures live { OnOk result (IsLive self.new) }
         ensures too_long { (len : ℕ) → (result ≡ Err (OffsetError.TooLong len)) ↔
-            ((entry_limit < length (offset_bytes_form offset))
+            ((offset_limit < length (offset_bytes_form offset))
             × (len ≡ capped (length (offset_bytes_form offset)))) }
         ensures unchanged { OnErr result (result ≢ Err OffsetError.Failed → self.new ≡ self.old) }
         ensures a_store { (at : ℕ) → result ≢ Err (OffsetError.NotAStore at) }

@@ -7,7 +7,7 @@ ghost use Rattle.dbl_offset.specs.Entries.{FitsOffset, FitsKeyCell, FitsTableCol
 ghost use Rattle.dbl_offset.specs.Entries.{FitsCursor, FitsTableCursor, FitsNames};
 ghost use Rattle.dbl_offset.specs.Entries.{FitsTable, cell, column, counted, cursor, entry};
 ghost use Rattle.dbl_offset.specs.Entries.{last_key_form, names, offset_bytes_form, table};
-ghost use Rattle.dbl_journal.specs.Form.{entry_limit};
+ghost use Rattle.dbl_offset.specs.Measures.{offset_limit};
 
 use crate::decoding::VERSION;
 use crate::offset::Offset;
@@ -174,7 +174,7 @@ fn write_offset(out: &mut Vec<u8>, offset: &Offset) -> Result<(), AllocError>
 /// The offset's `count` bytes, after room for their length, in a buffer that the journal needn't
 /// grow.
 pub(crate) fn encode(alloc: Global, count: usize, offset: &Offset) -> Result<Vec<u8>, AllocError>
-    requires short { count ≤ entry_limit }
+    requires short { count ≤ offset_limit }
     requires long { length offset.now.cursors ≡ length offset.now.infos }
     requires few { length offset.now.infos < 2 ^ 32 }
     requires fit { FitsOffset offset.now }

@@ -1,12 +1,8 @@
 -- Stores of a workload of which nothing was done are kept, and as the connector promises.
-use Rattle.std.proofs.Common.{◌≡◌, ◌∙◌, ℕ, ◌≤◌, Option, Some, None, IsSome, List, [], ◌∷◌, ◌++◌, length, refl, sym, ap, subst, arith, length-append}
-use Rattle.std.specs.List.{flat_map}
+use Rattle.std.proofs.Common.{ℕ, Option, Some, None, IsSome, List, [], refl, sym, subst}
 use Rattle.dbl_disk.specs.Model.{DiskModel}
-use Rattle.dbl_journal.specs.Form.{IsClosed, frame, up_to_gate, magic}
-use Rattle.dbl_journal.proofs.Appends.{length-body, length-magic}
 use Rattle.dbl_model_table.specs.declared.config.Config.{Config}
-use Rattle.dbl_offset.specs.declared.offset.Offset.{Offset}
-use Rattle.dbl_offset.specs.Stores.{BeginsTorn, IsLastOf, IsStore}
+pub use Rattle.dbl_offset.proofs.StoreLaws.{nothing_is_no_store}
 use Rattle.dblog_init.specs.DemoLaws.Made.{IsFreshWal}
 use Rattle.dblog_init.specs.declared.disks.Disks.{Disks}
 use Rattle.dblog_init.specs.Disks.{HasStoredBytes}
@@ -98,42 +94,3 @@ module _ {W T F : Type 0} (wal_model : DiskModel W) (topics_model : DiskModel T)
         };
         guarantees = is.guarantees;
       }
-
--- ---- bytes of an offset's disk that can be no store, or one without an offset alone
-
-closed_some : (first rest : List ℕ) → IsClosed rest → 1 ≤ length (first ++ rest)
-closed_some first [] closed = absurd closed
-closed_some first (gate ∷ rest) closed = omega (arith, length-append first (gate ∷ rest))
-
-pub nothing_is_no_store : (offset : Option Offset) → IsStore [] offset → ⊥
-nothing_is_no_store offset store =
-    let some = closed_some (up_to_gate store.entries) store.journal.rest store.journal.closed in
-    let none : 0 ≡ length (up_to_gate store.entries ++ store.journal.rest) = ap length store.journal.spelled in
-    omega (arith, some, none)
-
--- an entry takes more bytes than a store without one
-entry_long : (entry : List ℕ) (entries : List (List ℕ)) → 10 ≤ length (up_to_gate (entry ∷ entries))
-unfolding up_to_gate
-entry_long entry entries =
-    omega (arith, length-append magic (flat_map frame (entry ∷ entries)), length-append (frame entry) (flat_map frame entries), length-body entry, length-magic)
-
-few_entries : (entries : List (List ℕ)) (rest bytes : List ℕ) → bytes ≡ up_to_gate entries ++ rest → length bytes ≤ 9 → entries ≡ []
-few_entries [] rest bytes is few = refl
-few_entries (entry ∷ entries) rest bytes is few =
-    let long = entry_long entry entries in
-    let sum = length-append (up_to_gate (entry ∷ entries)) rest in
-    let same = ap length is in
-    absurd (omega (arith, long, sum, same, few))
-
-unstored : (entries : List (List ℕ)) (offset : Option Offset) → entries ≡ [] → IsLastOf entries offset → offset ≡ None
-unstored entries None none last = refl
-unstored entries (Some offset) none last =
-    let same : [] ≡ last.before ++ last.entry ∷ [] = sym none ∙ last.last in
-    let many = ap length same in
-    absurd (omega (arith, many, length-append last.before (last.entry ∷ [])))
-
-pub torn_is_empty : (bytes : List ℕ) (offset : Option Offset) → BeginsTorn [] bytes → IsStore bytes offset → IsEmptyStore bytes
-torn_is_empty bytes offset torn store =
-    let few : length bytes ≤ 9 = torn.no_longer in
-    let none = few_entries store.entries store.journal.rest bytes store.journal.spelled few in
-    subst (IsStore bytes) (unstored store.entries offset none store.last) store

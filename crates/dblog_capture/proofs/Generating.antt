@@ -5,6 +5,7 @@ use Rattle.dbl_lines.specs.declared.status.Status.TheVariants.{Done}
 use Rattle.std.specs.Prelude.{OnOk, max}
 use Rattle.dbl_base.specs.Streams.{FaultCounted}
 use Rattle.dbl_offset.specs.Stores.{BeginsTorn}
+use Rattle.dbl_offset.proofs.StoreLaws.{nothing_is_no_store, torn_stores_are_empty}
 use Rattle.dblog_init.specs.DemoLaws.Made.{IsFreshWal}
 use Rattle.dblog_init.specs.declared.disks.Disks.{Disks}
 use Rattle.dblog_init.specs.declared.error.InitError.{InitError}
@@ -21,7 +22,7 @@ use Rattle.dblog_connect.specs.Ends.{OnlyRead}
 use Rattle.dblog_capture.specs.Runs.{RunsConnected}
 use Rattle.dblog_capture.specs.InitErrors.{SaysInit}
 use Rattle.dblog_capture.specs.Generated.{AnswersWorkload, HasMade, IsMadeShort, RunsGenerated, plainly}
-use Rattle.dblog_capture.proofs.Fresh.{fresh_promised, made_kept, nothing_is_no_store, promised_fresh, torn_is_empty}
+use Rattle.dblog_capture.proofs.Fresh.{fresh_promised, made_kept, promised_fresh}
 use Rattle.dblog_capture.proofs.Statuses.{stopped_failed, stopped_no_zero}
 use Rattle.dbl_disk.specs.Model.{DiskModel}
 
@@ -114,7 +115,7 @@ module _ {W T F : Type 0} (wal_model : DiskModel W) (topics_model : DiskModel T)
         let store_at = made.made f may_f in
         let begun = ends.offsets_torn f may_f in
         let from : begun.0 ≡ [] = made.offsets_empty.only begun.0 begun.1 in
-        let empty : IsEmptyStore f = torn_is_empty f store_at.0 (subst (λ (b : List ℕ). BeginsTorn b f) from begun.2) store_at.1 in
+        let empty : IsEmptyStore f = torn_stores_are_empty f store_at.0 (subst (λ (b : List ℕ). BeginsTorn b f) from begun.2) store_at.1 in
         fresh_promised (status ≡ Done) (asks_in plainly) workload w t f (stopped_no_zero e status before after says)
         (subst (IsFreshWal workload) (sym (ends.wal_made.only w may_w)) ends.wal_made.is) (subst IsEmptyLog (sym (ends.topics_made.only t may_t)) ends.topics_made.is) empty
 

@@ -17,7 +17,8 @@ use Rattle.dbl_topic.specs.Held.{HoldsGroups}
 use Rattle.dbl_topic.specs.Logs.{IsLog}
 use Rattle.dbl_topic.specs.SinkLaws.{log_of, only_held}
 use Rattle.dbl_offset.specs.declared.offset.Offset.{Offset}
-use Rattle.dbl_offset.specs.Stores.{HoldsOffset, IsStore, StoreOn, disk_of}
+use Rattle.dbl_offset.specs.Stores.{IsStore, StoreOn, StoresOffset, disk_of}
+use Rattle.dbl_offset.proofs.StoreLaws.{store_of}
 use Rattle.dbl_demo.specs.DemoWal.Sound.{logged_in}
 use Rattle.dbl_demo.specs.DemoWal.Standings.{confirmed_of, history_in, left_in, standing_in, tables_of}
 use Rattle.dbl_demo.specs.DemoWal.Wals.{IsWal, Wal}
@@ -297,24 +298,26 @@ module _ {W T F : Type 0} (wal_model : DiskModel W) (topics_model : DiskModel T)
     counts : HasCountedGroups (HoldsGroups topics_model) lg.groups ln report
     counts = counted_ok ending is
 
-    stored : HoldsOffset offsets_model fn fn.offset
-    stored = ended_store wal_model topics_model offsets_model is_w is_t is_f w t f so lo fo src lg st config now sn ln fn report result ran ending is
+    stored : StoresOffset offsets_model (disk_of fn) fn.offset
+    stored =
+        store_of offsets_model fn fn.offset
+        (ended_store wal_model topics_model offsets_model is_w is_t is_f w t f so lo fo src lg st config now sn ln fn report result ran ending is)
 
     abbrev left : Contents
     left = held_by stands.0 (lg.groups ++ counts.more) fn.offset
 
-    read_told : ReadAs stands.1.running.lists.bytes counts.held.lists.bytes stored.lists.bytes left
+    read_told : ReadAs stands.1.running.lists.bytes counts.held.lists.bytes stored.bytes left
     read_told = record {
       source = wal_of wal_model sn stands.0 stands.1.running;
       log = log_of topics_model ln (lg.groups ++ counts.more) counts.held;
-      store = record { entries = stored.entries; journal = stored.lists.spelled; each = stored.each; last = stored.last };
+      store = stored.is;
     }
 
     read_each : (w1 t1 f1 : List ℕ) → wal_model.may_leave sn.journal.disk w1 → topics_model.may_leave ln.disk t1 → offsets_model.may_leave (disk_of fn) f1 → ReadAs w1 t1 f1 left
     read_each w1 t1 f1 mw mt mf = record {
       source = subst (λ (b : List ℕ). IsWal b stands.0) (sym (stands.1.running.lists.only w1 mw)) read_told.source;
       log = subst (λ (b : List ℕ). IsLog b (lg.groups ++ counts.more)) (sym (counts.held.lists.only t1 mt)) read_told.log;
-      store = subst (λ (b : List ℕ). IsStore b fn.offset) (sym (stored.lists.only f1 mf)) read_told.store;
+      store = subst (λ (b : List ℕ). IsStore b fn.offset) (sym (stored.only f1 mf)) read_told.store;
     }
 
     told_w : wal_model.may_leave sn.journal.disk stands.1.running.lists.bytes
@@ -323,9 +326,9 @@ module _ {W T F : Type 0} (wal_model : DiskModel W) (topics_model : DiskModel T)
     left_kept : IsKept left
     left_kept =
         let here = image_of wal_model topics_model offsets_model is_w is_t is_f w t f so lo fo src lg st config now sn ln fn report result ran kept
-        stands.1.running.lists.bytes counts.held.lists.bytes stored.lists.bytes
-        told_w (is_t ln.disk counts.held.lists.bytes counts.held.lists.told) (is_f (disk_of fn) stored.lists.bytes stored.lists.told) in
-        subst IsKept (disks_are_read_once stands.1.running.lists.bytes counts.held.lists.bytes stored.lists.bytes here.held left here.read read_told) here.kept
+        stands.1.running.lists.bytes counts.held.lists.bytes stored.bytes
+        told_w (is_t ln.disk counts.held.lists.bytes counts.held.lists.told) (is_f (disk_of fn) stored.bytes stored.told) in
+        subst IsKept (disks_are_read_once stands.1.running.lists.bytes counts.held.lists.bytes stored.bytes here.held left here.read read_told) here.kept
 
     -- no high watermark of a window that wasn't closed
     closed_of : HasClosedSent config fo.offset fn.offset stands.0 report

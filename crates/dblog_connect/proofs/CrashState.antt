@@ -9,7 +9,7 @@ use Rattle.dbl_demo.specs.SourceLog.declared.reader_position.ReaderPosition.{Rea
 use Rattle.dbl_demo.specs.SourceModel.Standings.{Reading}
 use Rattle.dbl_topic.specs.Held.{HasGroups}
 use Rattle.dbl_offset.specs.Stores.{HoldsOffset, IsStore, StoreOn, disk_of}
-use Rattle.dbl_offset.proofs.StoreLaws.{one_store}
+use Rattle.dbl_offset.proofs.StoreLaws.{one_store, store_of}
 use Rattle.dbl_demo.specs.DemoWal.Standings.{left_in, wal_reading, standing_in}
 use Rattle.dbl_demo.specs.DemoWal.Wals.{Wal}
 use Rattle.dbl_demo.proofs.DemoWalFitLaws.{wal_has_fit_history}
@@ -115,8 +115,8 @@ module _ {W T F : Type 0} (wal_model : DiskModel W) (topics_model : DiskModel T)
     -- unless its disk failed, a crash leaves a store of what was stored last
     pub left_store : (result ≡ Err halt.Offsets → ⊥) → AreStores (offsets_model.may_leave (disk_of fn)) fn.offset
     left_store other bytes leaves =
-        let held = ran.held st.holds other in
-        subst (λ (b : List ℕ). IsStore b fn.offset) (sym (held.lists.only bytes leaves)) (record { entries = held.entries; journal = held.lists.spelled; each = held.each; last = held.last })
+        let stores = store_of offsets_model fn fn.offset (ran.held st.holds other) in
+        subst (λ (b : List ℕ). IsStore b fn.offset) (sym (stores.only bytes leaves)) stores.is
 
     pub settled_of : (ending : Ending) → result ≡ Ok ending → (wal : Wal) → IsDemo wal_model wal sn → HasSettled config now fo.offset fn.offset report (standing_in wal sn.place)
     settled_of ending is wal demo =

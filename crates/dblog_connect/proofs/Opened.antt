@@ -11,7 +11,7 @@ use Rattle.dbl_topic.specs.Held.{HasGroups, HoldsGroups}
 use Rattle.dbl_topic.specs.SinkLaws.{leaves_held}
 use Rattle.dbl_offset.specs.declared.offset.Offset.{Offset}
 use Rattle.dbl_offset.specs.Stores.{HoldsOffset, IsStore, StoreOn, disk_of}
-use Rattle.dbl_offset.proofs.StoreLaws.{one_store}
+use Rattle.dbl_offset.proofs.StoreLaws.{one_store, store_of}
 use Rattle.dbl_demo.specs.DemoWal.Standings.{standing_in}
 use Rattle.dbl_demo.specs.DemoWal.Wals.{IsWal, Wal}
 use Rattle.dbl_demo.proofs.DemoWalWalLaws.{one_wal}
@@ -109,7 +109,9 @@ module _ {T : Type 0} (model : DiskModel T) (t : List ℕ) (log : OnDisk T) (lg 
 
 module _ {F : Type 0} (model : DiskModel F) (f : List ℕ) (store : StoreOn F) (st : IsStoreOf model f store) where
   pub store_crashed : (crashed : List ℕ) → model.may_leave (disk_of store) crashed → crashed ≡ f
-  store_crashed crashed leaves = only_told model store.journal _ f crashed st.holds.lists st.told leaves
+  store_crashed crashed leaves =
+      let stores = store_of model store store.offset st.holds in
+      stores.only crashed leaves ∙ same_some stores.bytes f (model.seen (disk_of store)) stores.told st.told
 
   pub store_come : HasCome model 0 (length f) store.journal
   store_come = come_of model store.journal _ f st.holds.lists st.told
@@ -118,9 +120,8 @@ module _ {F : Type 0} (model : DiskModel F) (f : List ℕ) (store : StoreOn F) (
 pub left_offset : {F : Type 0} (model : DiskModel F) (store : StoreOn F) (offset left : Option Offset) (crashed : List ℕ)
     → HoldsOffset model store offset → model.may_leave (disk_of store) crashed → IsStore crashed left → left ≡ offset
 left_offset model store offset left crashed holds leaves is =
-    let same : crashed ≡ holds.lists.bytes = holds.lists.only crashed leaves in
-    one_store holds.lists.bytes left offset (subst (λ (b : List ℕ). IsStore b left) same is)
-    (record { entries = holds.entries; journal = holds.lists.spelled; each = holds.each; last = holds.last })
+    let stores = store_of model store offset holds in
+    one_store stores.bytes left offset (subst (λ (b : List ℕ). IsStore b left) (stores.only crashed leaves) is) stores.is
 
 -- ---- the three of them
 

@@ -7,6 +7,7 @@ use Rattle.dbl_journal.specs.Stored.{IsSteady, Lists, OnDisk, size}
 use Rattle.dbl_journal.specs.declared.error.JournalError.TheVariants as journal
 use Rattle.dbl_topic.specs.Held.{HoldsGroups}
 use Rattle.dbl_offset.specs.Stores.{HoldsOffset, StoreOn, disk_of}
+use Rattle.dbl_offset.proofs.StoreLaws.{store_of}
 use Rattle.dbl_demo.specs.DemoWal.Wals.{Wal as WalOf, forms_of}
 use Rattle.dbl_demo.specs.DemoWorkload.declared.error.DemoError.{DemoError}
 use Rattle.dbl_demo.specs.DemoWorkload.declared.error.DemoError.TheVariants as demo
@@ -47,7 +48,13 @@ module _ {D : Type 0} (model : DiskModel D) (disk : D) where
 
   pub stored_offset : (store : StoreOn D) → HoldsOffset model store None → disk ≡ disk_of store → HasStoredBytes model IsEmptyStore disk
   stored_offset store holds same =
-      stored IsEmptyStore store.journal holds.entries holds.lists same (record { entries = holds.entries; journal = holds.lists.spelled; each = holds.each; last = holds.last })
+      let stores = store_of model store None holds in
+      record {
+        bytes = stores.bytes;
+        told = ap model.seen same ∙ stores.told;
+        only = subst (λ (d : D). IsOnly stores.bytes (model.may_leave d)) (sym same) stores.only;
+        is = stores.is;
+      }
 
 -- ---- what is left of them
 

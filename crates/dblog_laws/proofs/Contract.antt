@@ -11,7 +11,7 @@ use Rattle.dbl_source_model.specs.Standings.{CrashState, SourceState, left_of}
 use Rattle.dbl_source_model.specs.Trace.{Trace}
 use Rattle.dbl_offset.specs.declared.offset.Offset.{Offset}
 use Rattle.dbl_offset.specs.Stores.{HoldsOffset, StoreOn, disk_of}
-use Rattle.dbl_offset.proofs.StoreLaws.{one_store}
+use Rattle.dbl_offset.proofs.StoreLaws.{one_store, store_of}
 use Rattle.dbl_faithful.specs.Lag.{IsOffsetOf}
 use Rattle.dbl_faithful.specs.Faithful.{IsFaithful}
 use Rattle.dblog_run.specs.CaptureModel.Entries.{SessionStart, HadOwnTables, IsKeptAfter, WasFaithful}
@@ -144,8 +144,9 @@ module _ {S K D : Type 0} (stands : S → SourceState → Type 0) (honest : S �
       → HoldsOffset model new_store new_store.offset → (groups : List (List Record)) → holds new_sink groups → (offset : Offset) (t : SourceState) → new_store.offset ≡ Some offset → stands new_src t
       → IsOffsetOf t.history t.confirmed (joined groups) offset
   stored_is entry new_src new_sink new_store leaves faithful held groups has offset t stored there =
-      let image = held.lists.bytes in
-      let may_image = seen_may (disk_of new_store) image held.lists.told in
+      let stores = store_of model new_store new_store.offset held in
+      let image = stores.bytes in
+      let may_image = seen_may (disk_of new_store) image stores.told in
       let left = leaves.follows faithful image may_image in
       let own = held_left model new_store new_store.offset held image may_image in
       let same : left.0 ≡ Some offset = one_store image left.0 own.0 left.1 own.1 ∙ own.2 ∙ stored in

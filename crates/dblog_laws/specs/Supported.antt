@@ -2,7 +2,6 @@
 -- connector manual, `unavailable.value.placeholder`.
 use Rattle.std.specs.Prelude.{◌≡◌, ℕ, ℤ, ◌<◌, ◌^◌, Option, Some, None, List, slice_get, ◌≤◌, length}
 use Rattle.std.specs.List.{AllByRecursion}
-use Rattle.dbl_journal.specs.Form.{entry_limit}
 use Rattle.dbl_value.specs.declared.value.Val.{Val}
 use Rattle.dbl_value.specs.declared.value.Val.TheVariants as val
 use Rattle.dbl_value.specs.Faults.{value_fault}
@@ -25,6 +24,7 @@ use Rattle.dbl_source_model.specs.Selected.{rows_up_to}
 use Rattle.dbl_source_model.specs.Standings.{Reading, SourceState}
 use Rattle.dbl_offset.specs.declared.offset.Offset.{Offset}
 use Rattle.dbl_offset.specs.Entries.{offset_bytes_form}
+use Rattle.dbl_offset.specs.Measures.{offset_limit}
 use Rattle.dbl_faithful.specs.Lag.{IsOffsetOf}
 use Rattle.dblog_run.specs.CaptureModel.Entries.{SessionStart}
 use Rattle.dblog_run.specs.CaptureWork.declared.halt.Halt.{Halt}
@@ -91,7 +91,7 @@ IsClean infos read = (reading : Reading) → read ≡ Some reading → AreWithou
 -- No offset that may be stored after these records is longer than 2^28 bytes.
 abbrev pub OffsetsAreShort : SessionStart → SourceState → List Record → Type 0
 OffsetsAreShort entry t records = (offset : Offset) → offset.identity ≡ session_identity entry → IsCapturing entry offset.infos
-    → IsOffsetOf t.history t.confirmed records offset → length (offset_bytes_form offset) ≤ entry_limit
+    → IsOffsetOf t.history t.confirmed records offset → length (offset_bytes_form offset) ≤ offset_limit
 
 -- What a session has met when it ends, in the source's state and the sink's contents, is supported.
 pub record HasMetSupported (entry : SessionStart) (stands : SourceState → Type 0) (holds : List (List Record) → Type 0) : Type 0 where

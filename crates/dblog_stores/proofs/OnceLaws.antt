@@ -15,7 +15,7 @@ use Rattle.dbl_topic.specs.SinkLaws.{one_log}
 use Rattle.dbl_topic.proofs.LogLaws as logs
 use Rattle.dbl_offset.specs.declared.offset.Offset.{Offset}
 use Rattle.dbl_offset.specs.Stores.{HasBadOffset, IsNoStoreAt, IsStore}
-use Rattle.dbl_offset.proofs.StoreLaws.{no_bad_offset, no_fault, not_both, one_bad_offset, one_store}
+use Rattle.dbl_offset.proofs.StoreLaws.{no_bad_offset, no_fault, not_both, one_bad_offset, one_no_store, one_store}
 use Rattle.dblog_stores.specs.declared.error.CommandError.{CommandError}
 use Rattle.dblog_stores.specs.declared.error.CommandError.TheVariants.{OutputFailed, Memory, Failed, NotStarted, NotAStore, BadEntry}
 use Rattle.dblog_stores.specs.declared.error.Store.TheVariants.{Topics, Offsets}
@@ -88,7 +88,8 @@ offset_not bytes offset error store (bad_offset index is bad) = no_bad_offset by
 offset_not bytes offset error store (none_stored is none) = none_some offset (one_store bytes None (Some offset) none store)
 
 one_no_offset : (bytes : List ℕ) (first second : CommandError) → NoOffset bytes first → NoOffset bytes second → first ≡ second
-one_no_offset bytes first second (no_store at is fault) (no_store at' is' fault') = is ∙ ap (λ n. NotAStore Offsets n) (one_fault bytes at at' fault fault') ∙ sym is'
+one_no_offset bytes first second (no_store at is fault) (no_store at' is' fault') = is ∙ ap (λ n. NotAStore Offsets n) (one_no_store bytes at at' fault fault')
+    ∙ sym is'
 one_no_offset bytes first second (no_store at is fault) (bad_offset index is' bad) = absurd (not_both bytes at index fault bad)
 one_no_offset bytes first second (no_store at is fault) (none_stored is' none) = absurd (no_fault bytes None at none fault)
 one_no_offset bytes first second (bad_offset index is bad) (no_store at is' fault) = absurd (not_both bytes at index fault bad)

@@ -280,7 +280,7 @@ read_of bytes (entry ∷ entries) journal each = let last = last_of entry entrie
 offset_stands : (bytes : List ℕ) → AreBytes bytes → ((offset : Offset) × IsStore bytes (Some offset)) ⊎ ((error : CommandError) × HasNoOffset bytes error)
 offset_stands bytes fit =
     elim (journal_stands bytes fit) [
-      | inr fault ↦ inr (NotAStore Offsets fault.0, fault.1)
+      | inr fault ↦ inr (NotAStore Offsets fault.0, record { fault = fault.1 })
       | inl found ↦ elim (all_spell_or_not found.0 (journal_fits bytes found.0 fit found.1)) [
         | inl each ↦ read_of bytes found.0 found.1 each
         | inr bad ↦ inr (BadEntry Offsets bad.index, record { entries = found.0; journal = found.1; before = bad.before; entry = bad.entry; there = bad.there; bad = bad.bad })

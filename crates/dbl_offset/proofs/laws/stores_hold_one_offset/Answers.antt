@@ -1,14 +1,13 @@
 use Rattle.std.proofs.Common.{◌≡◌, ◌⊎◌, Option, Some, List, ℕ, subst}
 use Rattle.dbl_offset.specs.declared.offset.Offset.{Offset}
 use Rattle.dbl_offset.specs.Stores.{IsStore}
-use Rattle.dbl_offset.proofs.StoreLaws.{one_store}
+use Rattle.dbl_offset.proofs.StoreLaws.{one_store, store_of}
 use Rattle.dbl_offset.proofs.laws.stores_hold_one_offset.Goals as goal
 
 pub returns-clause-left : goal.returns-clause-left
 returns-clause-left g c store offset left holds may =
-    let crashed : List ℕ = may.0 in
-    let here : IsStore holds.lists.bytes left = subst (λ (b : List ℕ). IsStore b left) (holds.lists.only may.0 may.1) may.2 in
-    one_store holds.lists.bytes left offset here (record { entries = holds.entries; journal = holds.lists.spelled; each = holds.each; last = holds.last })
+    let stores = store_of g.D.Disk store offset holds in
+    one_store stores.bytes left offset (subst (λ (b : List ℕ). IsStore b left) (stores.only may.0 may.1) may.2) stores.is
 
 pub returns-clause-one_of : goal.returns-clause-one_of
 returns-clause-one_of g c disk old left new leaves may =

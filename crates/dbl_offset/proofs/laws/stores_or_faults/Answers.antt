@@ -1,4 +1,4 @@
-use Rattle.dbl_offset.proofs.StoreLaws.{no_fault, no_bad_offset, not_both, one_bad_offset}
+use Rattle.dbl_offset.proofs.StoreLaws.{no_fault, no_bad_offset, not_both, one_bad_offset, one_no_store}
 use Rattle.dbl_offset.proofs.laws.stores_or_faults.Goals as goal
 
 pub returns-clause-no_fault : goal.returns-clause-no_fault
@@ -9,6 +9,9 @@ returns-clause-no_bad_offset c = no_bad_offset
 
 pub returns-clause-not_both : goal.returns-clause-not_both
 returns-clause-not_both c = not_both
+
+pub returns-clause-one_no_store : goal.returns-clause-one_no_store
+returns-clause-one_no_store c = one_no_store
 
 pub returns-clause-one_bad_offset : goal.returns-clause-one_bad_offset
 returns-clause-one_bad_offset c = one_bad_offset

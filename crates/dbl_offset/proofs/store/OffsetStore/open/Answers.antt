@@ -1,12 +1,16 @@
 use Rattle.std.proofs.Common.{◌≡◌, ◌∙◌, Some, Err, ap, subst, sym}
-use Rattle.dbl_journal.specs.Calls.{Keeps}
+use Rattle.dbl_disk.specs.Calls.{Keeps}
 use Rattle.dbl_journal.specs.declared.error.JournalError.TheVariants as journal
-use Rattle.dbl_journal.proofs.Calls.{keeps_on, keeps_told_as}
+use Rattle.dbl_disk.proofs.Calls.{keeps_on, keeps_told_as}
 use Rattle.dbl_offset.specs.declared.error.OffsetError.{OffsetError}
 use Rattle.dbl_offset.specs.declared.error.OffsetError.TheVariants as error
 use Rattle.dbl_offset.specs.Stores.{as_offset_error}
-use Rattle.dbl_offset.proofs.StoreLaws.{failed_of}
+use Rattle.dbl_offset.proofs.StoreLaws.{failed_of, no_journal_of}
 use Rattle.dbl_offset.proofs.store.OffsetStore.open.Goals as goal
+
+pub returns-in-Err-clause-not_a_store : goal.returns-in-Err-clause-not_a_store
+returns-in-Err-clause-not_a_store g c bytes at told is =
+    record { fault = c.in-Err.ensures.refused bytes told at (no_journal_of c.in-Err.field-0.error c.from.result at c.from.ensures is) }
 
 pub returns-in-Err-read_last-clause-bad_offset : goal.returns-in-Err-read_last-clause-bad_offset
 returns-in-Err-read_last-clause-bad_offset g c bytes index told is =

@@ -1,7 +1,7 @@
 use Rattle.std.proofs.Common.{◌≡◌, ◌∙◌, Some, ap, sym}
 use Rattle.std.proofs.lemmas.Result.{IfErr-weaker, IfOk-weaker, MatchResult-weaker}
 use Rattle.dbl_journal.specs.declared.error.JournalError.TheVariants as journal
-use Rattle.dbl_journal.proofs.Calls.{keeps_on, keeps_told_as}
+use Rattle.dbl_disk.proofs.Calls.{keeps_on, keeps_told_as}
 use Rattle.dbl_topic.specs.declared.error.TopicError.TheVariants.{Journal}
 use Rattle.dbl_topic.specs.Faults.{topic_fault}
 use Rattle.dbl_topic.proofs.FaultLaws.{failed_of}

@@ -1,10 +1,10 @@
--- What the calls of a store leave, call by call.
+-- The effect on a disk of several calls of a store, one after another.
 use Rattle.std.proofs.Common.{◌∙◌, arith}
 use Rattle.dbl_disk.specs.Model.{DiskModel}
-use Rattle.dbl_journal.specs.Calls.{Keeps}
+use Rattle.dbl_disk.specs.Calls.{Keeps}
 
 module _ {D : Type 0} (model : DiskModel D) where
-  -- a disk that was kept, and kept again
+  -- the effect of two calls, of which only the second may have failed
   pub keeps_on : (failed : Type 0) (first second third : D) → Keeps model ⊥ first second → Keeps model failed second third → Keeps model failed first third
   keeps_on failed first second third a b = record {
     same = b.same ∙ a.same;
@@ -14,7 +14,7 @@ module _ {D : Type 0} (model : DiskModel D) where
     steady = λ no bytes told. b.steady no bytes (a.same ∙ told) ∙ a.steady (λ never. never) bytes told;
   }
 
-  -- the same failure, as another error
+  -- the same failure, reported as another error
   pub keeps_told_as : (failed told : Type 0) (old new : D) → (told → failed) → (failed → told) → Keeps model failed old new → Keeps model told old new
   keeps_told_as failed told old new back on k = record {
     same = k.same;

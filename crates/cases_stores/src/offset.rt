@@ -3,16 +3,16 @@
 ghost use Rattle.dbl_offset.specs.Offsets.{IsOffset};
 ghost use Rattle.dbl_offset.specs.Stores.{IsLive};
 
-use crate::journal;
 use crate::steps::{self, Device};
 use anyhow::{Result, bail};
 use cases_items::words;
-use dbl_disk::{FuseDisk, MemDisk};
+use dbl_disk::{Choice, Disk, FuseDisk};
 use dbl_offset::{Offset, OffsetStore};
 use std::alloc::Global;
 use std::fmt::Write;
 
-/// Takes a step: `make`, `store HEX`, of the offset that an entry encodes, and `load`.
+/// Takes a step: `make`, `store HEX`, of the offset in another store with these bytes, `stops HEX`,
+/// the same on disks that fail, `selectors` and `load`.
 pub fn step(
     alloc: Global,
     shown: &mut String,
@@ -23,16 +23,15 @@ pub fn step(
     match word {
         "make" => make(alloc, shown, disk),
         "store" => store(alloc, shown, disk, &hex::decode(alloc, rest)?),
+        "stops" => stops(alloc, shown, disk, &hex::decode(alloc, rest)?),
+        "selectors" => selectors(alloc, shown, disk),
         "load" => load(alloc, shown, disk),
         _ => steps::call(alloc, shown, disk, word, rest),
     }
 }
 
 fn make(alloc: Global, shown: &mut String, disk: &mut Device) -> Result<()> {
-    match OffsetStore::make(
-        alloc,
-        FuseDisk::make(MemDisk::make(alloc, Vec::new(alloc)), u64::MAX),
-    ) {
+    match OffsetStore::make(steps::empty(alloc)) {
         Ok(store) => {
             *disk = store.into_disk();
             words::add(shown, "ok")
@@ -41,12 +40,10 @@ fn make(alloc: Global, shown: &mut String, disk: &mut Device) -> Result<()> {
     }
 }
 
-// Stores the offset that an entry encodes, which is read by another store.
-fn store(alloc: Global, shown: &mut String, disk: &mut Device, entry: &[u8]) -> Result<()> {
+// Stores the offset of another store, of which these are the disk's bytes.
+fn store(alloc: Global, shown: &mut String, disk: &mut Device, bytes: &[u8]) -> Result<()> {
     let mut other = steps::empty(alloc);
-    journal::make(alloc, shown, &mut other)?;
-    words::add(shown, " ")?;
-    journal::append(alloc, shown, &mut other, entry)?;
+    steps::write_bytes(shown, &mut other, 0, bytes)?;
     words::add(shown, " ")?;
     match OffsetStore::open(alloc, other) {
         Ok(source) => store_of(alloc, shown, disk, &source),
@@ -76,6 +73,61 @@ fn store_offset(alloc: Global, shown: &mut String, disk: &mut Device, offset: Of
             let stored = store.store(alloc, offset);
             *disk = store.into_disk();
             steps::show_outcome(shown, stored)
+        }
+        Err(refused) => steps::show_refused(shown, disk, refused),
+    }
+}
+
+// A disk with the same contents that fails after so many calls.
+fn copy_of(alloc: Global, disk: &mut Device, calls: u64) -> Result<Device> {
+    let inner = steps::take(alloc, disk).into_inner();
+    let copy = inner.crash(Choice::New);
+    *disk = FuseDisk::make(inner, u64::MAX);
+    Ok(FuseDisk::make(copy?, calls))
+}
+
+// Stores the offset of another store on disks that pass 0 calls, 1 call and so on, up to the first
+// that passes all, and adds what a crash leaves of each.
+fn stops(alloc: Global, shown: &mut String, disk: &mut Device, bytes: &[u8]) -> Result<()> {
+    for calls in 0..100 {
+        let mut copy = copy_of(alloc, disk, calls)?;
+        write!(shown, "{calls}: ")?;
+        store(alloc, shown, &mut copy, bytes)?;
+        let ended = shown.as_str().ends_with("ok ok");
+        steps::show_positions(alloc, shown, &copy.into_inner())?;
+        if ended {
+            return Ok(());
+        }
+        words::add(shown, ", ")?;
+    }
+    Ok(())
+}
+
+// Adds the LSN of the store's offset with each selector.
+fn selectors(alloc: Global, shown: &mut String, disk: &mut Device) -> Result<()> {
+    for selector in 0..256u16 {
+        let mut copy = copy_of(alloc, disk, u64::MAX)?;
+        if copy.write_at(8, &[selector as u8]).is_err() {
+            bail!("no selector");
+        }
+        if selector > 0 {
+            words::add(shown, " ")?;
+        }
+        position(alloc, shown, &mut copy)?;
+    }
+    Ok(())
+}
+
+/// Adds the LSN of the store's offset.
+pub fn position(alloc: Global, shown: &mut String, disk: &mut Device) -> Result<()> {
+    match OffsetStore::open(alloc, steps::take(alloc, disk)) {
+        Ok(store) => {
+            let answer = match store.load() {
+                Some(offset) => words::said(shown, &offset.lsn.0),
+                None => words::add(shown, "none"),
+            };
+            *disk = store.into_disk();
+            answer
         }
         Err(refused) => steps::show_refused(shown, disk, refused),
     }

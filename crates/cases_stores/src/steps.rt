@@ -64,7 +64,13 @@ fn write<D: Disk>(alloc: Global, shown: &mut String, disk: &mut D, rest: &str) -
     write_bytes(shown, disk, size(at)?, &hex::decode(alloc, digits)?)
 }
 
-fn write_bytes<D: Disk>(shown: &mut String, disk: &mut D, at: usize, bytes: &[u8]) -> Result<()> {
+/// Writes bytes at a position, and adds the outcome.
+pub fn write_bytes<D: Disk>(
+    shown: &mut String,
+    disk: &mut D,
+    at: usize,
+    bytes: &[u8],
+) -> Result<()> {
     if at > 1_000_000 || bytes.len() > 1_000_000 {
         bail!("too far");
     }
@@ -124,6 +130,7 @@ fn found(
         "journal" => journal::entries(alloc, shown, &mut left),
         "topic" => topic::groups(alloc, shown, &mut left),
         "offset" => offset::load(alloc, shown, &mut left),
+        "position" => offset::position(alloc, shown, &mut left),
         _ => show_digits(alloc, shown, left.into_inner().bytes()),
     }
 }
@@ -134,6 +141,16 @@ fn left(alloc: Global, shown: &mut String, family: &str, disk: &MemDisk) -> Resu
         write!(shown, "({word}: ")?;
         found(alloc, shown, family, disk, word)?;
         words::add(shown, ")")?;
+    }
+    Ok(())
+}
+
+/// Adds the position of the offset in what a crash leaves: the old bytes, the new ones, and an odd
+/// byte and an even one wherever any may be left.
+pub fn show_positions(alloc: Global, shown: &mut String, disk: &MemDisk) -> Result<()> {
+    for word in ["old", "new", "165", "164"] {
+        words::add(shown, " ")?;
+        found(alloc, shown, "position", disk, word)?;
     }
     Ok(())
 }

@@ -68,9 +68,8 @@ impl SessionState {
         ensures next { IfOk result (λ offset. offset ≡ next_offset_of self.now) }
         ensures asked { IfOk result IsOffset }
     {
-        let mut offset = self.offset.copy(self.alloc)?;
-        offset.cursors = copy_cursors(self.alloc, self.follower.cursors())?;
-        Ok(offset)
+        let cursors = copy_cursors(self.alloc, self.follower.cursors())?;
+        self.offset.with_cursors(self.alloc, cursors)
     }
 
     /// Makes a session that begins with this offset and has read nothing.

@@ -4,4 +4,7 @@ pub mod CellLaws
 pub mod TableLaws
 pub mod OffsetLaws
 pub mod Sizes
+pub mod Blocks
+pub mod Contents
+pub mod Heads
 pub mod StoreLaws

@@ -1,231 +1,310 @@
 -- Stores: what their bytes are read as, and what a crash leaves of them.
-use Rattle.std.proofs.Common.{◌≡◌, ◌⊎◌, ◌∙◌, ℕ, ◌+◌, ◌^◌, ◌<◌, ◌≤◌, Option, Some, None, Result, Err, List, [], ◌∷◌, ◌++◌, length, take, refl, sym, ap, subst}
-use Rattle.std.proofs.Common.{arith, inl, inr, length-append}
-use Rattle.std.specs.Prelude.{max, slice_get}
-use Rattle.std.specs.List.{All, flat_map}
-use Rattle.std.proofs.lemmas.List.{length-take, get_or-take, take_more, take_all}
-use Rattle.std.proofs.lemmas.List.Elements.{All-get_or, All-push}
-use Rattle.std.proofs.lemmas.Bool.{cases_lt}
-use Rattle.std.proofs.lemmas.Option.{slice_get_within, get_or_from_slice_get}
+use Rattle.std.proofs.Common.{◌≡◌, ◌≢◌, ◌⊎◌, ◌∙◌, ℕ, zero, suc, ◌+◌, ◌-◌, ◌*◌, ◌/◌, ◌%◌, ◌^◌, ◌<◌, ◌≤◌, Option, Some, None, Result, Ok, Err, List, [], ◌∷◌}
+use Rattle.std.proofs.Common.{◌++◌, length, take, drop, get_or, map, refl, sym, ap, subst, arith, inl, inr, length-drop, length-take}
+use Rattle.std.specs.Int.{from_be_bytes, to_be_bytes, w32}
+use Rattle.std.specs.List.{range_with_len}
+use Rattle.std.proofs.lemmas.Bool.{cases_eq, cases_lt}
+use Rattle.std.proofs.lemmas.List.{get_or-drop, get_or-take, get_or_past, length-take-le, nil_from_length, take-take, take_all, take_more}
+use Rattle.std.proofs.lemmas.List.FromFn.{get_or-map-range_with_len, length-map-range_with_len}
+use Rattle.std.proofs.lemmas.Nat.{be_bytes_4, div-add-mod', from_be_bytes-to_be_bytes_4, mod_below}
 use Rattle.dbl_disk.specs.Model.{DiskModel}
-use Rattle.dbl_journal.specs.Form.{IsClosed, IsJournal, frame, magic, up_to_gate}
-use Rattle.dbl_journal.specs.Stored.{LeavesEntries, size}
-use Rattle.dbl_journal.proofs.Appends.{length-body, length-magic, length-up_to_gate-push}
-use Rattle.dbl_journal.proofs.Growth.{grown_from}
-use Rattle.dbl_journal.proofs.Reading.{one_fault, one_journal, journal_or_fault}
-use Rattle.dbl_journal.specs.declared.error.JournalError.{JournalError}
-use Rattle.dbl_journal.specs.declared.error.JournalError.TheVariants as journal_error
+use Rattle.dbl_record.specs.declared.error.RecordError.{RecordError}
+use Rattle.dbl_record.proofs.FieldLaws.{IsBytes, IsBytes-drop, IsBytes-take}
 use Rattle.dbl_offset.specs.declared.offset.Offset.{Offset}
-use Rattle.dbl_offset.specs.declared.error.OffsetError.{OffsetError}
-use Rattle.dbl_offset.specs.declared.error.OffsetError.TheVariants as error
+use Rattle.dbl_offset.specs.Entries.{offset_bytes_form}
 use Rattle.dbl_offset.specs.Offsets.{EncodesOffset, IsOffsetEntry}
-use Rattle.dbl_offset.specs.Stores.{BeginsTorn, ExtendsOffsets, Counts, HasBadOffset, HoldsOffset, IsLastOf, IsNoStoreAt, IsStore, LeavesOffset, StoreOn}
-use Rattle.dbl_offset.specs.Stores.{StoresOffset, as_offset_error, disk_of}
-use Rattle.dbl_offset.proofs.OffsetLaws.{one_offset}
+use Rattle.dbl_offset.specs.Reading.{whole}
+use Rattle.dbl_offset.specs.Slots.{HasNoSelector, HasSelectedEntry, HasSlotContent, HasWrongMagic, ReachesInSlot, SelectsSlot, block_start, slot_content}
+use Rattle.dbl_offset.specs.Slots.{store_magic}
+use Rattle.dbl_offset.specs.Stores.{BeginsTorn, HasBadOffset, HoldsOffset, IsSlotEntry, IsNoStoreAt, IsStore, LeavesOffset, StoreOn, StoresOffset, disk_of}
+use Rattle.dbl_offset.proofs.Blocks.{length-slot_content, one_entry, one_slot}
+use Rattle.dbl_offset.proofs.Contents.{HasFour, all_there, entry_of, is_content, last_there, same_length}
+use Rattle.dbl_offset.proofs.Heads.{length-store_magic, magic_front, no_selector}
+use Rattle.dbl_offset.proofs.OffsetLaws.{no_entry, one_offset, whole_takes}
 
--- ---- last entries
+-- ---- entries
 
-snoc_nil : {X : Type 0} (xs : List X) (x : X) → xs ++ x ∷ [] ≡ [] → ⊥
-snoc_nil [] x h = cc
-snoc_nil (y ∷ xs) x h = cc
+pub entry_some : (entry : List ℕ) (offset : Offset) → EncodesOffset entry offset → 1 ≤ length entry
+unfolding offset_bytes_form
+entry_some entry offset spells = omega (arith, ap length spells.spelled)
 
-snoc_last : {X : Type 0} (xs ys : List X) (x y : X) → xs ++ x ∷ [] ≡ ys ++ y ∷ [] → x ≡ y
-snoc_last [] [] x y h = cc
-snoc_last [] (b ∷ ys) x y h = let rest : [] ≡ ys ++ y ∷ [] = cc in absurd (snoc_nil ys y (sym rest))
-snoc_last (a ∷ xs) [] x y h = let rest : xs ++ x ∷ [] ≡ [] = cc in absurd (snoc_nil xs x rest)
-snoc_last (a ∷ xs) (b ∷ ys) x y h = let rest : xs ++ x ∷ [] ≡ ys ++ y ∷ [] = cc in snoc_last xs ys x y rest
+entry_none : (entry : List ℕ) (offset : Offset) → EncodesOffset entry offset → entry ≡ [] → ⊥
+entry_none entry offset spells none = omega (arith, entry_some entry offset spells, ap length none)
 
-pub last_one : (entries : List (List ℕ)) (a b : Option Offset) → IsLastOf entries a → IsLastOf entries b → a ≡ b
-last_one entries None None of_a of_b = refl
-last_one entries None (Some o) of_a of_b = absurd (snoc_nil of_b.before of_b.entry (sym of_b.last ∙ of_a))
-last_one entries (Some o) None of_a of_b = absurd (snoc_nil of_a.before of_a.entry (sym of_a.last ∙ of_b))
-last_one entries (Some o) (Some p) of_a of_b =
-    let same : of_a.entry ≡ of_b.entry = snoc_last of_a.before of_b.before of_a.entry of_b.entry (sym of_a.last ∙ of_b.last) in
-    ap Some (one_offset of_b.entry o p (subst (λ (e : List ℕ). EncodesOffset e o) same of_a.spelled) of_b.spelled)
+entry_one : (entry : List ℕ) (a b : Option Offset) → IsSlotEntry entry a → IsSlotEntry entry b → a ≡ b
+entry_one entry None None of_a of_b = refl
+entry_one entry None (Some o) of_a of_b = absurd (entry_none entry o of_b of_a)
+entry_one entry (Some o) None of_a of_b = absurd (entry_none entry o of_a of_b)
+entry_one entry (Some o) (Some p) of_a of_b = ap Some (one_offset entry o p of_a of_b)
 
 pub one_store : (bytes : List ℕ) (a b : Option Offset) → IsStore bytes a → IsStore bytes b → a ≡ b
 one_store bytes a b of_a of_b =
-    let same : of_a.entries ≡ of_b.entries = one_journal bytes of_a.entries of_b.entries of_a.journal of_b.journal in
-    last_one of_b.entries a b (subst (λ (l : List (List ℕ)). IsLastOf l a) same of_a.last) of_b.last
+    let same : of_a.entry ≡ of_b.entry = one_entry bytes of_a.slot of_b.slot of_a.entry of_b.entry of_a.selected of_b.selected in
+    entry_one of_b.entry a b (subst (λ (e : List ℕ). IsSlotEntry e a) same of_a.is) of_b.is
 
 -- ---- faults
 
-at_place : (entries : List (List ℕ)) (i : ℕ) (entry : List ℕ) → slice_get entries i ≡ Some entry → All IsOffsetEntry entries → IsOffsetEntry entry
-at_place entries i entry there all = subst IsOffsetEntry (get_or_from_slice_get entries i entry [] there) (All-get_or IsOffsetEntry entries i [] (slice_get_within entries i entry there) all)
-
-before_place : (entries : List (List ℕ)) (i n : ℕ) (entry : List ℕ) → slice_get entries i ≡ Some entry → i < n → All IsOffsetEntry (take n entries) → IsOffsetEntry entry
-before_place entries i n entry there lt all =
-    let inside = slice_get_within entries i entry there in
-    subst IsOffsetEntry (get_or-take n entries i [] lt ∙ get_or_from_slice_get entries i entry [] there) (All-get_or IsOffsetEntry (take n entries) i [] (omega (arith, inside, length-take n entries)) all)
+good_entry : (entry : List ℕ) (offset : Option Offset) → IsSlotEntry entry offset → entry ≢ [] → IsOffsetEntry entry
+good_entry entry None is some = absurd (some is)
+good_entry entry (Some offset) is some = (offset, is)
 
 pub no_bad_offset : (bytes : List ℕ) (offset : Option Offset) (index : ℕ) → IsStore bytes offset → HasBadOffset bytes index → ⊥
 no_bad_offset bytes offset index store bad =
-    let same : store.entries ≡ bad.entries = one_journal bytes store.entries bad.entries store.journal bad.journal in
-    bad.bad (at_place bad.entries index bad.entry bad.there (subst (λ (l : List (List ℕ)). All IsOffsetEntry l) same store.each))
+    let same : store.entry ≡ bad.entry = one_entry bytes store.slot index store.entry bad.entry store.selected bad.selected in
+    bad.bad (good_entry bad.entry offset (subst (λ (e : List ℕ). IsSlotEntry e offset) same store.is) bad.some)
+
+no_missing : (bytes : List ℕ) (slot at : ℕ) → SelectsSlot bytes slot → HasNoSelector bytes at → ⊥
+no_missing bytes slot at selects none = omega (arith, ap length none.magic, length-store_magic, selects.there)
+
+no_wrong : (bytes : List ℕ) (at : ℕ) → take 8 bytes ≡ store_magic → HasWrongMagic bytes at → ⊥
+no_wrong bytes at magic wrong = wrong.differs (magic_front bytes (at + 1) (omega (arith, wrong.within)) magic)
+
+selected_not : (bytes : List ℕ) (slot : ℕ) (entry : List ℕ) (at : ℕ) → HasSelectedEntry bytes slot entry → IsNoStoreAt bytes at → ⊥
+selected_not bytes slot entry at has (inl wrong) = no_wrong bytes at has.selects.magic wrong
+selected_not bytes slot entry at has (inr (inl none)) = no_missing bytes slot at has.selects none
+selected_not bytes slot entry at has (inr (inr bad)) =
+    let same : slot ≡ bad.slot = one_slot bytes slot bad.slot has.selects bad.selects in
+    bad.none entry (subst (λ (s : ℕ). HasSelectedEntry bytes s entry) same has)
 
 pub no_fault : (bytes : List ℕ) (offset : Option Offset) (at : ℕ) → IsStore bytes offset → IsNoStoreAt bytes at → ⊥
-no_fault bytes offset at store none = journal_or_fault bytes store.entries at store.journal none.fault
+no_fault bytes offset at store none = selected_not bytes store.slot store.entry at store.selected none
 
 pub not_both : (bytes : List ℕ) (at index : ℕ) → IsNoStoreAt bytes at → HasBadOffset bytes index → ⊥
-not_both bytes at index none bad = journal_or_fault bytes bad.entries at bad.journal none.fault
+not_both bytes at index none bad = selected_not bytes index bad.entry at bad.selected none
+
+first_wrong : (bytes : List ℕ) (m n : ℕ) → HasWrongMagic bytes m → HasWrongMagic bytes n → m < n → ⊥
+first_wrong bytes m n a b below =
+    a.differs (sym (take-take (m + 1) n bytes (omega arith)) ∙ ap (λ (l : List ℕ). take (m + 1) l) b.same ∙ take-take (m + 1) n store_magic (omega arith))
+
+missing_wrong : (bytes : List ℕ) (at end : ℕ) → HasWrongMagic bytes at → HasNoSelector bytes end → ⊥
+missing_wrong bytes at end wrong none = wrong.differs (ap (λ (l : List ℕ). take (at + 1) l) none.magic)
 
 pub one_no_store : (bytes : List ℕ) (first second : ℕ) → IsNoStoreAt bytes first → IsNoStoreAt bytes second → first ≡ second
-one_no_store bytes first second a b = one_fault bytes first second a.fault b.fault
-
-not_before : (bytes : List ℕ) (m n : ℕ) → HasBadOffset bytes m → HasBadOffset bytes n → m < n → ⊥
-not_before bytes m n first second lt =
-    let same : second.entries ≡ first.entries = one_journal bytes second.entries first.entries second.journal first.journal in
-    first.bad (before_place first.entries m n first.entry first.there lt (subst (λ (l : List (List ℕ)). All IsOffsetEntry (take n l)) same second.before))
+one_no_store bytes m n (inl a) (inl b) = elim (cases_lt m n) [
+  | inl below ↦ absurd (first_wrong bytes m n a b below)
+  | inr above ↦ elim (cases_lt n m) [
+    | inl below ↦ absurd (first_wrong bytes n m b a below)
+    | inr same ↦ omega arith
+  ]
+]
+one_no_store bytes m n (inl a) (inr (inl b)) = absurd (missing_wrong bytes m n a b)
+one_no_store bytes m n (inl a) (inr (inr b)) = absurd (no_wrong bytes m b.selects.magic a)
+one_no_store bytes m n (inr (inl a)) (inl b) = absurd (missing_wrong bytes n m b a)
+one_no_store bytes m n (inr (inl a)) (inr (inl b)) = a.end ∙ sym b.end
+one_no_store bytes m n (inr (inl a)) (inr (inr b)) = absurd (no_missing bytes b.slot m b.selects a)
+one_no_store bytes m n (inr (inr a)) (inl b) = absurd (no_wrong bytes n a.selects.magic b)
+one_no_store bytes m n (inr (inr a)) (inr (inl b)) = absurd (no_missing bytes a.slot n a.selects b)
+one_no_store bytes m n (inr (inr a)) (inr (inr b)) = a.start ∙ ap (λ (s : ℕ). block_start s 0) (one_slot bytes a.slot b.slot a.selects b.selects) ∙ sym b.start
 
 pub one_bad_offset : (bytes : List ℕ) (m n : ℕ) → HasBadOffset bytes m → HasBadOffset bytes n → m ≡ n
-one_bad_offset bytes m n first second =
-    elim (cases_lt m n) [
-      | inl lt ↦ absurd (not_before bytes m n first second lt)
-      | inr le ↦ elim (cases_lt n m) [
-        | inl lt ↦ absurd (not_before bytes n m second first lt)
-        | inr ge ↦ omega arith
+one_bad_offset bytes m n first second = one_slot bytes m n first.selected.selects second.selected.selects
+
+-- ---- each bytes are a store, or have a fault
+
+differs_at : (bytes : List ℕ) (at : ℕ) → at < 8 → ((length bytes ≤ at) ⊎ (get_or bytes at 0 ≢ get_or store_magic at 0))
+    → take (at + 1) bytes ≢ take (at + 1) store_magic
+differs_at bytes at below (inl short) = λ equal. omega
+    (arith, ap length equal, length-take (at + 1) bytes, length-take (at + 1) store_magic, length-store_magic)
+differs_at bytes at below (inr other) = λ equal. other
+    (sym (get_or-take (at + 1) bytes at 0 (omega arith)) ∙ ap (λ (l : List ℕ). get_or l at 0) equal ∙ get_or-take (at + 1) store_magic at 0 (omega arith))
+
+magic_or_wrong : (k n : ℕ) (bytes : List ℕ) → k + n ≡ 8 → take k bytes ≡ take k store_magic
+    → ((at : ℕ) × HasWrongMagic bytes at) ⊎ (take 8 bytes ≡ take 8 store_magic)
+magic_or_wrong k zero bytes all same = let is : k ≡ 8 = omega arith in inr (subst (λ m. take m bytes ≡ take m store_magic) is same)
+magic_or_wrong k (suc n) bytes all same =
+    let below : k < 8 = omega arith in
+    elim (cases_lt k (length bytes)) [
+      | inr end ↦ inl (k, record { within = below; same = same; differs = differs_at bytes k below (inl end) })
+      | inl there ↦ elim (cases_eq (get_or bytes k 0) (get_or store_magic k 0)) [
+        | inr other ↦ inl (k, record { within = below; same = same; differs = differs_at bytes k below (inr other) })
+        | inl equal ↦ magic_or_wrong (k + 1) n bytes (omega arith)
+            (take_more bytes k 0 there ∙ ap (λ bs. bs ++ get_or bytes k 0 ∷ []) same ∙ ap (λ b. take k store_magic ++ b ∷ []) equal ∙ sym
+                (take_more store_magic k 0 (omega (arith, length-store_magic))))
       ]
     ]
 
+-- the byte of the slot's content with this number
+content_at : List ℕ → ℕ → ℕ → ℕ
+content_at bytes slot p = get_or bytes (block_start slot (p / 4096) + p % 4096) 0
+
+-- so many bytes of it
+content_in : List ℕ → ℕ → ℕ → List ℕ
+content_in bytes slot total = map (content_at bytes slot) (range_with_len 0 total)
+
+block_of : (k j : ℕ) → j < 4096 → ((4096 * k + j) / 4096 ≡ k) × ((4096 * k + j) % 4096 ≡ j)
+block_of k j small =
+    let parts : (4096 * k + j) / 4096 * 4096 + (4096 * k + j) % 4096 ≡ 4096 * k + j = div-add-mod' (4096 * k + j) 4096 in
+    let rest : (4096 * k + j) % 4096 < 4096 = mod_below (4096 * k + j) 4096 (omega arith) in
+    let block : (4096 * k + j) / 4096 ≡ k = omega (arith, parts, rest, small) in
+    (block, omega (arith, parts, block))
+
+length-content_in : (bytes : List ℕ) (slot total : ℕ) → length (content_in bytes slot total) ≡ total
+unfolding content_in
+length-content_in bytes slot total = length-map-range_with_len (content_at bytes slot) 0 total
+
+has_content : (bytes : List ℕ) (slot total : ℕ) → ReachesInSlot bytes slot total → HasSlotContent bytes slot (content_in bytes slot total)
+unfolding content_in content_at
+has_content bytes slot total reaches k j small inner =
+    let within : 4096 * k + j < total = omega (arith, inner, length-content_in bytes slot total) in
+    let of = block_of k j small in
+    record {
+      there = reaches k j small within;
+      is = ap (λ (p : ℕ). get_or bytes p 0) (omega (arith, of.0, of.1))
+          ∙ sym (get_or-map-range_with_len (content_at bytes slot) 0 total (4096 * k + j) (4096 * k + j) 0 within (omega arith));
+    }
+
+pub IsBytes-content : (bytes : List ℕ) (slot : ℕ) (content : List ℕ) → IsBytes bytes → HasSlotContent bytes slot content → IsBytes content
+IsBytes-content bytes slot content fit has p = elim (cases_lt p (length content)) [
+  | inl within ↦ (
+      let parts : p / 4096 * 4096 + p % 4096 ≡ p = div-add-mod' p 4096 in
+      let small : p % 4096 < 4096 = mod_below p 4096 (omega arith) in
+      let here = has (p / 4096) (p % 4096) small (omega (arith, parts)) in
+      let same : get_or content (4096 * (p / 4096) + p % 4096) 0 ≡ get_or content p 0 = ap (λ (n : ℕ). get_or content n 0) (omega (arith, parts)) in
+      omega (arith, here.is, same, fit (block_start slot (p / 4096) + p % 4096)))
+  | inr past ↦ omega (arith, get_or_past content p 0 past)
+]
+
+module _ (bytes : List ℕ) (fit : IsBytes bytes) (slot : ℕ) where
+  four : List ℕ
+  four = take 4 (drop (block_start slot 0) bytes)
+
+  count : ℕ
+  count = from_be_bytes w32 four
+
+  module _ (reaches : block_start slot 0 + 4 ≤ length bytes) where
+    four_long : length four ≡ 4
+    unfolding four
+    four_long = length-take-le 4 (drop (block_start slot 0) bytes) (omega (arith, length-drop (block_start slot 0) bytes))
+
+    has_four : HasFour bytes slot four
+    unfolding four
+    has_four at small = record {
+      there = omega (arith, reaches, small);
+      is = sym (get_or-take 4 (drop (block_start slot 0) bytes) at 0 small ∙ get_or-drop (block_start slot 0) bytes at 0);
+    }
+
+    has_quad : HasFour bytes slot (to_be_bytes w32 count)
+    unfolding four count
+    has_quad =
+        let fits : IsBytes four = IsBytes-take 4 (drop (block_start slot 0) bytes) (IsBytes-drop (block_start slot 0) bytes fit) in
+        subst (HasFour bytes slot) (sym (be_bytes_4 four count four_long fits refl)) has_four
+
+    counted : (entry : List ℕ) → length entry ≤ 2 ^ 28 → HasSlotContent bytes slot (slot_content entry) → count ≡ length entry
+    unfolding count
+    counted entry short has = ap (from_be_bytes w32) (same_length bytes slot entry four four_long has has_four)
+        ∙ from_be_bytes-to_be_bytes_4 (length entry) (omega arith)
+
+    long_enough : SelectsSlot bytes slot → count ≤ 2 ^ 28 → block_start slot ((count + 4 - 1) / 4096) + (count + 4 - 1) % 4096 < length bytes
+        → (entry : List ℕ) × HasSelectedEntry bytes slot entry
+    long_enough selects fine there =
+        let places = all_there bytes slot (count + 4) (omega arith) there in
+        let content : List ℕ = content_in bytes slot (count + 4) in
+        let long = length-content_in bytes slot (count + 4) in
+        let has = has_content bytes slot (count + 4) places in
+        let is = is_content bytes slot content count long has has_quad in
+        (drop 4 content, record { selects = selects; short = omega (arith, long, length-drop 4 content, fine); content = subst
+            (HasSlotContent bytes slot) is has })
+
+    entry_within : SelectsSlot bytes slot → ((entry : List ℕ) × HasSelectedEntry bytes slot entry) ⊎ ((entry : List ℕ) → ¬ HasSelectedEntry bytes slot entry)
+    entry_within selects = elim (cases_lt (2 ^ 28) count) [
+      | inl much ↦ inr (λ entry has. omega (arith, much, counted entry has.short has.content, has.short))
+      | inr fine ↦ elim (cases_lt (block_start slot ((count + 4 - 1) / 4096) + (count + 4 - 1) % 4096) (length bytes)) [
+        | inl there ↦ inl (long_enough selects fine there)
+        | inr cut ↦ inr (λ entry has.
+            let is = counted entry has.short has.content in
+            let there = last_there bytes slot (count + 4) (slot_content entry) (omega arith) (omega (arith, length-slot_content entry, is)) has.content in
+            omega (arith, there, cut))
+      ]
+    ]
+
+  entry_or_none : SelectsSlot bytes slot → ((entry : List ℕ) × HasSelectedEntry bytes slot entry) ⊎ ((entry : List ℕ) → ¬ HasSelectedEntry bytes slot entry)
+  entry_or_none selects = elim (cases_lt (length bytes) (block_start slot 0 + 4)) [
+    | inl short ↦ inr (λ entry has.
+        let last = has.content 0 3 (omega arith) (omega (arith, length-slot_content entry)) in
+        omega (arith, last.there, short))
+    | inr reaches ↦ entry_within reaches selects
+  ]
+
+abbrev StoreOrNot : List ℕ → Type 0
+StoreOrNot bytes = ((offset : Option Offset) × IsStore bytes offset) ⊎ (((at : ℕ) × IsNoStoreAt bytes at) ⊎ ((index : ℕ) × HasBadOffset bytes index))
+
+offset_or_bad : (bytes : List ℕ) (slot : ℕ) (entry : List ℕ) → IsBytes entry → HasSelectedEntry bytes slot entry → entry ≢ []
+    → (read : Result Offset RecordError) → whole entry ≡ read → StoreOrNot bytes
+offset_or_bad bytes slot entry fit has some (Ok offset) is = inl
+    (Some offset, record { slot = slot; entry = entry; selected = has; is = whole_takes entry offset fit is })
+offset_or_bad bytes slot entry fit has some (Err error) is = inr
+    (inr (slot, record { entry = entry; selected = has; some = some; bad = no_entry entry error is }))
+
+entry_judged : (bytes : List ℕ) (slot : ℕ) (entry : List ℕ) → IsBytes entry → HasSelectedEntry bytes slot entry → StoreOrNot bytes
+entry_judged bytes slot [] fit has = inl (None, record { slot = slot; entry = []; selected = has; is = refl })
+entry_judged bytes slot (b ∷ entry) fit has = offset_or_bad bytes slot (b ∷ entry) fit has (λ e. cc) (whole (b ∷ entry)) refl
+
+slot_judged : (bytes : List ℕ) → IsBytes bytes → (slot : ℕ) → SelectsSlot bytes slot → StoreOrNot bytes
+slot_judged bytes fit slot selects = elim (entry_or_none bytes fit slot selects) [
+  | inr none ↦ inr (inl (block_start slot 0, inr (inr (record { slot = slot; selects = selects; none = none; start = refl }))))
+  | inl found ↦ (
+      let content = IsBytes-content bytes slot (slot_content found.0) fit found.1.content in
+      let fits : IsBytes found.0 = subst IsBytes (entry_of (slot_content found.0) found.0 refl) (IsBytes-drop 4 (slot_content found.0) content) in
+      entry_judged bytes slot found.0 fits found.1)
+]
+
+pub store_or_not : (bytes : List ℕ) → IsBytes bytes
+    → ((offset : Option Offset) × IsStore bytes offset) ⊎ (((at : ℕ) × IsNoStoreAt bytes at) ⊎ ((index : ℕ) × HasBadOffset bytes index))
+store_or_not bytes fit = elim (magic_or_wrong 0 8 bytes refl refl) [
+  | inl wrong ↦ inr (inl (wrong.0, inl wrong.1))
+  | inr same ↦ (
+      let magic : take 8 bytes ≡ store_magic = same ∙ take_all 8 store_magic (omega (arith, length-store_magic)) in
+      elim (cases_lt 8 (length bytes)) [
+        | inr end ↦ inr (inl (8, inr (inl (no_selector bytes magic end))))
+        | inl there ↦ slot_judged bytes fit (get_or bytes 8 0 % 2) (record { magic = magic; there = there; parity = refl })
+      ]
+      )
+]
+
 -- ---- bytes with which a store begins
 
-closed_some : (first rest : List ℕ) → IsClosed rest → 1 ≤ length (first ++ rest)
-closed_some first [] closed = absurd closed
-closed_some first (gate ∷ rest) closed = omega (arith, length-append first (gate ∷ rest))
-
 pub nothing_is_no_store : (offset : Option Offset) → IsStore [] offset → ⊥
-nothing_is_no_store offset store =
-    let some = closed_some (up_to_gate store.entries) store.journal.rest store.journal.closed in
-    let none : 0 ≡ length (up_to_gate store.entries ++ store.journal.rest) = ap length store.journal.spelled in
-    omega (arith, some, none)
+nothing_is_no_store offset store = omega (arith, store.selected.selects.there)
 
--- an entry takes more bytes than a store without one
-entry_long : (entry : List ℕ) (entries : List (List ℕ)) → 10 ≤ length (up_to_gate (entry ∷ entries))
-unfolding up_to_gate
-entry_long entry entries =
-    omega (arith, length-append magic (flat_map frame (entry ∷ entries)), length-append (frame entry) (flat_map frame entries), length-body entry, length-magic)
-
-few_entries : (entries : List (List ℕ)) (rest bytes : List ℕ) → bytes ≡ up_to_gate entries ++ rest → length bytes ≤ 9 → entries ≡ []
-few_entries [] rest bytes is few = refl
-few_entries (entry ∷ entries) rest bytes is few =
-    let long = entry_long entry entries in
-    let sum = length-append (up_to_gate (entry ∷ entries)) rest in
-    let same = ap length is in
-    absurd (omega (arith, long, sum, same, few))
-
-unstored : (entries : List (List ℕ)) (offset : Option Offset) → entries ≡ [] → IsLastOf entries offset → offset ≡ None
-unstored entries None none last = refl
-unstored entries (Some offset) none last =
-    let same : [] ≡ last.before ++ last.entry ∷ [] = sym none ∙ last.last in
-    let many = ap length same in
-    absurd (omega (arith, many, length-append last.before (last.entry ∷ [])))
+few_bytes : (bytes : List ℕ) (slot : ℕ) (entry : List ℕ) → length bytes ≤ 20 → HasSelectedEntry bytes slot entry → entry ≡ []
+few_bytes bytes slot entry few has = nil_from_length entry (elim (cases_lt 0 (length entry)) [
+  | inr none ↦ omega (arith, none)
+  | inl some ↦ (
+      let last = has.content 0 4 (omega arith) (omega (arith, some, length-slot_content entry)) in
+      absurd (omega (arith, last.there, few)))
+])
 
 -- what a store that is being made on an empty disk leaves is a store without an offset, or none
 pub torn_stores_are_empty : (bytes : List ℕ) (offset : Option Offset) → BeginsTorn [] bytes → IsStore bytes offset → IsStore bytes None
 torn_stores_are_empty bytes offset torn store =
-    let few : length bytes ≤ 9 = torn.no_longer in
-    let none = few_entries store.entries store.journal.rest bytes store.journal.spelled few in
-    subst (IsStore bytes) (unstored store.entries offset none store.last) store
+    let few : length bytes ≤ 20 = torn.no_longer in
+    record { slot = store.slot; entry = store.entry; selected = store.selected; is = few_bytes bytes store.slot store.entry few store.selected }
+
+pub torn_has_none : (bytes : List ℕ) (offset : Option Offset) → BeginsTorn [] bytes → IsStore bytes offset → offset ≡ None
+torn_has_none bytes offset torn store = one_store bytes offset None store (torn_stores_are_empty bytes offset torn store)
 
 -- ---- a store's disk
 
 pub store_of : {D : Type 0} (model : DiskModel D) (store : StoreOn D) (offset : Option Offset) → HoldsOffset model store offset
     → StoresOffset model (disk_of store) offset
 store_of model store offset held = record {
-  bytes = held.lists.bytes;
-  told = held.lists.told;
-  only = held.lists.only;
-  is = record { entries = held.entries; journal = held.lists.spelled; each = held.each; last = held.last };
+  bytes = held.bytes;
+  told = held.told;
+  only = held.only;
+  is = record { slot = store.slot; entry = held.entry; selected = held.selected; is = held.is };
 }
 
--- ---- what is left while an offset is stored
-
-pub leaves : {D : Type 0} (model : DiskModel D) (disk : D) (entries : List (List ℕ)) (entry : List ℕ) (old : Option Offset) (offset : Offset) → All IsOffsetEntry entries → IsLastOf entries old → EncodesOffset entry offset
-    → LeavesEntries model disk (λ left. (left ≡ entries) ⊎ (left ≡ entries ++ entry ∷ [])) → LeavesOffset model disk (λ left. (left ≡ old) ⊎ (left ≡ Some offset))
-leaves model disk entries entry old offset each last spells left crashed may =
-    let found = left crashed may in
-    elim found.2 [
-      | inl same ↦ (old, record { entries = entries; journal = subst (λ (l : List (List ℕ)). IsJournal crashed l) same found.1; each = each; last = last }, inl refl)
-      | inr same ↦ (
-        Some offset,
-        record {
-          entries = entries ++ entry ∷ [];
-          journal = subst (λ (l : List (List ℕ)). IsJournal crashed l) same found.1;
-          each = All-push IsOffsetEntry entries entry each (offset, spells);
-          last = record { before = entries; entry = entry; last = refl; spelled = spells };
-        },
-        inr refl,
-      )
-    ]
-
--- how many bytes are taken where an offset is stored after the entries
-pub roomy : (entries : List (List ℕ)) (entry spelled : List ℕ) (gate old new : ℕ) → gate ≡ length (up_to_gate entries) → entry ≡ spelled → new ≤ max old (size (entries ++ entry ∷ [])) → new ≤ max old (gate + 6 + length spelled)
-roomy entries entry spelled gate old new gate_is is most = omega (arith, most, gate_is, ap length is, length-up_to_gate-push entries entry)
-
--- ---- stores that extend one another
-
-pub count_one : (bytes : List ℕ) (first second : ℕ) → Counts bytes first → Counts bytes second → first ≡ second
-count_one bytes first second a b = a.is ∙ ap size (one_journal bytes a.entries b.entries a.journal b.journal) ∙ sym b.is
-
-pub store_counts : (bytes : List ℕ) (offset : Option Offset) → IsStore bytes offset → (count : ℕ) × Counts bytes count
-store_counts bytes offset store = (size store.entries, record { entries = store.entries; journal = store.journal; is = refl })
-
-pub store_grown : {D : Type 0} (model : DiskModel D) (old new : StoreOn D) (offset : Option Offset) (before after : List ℕ) (count : ℕ) → ExtendsOffsets model old new → HoldsOffset model old offset
-    → model.seen old.journal.disk ≡ Some before → model.seen new.journal.disk ≡ Some after → Counts before count → (more : ℕ) × Counts after more × (count ≤ more) × (length after + 1 ≤ max (length before + 1) (more + 2 ^ 30))
-store_grown model old new offset before after count comes held was told counts =
-    let far = grown_from model old.journal new.journal held.entries before after comes held.lists was told in
-    let is : Some held.lists.bytes ≡ Some before = sym held.lists.told ∙ was in
-    let same : held.lists.bytes ≡ before = cc in
-    let here : Counts before (size held.entries) = record { entries = held.entries; journal = subst (λ (b : List ℕ). IsJournal b held.entries) same held.lists.spelled; is = refl } in
-    let first = count_one before count (size held.entries) counts here in
-    (size far.entries, record { entries = far.entries; journal = far.journal; is = refl }, omega (arith, first, far.on), omega (arith, far.short))
-
--- ---- entries as they are read, one after the other
-
-module _ (entries : List (List ℕ)) (i : ℕ) (entry : List ℕ) (there : slice_get entries i ≡ Some entry) where
-  one_more : take (i + 1) entries ≡ take i entries ++ entry ∷ []
-  one_more = take_more entries i [] (slice_get_within entries i entry there) ∙ ap (λ (e : List ℕ). take i entries ++ e ∷ []) (get_or_from_slice_get entries i entry [] there)
-
-  pub each_more : All IsOffsetEntry (take i entries) → IsOffsetEntry entry → All IsOffsetEntry (take (i + 1) entries)
-  each_more all is = subst (λ (l : List (List ℕ)). All IsOffsetEntry l) (sym one_more) (All-push IsOffsetEntry (take i entries) entry all is)
-
-  pub last_more : (offset : Offset) → EncodesOffset entry offset → IsLastOf (take (i + 1) entries) (Some offset)
-  last_more offset spells = record { before = take i entries; entry = entry; last = one_more; spelled = spells }
-
-  pub bad_first : (n : ℕ) (e : OffsetError) → All IsOffsetEntry (take i entries) → (e ≡ error.Memory) ⊎ ((e ≡ error.BadOffset i) × ¬ IsOffsetEntry entry) → e ≡ error.BadOffset n → All IsOffsetEntry (take n entries) × ((x : List ℕ) × (slice_get entries n ≡ Some x) × ¬ IsOffsetEntry x)
-  bad_first n e all (inl memory) is = let contra : error.Memory ≡ error.BadOffset n = sym memory ∙ is in absurd cc
-  bad_first n e all (inr bad) is =
-      let both : error.BadOffset i ≡ error.BadOffset n = sym bad.0 ∙ is in
-      let same : i ≡ n = cc in
-      (subst (λ (k : ℕ). All IsOffsetEntry (take k entries)) same all, (entry, subst (λ (k : ℕ). slice_get entries k ≡ Some entry) same there, bad.1))
-
-pub each_done : (entries : List (List ℕ)) (i : ℕ) → length entries ≤ i → All IsOffsetEntry (take i entries) → All IsOffsetEntry entries
-each_done entries i le all = subst (λ (l : List (List ℕ)). All IsOffsetEntry l) (take_all i entries le) all
-
-pub last_done : (entries : List (List ℕ)) (i : ℕ) (last : Option Offset) → length entries ≤ i → IsLastOf (take i entries) last → IsLastOf entries last
-last_done entries i last le is = subst (λ (l : List (List ℕ)). IsLastOf l last) (take_all i entries le) is
+-- what is left while an offset is stored
+pub leaves : {D : Type 0} (model : DiskModel D) (disk : D) (slot other : ℕ) (entry form : List ℕ) (old : Option Offset) (offset : Offset)
+    → IsSlotEntry entry old → EncodesOffset form offset
+    → ((crashed : List ℕ) → model.may_leave disk crashed → HasSelectedEntry crashed slot entry ⊎ HasSelectedEntry crashed other form) → LeavesOffset model disk
+    (λ left. (left ≡ old) ⊎ (left ≡ Some offset))
+leaves model disk slot other entry form old offset is spells left crashed may = elim (left crashed may) [
+  | inl same ↦ (old, record { slot = slot; entry = entry; selected = same; is = is }, inl refl)
+  | inr more ↦ (Some offset, record { slot = other; entry = form; selected = more; is = spells }, inr refl)
+]
 
 -- ---- errors
-
-pub not_long : (e : JournalError) (f : OffsetError) (len : ℕ) → ((n : ℕ) → e ≡ journal_error.EntryTooLong n → ⊥) → f ≡ as_offset_error e → f ≡ error.TooLong len → ⊥
-not_long journal_error.Failed f len short gives is = let contra : error.Failed ≡ error.TooLong len = sym gives ∙ is in cc
-not_long (journal_error.NotAJournal at) f len short gives is = let contra : error.NotAStore at ≡ error.TooLong len = sym gives ∙ is in cc
-not_long (journal_error.EntryTooLong n) f len short gives is = short n refl
-not_long journal_error.Memory f len short gives is = let contra : error.Memory ≡ error.TooLong len = sym gives ∙ is in cc
-
--- the disk has no store where it has no journal
-pub no_journal_of : (e : JournalError) (f : OffsetError) (at : ℕ) → f ≡ as_offset_error e → f ≡ error.NotAStore at → e ≡ journal_error.NotAJournal at
-no_journal_of journal_error.Failed f at gives is = (let contra : error.Failed ≡ error.NotAStore at = sym gives ∙ is in cc)
-no_journal_of (journal_error.NotAJournal place) f at gives is = (let same : error.NotAStore place ≡ error.NotAStore at = sym gives ∙ is in cc)
-no_journal_of (journal_error.EntryTooLong len) f at gives is = (let contra : error.TooLong len ≡ error.NotAStore at = sym gives ∙ is in cc)
-no_journal_of journal_error.Memory f at gives is = (let contra : error.Memory ≡ error.NotAStore at = sym gives ∙ is in cc)
-
--- the store failed where its journal did
-pub failed_of : (e : JournalError) (f : OffsetError) → f ≡ as_offset_error e → f ≡ error.Failed → e ≡ journal_error.Failed
-failed_of journal_error.Failed f gives is = refl
-failed_of (journal_error.NotAJournal at) f gives is = (let contra : error.NotAStore at ≡ error.Failed = sym gives ∙ is in cc)
-failed_of (journal_error.EntryTooLong len) f gives is = (let contra : error.TooLong len ≡ error.Failed = sym gives ∙ is in cc)
-failed_of journal_error.Memory f gives is = (let contra : error.Memory ≡ error.Failed = sym gives ∙ is in cc)
 
 abbrev failed : {T E : Type 0} → E → Result T E
 failed e = Err e

@@ -1,4 +1,4 @@
--- An offset as the bytes of a journal's entry, format 1, composed of the fields of stored forms.
+-- An offset as the bytes of an entry, format 1, composed of the fields of stored forms.
 use Rattle.std.specs.Prelude.{ℕ, ◌<◌, ◌^◌, Option, Some, None, IfSome, List, [], ◌∷◌, ◌++◌, length, FitsSigned}
 use Rattle.std.specs.List.{AllByRecursion, flat_map, zip}
 use Rattle.std.specs.Int.{w64, cast_unsigned}

@@ -1,5 +1,6 @@
 pub mod Entries
 pub mod Offsets
+pub mod Slots
 pub mod Stores
 pub mod Reading
 pub mod Measures

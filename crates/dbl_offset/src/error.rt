@@ -1,4 +1,4 @@
-use dbl_journal::JournalError;
+use dbl_base::Failed;
 use std::alloc::AllocError;
 use thiserror::Error;
 
@@ -7,11 +7,12 @@ use thiserror::Error;
 pub enum OffsetError {
     #[error("disk failed")]
     Failed,
-    /// The disk has no journal: the position of the first missing or wrong byte of the magic, of
-    /// the missing commit byte, or of the commit byte of an entry that is truncated or too long.
+    /// The disk has no store: the position of the first missing or wrong byte of the magic, of the
+    /// missing selector, or of the selected slot's content (16 or 4112), which is truncated or
+    /// longer than 2^28 bytes.
     #[error("not a store at {at}")]
     NotAStore { at: u64 },
-    /// The number, counted from 0, of the first entry that encodes no offset.
+    /// The number of the selected slot, 0 or 1, whose entry encodes no offset.
     #[error("bad offset {index}")]
     BadOffset { index: u64 },
     /// The offset has more than 2^28 bytes. A length above 2^64 - 1 is reported as 2^64 - 1.
@@ -19,6 +20,17 @@ pub enum OffsetError {
     TooLong { len: u64 },
     #[error("out of memory")]
     Memory,
+}
+
+impl From<Failed> for OffsetError {
+    ghost use Rattle.std.specs.Prelude.{◌≡◌};
+    ghost use Rattle.dbl_offset.specs.declared.error.OffsetError.TheVariants as error;
+
+    ghost from_gives = { λ _ e. e ≡ error.Failed };
+
+    fn from(_failed: Failed) -> OffsetError {
+        OffsetError::Failed
+    }
 }
 
 impl From<AllocError> for OffsetError {
@@ -29,21 +41,5 @@ impl From<AllocError> for OffsetError {
 
     fn from(_error: AllocError) -> OffsetError {
         OffsetError::Memory
-    }
-}
-
-impl From<JournalError> for OffsetError {
-    ghost use Rattle.std.specs.Prelude.{◌≡◌};
-    ghost use Rattle.dbl_offset.specs.Stores.{as_offset_error};
-
-    ghost from_gives = { λ e f. f ≡ as_offset_error e };
-
-    fn from(error: JournalError) -> OffsetError {
-        match error {
-            JournalError::Failed => OffsetError::Failed,
-            JournalError::NotAJournal { at } => OffsetError::NotAStore { at },
-            JournalError::EntryTooLong { len } => OffsetError::TooLong { len },
-            JournalError::Memory => OffsetError::Memory,
-        }
     }
 }

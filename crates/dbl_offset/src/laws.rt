@@ -1,13 +1,13 @@
 //! Theorems about offsets and their stores, as contracts of empty functions.
 
-ghost use Rattle.std.specs.Prelude.{◌≡◌, ◌⊎◌, ℕ, ◌+◌, ◌≤◌, Option, Some, List, length, max};
+ghost use Rattle.std.specs.Prelude.{◌≡◌, ◌⊎◌, ℕ, ◌<◌, ◌≤◌, Option, Some, None, List, [], length};
+ghost use Rattle.std.specs.Prelude.{max, slice_index};
 ghost use Rattle.dbl_offset.specs.declared.offset.Offset.{Offset};
 ghost use Rattle.dbl_offset.specs.Entries.{FitsOffset, offset_bytes_form};
 ghost use Rattle.dbl_offset.specs.Offsets.{IsOffset, EncodesOffset};
-ghost use Rattle.dbl_offset.specs.Stores.{ExtendsOffsets, Counts, HasBadOffset};
+ghost use Rattle.dbl_offset.specs.Stores.{BeginsTorn, ExtendsOffsets, HasBadOffset};
 ghost use Rattle.dbl_offset.specs.Stores.{HoldsOffset, IsNoStoreAt, IsStore, LeavesOffset};
-ghost use Rattle.dbl_offset.specs.Stores.{MayLeaveOffset, StoreOn, disk_of};
-ghost use Rattle.dbl_journal.specs.Growth.{growth_room};
+ghost use Rattle.dbl_offset.specs.Stores.{MayLeaveOffset, StoreOn, disk_of, greatest_room};
 
 use dbl_disk::Disk;
 
@@ -41,6 +41,20 @@ pub fn stores_or_faults()
         HasBadOffset bytes second → first ≡ second }
 {}
 
+/// Bytes are at least one of: a store, no store at a position, a store with a bad offset.
+pub fn bytes_are_a_store_or_not()
+    ensures { (bytes : List ℕ) → ((i : ℕ) → slice_index bytes i < 256) →
+        ((offset : Option Offset) × IsStore bytes offset) ⊎
+        (((at : ℕ) × IsNoStoreAt bytes at) ⊎ ((index : ℕ) × HasBadOffset bytes index)) }
+{}
+
+/// What a store leaves on an empty disk while it is made is no store yet, or one without an offset.
+pub fn torn_stores_are_empty()
+    ensures torn { (bytes : List ℕ) (offset : Option Offset) → BeginsTorn [] bytes →
+        IsStore bytes offset → offset ≡ None }
+    ensures empty { (offset : Option Offset) → ¬ IsStore [] offset }
+{}
+
 /// A store has at most one offset, the one that its bytes encode and that a crash may leave. While
 /// an offset is stored a crash leaves the old one or the new one.
 pub fn stores_hold_one_offset<D: Disk>()
@@ -59,23 +73,16 @@ pub fn stores_hold_one_offset<D: Disk>()
         MayLeaveOffset D.Disk disk left → (left ≡ old) ⊎ (left ≡ Some new) }
 {}
 
-/// The number of valid bytes of a store is unique. `ExtendsOffsets` is reflexive and transitive,
-/// keeps the disk's contents known, lets the number of valid bytes never fall, and bounds the
-/// number of bytes after them.
+/// `ExtendsOffsets` is reflexive and transitive, keeps the disk's contents known, and bounds their
+/// number of bytes.
 pub fn stores_come_of_stores<D: Disk>()
-    ensures count { (bytes : List ℕ) (offset : Option Offset) → IsStore bytes offset → (count : ℕ) ×
-        Counts bytes count }
-    ensures one { (bytes : List ℕ) (first second : ℕ) → Counts bytes first → Counts bytes second →
-        first ≡ second }
     ensures itself { (store : StoreOn D) → ExtendsOffsets D.Disk store store }
     ensures on { (first second third : StoreOn D) → ExtendsOffsets D.Disk first second →
         ExtendsOffsets D.Disk second third → ExtendsOffsets D.Disk first third }
     ensures told { (old new : StoreOn D) (offset : Option Offset) →
         ExtendsOffsets D.Disk old new → HoldsOffset D.Disk old offset →
         (after : List ℕ) × (D.seen (disk_of new) ≡ Some after) }
-    ensures grown { (old new : StoreOn D) (offset : Option Offset) (before after : List ℕ)
-        (count : ℕ) → ExtendsOffsets D.Disk old new → HoldsOffset D.Disk old offset →
-        D.seen (disk_of old) ≡ Some before →
-        D.seen (disk_of new) ≡ Some after → Counts before count → (more : ℕ) × Counts after more ×
-        (count ≤ more) × (length after + 1 ≤ max (length before + 1) (more + growth_room)) }
+    ensures grown { (old new : StoreOn D) (before after : List ℕ) →
+        ExtendsOffsets D.Disk old new → D.seen (disk_of old) ≡ Some before →
+        D.seen (disk_of new) ≡ Some after → length after ≤ max (length before) greatest_room }
 {}

@@ -15,6 +15,9 @@ use dbl_model_history::Cursor;
 use dbl_model_table::{Column, Identity, TableInfo};
 use dbl_value::Val;
 
+/// The maximum length of an offset in bytes.
+pub(crate) const OFFSET_LIMIT: u64 = 1 << 28;
+
 fn add_text(before: u64, content: &Text) -> u64
     ensures { Measures before (length (text_form content.now)) (IsStored content.now) result }
 {

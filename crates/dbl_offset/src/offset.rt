@@ -30,6 +30,18 @@ impl Offset {
     pub fn copy(&self, alloc: Global) -> Result<Offset, AllocError>
         ensures { IfOk result (λ offset. offset ≡ self.now) }
     {
+        let cursors = self.cursors.copy(alloc)?;
+        self.with_cursors(alloc, cursors)
+    }
+
+    /// An offset that is equal but for these cursors.
+    pub fn with_cursors(
+        &self,
+        alloc: Global,
+        cursors: Seq<Cursor>,
+    ) -> Result<Offset, AllocError>
+        ensures { IfOk result (λ offset. offset ≡ record self.now { cursors = cursors }) }
+    {
         Ok(Offset {
             identity: self.identity.copy(alloc)?,
             incarnation: self.incarnation,
@@ -37,7 +49,7 @@ impl Offset {
             lsn: self.lsn,
             end_lsn: self.end_lsn,
             infos: self.infos.copy(alloc)?,
-            cursors: self.cursors.copy(alloc)?,
+            cursors,
         })
     }
 }

@@ -1,102 +1,108 @@
 ghost use Rattle.std.specs.Prelude.{◌≡◌, ◌≢◌, ◌⊎◌, ◌↔◌, ℕ, ◌<◌, ◌≤◌, List, [], length, max};
 ghost use Rattle.std.specs.Prelude.{option_map, Option, Some, None, Ok, Err, IfOk, IfErr};
-ghost use Rattle.std.specs.Prelude.{IfSome, OnOk, OnErr, MatchResult, IsTrue, take, slice_get};
-ghost use Rattle.std.specs.List.{All};
-ghost use Rattle.dbl_base.specs.Streams.{FailsOnlyIfCounted};
-ghost use Rattle.dbl_disk.specs.Calls.{IsSteady, Keeps, Makes};
+ghost use Rattle.std.specs.Prelude.{IfSome, OnOk, OnErr, MatchResult};
+ghost use Rattle.dbl_disk.specs.Calls.{Keeps, Makes};
 ghost use Rattle.dbl_disk.specs.Disks.{Follows, IsOnly};
-ghost use Rattle.dbl_journal.specs.Stored.{Lists};
 ghost use Rattle.dbl_offset.specs.declared.offset.Offset.{Offset};
 ghost use Rattle.dbl_offset.specs.Entries.{offset_bytes_form};
 ghost use Rattle.dbl_offset.specs.Measures.{capped, offset_limit};
-ghost use Rattle.dbl_offset.specs.Offsets.{IsOffsetEntry, IsOffset, EncodesOffset};
+ghost use Rattle.dbl_offset.specs.Offsets.{IsOffset, IsOffsetEntry};
+ghost use Rattle.dbl_offset.specs.Slots.{HasSelectedEntry};
 ghost use Rattle.dbl_offset.specs.Stores.{BeginsTorn, ExtendsOffsets, HasBadOffset, HoldsOffset};
-ghost use Rattle.dbl_offset.specs.Stores.{IsLastOf, IsLive, IsNoStoreAt, IsStore, LeavesOffset};
-ghost use Rattle.dbl_offset.specs.Stores.{disk_of, least_room, room_of, PutLeaves};
+ghost use Rattle.dbl_offset.specs.Stores.{IsLive, IsNoStoreAt, IsSlotEntry, IsStore, LeavesOffset};
+ghost use Rattle.dbl_offset.specs.Stores.{PutLeaves, disk_of, least_room, room_of};
 
 use crate::decoding::decode;
-use crate::measuring::measure;
-use crate::writing::encode;
+use crate::finding::find;
+use crate::measuring::{OFFSET_LIMIT, measure};
+use crate::slots::{start, write_slot};
+use crate::writing::{LENGTH_BYTES, encode};
 use crate::{Offset, OffsetError};
+use dbl_base::Failed;
 use dbl_disk::{Disk, Refused};
-use dbl_journal::{ENTRY_LIMIT, Journal};
 use dbl_record::RecordError;
 use std::alloc::Global;
 use std::marker::Model;
 
 /// The offset of a connector, on a disk. A crash while an offset is stored leaves the old one or
-/// the new one. The disk has a journal with an entry for each offset that was stored, of which the
-/// last one counts.
+/// the new one.
+///
+/// The disk has the bytes `DBLOFFS2`, a selector, seven bytes that are ignored, and then two slots
+/// whose blocks of 4,096 bytes alternate. The selector's lowest bit is the selected slot. A slot's
+/// content is a length in four bytes, big-endian, and an entry of that length: an offset's bytes,
+/// or none.
 #[derive(Drop)]
 pub struct OffsetStore<D: Disk> {
-    journal: Journal<D>,
+    disk: D,
+    slot: u64,
     offset: Option<Offset>,
+    live: bool,
 }
 
 impl<D: Disk> Model for OffsetStore<D> {
-    ghost use Rattle.std.specs.Prelude.{IfSome};
+    ghost use Rattle.std.specs.Prelude.{◌<◌, IfSome};
     ghost use Rattle.dbl_offset.specs.Offsets.{IsOffset};
     ghost use Rattle.dbl_offset.specs.Stores.{StoreOn};
 
     ghost Value = { StoreOn D };
 
-    ghost view = { λ s. record { journal = s.journal; offset = s.offset } };
+    ghost view = { λ s.
+        record { disk = s.disk; slot = s.slot; offset = s.offset; live = s.live } };
 
-    ghost invariant = { λ s. IfSome s.offset IsOffset };
+    ghost invariant = { λ s. (s.slot < 2) × IfSome s.offset IsOffset };
 }
 
-// The offset that an entry encodes.
-fn read_entry(alloc: Global, index: u64, bytes: &[u8]) -> Result<Offset, OffsetError>
-    ensures read { IfOk result (λ offset. EncodesOffset bytes.now offset) }
+// The offset of a slot's entry, or none if it is empty.
+fn offset_in(alloc: Global, slot: u64, entry: &[u8]) -> Result<Option<Offset>, OffsetError>
+    ensures read { IfOk result (λ offset. IsSlotEntry entry.now offset) }
+    ensures good { IfOk result (λ offset. IfSome offset IsOffset) }
     ensures refused { IfErr result (λ error. (error ≡ OffsetError.Memory) ⊎
-        ((error ≡ OffsetError.BadOffset index) × ¬ IsOffsetEntry bytes.now)) }
+        ((error ≡ OffsetError.BadOffset slot) × (entry.now ≢ []) × ¬ IsOffsetEntry entry.now)) }
 {
-    match decode(alloc, bytes) {
-        Ok(offset) => Ok(offset),
-        Err(RecordError::BadRecord { at: _ }) => Err(OffsetError::BadOffset { index }),
+    if entry.is_empty() {
+        return Ok(None);
+    }
+    match decode(alloc, entry) {
+        Ok(offset) => Ok(Some(offset)),
+        Err(RecordError::BadRecord { at: _ }) => Err(OffsetError::BadOffset { index: slot }),
         Err(RecordError::Memory) => Err(OffsetError::Memory),
     }
 }
 
-// The offset of the last entry. Each entry is read once.
-fn read_last<D: Disk>(
-    alloc: Global,
-    journal: &mut Journal<D>,
-) -> Result<Option<Offset>, OffsetError>
-    requires { IsTrue journal.old.live }
-    ensures each { (entries : List (List ℕ)) → Lists D.Disk journal.old entries →
-        OnOk result (All IsOffsetEntry entries) }
-    ensures last { (entries : List (List ℕ)) → Lists D.Disk journal.old entries →
-        IfOk result (IsLastOf entries) }
-    ensures lists { (entries : List (List ℕ)) → Lists D.Disk journal.old entries →
-        Lists D.Disk journal.new entries }
-    ensures bad { (entries : List (List ℕ)) (index : ℕ) →
-        Lists D.Disk journal.old entries → result ≡ Err (OffsetError.BadOffset index) →
-        All IsOffsetEntry (take index entries) ×
-        ((entry : List ℕ) × (slice_get entries index ≡ Some entry) × ¬ IsOffsetEntry entry) }
-    ensures asked { IfOk result (λ last. IfSome last IsOffset) }
-    ensures same { journal.new ≡ record journal.old { disk = journal.new.disk } }
-    ensures seen { D.seen journal.new.disk ≡ D.seen journal.old.disk }
-    ensures crash { (crashed : List ℕ) → D.may_leave journal.new.disk crashed ↔
-        D.may_leave journal.old.disk crashed }
-    ensures cause { FailsOnlyIfCounted (result ≡ Err OffsetError.Failed)
-        (D.faults journal.old.disk) (D.faults journal.new.disk) }
-    ensures store { (at : ℕ) → result ≢ Err (OffsetError.NotAStore at) }
+// The selected slot, and the stored offset.
+#[derive(Drop)]
+struct Stored {
+    slot: u64,
+    offset: Option<Offset>,
+}
+
+// Finds the stored offset, after a sync.
+fn read_store<D: Disk>(alloc: Global, disk: &mut D) -> Result<Stored, OffsetError>
+    ensures read { (bytes : List ℕ) → D.seen disk.old ≡ Some bytes →
+        IfOk result (λ stored. (entry : List ℕ) × HasSelectedEntry bytes stored.slot entry ×
+        IsSlotEntry entry stored.offset) }
+    ensures shape { IfOk result (λ stored. (stored.slot < 2) × IfSome stored.offset IsOffset) }
+    ensures not_a_store { (bytes : List ℕ) (at : ℕ) → D.seen disk.old ≡ Some bytes →
+        result ≡ Err (OffsetError.NotAStore at) → IsNoStoreAt bytes at }
+    ensures bad_offset { (bytes : List ℕ) (index : ℕ) → D.seen disk.old ≡ Some bytes →
+        result ≡ Err (OffsetError.BadOffset index) → HasBadOffset bytes index }
     ensures short { (len : ℕ) → result ≢ Err (OffsetError.TooLong len) }
-    ensures steady { result ≢ Err OffsetError.Failed →
-        IsSteady D.Disk journal.old.disk journal.new.disk }
+    ensures only { (bytes : List ℕ) → D.seen disk.old ≡ Some bytes →
+        result ≢ Err OffsetError.Failed → IsOnly bytes (D.may_leave disk.new) }
+    ensures keeps { Keeps D.Disk (result ≡ Err OffsetError.Failed) disk.old disk.new }
 {
-    let mut last = None;
-    for index in 0..journal.count() {
-        let bytes = journal.entry(alloc, index)?;
-        last = Some(read_entry(alloc, index, bytes.items())?);
-    }
-    Ok(last)
+    let found = find(alloc, disk)?;
+    let entry = &found.content.as_slice()[LENGTH_BYTES..];
+    let offset = offset_in(alloc, found.slot, entry)?;
+    Ok(Stored {
+        slot: found.slot,
+        offset,
+    })
 }
 
 impl<D: Disk> OffsetStore<D> {
-    /// Makes a store without an offset on an empty disk, by a write and a sync. Takes no memory.
-    pub fn make(alloc: Global, disk: D) -> Result<OffsetStore<D>, Refused<D, OffsetError>>
+    /// Makes a store without an offset on an empty disk, by a write and a sync.
+    pub fn make(mut disk: D) -> Result<OffsetStore<D>, Refused<D, OffsetError>>
         requires { (bytes : List ℕ) → D.seen disk ≡ Some bytes → bytes ≡ [] }
         ensures made { D.seen disk ≡ Some [] →
             IfOk result (λ store. HoldsOffset D.Disk store None) }
@@ -110,23 +116,24 @@ impl<D: Disk> OffsetStore<D> {
             (λ refused. Makes D.Disk least_room
             (refused.error ≡ OffsetError.Failed) disk refused.disk) }
     {
-        let journal = match Journal::make(alloc, disk) {
-            Ok(journal) => journal,
-            Err(Refused { disk, error }) => {
-                return Err(Refused {
-                    disk,
-                    error: OffsetError::from(error),
-                });
-            }
-        };
-        let offset = None;
-        Ok(OffsetStore { journal, offset })
+        match start(&mut disk, b"DBLOFFS2\0\0\0\0\0\0\0\0\0\0\0\0") {
+            Ok(()) => Ok(OffsetStore {
+                disk,
+                slot: 0,
+                offset: None,
+                live: true,
+            }),
+            Err(Failed) => Err(Refused {
+                disk,
+                error: OffsetError::Failed,
+            }),
+        }
     }
 
-    /// Opens the store on the disk, as a crash may have left it. Begins with a sync, and reads each
-    /// entry once. Unless the result is `Failed`, a crash from then on leaves exactly the disk's
-    /// contents, if they are known.
-    pub fn open(alloc: Global, disk: D) -> Result<OffsetStore<D>, Refused<D, OffsetError>>
+    /// Opens the store on the disk, as a crash may have left it. Begins with a sync, and reads the
+    /// head and the selected slot. Unless the result is `Failed`, a crash from then on leaves
+    /// exactly the disk's contents, if they are known.
+    pub fn open(alloc: Global, mut disk: D) -> Result<OffsetStore<D>, Refused<D, OffsetError>>
         ensures opened { (bytes : List ℕ) → D.seen disk ≡ Some bytes →
             IfOk result (λ store. IsStore bytes store.offset) }
         ensures holds { (bytes : List ℕ) → D.seen disk ≡ Some bytes →
@@ -146,25 +153,18 @@ impl<D: Disk> OffsetStore<D> {
             (λ store. Keeps D.Disk ⊥ disk (disk_of store))
             (λ refused. Keeps D.Disk (refused.error ≡ OffsetError.Failed) disk refused.disk) }
     {
-        let mut journal = match Journal::open(alloc, disk) {
-            Ok(journal) => journal,
-            Err(Refused { disk, error }) => {
-                return Err(Refused {
-                    disk,
-                    error: OffsetError::from(error),
-                });
-            }
-        };
-        match read_last(alloc, &mut journal) {
-            Ok(offset) => Ok(OffsetStore { journal, offset }),
-            Err(error) => Err(Refused {
-                disk: journal.into_disk(),
-                error,
+        match read_store(alloc, &mut disk) {
+            Ok(stored) => Ok(OffsetStore {
+                disk,
+                slot: stored.slot,
+                offset: stored.offset,
+                live: true,
             }),
+            Err(error) => Err(Refused { disk, error }),
         }
     }
 
-    /// The offset that was stored last. Takes no memory.
+    /// The stored offset. Takes no memory.
     pub fn load(&self) -> Option<&Offset>
         requires { IsLive self.now }
         ensures offset { option_map (λ offset. offset.now) result ≡ self.now.offset }
@@ -173,9 +173,9 @@ impl<D: Disk> OffsetStore<D> {
         self.offset.as_ref()
     }
 
-    /// Replaces the stored offset by a write and a sync of its entry, and a write and a sync of its
-    /// commit byte. After `Failed` the store isn't live; the other errors come before the first
-    /// call and change nothing.
+    /// Replaces the stored offset: writes it into the slot that isn't selected, a write for each
+    /// block, and syncs; then selects that slot by a write and a sync. After `Failed` the store
+    /// isn't live; the other errors come before the first call and change nothing.
     pub fn store(&mut self, alloc: Global, offset: Offset) -> Result<(), OffsetError>
         requires live { IsLive self.old }
         requires offset { IsOffset offset }
@@ -183,10 +183,9 @@ impl<D: Disk> OffsetStore<D> {
             OnOk result (HoldsOffset D.Disk self.new (Some offset)) }
         ensures left { (old : Option Offset) → HoldsOffset D.Disk self.old old →
             LeavesOffset D.Disk (disk_of self.new) (λ left. (left ≡ old) ⊎ (left ≡ Some offset)) }
-        ensures grows { (old : Option Offset) (before after : List ℕ) →
-            HoldsOffset D.Disk self.old old → D.seen (disk_of self.old) ≡ Some before →
+        ensures grows { (before after : List ℕ) → D.seen (disk_of self.old) ≡ Some before →
             D.seen (disk_of self.new) ≡ Some after →
-            length after ≤ max (length before) (room_of self.old offset) }
+            length after ≤ max (length before) (room_of offset) }
         ensures comes { ExtendsOffsets D.Disk self.old self.new }
         ensures puts { PutLeaves D.Disk (result ≡ Err OffsetError.Failed) self.old self.new }
         ensures loads { OnOk result (self.new.offset ≡ Some offset) }
@@ -200,11 +199,15 @@ impl<D: Disk> OffsetStore<D> {
         ensures no_bad_offset { (index : ℕ) → result ≢ Err (OffsetError.BadOffset index) }
     {
         let count = measure(&offset);
-        if count > ENTRY_LIMIT as u64 {
+        if count > OFFSET_LIMIT {
             return Err(OffsetError::TooLong { len: count });
         }
-        let bytes = encode(alloc, count as usize, &offset)?;
-        self.journal.append_built(bytes)?;
+        let content = encode(alloc, count as usize, &offset)?;
+        let other = 1 - self.slot;
+        self.live = false;
+        write_slot(&mut self.disk, other, content.as_slice())?;
+        self.slot = other;
+        self.live = true;
         self.offset = Some(offset);
         Ok(())
     }
@@ -213,7 +216,12 @@ impl<D: Disk> OffsetStore<D> {
     pub fn into_disk(self) -> D
         ensures { result ≡ disk_of self }
     {
-        let OffsetStore { journal, offset: _ } = self;
-        journal.into_disk()
+        let OffsetStore {
+            disk,
+            slot: _,
+            offset: _,
+            live: _,
+        } = self;
+        disk
     }
 }

@@ -1,6 +1,6 @@
-//! Encoding of an offset as its entry's bytes. Each writer appends to the buffer.
+//! Encoding of an offset as a slot's content. Each writer appends to the buffer.
 
-ghost use Rattle.std.specs.Prelude.{◌≡◌, ◌<◌, ◌≤◌, ◌^◌, length, drop, IfOk, OnOk};
+ghost use Rattle.std.specs.Prelude.{◌≡◌, ◌<◌, ◌≤◌, ◌^◌, length, IfOk, OnOk};
 ghost use Rattle.std.specs.List.{AllByRecursion, flat_map, zip};
 ghost use Rattle.dbl_record.specs.Fields.{Extends, number32};
 ghost use Rattle.dbl_offset.specs.Entries.{FitsOffset, FitsKeyCell, FitsTableColumn};
@@ -8,10 +8,10 @@ ghost use Rattle.dbl_offset.specs.Entries.{FitsCursor, FitsTableCursor, FitsName
 ghost use Rattle.dbl_offset.specs.Entries.{FitsTable, cell, column, counted, cursor, entry};
 ghost use Rattle.dbl_offset.specs.Entries.{last_key_form, names, offset_bytes_form, table};
 ghost use Rattle.dbl_offset.specs.Measures.{offset_limit};
+ghost use Rattle.dbl_offset.specs.Slots.{slot_content};
 
 use crate::decoding::VERSION;
 use crate::offset::Offset;
-use dbl_journal::ENTRY_ROOM;
 use dbl_model_history::Cursor;
 use dbl_model_table::{Column, Identity, TableInfo};
 use dbl_record::fields::{append_number32, append_number64, append_text, append_truth};
@@ -171,18 +171,22 @@ fn write_offset(out: &mut Vec<u8>, offset: &Offset) -> Result<(), AllocError>
     Ok(())
 }
 
-/// The offset's `count` bytes, after room for their length, in a buffer that the journal needn't
-/// grow.
+/// The number of bytes of an entry's length.
+pub(crate) const LENGTH_BYTES: usize = 4;
+
+/// The content of a slot with the offset's `count` bytes: their number, and the bytes.
+#[tactic(auto, unfolding(crate::specs::Slots::slot_content, dbl_record::specs::Fields::number32))]
 pub(crate) fn encode(alloc: Global, count: usize, offset: &Offset) -> Result<Vec<u8>, AllocError>
+    requires count { count ≡ length (offset_bytes_form offset.now) }
     requires short { count ≤ offset_limit }
     requires long { length offset.now.cursors ≡ length offset.now.infos }
     requires few { length offset.now.infos < 2 ^ 32 }
     requires fit { FitsOffset offset.now }
-    ensures room { IfOk result (λ bytes. 4 ≤ length bytes.items) }
-    ensures entry { IfOk result (λ bytes. drop 4 bytes.items ≡ offset_bytes_form offset.now) }
+    ensures { IfOk result
+        (λ content. content.items ≡ slot_content (offset_bytes_form offset.now)) }
 {
-    let mut out = Vec::with_capacity(alloc, ENTRY_ROOM + count + 1)?;
-    out.extend_from_slice(&[0; ENTRY_ROOM])?;
+    let mut out = Vec::with_capacity(alloc, LENGTH_BYTES + count)?;
+    append_number32(&mut out, count as u32)?;
     write_offset(&mut out, offset)?;
     Ok(out)
 }

@@ -15,13 +15,13 @@ use Rattle.dblog_init.specs.declared.error.Store.TheVariants as store
 use Rattle.dblog_init.specs.Answers as inits
 use Rattle.dblog_init.specs.Disks.{AreAtMostMeasured, EndsBeforeWriting, EndsTorn, HasStoredBytes, HoldSomeBytes, IsAtMostMeasured, LeavesDisk}
 use Rattle.dblog_init.specs.Fresh.{IsEmptyLog, IsEmptyStore}
-use Rattle.dblog_connect.specs.Promise.Bounds.{IsBounded, StaysShort}
+use Rattle.dblog_connect.specs.Promise.Bounds.{IsBounded, IsStoreBounded, StaysShort}
 use Rattle.dblog_connect.specs.Promise.Headline.{GuaranteesAfterCrash}
 use Rattle.dblog_connect.specs.Asked.{asks_in}
 use Rattle.dblog_connect.specs.Ends.{OnlyRead}
 use Rattle.dblog_capture.specs.Runs.{RunsConnected}
 use Rattle.dblog_capture.specs.InitErrors.{SaysInit}
-use Rattle.dblog_capture.specs.Generated.{AnswersWorkload, HasMade, IsMadeShort, RunsGenerated, plainly}
+use Rattle.dblog_capture.specs.Generated.{AnswersWorkload, HasMade, IsMadeShort, IsStoreShort, RunsGenerated, plainly}
 use Rattle.dblog_capture.proofs.Fresh.{fresh_promised, made_kept, promised_fresh}
 use Rattle.dblog_capture.proofs.Statuses.{stopped_failed, stopped_no_zero}
 use Rattle.dbl_disk.specs.Model.{DiskModel}
@@ -67,6 +67,21 @@ grown_short before made now short is = record { entries = is.entries; journal = 
 module _ {D : Type 0} (model : DiskModel D) (made : Store) (end : inits.InitEnd) (old mid : D) (leaves : LeavesDisk model made end old mid) where
   stopped_short : IsMadeShort (model.seen old) (model.seen mid)
   stopped_short before now was is = inl (leaves.short before now was is)
+
+  stopped_store_short : IsStoreShort (model.seen old) (model.seen mid)
+  stopped_store_short = leaves.short
+
+  -- the offset's disk
+  store_grown_by : (Is : List ℕ → Type 0) → ((bytes : List ℕ) → model.seen old ≡ Some bytes → bytes ≡ [])
+      → (model.seen old ≡ Some [] → HasStoredBytes model Is mid) → (new : D) → IsStoreBounded (model.seen mid) (model.seen new)
+      → IsStoreShort (model.seen old) (model.seen new)
+  store_grown_by Is empty stored new bounded before now was is =
+      let has = stored (was ∙ ap (λ (l : List ℕ). let o : Option (List ℕ) = Some l in o) (empty before was)) in
+      let short = leaves.short before has.bytes was has.told in
+      let grown = bounded.each has.bytes has.told in
+      let both : Some grown.0 ≡ Some now = sym grown.1 ∙ is in
+      let bytes : grown.0 ≡ now = cc in
+      omega (arith, ap length bytes, grown.2, short)
 
   -- a disk that was empty was made, and tells its bytes
   grown_by : (Is : List ℕ → Type 0) → ((bytes : List ℕ) → model.seen old ≡ Some bytes → bytes ≡ []) → (model.seen old ≡ Some [] → HasStoredBytes model Is mid) → (new : D) → IsBounded (model.seen mid) (model.seen new) → IsMadeShort (model.seen old) (model.seen new)
@@ -156,7 +171,7 @@ module _ {W T F : Type 0} (wal_model : DiskModel W) (topics_model : DiskModel T)
       offsets_failed = λ is. offsets_left.cause (ap (λ (x : InitError). Err x) (stopped_failed store.Offsets e status before after says is));
       wal_short = stopped_short wal_model store.Wal (Err e) old.wal mid.wal wal_left;
       topics_short = stopped_short topics_model store.Topics (Err e) old.topics mid.topics topics_left;
-      offsets_short = stopped_short offsets_model store.Offsets (Err e) old.offsets mid.offsets offsets_left;
+      offsets_short = stopped_store_short offsets_model store.Offsets (Err e) old.offsets mid.offsets offsets_left;
     }
 
   -- ---- a session ran after it
@@ -200,7 +215,8 @@ module _ {W T F : Type 0} (wal_model : DiskModel W) (topics_model : DiskModel T)
       offsets_failed = λ is. rose_behind (offsets_model.faults old.offsets) (offsets_model.faults mid.offsets) (offsets_model.faults new.offsets) offsets_left.later (ran.offsets_failed is);
       wal_short = grown_by wal_model store.Wal (Ok tt) old.wal mid.wal wal_left (IsFreshWal workload) wal_empty wal_made new.wal ran.wal_bounded;
       topics_short = grown_by topics_model store.Topics (Ok tt) old.topics mid.topics topics_left IsEmptyLog topics_empty topics_made new.topics ran.topics_bounded;
-      offsets_short = grown_by offsets_model store.Offsets (Ok tt) old.offsets mid.offsets offsets_left IsEmptyStore offsets_empty offsets_made new.offsets ran.offsets_bounded;
+      offsets_short = store_grown_by offsets_model store.Offsets
+          (Ok tt) old.offsets mid.offsets offsets_left IsEmptyStore offsets_empty offsets_made new.offsets ran.offsets_bounded;
     }
 
 -- ---- nothing was tried: memory ran out before

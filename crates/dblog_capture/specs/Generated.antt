@@ -122,6 +122,11 @@ abbrev pub IsMadeShort : Option (List ℕ) → Option (List ℕ) → Type 0
 IsMadeShort told_before told_now = (before now : List ℕ) → told_before ≡ Some before → told_now ≡ Some now
     → (length now ≤ max (length before) growth_room) ⊎ StaysShort before now
 
+-- The offset's disk, if its contents are known, has no more bytes than before, or than 2^30.
+abbrev pub IsStoreShort : Option (List ℕ) → Option (List ℕ) → Type 0
+IsStoreShort told_before told_now = (before now : List ℕ) → told_before ≡ Some before → told_now ≡ Some now
+    → length now ≤ max (length before) growth_room
+
 -- A run of `gen --run`, what it leaves of empty disks, of others, and of their sizes and counts of faults.
 pub record RunsGenerated {W T F : Type 0} (wal_model : DiskModel W) (topics_model : DiskModel T) (offsets_model : DiskModel F)
     (workload : List ℕ) (now : ℤ) (old new : Disks W T F) (status : Status) (before after : Option (List ℕ)) : Type 0 where
@@ -136,4 +141,4 @@ pub record RunsGenerated {W T F : Type 0} (wal_model : DiskModel W) (topics_mode
   pub offsets_failed : status ≡ OffsetsFailed → FaultCounted (offsets_model.faults old.offsets) (offsets_model.faults new.offsets)
   pub wal_short : IsMadeShort (wal_model.seen old.wal) (wal_model.seen new.wal)
   pub topics_short : IsMadeShort (topics_model.seen old.topics) (topics_model.seen new.topics)
-  pub offsets_short : IsMadeShort (offsets_model.seen old.offsets) (offsets_model.seen new.offsets)
+  pub offsets_short : IsStoreShort (offsets_model.seen old.offsets) (offsets_model.seen new.offsets)

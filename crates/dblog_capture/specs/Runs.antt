@@ -5,7 +5,7 @@ use Rattle.dbl_lines.specs.declared.status.Status.TheVariants.{Done, SourceFaile
 use Rattle.dbl_base.specs.Streams.{FaultCounted}
 use Rattle.dbl_disk.specs.Model.{DiskModel}
 use Rattle.dblog_init.specs.declared.disks.Disks.{Disks}
-use Rattle.dblog_connect.specs.Promise.Bounds.{IsBounded}
+use Rattle.dblog_connect.specs.Promise.Bounds.{IsBounded, IsStoreBounded}
 use Rattle.dblog_connect.specs.Promise.Headline.{GuaranteesAfterCrash}
 use Rattle.dblog_connect.specs.Promise.Kept.{AreKept}
 use Rattle.dblog_connect.specs.declared.asked.Asked.{Asked}
@@ -76,4 +76,4 @@ pub record RunsConnected {W T F : Type 0} (wal_model : DiskModel W) (topics_mode
   pub offsets_failed : status ≡ OffsetsFailed → FaultCounted (offsets_model.faults old.offsets) (offsets_model.faults new.offsets)
   pub wal_bounded : IsBounded (wal_model.seen old.wal) (wal_model.seen new.wal)
   pub topics_bounded : IsBounded (topics_model.seen old.topics) (topics_model.seen new.topics)
-  pub offsets_bounded : IsBounded (offsets_model.seen old.offsets) (offsets_model.seen new.offsets)
+  pub offsets_bounded : IsStoreBounded (offsets_model.seen old.offsets) (offsets_model.seen new.offsets)

@@ -63,7 +63,7 @@ use Rattle.dblog_connect.proofs.Configs.{asks_budget}
 use Rattle.dblog_connect.proofs.Causes.{IsHaltOver, cause_of, err_is, kept_halt, sent_front}
 use Rattle.dblog_connect.proofs.Followed.{followed_read, still_stands, tallied_read, unread_by}
 use Rattle.dblog_connect.proofs.CrashState.{ended_store, ended_wal, image_of, left_store, ok_is, own_of, place_read, settled_of, source_kept}
-use Rattle.dblog_connect.proofs.Opened.{found_of, held_by, left_wal, log_come, read_of, store_come, stood_first}
+use Rattle.dblog_connect.proofs.Opened.{found_of, held_by, left_wal, log_come, read_of, stood_first}
 use Rattle.dblog_connect.proofs.Ran.{LogLeaves, Ran, SourceLeaves}
 
 -- ---- halts
@@ -169,7 +169,7 @@ module _ {W T F : Type 0} (wal_model : DiskModel W) (topics_model : DiskModel T)
   kept_again kept = record {
     wal = ap is_some (source_kept wal_model topics_model offsets_model is_w is_t is_f w t f so lo fo src lg st config now sn ln fn report result ran).come.told.1;
     topics = ap is_some (ran.sink_comes.journal 0 (length t) (log_come topics_model t lo lg)).told.1;
-    offsets = ap is_some (ran.store_comes 0 (length f) (store_come offsets_model f fo st)).told.1;
+    offsets = ap is_some (ran.store_comes (length f) (record { bytes = f; told = st.told; short = omega arith })).told;
     each = λ w1 t1 f1 mw mt mf. (
         let here = image_of wal_model topics_model offsets_model is_w is_t is_f w t f so lo fo src lg st config now sn ln fn report result ran kept w1 t1 f1 mw mt mf in
         (here.held, here.read, here.kept));

@@ -19,7 +19,7 @@ use Rattle.dbl_demo.specs.DemoWal.Wals.{IsWal, Wal}
 use Rattle.dbl_demo.specs.DemoWal.Wals as wal_bytes
 use Rattle.dbl_capture.proofs.CaptureWorkExits.{rose_behind}
 use Rattle.dblog_init.specs.declared.error.Store.{Store}
-use Rattle.dblog_promise.specs.Bounds.{IsBounded}
+use Rattle.dblog_promise.specs.Bounds.{IsBounded, IsStoreBounded}
 use Rattle.dblog_init.specs.declared.error.Store.TheVariants as store
 use Rattle.dblog_connect.specs.declared.asked.Asked.{Asked}
 use Rattle.dblog_connect.specs.declared.error.ConnectError.{ConnectError}
@@ -238,6 +238,10 @@ moved_to P old new same p = subst P (sym same) p
 
 pub bounded_on : {D : Type 0} (model : DiskModel D) (old mid new : D) → model.seen mid ≡ model.seen old → IsBounded (model.seen mid) (model.seen new) → IsBounded (model.seen old) (model.seen new)
 bounded_on model old mid new same bounded = subst (λ (told : Option (List ℕ)). IsBounded told (model.seen new)) same bounded
+
+pub store_bounded_on : {D : Type 0} (model : DiskModel D) (old mid new : D) → model.seen mid ≡ model.seen old → IsStoreBounded (model.seen mid) (model.seen new)
+    → IsStoreBounded (model.seen old) (model.seen new)
+store_bounded_on model old mid new same bounded = subst (λ (told : Option (List ℕ)). IsStoreBounded told (model.seen new)) same bounded
 
 pub read_on : {D : Type 0} (model : DiskModel D) (end : ConnectEnd) (old mid new : D) → model.seen mid ≡ model.seen old → ((crashed : List ℕ) → model.may_leave mid crashed → model.may_leave old crashed)
     → IfErr end (λ e. IsConnectRefusal e → OnlyRead model mid new) → IfErr end (λ e. IsConnectRefusal e → OnlyRead model old new)

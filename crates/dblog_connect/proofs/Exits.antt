@@ -1,5 +1,5 @@
 -- Where the session of a command isn't begun, and of which kind its errors are.
-use Rattle.std.proofs.Common.{◌≡◌, ◌∙◌, ◌⊎◌, inl, inr, ℕ, ◌<◌, ◌≤◌, Option, Some, None, List, length, Result, Ok, Err, refl, sym, ap, subst}
+use Rattle.std.proofs.Common.{◌≡◌, ◌∙◌, ◌⊎◌, inl, inr, ℕ, ◌<◌, ◌≤◌, Option, Some, None, List, length, Result, Ok, Err, refl, sym, ap, subst, arith}
 use Rattle.std.specs.Prelude.{IsErrAnd}
 use Rattle.dbl_disk.specs.Model.{DiskModel}
 use Rattle.dbl_model_table.specs.declared.config.Config.{Config}
@@ -16,7 +16,7 @@ use Rattle.dbl_capture.specs.CaptureWork.declared.report.Ending.TheVariants.{Bud
 use Rattle.dbl_capture.specs.CaptureWork.declared.report.Report.{Report}
 use Rattle.dblog_init.specs.declared.error.Store.{Store}
 use Rattle.dblog_init.specs.declared.error.Store.TheVariants as store
-use Rattle.dblog_promise.specs.Bounds.{IsBounded}
+use Rattle.dblog_promise.specs.Bounds.{IsBounded, IsStoreBounded}
 use Rattle.dblog_connect.specs.declared.asked.Asked.{Asked}
 use Rattle.dblog_connect.specs.declared.asked.Asked.TheVariants.{First, Again}
 use Rattle.dblog_connect.specs.declared.error.ConnectError.{ConnectError}
@@ -28,7 +28,7 @@ use Rattle.dblog_connect.specs.Ends.IsRefused.{not_asked}
 use Rattle.dblog_connect.specs.Errors.{IsAfterOpening, IsConnectError, IsExternalConnectError, IsOwnHalt, IsConnectRefusal, halt_error}
 use Rattle.dblog_connect.specs.Steps.{IsOpenedLog, IsOpenedSource, IsOpenedStore}
 use Rattle.dblog_connect.proofs.Answered.{own_or}
-use Rattle.dblog_connect.proofs.Opened.{bounded_by, kept_source, log_come, read_of, store_come}
+use Rattle.dblog_connect.proofs.Opened.{bounded_by, kept_source, log_come, read_of}
 use Rattle.dblog_connect.proofs.Stays.{IsUnhalted}
 
 -- what is said of an error is said of the result that a `?` makes of it
@@ -83,8 +83,12 @@ module _ {W T F : Type 0} (wal_model : DiskModel W) (topics_model : DiskModel T)
   pub log_bounded : (ln : OnDisk T) → LogComesOf topics_model lo ln → IsBounded (topics_model.seen lo.disk) (topics_model.seen ln.disk)
   log_bounded ln comes = bounded_by topics_model lo.disk ln (λ bytes told. comes.journal 0 (length bytes) (log_come topics_model bytes lo (opened_t bytes told)))
 
-  pub store_bounded : (fn : StoreOn F) → StoreComesOf offsets_model fo fn → IsBounded (offsets_model.seen (disk_of fo)) (offsets_model.seen (disk_of fn))
-  store_bounded fn comes = bounded_by offsets_model (disk_of fo) fn.journal (λ bytes told. comes 0 (length bytes) (store_come offsets_model bytes fo (opened_f bytes told)))
+  pub store_bounded : (fn : StoreOn F) → StoreComesOf offsets_model fo fn → IsStoreBounded (offsets_model.seen (disk_of fo)) (offsets_model.seen (disk_of fn))
+  store_bounded fn comes = record {
+    each = λ before told. (
+        let now = comes (length before) (record { bytes = before; told = told; short = omega arith }) in
+        (now.bytes, now.told, now.short));
+  }
 
 -- ---- halts
 

@@ -19,7 +19,7 @@ use Rattle.dbl_demo.specs.DemoLaws.Demo.{Demo, HasKept, IsDemo, HasDemoState}
 use Rattle.dbl_demo.specs.DemoLaws.SourceLaws.{wal_of}
 use Rattle.dbl_capture.specs.CaptureLaws.Found.{Found}
 use Rattle.dblog_promise.specs.Restarts.{restart_at}
-use Rattle.dblog_promise.specs.Bounds.{IsBounded}
+use Rattle.dblog_promise.specs.Bounds.{IsBounded, IsStoreBounded}
 use Rattle.dblog_promise.specs.Contents.{Contents, ReadAs, found_in}
 use Rattle.dblog_connect.specs.Steps.{IsLogOf, IsSourceOf, IsStoreOf}
 
@@ -70,6 +70,9 @@ module _ {D : Type 0} (model : DiskModel D) where
   pub bounded_same : (old new : D) → model.seen new ≡ model.seen old → IsBounded (model.seen old) (model.seen new)
   bounded_same old new same = record { each = λ before is. inl (same ∙ is) }
 
+  pub store_bounded_same : (old new : D) → model.seen new ≡ model.seen old → IsStoreBounded (model.seen old) (model.seen new)
+  store_bounded_same old new same = record { each = λ before is. (before, same ∙ is, omega arith) }
+
 -- ---- the source
 
 module _ {W : Type 0} (model : DiskModel W) (w : List ℕ) (source : Demo W) (src : IsSourceOf model w source) where
@@ -112,9 +115,6 @@ module _ {F : Type 0} (model : DiskModel F) (f : List ℕ) (store : StoreOn F) (
   store_crashed crashed leaves =
       let stores = store_of model store store.offset st.holds in
       stores.only crashed leaves ∙ same_some stores.bytes f (model.seen (disk_of store)) stores.told st.told
-
-  pub store_come : HasCome model 0 (length f) store.journal
-  store_come = come_of model store.journal _ f st.holds.lists st.told
 
 -- what a store that holds an offset leaves
 pub left_offset : {F : Type 0} (model : DiskModel F) (store : StoreOn F) (offset left : Option Offset) (crashed : List ℕ)

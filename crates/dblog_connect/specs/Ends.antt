@@ -64,7 +64,7 @@ IsNoTopicLog bytes e =
     ((at : ℕ) × (e ≡ NotAStore Topics at) × IsFaultAt bytes at)
     ⊎ ((index : ℕ) × (e ≡ BadEntry Topics index) × log_bytes.HasBadEntry bytes index)
 
--- Why the bytes are no offset store: where they are no journal, or the first bad entry.
+-- Why the bytes are no offset store: where they are no store, or the slot with a bad entry.
 abbrev pub IsNoOffset : List ℕ → ConnectError → Type 0
 IsNoOffset bytes e =
     ((at : ℕ) × (e ≡ NotAStore Offsets at) × IsNoStoreAt bytes at) ⊎ ((index : ℕ) × (e ≡ BadEntry Offsets index) × HasBadOffset bytes index)

@@ -1,7 +1,7 @@
 //! The session over the disks.
 
 ghost use Rattle.std.specs.Prelude.{◌≡◌, ℕ, List, Some, IfOk, IfErr, MatchResult, IsTrue};
-ghost use Rattle.dblog_promise.specs.Bounds.{IsBounded};
+ghost use Rattle.dblog_promise.specs.Bounds.{IsBounded, IsStoreBounded};
 ghost use Rattle.dblog_promise.specs.Headline.{GuaranteesAfterCrash};
 ghost use Rattle.dbl_offset.specs.Stores.{IsLive, disk_of};
 ghost use Rattle.dbl_demo.specs.DemoWorkload.Ready.{AreTableNames};
@@ -97,7 +97,8 @@ pub fn connect<W: Disk, T: Disk, F: Disk>(
         disks.offsets result.disks.offsets }
     ensures wal_bounded { IsBounded (W.seen disks.wal) (W.seen result.disks.wal) }
     ensures topics_bounded { IsBounded (T.seen disks.topics) (T.seen result.disks.topics) }
-    ensures offsets_bounded { IsBounded (F.seen disks.offsets) (F.seen result.disks.offsets) }
+    ensures offsets_bounded { IsStoreBounded
+        (F.seen disks.offsets) (F.seen result.disks.offsets) }
 {
     let Disks {
         wal,
@@ -149,7 +150,7 @@ fn connect_source<W: Disk, T: Disk, F: Disk>(
         offsets result.disks.offsets }
     ensures wal_bounded { IsBounded (W.seen source.journal.disk) (W.seen result.disks.wal) }
     ensures topics_bounded { IsBounded (T.seen topics) (T.seen result.disks.topics) }
-    ensures offsets_bounded { IsBounded (F.seen offsets) (F.seen result.disks.offsets) }
+    ensures offsets_bounded { IsStoreBounded (F.seen offsets) (F.seen result.disks.offsets) }
 {
     match TopicLog::open(alloc, topics) {
         Ok(log) => connect_log(alloc, asked, now_ms, source, log, offsets),
@@ -197,7 +198,7 @@ fn connect_log<W: Disk, T: Disk, F: Disk>(
         offsets result.disks.offsets }
     ensures wal_bounded { IsBounded (W.seen source.journal.disk) (W.seen result.disks.wal) }
     ensures topics_bounded { IsBounded (T.seen log.disk) (T.seen result.disks.topics) }
-    ensures offsets_bounded { IsBounded (F.seen offsets) (F.seen result.disks.offsets) }
+    ensures offsets_bounded { IsStoreBounded (F.seen offsets) (F.seen result.disks.offsets) }
 {
     match OffsetStore::open(alloc, offsets) {
         Ok(mut store) => {
@@ -255,7 +256,7 @@ fn run_session<W: Disk, T: Disk, F: Disk>(
     ensures source_bounded { IsBounded
         (W.seen source.old.journal.disk) (W.seen source.new.journal.disk) }
     ensures log_bounded { IsBounded (T.seen log.old.disk) (T.seen log.new.disk) }
-    ensures store_bounded { IsBounded
+    ensures store_bounded { IsStoreBounded
         (F.seen (disk_of store.old)) (F.seen (disk_of store.new)) }
 {
     let config = config_for(alloc, asked, store.load(), source.table_names())?;

@@ -65,7 +65,7 @@ fn make_topics<D: Disk>(alloc: Global, disk: D) -> (D, Result<(), InitError>)
     }
 }
 
-fn make_offsets<D: Disk>(alloc: Global, disk: D) -> (D, Result<(), InitError>)
+fn make_offsets<D: Disk>(disk: D) -> (D, Result<(), InitError>)
     requires { (bytes : List ℕ) → D.seen disk ≡ Some bytes → bytes ≡ [] }
     ensures makes { MakesOne D.Disk Store.Offsets IsEmptyStore
         result.1 disk result.0 }
@@ -73,7 +73,7 @@ fn make_offsets<D: Disk>(alloc: Global, disk: D) -> (D, Result<(), InitError>)
     ensures torn { IfErr result.1
         (λ e. Follows BeginsTorn (D.may_leave disk) (D.may_leave result.0)) }
 {
-    match OffsetStore::make(alloc, disk) {
+    match OffsetStore::make(disk) {
         Ok(store) => (store.into_disk(), Ok(())),
         Err(Refused { disk, error }) => (disk, Err(InitError::from(error))),
     }
@@ -147,7 +147,7 @@ fn make_all<W: Disk, T: Disk, F: Disk>(
             end,
         };
     }
-    let (offsets, end) = make_offsets(alloc, offsets);
+    let (offsets, end) = make_offsets(offsets);
     Outcome {
         disks: Disks {
             wal,

@@ -38,3 +38,8 @@ pub record StaysShort (before now : List ℕ) : Type 0 where
 pub record IsBounded (told_before told_now : Option (List ℕ)) : Type 0 where
   pub each : (before : List ℕ) → told_before ≡ Some before
       → (told_now ≡ Some before) ⊎ ((now : List ℕ) × (told_now ≡ Some now) × StaysShort before now)
+
+-- The contents of the offset's disk stay known, and are no longer than before, or than 2^30 bytes.
+pub record IsStoreBounded (told_before told_now : Option (List ℕ)) : Type 0 where
+  pub each : (before : List ℕ) → told_before ≡ Some before
+      → (now : List ℕ) × (told_now ≡ Some now) × (length now ≤ max (length before) growth_room)

@@ -9,7 +9,7 @@ use Rattle.dblog_init.specs.declared.error.Store.TheVariants as store
 use Rattle.dblog_init.specs.Answers as inits
 use Rattle.dblog_init.specs.declared.disks.Disks.{Disks}
 use Rattle.dblog_init.specs.Disks.{AreAtMostMeasured, HoldSomeBytes}
-use Rattle.dblog_capture.specs.Generated.{HasMade, IsMadeShort}
+use Rattle.dblog_capture.specs.Generated.{HasMade, IsMadeShort, IsStoreShort}
 use Rattle.dblog_capture.proofs.Fresh.{nothing_is_no_store}
 use Rattle.dblog_run.specs.Inits.{AreUntouched}
 use Rattle.dblog_run.specs.Means.{makes}
@@ -71,11 +71,14 @@ module _ {W T F : Type 0} (wal_model : DiskModel W) (topics_model : DiskModel T)
   pub full_by : (c : Command) → (c ≡ command.Init → Full → Untouched) → ((number rows groups : ℕ) → c ≡ command.Gen number rows groups true → Asked) → makes c ≡ true → Full → Untouched
   full_by c init generated = made_by (Full → Untouched) c init (λ number rows groups same. untouched_by (generated number rows groups same))
 
-pub same_short : (told : Option (List ℕ)) → IsMadeShort told told
-same_short told before now was is =
+pub same_store_short : (told : Option (List ℕ)) → IsStoreShort told told
+same_store_short told before now was is =
     let same : Some now ≡ Some before = sym is ∙ was in
     let bytes : now ≡ before = cc in
-    inl (subst (λ (b : List ℕ). length b ≤ max (length before) (2 ^ 30)) (sym bytes) (omega arith))
+    subst (λ (b : List ℕ). length b ≤ max (length before) (2 ^ 30)) (sym bytes) (omega arith)
+
+pub same_short : (told : Option (List ℕ)) → IsMadeShort told told
+same_short told before now was is = inl (same_store_short told before now was is)
 
 -- a disk that wasn't touched is still empty, which is no store
 pub unmade : {W T F : Type 0} (wal_model : DiskModel W) (topics_model : DiskModel T) (offsets_model : DiskModel F) (disks : Disks W T F) → ((bytes : List ℕ) → offsets_model.seen disks.offsets ≡ Some bytes → offsets_model.may_leave disks.offsets bytes) → HasMade wal_model topics_model offsets_model disks disks → ⊥

@@ -10,7 +10,7 @@ use Rattle.dbl_cli.specs.declared.commands.Command.{Command}
 use Rattle.dbl_cli.specs.declared.commands.Command.TheVariants as command
 use Rattle.dblog_init.specs.declared.disks.Disks.{Disks}
 use Rattle.dblog_init.specs.Disks.{HoldsBytes, HoldSomeBytes}
-use Rattle.dblog_capture.specs.Connect.Promise.Bounds.{IsBounded}
+use Rattle.dblog_capture.specs.Connect.Promise.Bounds.{IsBounded, IsStoreBounded}
 use Rattle.dblog_capture.specs.Connect.Promise.Contents.{Contents}
 use Rattle.dblog_capture.specs.Connect.Promise.Goes.{Advances}
 use Rattle.dblog_capture.specs.Connect.Promise.Headline.{Guarantees, GuaranteesAfterCrash}
@@ -126,6 +126,9 @@ module _ {D : Type 0} (model : DiskModel D) where
   pub untouched_bounded : (old new : D) → IsDiskUntouched model old new → IsBounded (model.seen old) (model.seen new)
   untouched_bounded old new same = record { each = λ before told. inl (same.same ∙ told) }
 
+  pub untouched_store_bounded : (old new : D) → IsDiskUntouched model old new → IsStoreBounded (model.seen old) (model.seen new)
+  untouched_store_bounded old new same = record { each = λ before told. (before, same.same ∙ told, omega arith) }
+
 module _ {D : Type 0} (model : DiskModel D) where
   read_untouched : (fault status : Status) (old new : D) → IsOnlyRead model fault status old new → IsDiskUntouched model old new
   read_untouched fault status old new reads = record { same = reads.same; crash = reads.crash }
@@ -228,10 +231,12 @@ module _ {D : Type 0} (model : DiskModel D) (c : Command) (status : Status) (old
         | inr asked ↦ sessions asked.0 asked.1
       ]
 
-  pub offsets_bounded : makes c ≡ false → ((asked : Asked) → asked_by c ≡ Some asked → IsBounded (model.seen old) (model.seen new)) → (opens_offsets c ≡ true → IsOnlyRead model OffsetsFailed status old new) → (uses_offsets c ≡ false → new ≡ old)
-      → IsBounded (model.seen old) (model.seen new)
+  pub offsets_bounded : makes c ≡ false → ((asked : Asked) → asked_by c ≡ Some asked → IsStoreBounded (model.seen old) (model.seen new))
+      → (opens_offsets c ≡ true → IsOnlyRead model OffsetsFailed status old new) → (uses_offsets c ≡ false → new ≡ old)
+      → IsStoreBounded (model.seen old) (model.seen new)
   offsets_bounded none sessions reads stays =
       elim (asked_or_not c) [
-        | inl shut ↦ untouched_bounded model old new (offsets_untouched model c OffsetsFailed status old new shut (λ make. absurd (switched (sym make ∙ none))) reads stays)
+        | inl shut ↦ untouched_store_bounded model old new
+            (offsets_untouched model c OffsetsFailed status old new shut (λ make. absurd (switched (sym make ∙ none))) reads stays)
         | inr asked ↦ sessions asked.0 asked.1
       ]

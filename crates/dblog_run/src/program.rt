@@ -15,7 +15,7 @@ ghost use Rattle.dblog_init.specs.declared.error.Store.TheVariants.{Wal, Topics,
 ghost use Rattle.dblog_init.specs.Disks.{HasStoredBytes, HoldSomeBytes};
 ghost use Rattle.dblog_init.specs.Fresh.{IsEmptyLog, IsEmptyStore};
 ghost use Rattle.dblog_capture.specs.Connect.declared.asked.Asked.{Asked as SpecAsked};
-ghost use Rattle.dblog_capture.specs.Connect.Promise.Bounds.{IsBounded};
+ghost use Rattle.dblog_capture.specs.Connect.Promise.Bounds.{IsBounded, IsStoreBounded};
 ghost use Rattle.dblog_capture.specs.Connect.Promise.Headline.{GuaranteesAfterCrash};
 ghost use Rattle.dblog_capture.specs.Connect.Disks.{AreKeptDisks, IsTrueAfterCrash};
 ghost use Rattle.dblog_run.specs.Inits.{AreUntouched, FailsSource, IsInitLeft};
@@ -23,7 +23,7 @@ ghost use Rattle.dblog_capture.specs.Runs.{RunsConnected, RunsSessionOn};
 ghost use Rattle.dblog_capture.specs.Connect.Asked.{asks_in};
 ghost use Rattle.dbl_gen.specs.Workload.{workload};
 ghost use Rattle.dblog_capture.specs.Generated.{EndsGenerated, HasMade, IsMadeShort};
-ghost use Rattle.dblog_capture.specs.Generated.{RunsGenerated, plainly};
+ghost use Rattle.dblog_capture.specs.Generated.{IsStoreShort, RunsGenerated, plainly};
 ghost use Rattle.dblog_run.specs.Sessions.{IsCompleteRun, asked_by, asks_by};
 ghost use Rattle.dblog_run.specs.Disks.{IsOnlyRead, OfDisk};
 ghost use Rattle.dbl_record.specs.declared.record.Record.{Record};
@@ -221,7 +221,7 @@ pub fn run<I: Input, O: Output, W: Disk, T: Disk, F: Disk>(
 
     // A failure of a disk is reported only if its count of faults rose. Known contents of a disk
     // don't get longer than they were, or than 2^30 bytes past their journal's unset commit byte,
-    // or (by `init` and `gen --run`) than 2^30 bytes.
+    // or (of the offset, and by `init` and `gen --run`) than 2^30 bytes.
     ensures topics_failed { result.end ≡ TopicsFailed →
         FaultCounted (T.faults disks.topics) (T.faults result.disks.topics) }
     ensures offsets_failed { result.end ≡ OffsetsFailed →
@@ -231,13 +231,13 @@ pub fn run<I: Input, O: Output, W: Disk, T: Disk, F: Disk>(
     ensures topics_bounded { SpellNone words.now.items makes →
         IsBounded (T.seen disks.topics) (T.seen result.disks.topics) }
     ensures offsets_bounded { SpellNone words.now.items makes →
-        IsBounded (F.seen disks.offsets) (F.seen result.disks.offsets) }
+        IsStoreBounded (F.seen disks.offsets) (F.seen result.disks.offsets) }
     ensures wal_short { SpellSome words.now.items makes →
         IsMadeShort (W.seen disks.wal) (W.seen result.disks.wal) }
     ensures topics_short { SpellSome words.now.items makes →
         IsMadeShort (T.seen disks.topics) (T.seen result.disks.topics) }
     ensures offsets_short { SpellSome words.now.items makes →
-        IsMadeShort (F.seen disks.offsets) (F.seen result.disks.offsets) }
+        IsStoreShort (F.seen disks.offsets) (F.seen result.disks.offsets) }
 {
     match dbl_cli::command(alloc, words) {
         Ok(command) => run_command(alloc, command, &now_ms, input, output, disks),

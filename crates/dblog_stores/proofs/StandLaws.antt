@@ -1,14 +1,13 @@
 -- Each command has an answer, for any bytes of the disks.
-use Rattle.std.proofs.Common.{◌≡◌, ◌∙◌, ◌⊎◌, ℕ, zero, suc, ◌+◌, ◌^◌, ◌<◌, ◌≤◌, Option, Some, None, Result, Ok, Err, List, [], ◌∷◌, ◌++◌, map, length, take, drop, get_or, refl, sym, ap, subst, arith, append_assoc, inl, inr, length-append, length-drop, take-append-drop}
+use Rattle.std.proofs.Common.{◌≡◌, ◌∙◌, ◌⊎◌, ℕ, zero, suc, ◌+◌, ◌^◌, ◌<◌, ◌≤◌, Option, Some, None, Ok, Err, List, [], ◌∷◌, ◌++◌, map, length, take, drop, get_or, refl, sym, ap, subst, arith, append_assoc, inl, inr, length-append, length-drop, take-append-drop}
 use Rattle.std.specs.Prelude.{slice_get}
 use Rattle.std.specs.Int.{from_be_bytes, to_be_bytes, w32}
 use Rattle.std.specs.List.{All, AllByRecursion, flat_map}
 use Rattle.std.proofs.lemmas.Bool.{cases_eq, cases_lt}
 use Rattle.std.proofs.lemmas.List.{length-take-le, take-take, take_at, take_more}
-use Rattle.std.proofs.lemmas.List.Elements.{All-cons, All-head, All-nil, All-tail}
+use Rattle.std.proofs.lemmas.List.Elements.{All-cons, All-nil}
 use Rattle.std.proofs.lemmas.Nat.{be_bytes_4, from_be_bytes-to_be_bytes_4}
 use Rattle.dbl_record.specs.declared.record.Record.{Record}
-use Rattle.dbl_record.specs.declared.error.RecordError.{RecordError}
 use Rattle.dbl_record.specs.Cuts.{joined}
 use Rattle.dbl_record.specs.Groups.{IsGroup}
 use Rattle.dbl_record.specs.Line.{line_of}
@@ -25,10 +24,8 @@ use Rattle.dbl_journal.proofs.Scans.{differs_at, has_magic}
 use Rattle.dbl_topic.specs.Logs.{AreLogEntries, IsLog, IsLogEntry}
 use Rattle.dbl_pgmsg.specs.Faults.{AreBytes}
 use Rattle.dbl_offset.specs.declared.offset.Offset.{Offset}
-use Rattle.dbl_offset.specs.Offsets as offsets
-use Rattle.dbl_offset.specs.Reading.{whole}
-use Rattle.dbl_offset.specs.Stores.{EndsWith, IsStore}
-use Rattle.dbl_offset.proofs.OffsetLaws.{no_entry, whole_takes}
+use Rattle.dbl_offset.specs.Stores.{IsStore}
+use Rattle.dbl_offset.proofs.StoreLaws.{store_or_not}
 use Rattle.dblog_stores.specs.declared.error.CommandError.{CommandError}
 use Rattle.dblog_stores.specs.declared.error.CommandError.TheVariants.{NotStarted, NotAStore, BadEntry}
 use Rattle.dblog_stores.specs.declared.error.Store.TheVariants.{Topics, Offsets}
@@ -244,46 +241,19 @@ topics_stand bytes fit =
 
 -- ---- offsets
 
-spells_or_not : (entry : List ℕ) → AreBytes entry → (read : Result Offset RecordError) → whole entry ≡ read → offsets.IsOffsetEntry entry ⊎ (¬ offsets.IsOffsetEntry entry)
-spells_or_not entry fit (Ok offset) is = inl (offset, whole_takes entry offset (are_bytes entry fit) is)
-spells_or_not entry fit (Err error) is = inr (no_entry entry error is)
-
-record FirstUnspelled (entries : List (List ℕ)) : Type 0 where
-  index : ℕ
-  before : All offsets.IsOffsetEntry (take index entries)
-  entry : List ℕ
-  there : slice_get entries index ≡ Some entry
-  bad : ¬ offsets.IsOffsetEntry entry
-
-all_spell_or_not : (entries : List (List ℕ)) → AllByRecursion AreBytes entries → All offsets.IsOffsetEntry entries ⊎ FirstUnspelled entries
-all_spell_or_not [] fit = inl (All-nil offsets.IsOffsetEntry)
-all_spell_or_not (entry ∷ entries) fit =
-    elim (spells_or_not entry fit.0 (whole entry) refl) [
-      | inr bad ↦ inr (record { index = 0; before = All-nil offsets.IsOffsetEntry; entry = entry; there = refl; bad = bad })
-      | inl spells ↦ elim (all_spell_or_not entries fit.1) [
-        | inl rest ↦ inl (All-cons offsets.IsOffsetEntry entry entries spells rest)
-        | inr bad ↦ inr (record { index = suc bad.index; before = All-cons offsets.IsOffsetEntry entry (take bad.index entries) spells bad.before; entry = bad.entry; there = bad.there; bad = bad.bad })
-      ]
-    ]
-
-last_of : (entry : List ℕ) (entries : List (List ℕ)) → All offsets.IsOffsetEntry (entry ∷ entries) → (offset : Offset) × EndsWith (entry ∷ entries) offset
-last_of entry [] each = let spells = All-head offsets.IsOffsetEntry entry [] each in (spells.0, record { before = []; entry = entry; last = refl; spelled = spells.1 })
-last_of entry (next ∷ entries) each =
-    let rest = last_of next entries (All-tail offsets.IsOffsetEntry entry (next ∷ entries) each) in
-    (rest.0, record { before = entry ∷ rest.1.before; entry = rest.1.entry; last = ap (λ es. entry ∷ es) rest.1.last; spelled = rest.1.spelled })
-
-read_of : (bytes : List ℕ) (entries : List (List ℕ)) → IsJournal bytes entries → All offsets.IsOffsetEntry entries → ((offset : Offset) × IsStore bytes (Some offset)) ⊎ ((error : CommandError) × HasNoOffset bytes error)
-read_of bytes [] journal each = inr (NotStarted, record { entries = []; journal = journal; each = each; last = refl })
-read_of bytes (entry ∷ entries) journal each = let last = last_of entry entries each in inl (last.0, record { entries = entry ∷ entries; journal = journal; each = each; last = last.1 })
+stored_or_not : (bytes : List ℕ) (offset : Option Offset) → IsStore bytes offset → ((stored : Offset) × IsStore bytes (Some stored))
+    ⊎ ((error : CommandError) × HasNoOffset bytes error)
+stored_or_not bytes None store = inr (NotStarted, store)
+stored_or_not bytes (Some offset) store = inl (offset, store)
 
 -- bytes hold an offset, or an error tells why not
 offset_stands : (bytes : List ℕ) → AreBytes bytes → ((offset : Offset) × IsStore bytes (Some offset)) ⊎ ((error : CommandError) × HasNoOffset bytes error)
 offset_stands bytes fit =
-    elim (journal_stands bytes fit) [
-      | inr fault ↦ inr (NotAStore Offsets fault.0, record { fault = fault.1 })
-      | inl found ↦ elim (all_spell_or_not found.0 (journal_fits bytes found.0 fit found.1)) [
-        | inl each ↦ read_of bytes found.0 found.1 each
-        | inr bad ↦ inr (BadEntry Offsets bad.index, record { entries = found.0; journal = found.1; before = bad.before; entry = bad.entry; there = bad.there; bad = bad.bad })
+    elim (store_or_not bytes (are_bytes bytes fit)) [
+      | inl found ↦ stored_or_not bytes found.0 found.1
+      | inr fault ↦ elim fault [
+        | inl none ↦ inr (NotAStore Offsets none.0, none.1)
+        | inr bad ↦ inr (BadEntry Offsets bad.0, bad.1)
       ]
     ]
 

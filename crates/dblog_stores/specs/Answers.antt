@@ -72,7 +72,7 @@ number_lines offset =
 abbrev pub offset_lines : Offset → List (List ℕ)
 offset_lines offset = number_lines offset ++ map table_line (zip offset.infos offset.cursors)
 
--- Why the bytes have no offset: they are no journal, an entry is no offset, or none is stored.
+-- Why the bytes have no offset: they are no store, the selected entry is no offset, or none is stored.
 abbrev pub HasNoOffset : List ℕ → CommandError → Type 0
 HasNoOffset bytes (NotAStore Offsets at) = IsNoStoreAt bytes at
 HasNoOffset bytes (BadEntry Offsets index) = HasBadOffset bytes index

@@ -130,7 +130,7 @@ pub returns-clause-honest : goal.returns-clause-honest
 returns-clause-honest g c honest = c.open_session.ensures.honest (c.process_messages.ensures.honest honest)
 
 pub returns-clause-store_comes : goal.returns-clause-store_comes
-returns-clause-store_comes g c gate most come = c.process_messages.ensures.store_comes gate most (c.open_session.ensures.store_comes gate most come)
+returns-clause-store_comes g c most known = c.process_messages.ensures.store_comes most (c.open_session.ensures.store_comes most known)
 
 pub process_messages-requires-clause-report : goal.process_messages-requires-clause-report
 process_messages-requires-clause-report g c = (c.open_session.ensures.report.0, c.open_session.ensures.report.1)

@@ -42,7 +42,7 @@ turns-init g c = record {
   honest = λ honest. honest;
   source_comes = g.met.S.Source.comes_self _;
   sink_comes = g.met.K.Sink.comes_self _;
-  store_comes = λ gate most come. come;
+  store_comes = λ most known. known;
   source_later = le_refl _;
   sink_later = le_refl _;
   store_later = le_refl _;
@@ -72,7 +72,7 @@ turns-preserved g c = record {
   honest = λ honest. c.turns.invariant.honest (c.process_message.ensures.honest honest);
   source_comes = g.met.S.Source.comes_on c.args.src.now c.turns.src c.process_message.new.src c.turns.invariant.source_comes c.process_message.ensures.source_comes;
   sink_comes = g.met.K.Sink.comes_on c.args.sink.now c.turns.sink c.process_message.new.sink c.turns.invariant.sink_comes c.process_message.ensures.sink_comes;
-  store_comes = λ gate most come. c.process_message.ensures.store_comes gate most (c.turns.invariant.store_comes gate most come);
+  store_comes = λ most known. c.process_message.ensures.store_comes most (c.turns.invariant.store_comes most known);
   source_later = later_on _ _ _ c.turns.invariant.source_later c.process_message.ensures.source.later;
   sink_later = later_on _ _ _ c.turns.invariant.sink_later c.process_message.ensures.sink.later;
   store_later = later_on _ _ _ c.turns.invariant.store_later c.process_message.ensures.offsets.later;
@@ -257,13 +257,13 @@ pub returns-in_err-process_message-clause-honest : goal.returns-in_err-process_m
 returns-in_err-process_message-clause-honest g c honest = c.turns.invariant.honest (c.process_message.ensures.honest honest)
 
 pub returns-in_err-process_message-clause-store_comes : goal.returns-in_err-process_message-clause-store_comes
-returns-in_err-process_message-clause-store_comes g c gate most come = c.process_message.ensures.store_comes gate most (c.turns.invariant.store_comes gate most come)
+returns-in_err-process_message-clause-store_comes g c most known = c.process_message.ensures.store_comes most (c.turns.invariant.store_comes most known)
 
 pub returns-then-branch-clause-honest : goal.returns-then-branch-clause-honest
 returns-then-branch-clause-honest g c honest = c.turns.invariant.honest (c.process_message.ensures.honest honest)
 
 pub returns-then-branch-clause-store_comes : goal.returns-then-branch-clause-store_comes
-returns-then-branch-clause-store_comes g c gate most come = c.process_message.ensures.store_comes gate most (c.turns.invariant.store_comes gate most come)
+returns-then-branch-clause-store_comes g c most known = c.process_message.ensures.store_comes most (c.turns.invariant.store_comes most known)
 
 pub returns-in_err-open_next_window-clause-honest : goal.returns-in_err-open_next_window-clause-honest
 returns-in_err-open_next_window-clause-honest g c honest = c.turns.invariant.honest (c.open_next_window.ensures.honest honest)
@@ -293,7 +293,7 @@ pub returns-in_err-store_and_confirm-clause-sink_comes : goal.returns-in_err-sto
 returns-in_err-store_and_confirm-clause-sink_comes g c = c.turns.invariant.sink_comes
 
 pub returns-in_err-store_and_confirm-clause-store_comes : goal.returns-in_err-store_and_confirm-clause-store_comes
-returns-in_err-store_and_confirm-clause-store_comes g c gate most come = c.store_and_confirm.ensures.store_comes gate most (c.turns.invariant.store_comes gate most come)
+returns-in_err-store_and_confirm-clause-store_comes g c most known = c.store_and_confirm.ensures.store_comes most (c.turns.invariant.store_comes most known)
 
 pub returns-clause-honest : goal.returns-clause-honest
 returns-clause-honest g c honest = c.turns.invariant.honest (c.open_next_window.ensures.honest (c.store_and_confirm.ensures.honest honest))
@@ -302,7 +302,7 @@ pub returns-clause-sink_comes : goal.returns-clause-sink_comes
 returns-clause-sink_comes g c = c.turns.invariant.sink_comes
 
 pub returns-clause-store_comes : goal.returns-clause-store_comes
-returns-clause-store_comes g c gate most come = c.store_and_confirm.ensures.store_comes gate most (c.turns.invariant.store_comes gate most come)
+returns-clause-store_comes g c most known = c.store_and_confirm.ensures.store_comes most (c.turns.invariant.store_comes most known)
 
 pub returns-then-branch-clause-commits : goal.returns-then-branch-clause-commits
 returns-then-branch-clause-commits g c = c.process_message.ensures.commits

@@ -1,4 +1,4 @@
-use Rattle.dbl_offset.proofs.StoreLaws.{no_fault, no_bad_offset, not_both, one_bad_offset, one_no_store}
+use Rattle.dbl_offset.proofs.StoreLaws.{no_bad_offset, no_fault, not_both, one_bad_offset, one_no_store}
 use Rattle.dbl_offset.proofs.laws.stores_or_faults.Goals as goal
 
 pub returns-clause-no_fault : goal.returns-clause-no_fault

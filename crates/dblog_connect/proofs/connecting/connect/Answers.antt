@@ -6,7 +6,7 @@ use Rattle.dblog_connect.specs.Ends.{IsRefused, IsWrongSource}
 use Rattle.dblog_connect.specs.Errors.{IsBeforeStore, IsAfterOpening, IsConnectError, IsExternalConnectError}
 use Rattle.dblog_connect.specs.Steps.{AnswersConnect, disks_of}
 use Rattle.dblog_connect.proofs.ErrorKinds.{bounded_on, counts_by, counts_on, counts_same, demo_ends, demo_fails, demo_kind, demo_wrong, err_as, not_before_topics, not_wrong, only_same, read_on}
-use Rattle.dblog_connect.proofs.Opened.{bounded_same}
+use Rattle.dblog_connect.proofs.Opened.{bounded_same, store_bounded_same}
 use Rattle.dblog_connect.proofs.Stays.{IsUnhalted, answers_before, answers_stay}
 use Rattle.dblog_connect.proofs.connecting.connect.Goals as goal
 
@@ -95,7 +95,7 @@ pub returns-in-Err-clause-topics_bounded : goal.returns-in-Err-clause-topics_bou
 returns-in-Err-clause-topics_bounded g c = bounded_same g.T.Disk c.args.disks.topics c.args.disks.topics refl
 
 pub returns-in-Err-clause-offsets_bounded : goal.returns-in-Err-clause-offsets_bounded
-returns-in-Err-clause-offsets_bounded g c = bounded_same g.F.Disk c.args.disks.offsets c.args.disks.offsets refl
+returns-in-Err-clause-offsets_bounded g c = store_bounded_same g.F.Disk c.args.disks.offsets c.args.disks.offsets refl
 
 -- ---- it is
 

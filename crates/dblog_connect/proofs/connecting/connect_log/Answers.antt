@@ -2,13 +2,14 @@ use Rattle.std.proofs.Common.{◌∙◌, ◌⊎◌, ℤ, refl, sym, ap, subst}
 use Rattle.std.proofs.Math.Facts.{to_z-of_z}
 use Rattle.dbl_offset.specs.Stores.{disk_of}
 use Rattle.dblog_init.specs.declared.error.Store.TheVariants as store
-use Rattle.dblog_promise.specs.Bounds.{IsBounded}
+use Rattle.dblog_promise.specs.Bounds.{IsBounded, IsStoreBounded}
 use Rattle.dblog_connect.specs.declared.error.ConnectError.{ConnectError}
 use Rattle.dblog_connect.specs.Ends.{CountsFaults, IsRefused}
 use Rattle.dblog_connect.specs.Errors.{IsAfterOpening, IsConnectError, IsExternalConnectError}
 use Rattle.dblog_connect.specs.Steps.{AnswersConnect, disks_of}
-use Rattle.dblog_connect.proofs.ErrorKinds.{behind_topics, counts_by, counts_same, counts_on, err_as, moved_crash, moved_to, offset_ends, offset_fails, offset_kind, only_same, read_on, read_stayed, bounded_on}
-use Rattle.dblog_connect.proofs.Opened.{bounded_same}
+use Rattle.dblog_connect.proofs.ErrorKinds.{behind_topics, counts_by, counts_same, counts_on, err_as, moved_crash, moved_to, offset_ends, offset_fails}
+use Rattle.dblog_connect.proofs.ErrorKinds.{offset_kind, only_same, read_on, read_stayed, store_bounded_on}
+use Rattle.dblog_connect.proofs.Opened.{bounded_same, store_bounded_same}
 use Rattle.dblog_connect.proofs.Stays.{IsUnhalted, answers_before, answers_moved, answers_stay}
 use Rattle.dblog_connect.proofs.connecting.connect_log.Goals as goal
 
@@ -52,7 +53,7 @@ pub returns-in-Err-clause-topics_bounded : goal.returns-in-Err-clause-topics_bou
 returns-in-Err-clause-topics_bounded g c = bounded_same g.T.Disk c.args.log.disk c.into_disk-in-Err-2.result (ap g.T.Disk.seen c.into_disk-in-Err-2.ensures)
 
 pub returns-in-Err-clause-offsets_bounded : goal.returns-in-Err-clause-offsets_bounded
-returns-in-Err-clause-offsets_bounded g c = bounded_same g.F.Disk c.args.offsets c.in-Err.field-0.disk c.in-Err.ensures.keeps.same
+returns-in-Err-clause-offsets_bounded g c = store_bounded_same g.F.Disk c.args.offsets c.in-Err.field-0.disk c.in-Err.ensures.keeps.same
 
 -- ---- the session
 
@@ -100,5 +101,6 @@ returns-in-Ok-clause-topics_bounded g c = moved_to (λ d. IsBounded (g.T.Disk.se
 
 pub returns-in-Ok-clause-offsets_bounded : goal.returns-in-Ok-clause-offsets_bounded
 returns-in-Ok-clause-offsets_bounded g c =
-    bounded_on g.F.Disk c.args.offsets (disk_of c.in-Ok.store) c.into_disk-in-Ok-2.result c.in-Ok.ensures.keeps.same
-    (moved_to (λ d. IsBounded (g.F.Disk.seen (disk_of c.in-Ok.store)) (g.F.Disk.seen d)) (disk_of c.run_session-end.new.store) c.into_disk-in-Ok-2.result c.into_disk-in-Ok-2.ensures c.run_session-end.ensures.store_bounded)
+    store_bounded_on g.F.Disk c.args.offsets (disk_of c.in-Ok.store) c.into_disk-in-Ok-2.result c.in-Ok.ensures.keeps.same
+    (moved_to (λ d. IsStoreBounded (g.F.Disk.seen (disk_of c.in-Ok.store)) (g.F.Disk.seen d))
+        (disk_of c.run_session-end.new.store) c.into_disk-in-Ok-2.result c.into_disk-in-Ok-2.ensures c.run_session-end.ensures.store_bounded)

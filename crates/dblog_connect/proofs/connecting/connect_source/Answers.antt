@@ -6,7 +6,7 @@ use Rattle.dblog_connect.specs.Ends.{IsRefused}
 use Rattle.dblog_connect.specs.Errors.{IsBeforeStore, IsAfterOpening, IsConnectError, IsExternalConnectError}
 use Rattle.dblog_connect.specs.Steps.{AnswersConnect, disks_of}
 use Rattle.dblog_connect.proofs.ErrorKinds.{behind_wal, bounded_on, counts_by, counts_on, counts_same, err_as, moved_crash, not_before_offsets, only_same, read_on, topic_ends, topic_fails, topic_kind}
-use Rattle.dblog_connect.proofs.Opened.{bounded_same}
+use Rattle.dblog_connect.proofs.Opened.{bounded_same, store_bounded_same}
 use Rattle.dblog_connect.proofs.Stays.{IsUnhalted, answers_before, answers_stay}
 use Rattle.dblog_connect.proofs.connecting.connect_source.Goals as goal
 
@@ -53,7 +53,7 @@ pub returns-in-Err-clause-topics_bounded : goal.returns-in-Err-clause-topics_bou
 returns-in-Err-clause-topics_bounded g c = bounded_same g.T.Disk c.args.topics c.in-Err.field-0.disk c.in-Err.ensures.keeps.same
 
 pub returns-in-Err-clause-offsets_bounded : goal.returns-in-Err-clause-offsets_bounded
-returns-in-Err-clause-offsets_bounded g c = bounded_same g.F.Disk c.args.offsets c.args.offsets refl
+returns-in-Err-clause-offsets_bounded g c = store_bounded_same g.F.Disk c.args.offsets c.args.offsets refl
 
 -- ---- it is
 

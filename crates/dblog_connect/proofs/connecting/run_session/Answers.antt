@@ -13,7 +13,7 @@ use Rattle.dblog_connect.specs.Steps.{AnswersConnect, disks_of}
 use Rattle.dblog_connect.proofs.Configs.{asks_budget}
 use Rattle.dblog_connect.proofs.Exits.{asked_of, asks_same, halt_fails, halt_kind, log_bounded, refused_behind, refused_ends, refused_kind, refused_unfailed, refused_unhalted, residual, source_bounded, spent_of, store_bounded}
 use Rattle.dblog_connect.proofs.ErrorKinds.{counts_same}
-use Rattle.dblog_connect.proofs.Opened.{bounded_same}
+use Rattle.dblog_connect.proofs.Opened.{bounded_same, store_bounded_same}
 use Rattle.dblog_connect.proofs.Ran.{done_by, renow}
 use Rattle.dblog_connect.proofs.Session.{answers_err, answers_ok}
 use Rattle.dblog_connect.proofs.Stays.{answers_stay}
@@ -78,7 +78,7 @@ pub returns-in_err-config-clause-log_bounded : goal.returns-in_err-config-clause
 returns-in_err-config-clause-log_bounded g c = bounded_same g.T.Disk c.args.log.now.disk c.args.log.now.disk refl
 
 pub returns-in_err-config-clause-store_bounded : goal.returns-in_err-config-clause-store_bounded
-returns-in_err-config-clause-store_bounded g c = bounded_same g.F.Disk (disk_of c.args.store.now) (disk_of c.args.store.now) refl
+returns-in_err-config-clause-store_bounded g c = store_bounded_same g.F.Disk (disk_of c.args.store.now) (disk_of c.args.store.now) refl
 
 -- ---- the session halted
 

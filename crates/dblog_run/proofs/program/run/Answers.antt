@@ -1,4 +1,4 @@
-use Rattle.std.proofs.Common.{◌≡◌, ◌⊎◌, Some, Err, ℤ, true, inl, inr, ap, refl, subst}
+use Rattle.std.proofs.Common.{◌≡◌, ◌⊎◌, Some, Err, ℤ, true, inl, inr, ap, arith, refl, subst}
 use Rattle.std.proofs.Math.Facts.{to_z-of_z}
 use Rattle.dbl_cli.specs.declared.commands.Command.{Command}
 use Rattle.dbl_cli.specs.declared.commands.Command.TheVariants as command
@@ -19,7 +19,7 @@ use Rattle.dblog_streams.specs.Answers.{FailsReading}
 use Rattle.dblog_streams.proofs.AnswerLemmas.{starved}
 use Rattle.dblog_run.proofs.CommandLemmas.{cut_short, wider_or_fails, spelled_or_fails, usage_runs, memory_runs, as_spelled, memory_status, memory_tells}
 use Rattle.dblog_run.proofs.DiskLemmas.{not_read, read_or_not}
-use Rattle.dblog_run.proofs.GeneratedLemmas.{full_by, made_by, same_short, unmade}
+use Rattle.dblog_run.proofs.GeneratedLemmas.{full_by, made_by, same_short, same_store_short, unmade}
 use Rattle.dblog_run.proofs.KeptLemmas.{before_promised, offsets_bounded, run_kept, run_promised, run_stays, topics_bounded, wal_bounded}
 use Rattle.dblog_run.proofs.SessionLemmas.{memory_session}
 use Rattle.dblog_run.proofs.StoreRunLemmas.{opened_by}
@@ -217,7 +217,8 @@ returns-in-Ok-clause-topics_short g c = λ some.
 
 pub returns-in-Ok-clause-offsets_short : goal.returns-in-Ok-clause-offsets_short
 returns-in-Ok-clause-offsets_short g c = λ some.
-    made_by _ c.in-Ok.command (λ init before now was is. inl ((c.run_command.ensures.offsets_left init).short before now was is)) (λ number rows groups same. (c.run_command.ensures.generated number rows groups same).offsets_short)
+    made_by _ c.in-Ok.command (λ init. (c.run_command.ensures.offsets_left init).short)
+        (λ number rows groups same. (c.run_command.ensures.generated number rows groups same).offsets_short)
     (as_spelled _ (λ (k : Command). makes k ≡ true) some.0 c.in-Ok.command some.1 c.in-Ok.ensures.spelled some.2)
 
 pub returns-in-Err-Usage-clause-full_stay : goal.returns-in-Err-Usage-clause-full_stay
@@ -271,7 +272,7 @@ pub returns-in-Err-Memory-clause-topics_short : goal.returns-in-Err-Memory-claus
 returns-in-Err-Memory-clause-topics_short g c = λ some. same_short (g.T.Disk.seen c.args.disks.topics)
 
 pub returns-in-Err-Memory-clause-offsets_short : goal.returns-in-Err-Memory-clause-offsets_short
-returns-in-Err-Memory-clause-offsets_short g c = λ some. same_short (g.F.Disk.seen c.args.disks.offsets)
+returns-in-Err-Memory-clause-offsets_short g c = λ some. same_store_short (g.F.Disk.seen c.args.disks.offsets)
 
 -- ---- failed disks
 
@@ -357,7 +358,7 @@ pub returns-in-Err-Usage-clause-topics_bounded : goal.returns-in-Err-Usage-claus
 returns-in-Err-Usage-clause-topics_bounded g c = λ none. record { each = λ before told. inl told }
 
 pub returns-in-Err-Usage-clause-offsets_bounded : goal.returns-in-Err-Usage-clause-offsets_bounded
-returns-in-Err-Usage-clause-offsets_bounded g c = λ none. record { each = λ before told. inl told }
+returns-in-Err-Usage-clause-offsets_bounded g c = λ none. record { each = λ before told. (before, told, omega arith) }
 
 pub returns-in-Err-Memory-clause-wal_bounded : goal.returns-in-Err-Memory-clause-wal_bounded
 returns-in-Err-Memory-clause-wal_bounded g c = λ none. record { each = λ before told. inl told }
@@ -366,7 +367,7 @@ pub returns-in-Err-Memory-clause-topics_bounded : goal.returns-in-Err-Memory-cla
 returns-in-Err-Memory-clause-topics_bounded g c = λ none. record { each = λ before told. inl told }
 
 pub returns-in-Err-Memory-clause-offsets_bounded : goal.returns-in-Err-Memory-clause-offsets_bounded
-returns-in-Err-Memory-clause-offsets_bounded g c = λ none. record { each = λ before told. inl told }
+returns-in-Err-Memory-clause-offsets_bounded g c = λ none. record { each = λ before told. (before, told, omega arith) }
 
 pub returns-in-Err-Usage-clause-headline : goal.returns-in-Err-Usage-clause-headline
 returns-in-Err-Usage-clause-headline g c = λ command spells. absurd (c.in-Err-Usage.ensures.usage (ap Err c.in-Err-Usage.field-0-is) command spells)

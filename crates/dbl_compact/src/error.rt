@@ -3,7 +3,7 @@ use std::alloc::{AllocError, AllocFailed};
 use thiserror::Error;
 
 /// Why records aren't compacted.
-#[derive(Debug, Drop, PartialEq, Eq, Error)]
+#[derive(Debug, Drop, Error)]
 pub enum CompactError {
     /// The first record that a consumer refuses, by its index from 0, and why; never for memory.
     #[error("record {index}: {error}")]

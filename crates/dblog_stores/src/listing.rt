@@ -1,5 +1,5 @@
 /// What a command over the topic log and the offset prints.
-#[derive(Clone, Copy, Debug, PartialEq, Eq)]
+#[derive(Clone, Copy)]
 pub enum Listing {
     /// `apply`: a line for each row in the state of the consumer of the topic log.
     Rows,

@@ -156,6 +156,7 @@ whole : IsWholeLog example_options (pos 0) example_log example_lines example_his
 unfolding replayed
 whole =
     record {
+      stream = false;
       pieces = pieces_from 1 example_messages;
       read = spelled_read 1 example_log example_messages spelled;
       replayed = replayed;

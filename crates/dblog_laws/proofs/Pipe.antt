@@ -26,7 +26,8 @@ use Rattle.dblog_laws.proofs.LineTexts.{AreLineTexts, lines_back}
 use Rattle.dblog_laws.proofs.Records.{IsPiped, no_fault, commits_piped}
 use Rattle.dblog_laws.proofs.Printed.{source_rows}
 use Rattle.dblog_run.specs.Replay.Pieces.{AllFitFields}
-use Rattle.dblog_run.proofs.ReplayPieceLemmas.{fit_front, carried_fields, pieces_fit}
+use Rattle.dblog_run.proofs.ReplayPieceLemmas.{fit_front, carried_fields}
+use Rattle.dblog_run.proofs.ReplayStreamLemmas.{reads_fit}
 use Rattle.dblog_laws.proofs.Clear.{IsClear, clear}
 
 -- ---- lines of records that are taken
@@ -50,7 +51,7 @@ told_whole : (options : LogOptions) (now : ℤ) (log lines : List (List ℕ)) (h
 told_whole options now log lines history whole =
     let infos = whole.replayed.infos in
     let messages = whole.replayed.messages in
-    let fit = fit_front whole.replayed.front whole.replayed.rest (subst AllFitFields whole.replayed.parts (pieces_fit 1 log whole.pieces whole.read)) in
+    let fit = fit_front whole.replayed.front whole.replayed.rest (subst AllFitFields whole.replayed.parts (reads_fit whole.stream log whole.pieces whole.read)) in
     let none = clear options (onto [] messages) infos whole.replayed.clean whole.replayed.captured
     (carried_fields whole.replayed.front [] messages whole.replayed.carried fit tt) in
     record {

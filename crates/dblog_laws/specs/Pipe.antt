@@ -1,6 +1,6 @@
 -- What `replay | apply --lines` prints: if `replay` finds a source's whole log valid, `apply --lines` finds the written lines valid, and
 -- prints exactly the source's last rows.
-use Rattle.std.specs.Prelude.{◌≡◌, ℕ, ℤ, List, [], ◌++◌, Option, Some, None, Ok, map, slice_get, codes}
+use Rattle.std.specs.Prelude.{◌≡◌, ℕ, ℤ, Bool, List, [], ◌++◌, Option, Some, None, Ok, map, slice_get, codes}
 use Rattle.std.specs.List.{AllByRecursion}
 use Rattle.std.specs.Map.{lookup, keys_of}
 use Rattle.std.specs.BTreeMap.{is_at}
@@ -26,7 +26,8 @@ use Rattle.dbl_model_commit.specs.Stated.{commits_of}
 use Rattle.dbl_model_commit.specs.Blocks.{onto}
 use Rattle.dbl_consume_laws.specs.Laws.{HoldsJsonTexts, last_rows}
 use Rattle.dblog_run.specs.Replay.declared.options.LogOptions.{LogOptions}
-use Rattle.dblog_run.specs.Replay.Pieces.{Piece, AreRead}
+use Rattle.dblog_run.specs.Replay.Pieces.{Piece}
+use Rattle.dblog_run.specs.Replay.Streams.{ReadsPieces}
 use Rattle.dblog_run.specs.Replay.Replay.{IsReplayed}
 use Rattle.dblog_run.specs.Replay.Apply.{readings_of_lines}
 use Rattle.dblog_run.specs.Replay.Applied.{IsApplied}
@@ -37,12 +38,13 @@ pub record AreNamesUtf8 (identity : Identity) : Type 0 where
   pub db : IsUtf8 identity.db
   pub placeholder : IsUtf8 identity.placeholder
 
--- The bytes of the messages of a source's whole log, for which `replay` writes these lines without an error. The source's history is valid
--- and begins with empty tables; its catalogue has the tables as the log describes them; and its commits are exactly those that the log
--- states.
+-- The bytes of the messages of a source's whole log, of either protocol version, for which `replay` writes these lines without an error.
+-- The source's history is valid and begins with empty tables; its catalogue has the tables as the log describes them; and its commits are
+-- exactly those that the log states.
 pub record IsWholeLog (options : LogOptions) (now : ℤ) (log lines : List (List ℕ)) (history : History) : Type 0 where
+  pub stream : Bool
   pub pieces : List Piece
-  pub read : AreRead 1 log pieces
+  pub read : ReadsPieces stream log pieces
   pub replayed : IsReplayed options now pieces lines None
   pub moment : IsMomentInRange now
   pub names : AreNamesUtf8 options.identity

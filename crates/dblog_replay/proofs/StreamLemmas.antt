@@ -73,9 +73,10 @@ by_bytes : (number : ℕ) (past : List StreamMessage) (bytes : List ℕ) (string
     → ((message : StreamMessage) × Encodes (is_inside past) bytes message) ⊎ ((error : MsgError) × IsBytesFault (is_inside past) bytes error)
     → ((message : StreamMessage) → Received (number + 1) (message ∷ past) strings) → Received number past (bytes ∷ strings)
 by_bytes number past bytes strings (inl (message, encoded)) next = by_fault number past bytes strings message (stream_fault past message) encoded refl (next message)
-by_bytes number past bytes strings (inr (error, fault)) next =
-    (Stops (refusal_fault number (stream.Message error)) ∷ [],
-    inl (record { error = stream.Message error; refusal = in_bytes error fault refl; stops = refl }))
+by_bytes number past bytes strings (inr (error, fault)) next = (
+  Stops (refusal_fault number (stream.Message error)) ∷ [],
+  inl (record { error = stream.Message error; refusal = in_bytes error fault refl; stops = refl }),
+)
 
 pub stream_pieces_exist : StreamPiecesExist
 stream_pieces_exist number past [] bytes_all = (block_end (is_inside past), refl)

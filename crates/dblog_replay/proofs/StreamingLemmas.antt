@@ -52,9 +52,13 @@ module _ (options : LogOptions) (now : ℤ) where
       subst (λ (x : List Message). PiecesWrite options now x b (l ++ k) last) same
       (subst (λ (x : List (List ℕ)). PiecesWrite options now mid b (x ++ k) last) (sym none) next)
   pieces_then ms (Stops fault ∷ a) b l k mid last writes next = absurd writes
-  pieces_then ms (Carries number m ∷ a) b l k mid last (infos, more, taken, is, rest) next =
-      (infos, more ++ k, taken, ap (λ (x : List (List ℕ)). x ++ k) is ∙ append_assoc (printed options now ms m infos) more k,
-      pieces_then (m ∷ ms) a b more k mid last rest next)
+  pieces_then ms (Carries number m ∷ a) b l k mid last (infos, more, taken, is, rest) next = (
+    infos,
+    more ++ k,
+    taken,
+    ap (λ (x : List (List ℕ)). x ++ k) is ∙ append_assoc (printed options now ms m infos) more k,
+    pieces_then (m ∷ ms) a b more k mid last rest next,
+  )
 
   -- a log that begins with them goes on after them
   pub pieces_onto : (ms : List Message) (a left : List Piece) (l : List (List ℕ)) (last : List Message) (lines : List (List ℕ)) (end : Option LogFault)
@@ -66,9 +70,12 @@ module _ (options : LogOptions) (now : ℤ) where
   pieces_onto ms (Carries number m ∷ a) left l last lines end (infos, more, taken, is, rest) writes =
       let told = goes options now ms number m (a ++ left) infos lines end taken writes in
       let next = pieces_onto (m ∷ ms) a left more last told.more end rest told.rest in
-      let here : List (List ℕ) = printed options now ms m infos in
-      (next.0, told.split ∙ ap (λ (x : List (List ℕ)). here ++ x) next.1 ∙ sym (append_assoc here more next.0)
-      ∙ ap (λ (x : List (List ℕ)). x ++ next.0) (sym is), next.2)
+      let here : List (List ℕ) = printed options now ms m infos in (
+        next.0,
+        told.split ∙ ap (λ (x : List (List ℕ)). here ++ x) next.1 ∙ sym (append_assoc here more next.0)
+            ∙ ap (λ (x : List (List ℕ)). x ++ next.0) (sym is),
+        next.2,
+      )
 
   -- a log that goes on after them begins with them
   pub pieces_back : (ms : List Message) (a left : List Piece) (l : List (List ℕ)) (last : List Message) (more : List (List ℕ)) (end : Option LogFault)
@@ -78,8 +85,13 @@ module _ (options : LogOptions) (now : ℤ) where
       (subst (λ (x : List Message). LogWrites options now x left more end) same writes)
   pieces_back ms (Stops fault ∷ a) left l last more end wrote writes = absurd wrote
   pieces_back ms (Carries number m ∷ a) left l last more end (infos, k, taken, is, rest) writes =
-      inr (infos, k ++ more, taken, ap (λ (x : List (List ℕ)). x ++ more) is ∙ append_assoc (printed options now ms m infos) k more,
-      pieces_back (m ∷ ms) a left k last more end rest writes)
+      inr (
+        infos,
+        k ++ more,
+        taken,
+        ap (λ (x : List (List ℕ)). x ++ more) is ∙ append_assoc (printed options now ms m infos) k more,
+        pieces_back (m ∷ ms) a left k last more end rest writes,
+      )
 
 -- ---- the messages that one byte string adds
 
@@ -243,9 +255,11 @@ next_received : (number : ℕ) (past : List StreamMessage) (b : List ℕ) (next 
     → (rest : List Piece) × (left ≡ numbered number added ++ rest) × AreReceived (number + 1) (has.message ∷ past) next rest
 next_received number past b next left added u (inl r) has = absurd (none_refused past b has.message r.error has.encoded has.clean r.refusal)
 next_received number past b next left added u (inr (m, rest, is, read)) has =
-    let same : m ≡ has.message = one_message (is_inside past) b m has.message is.encoded has.encoded in
-    (rest, is.parts ∙ ap (λ (l : List Message). numbered number l ++ rest) (ap (flat_part past) same ∙ sym has.adds),
-    subst (λ (x : StreamMessage). AreReceived (number + 1) (x ∷ past) next rest) same read)
+    let same : m ≡ has.message = one_message (is_inside past) b m has.message is.encoded has.encoded in (
+      rest,
+      is.parts ∙ ap (λ (l : List Message). numbered number l ++ rest) (ap (flat_part past) same ∙ sym has.adds),
+      subst (λ (x : StreamMessage). AreReceived (number + 1) (x ∷ past) next rest) same read,
+    )
 
 -- the end of a log at a byte string that is refused
 next_refused : (number : ℕ) (past : List StreamMessage) (b : List ℕ) (next : List (List ℕ)) (left : List Piece) (fault : LogFault)

@@ -20,27 +20,22 @@ ghost use Rattle.dblog_replay.specs.LogFaults.{log_status, log_line};
 ghost use Rattle.dblog_replay.specs.LogPrinting.{PutsCommit, StepsPrinting, StepsReading};
 ghost use Rattle.dblog_replay.specs.LogPrinting.{PutsLog, PrintsLog, FinishesLog};
 ghost use Rattle.dblog_replay.specs.Pieces.{Piece, Carries, AreRead};
-ghost use Rattle.dblog_replay.specs.Streams.{AreReceived, ReadsPieces, numbered};
-ghost use Rattle.dblog_replay.specs.Streaming.{IsReceiving, IsStreaming};
-ghost use Rattle.dblog_replay.specs.Streaming.{PutsPieces, StepsStreaming};
-ghost use Rattle.dbl_stream2.specs.declared.messages.StreamMessage.{StreamMessage};
-ghost use Rattle.std.specs.List.{AllByRecursion};
+ghost use Rattle.dblog_replay.specs.Streams.{ReadsPieces};
 
 use crate::log_fault::LogFault;
 use crate::options::LogOptions;
 use crate::printing::put_left;
 use crate::reader::read_message;
 use crate::replay::Replayer;
-use crate::streaming::receive_message;
+use crate::streaming::put_streamed;
 use dbl_base::{Bytes, Output, Text};
 use dbl_envelope::{EnvelopeError, EventWriter, RecordsLeft};
 use dbl_lines::{LineWriter, PrintError, Status};
 use dbl_model_table::Commit;
 use dbl_pgmsg::Message;
-use dbl_stream2::Unstream;
 use std::alloc::{AllocError, Global};
 
-fn unfinished_fault(inside: bool) -> Option<LogFault>
+pub(crate) fn unfinished_fault(inside: bool) -> Option<LogFault>
     ensures { result ≡ end_fault inside }
 {
     if inside {
@@ -51,7 +46,7 @@ fn unfinished_fault(inside: bool) -> Option<LogFault>
 }
 
 // An error ends the lines, unless memory ran out.
-fn stop_at(fault: LogFault) -> Result<Option<LogFault>, PrintError>
+pub(crate) fn stop_at(fault: LogFault) -> Result<Option<LogFault>, PrintError>
     ensures fault { IfOk result (λ found. found ≡ Some fault) }
     ensures other { OnOk result (fault ≢ LogFault.Memory) }
     ensures err { IfErr result (λ e. e ≡ PrintError.Memory) }
@@ -132,7 +127,7 @@ fn put_ended<O: Output>(
 
 // Processes the next message, which has this number, and appends the lines of the commit that it
 // ends, or returns its error.
-fn put_message<O: Output>(
+pub(crate) fn put_message<O: Output>(
     alloc: Global,
     replayer: &mut Replayer,
     number: u64,
@@ -211,108 +206,18 @@ fn put_messages<O: Output>(
     Ok(unfinished_fault(replayer.inside()))
 }
 
-// Processes messages that all have this number, and appends the lines of the commits that they end,
-// up to the first error, which it returns.
-fn put_added<O: Output>(
-    alloc: Global,
-    replayer: &mut Replayer,
-    number: u64,
-    messages: Vec<Message>,
-    now_ms: &i64,
-    output: &mut O,
-    lines: &mut LineWriter,
-) -> Result<Option<LogFault>, PrintError>
-    requires replaying { IsReplaying replayer.old }
-    requires fits { AllByRecursion FitsFields messages.items }
-    ensures puts { (options : LogOptions) (ms : List Message) →
-        FollowsMessages options ms replayer.old
-        → PutsPieces options now_ms.now ms (numbered number messages.items) lines.old lines.new
-        replayer.new result (O.written output.old) (O.written output.new) }
-    ensures cause { FailsOnlyIfCounted (result ≡ Err PrintError.OutputFailed)
-        (O.faults output.old) (O.faults output.new) }
-{
-    'messages: for message in messages {
-        match put_message(alloc, replayer, number, message, now_ms, output, lines) {
-            Ok(None) => {}
-            Ok(Some(fault)) => return Ok(Some(fault)),
-            Err(error) => return Err(error),
-        }
-    }
-    Ok(None)
-}
-
-// Receives the byte string of this number, which is freed, and processes the messages that it adds,
-// or returns its error.
-fn put_received<O: Output>(
-    alloc: Global,
-    unstream: &mut Unstream,
-    replayer: &mut Replayer,
-    number: u64,
-    bytes: Bytes,
-    now_ms: &i64,
-    output: &mut O,
-    lines: &mut LineWriter,
-) -> Result<Option<LogFault>, PrintError>
-    requires streaming { IsStreaming unstream.old }
-    requires replaying { IsReplaying replayer.old }
-    ensures steps { (options : LogOptions) (past : List StreamMessage) (ms : List Message) →
-        IsReceiving past unstream.old → FollowsMessages options ms replayer.old
-        → StepsStreaming options now_ms.now past ms number bytes unstream.new lines.old lines.new
-        replayer.new result (O.written output.old) (O.written output.new) }
-    ensures cause { FailsOnlyIfCounted (result ≡ Err PrintError.OutputFailed)
-        (O.faults output.old) (O.faults output.new) }
-{
-    match receive_message(alloc, unstream, number, bytes) {
-        Ok(messages) => put_added(alloc, replayer, number, messages, now_ms, output, lines),
-        Err(fault) => stop_at(fault),
-    }
-}
-
-// Receives the byte strings of a log of protocol version 2, and appends the lines of all commits of
-// its messages, up to the first error, which it returns, for a new replayer.
-fn put_streamed<O: Output>(
-    alloc: Global,
-    replayer: &mut Replayer,
-    messages: Vec<Bytes>,
-    now_ms: &i64,
-    output: &mut O,
-    lines: &mut LineWriter,
-) -> Result<Option<LogFault>, PrintError>
-    requires { (options : LogOptions) × FollowsMessages options [] replayer.old }
-    ensures puts { (options : LogOptions) (pieces : List Piece) →
-        FollowsMessages options [] replayer.old → AreReceived 1 [] messages.items pieces
-        → PutsLog options now_ms.now pieces lines.old lines.new result
-        (O.written output.old) (O.written output.new) }
-    ensures cause { FailsOnlyIfCounted (result ≡ Err PrintError.OutputFailed)
-        (O.faults output.old) (O.faults output.new) }
-{
-    let mut unstream = Unstream::make(alloc);
-    let mut number = 0u64;
-    'messages: for bytes in messages {
-        number += 1;
-        match put_received(
-            alloc, &mut unstream, replayer, number, bytes, now_ms, output, lines,
-        ) {
-            Ok(None) => {}
-            Ok(Some(fault)) => return Ok(Some(fault)),
-            Err(error) => return Err(error),
-        }
-    }
-    Ok(unfinished_fault(unstream.inside() || replayer.inside()))
-}
-
 // Reads the byte strings, and appends the lines of all commits of their messages, up to the first
 // error, which it returns.
 fn put_log<O: Output>(
     alloc: Global,
     options: LogOptions,
     stream: bool,
-    messages: Vec<Bytes>,
+    strings: Vec<Bytes>,
     now_ms: &i64,
     output: &mut O,
     lines: &mut LineWriter,
 ) -> Result<Option<LogFault>, PrintError>
-    ensures puts { (pieces : List Piece) → ReadsPieces stream messages.items pieces
+    ensures puts { (pieces : List Piece) → ReadsPieces stream strings.items pieces
         → PutsLog options now_ms.now pieces lines.old lines.new result
         (O.written output.old) (O.written output.new) }
     ensures cause { FailsOnlyIfCounted (result ≡ Err PrintError.OutputFailed)
@@ -323,9 +228,9 @@ fn put_log<O: Output>(
         Err(_) => return Err(PrintError::Memory),
     };
     if stream {
-        return put_streamed(alloc, &mut replayer, messages, now_ms, output, lines);
+        return put_streamed(alloc, &mut replayer, strings, now_ms, output, lines);
     }
-    put_messages(alloc, &mut replayer, messages, now_ms, output, lines)
+    put_messages(alloc, &mut replayer, strings, now_ms, output, lines)
 }
 
 fn line_of_fault(alloc: Global, fault: &LogFault) -> Result<Text, AllocError>
@@ -407,11 +312,11 @@ pub fn print_log<O: Output>(
     alloc: Global,
     options: LogOptions,
     stream: bool,
-    messages: Vec<Bytes>,
+    strings: Vec<Bytes>,
     now_ms: &i64,
     output: &mut O,
 ) -> Result<Status, PrintError>
-    ensures prints { (pieces : List Piece) → ReadsPieces stream messages.items pieces
+    ensures prints { (pieces : List Piece) → ReadsPieces stream strings.items pieces
         → PrintsLog options now_ms.now pieces result (O.written output.old) (O.written output.new) }
     ensures cause { FailsOnlyIfCounted (result ≡ Err PrintError.OutputFailed)
         (O.faults output.old) (O.faults output.new) }
@@ -420,7 +325,7 @@ pub fn print_log<O: Output>(
         Ok(lines) => lines,
         Err(_) => return Err(PrintError::Memory),
     };
-    match put_log(alloc, options, stream, messages, now_ms, output, &mut lines) {
+    match put_log(alloc, options, stream, strings, now_ms, output, &mut lines) {
         Ok(fault) => finish_log(alloc, &fault, output, lines),
         Err(error) => Err(error),
     }

@@ -1,5 +1,6 @@
 pub use Rattle.dblog_replay.proofs.CaptureLemmas as ReplayCaptureLemmas
 pub use Rattle.dblog_replay.proofs.PieceLemmas as ReplayPieceLemmas
+pub use Rattle.dblog_replay.proofs.StreamLemmas as ReplayStreamLemmas
 pub mod AnswerLemmas
 pub mod ApplyLaws
 pub mod ApplyRunLemmas

@@ -13,11 +13,11 @@ put_streamed-requires g c = (c.args.options, c.in-Ok.ensures)
 
 pub returns-then-stream-clause-puts : goal.returns-then-stream-clause-puts
 returns-then-stream-clause-puts g c = λ pieces read. c.put_streamed.ensures.puts c.args.options pieces c.in-Ok.ensures
-    (subst (λ (b : Bool). ReadsPieces b c.args.messages.items pieces) c.if-stream.true read)
+    (subst (λ (b : Bool). ReadsPieces b c.args.strings.items pieces) c.if-stream.true read)
 
 pub put_messages-requires : goal.put_messages-requires
 put_messages-requires g c = (c.args.options, c.in-Ok.ensures)
 
 pub returns-clause-puts : goal.returns-clause-puts
 returns-clause-puts g c = λ pieces read. c.put_messages.ensures.puts c.args.options pieces c.in-Ok.ensures
-    (subst (λ (b : Bool). ReadsPieces b c.args.messages.items pieces) c.if-stream.false read)
+    (subst (λ (b : Bool). ReadsPieces b c.args.strings.items pieces) c.if-stream.false read)

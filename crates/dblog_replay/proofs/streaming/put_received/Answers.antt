@@ -1,6 +1,6 @@
 use Rattle.dblog_replay.specs.Streaming.{refused, stepped}
 use Rattle.dblog_replay.proofs.StreamingLemmas.{receive_stopped}
-use Rattle.dblog_replay.proofs.log.put_received.Goals as goal
+use Rattle.dblog_replay.proofs.streaming.put_received.Goals as goal
 
 pub returns-in-Ok-clause-steps : goal.returns-in-Ok-clause-steps
 returns-in-Ok-clause-steps g c = λ options past ms receiving follows.

@@ -4,7 +4,7 @@ use Rattle.dbl_pgmsg.specs.declared.messages.Message.{Message}
 use Rattle.dbl_pgmsg.specs.Grammar.{FitsFields}
 use Rattle.dblog_replay.proofs.FollowLemmas.{empty_is}
 use Rattle.dblog_replay.proofs.StreamingLemmas.{IsAdding, adding_begins, adding_more, adding_stops, adding_fails, adding_ends, stepping_same, step_replays}
-use Rattle.dblog_replay.proofs.log.put_added.Goals as goal
+use Rattle.dblog_replay.proofs.streaming.put_added.Goals as goal
 
 pub messages-init : goal.messages-init
 messages-init g c =

@@ -5,7 +5,7 @@ use Rattle.dbl_pgmsg.specs.Grammar.{FitsFields}
 use Rattle.dblog_replay.specs.declared.options.LogOptions.{LogOptions}
 use Rattle.dblog_replay.specs.Following.{FollowsMessages, IsReplaying}
 use Rattle.dblog_replay.proofs.StreamingLemmas.{IsAdding}
-use Rattle.dblog_replay.proofs.log.put_added.Given as goal
+use Rattle.dblog_replay.proofs.streaming.put_added.Given as goal
 
 abbrev pub invariant-messages : goal.invariant-messages
 invariant-messages g l =

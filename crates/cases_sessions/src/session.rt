@@ -26,10 +26,7 @@ fn store(alloc: Global, asked: &str) -> Result<OffsetStore<MemDisk>>
 {
     let opened = match items::first_of(asked, "found/") {
         Some(digits) => OffsetStore::open(alloc, demo::disk_of(alloc, digits)?),
-        None => OffsetStore::make(MemDisk::make(
-            alloc,
-            script::numbers(alloc, asked, "disk/")?,
-        )),
+        None => OffsetStore::make(MemDisk::make(alloc, script::numbers(alloc, asked, "disk/")?)),
     };
     match opened {
         Ok(store) => Ok(store),

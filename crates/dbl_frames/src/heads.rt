@@ -3,9 +3,9 @@
 
 ghost use Rattle.std.specs.Prelude.{◌≡◌, ℕ, ◌+◌, ◌^◌, ◌<◌, ◌≤◌, length, take, slice_index, IfOk};
 ghost use Rattle.std.specs.Prelude.{OnOk};
-ghost use Rattle.std.specs.Int.{w32, w64, from_be_bytes};
+ghost use Rattle.std.specs.Int.{w32, from_be_bytes};
 ghost use Rattle.dbl_frames.specs.Faults.{content_fault, length_fault, head_fault, wanted_size};
-ghost use Rattle.dbl_frames.specs.Steps.{frame_at};
+ghost use Rattle.dbl_frames.specs.Steps.{frame_at, int64_at};
 
 use crate::{Frame, FrameError};
 use dbl_base::Bytes;
@@ -29,18 +29,14 @@ fn read_int32(bytes: &[u8]) -> u32
     requires { 4 ≤ length bytes.now }
     ensures { result ≡ from_be_bytes w32 (take 4 bytes.now) }
 {
-    let (front, _) = bytes.split_at(4);
-    u32::from_be_bytes([front[0], front[1], front[2], front[3]])
+    u32::from_be_bytes(*bytes.first_chunk::<4>().unwrap())
 }
 
-fn read_int64(bytes: &[u8]) -> u64
-    requires { 8 ≤ length bytes.now }
-    ensures { result ≡ from_be_bytes w64 (take 8 bytes.now) }
+fn read_int64(bytes: &[u8], at: usize) -> u64
+    requires { at + 8 ≤ length bytes.now }
+    ensures { result ≡ int64_at at bytes.now }
 {
-    let (front, _) = bytes.split_at(8);
-    u64::from_be_bytes([
-        front[0], front[1], front[2], front[3], front[4], front[5], front[6], front[7],
-    ])
+    u64::from_be_bytes(*bytes[at..].first_chunk::<8>().unwrap())
 }
 
 #[tactic(auto, unfolding(crate::specs::Faults::content_fault))]
@@ -115,15 +111,15 @@ pub(crate) fn read_frame(alloc: Global, bytes: &[u8]) -> Result<Frame, AllocErro
 {
     if bytes[5] == b'w' {
         Ok(Frame::Data {
-            start: read_int64(bytes.split_at(6).1),
-            end: read_int64(bytes.split_at(14).1),
-            time: read_int64(bytes.split_at(22).1).cast_signed(),
+            start: read_int64(bytes, 6),
+            end: read_int64(bytes, 14),
+            time: read_int64(bytes, 22).cast_signed(),
             payload: Bytes::make(bytes.split_at(30).1.to_vec(alloc)?),
         })
     } else {
         Ok(Frame::Keepalive {
-            end: read_int64(bytes.split_at(6).1),
-            time: read_int64(bytes.split_at(14).1).cast_signed(),
+            end: read_int64(bytes, 6),
+            time: read_int64(bytes, 14).cast_signed(),
             reply: bytes[22],
         })
     }

@@ -17,8 +17,7 @@ pub fn status(
 ) -> Result<Bytes, AllocError>
     ensures { IfOk result (λ bytes. bytes ≡ status_form written flushed applied time reply) }
 {
-    let mut bytes = Vec::with_capacity(alloc, 39)?;
-    bytes.extend_from_slice(b"d\0\0\0\x26r")?;
+    let mut bytes = b"d\0\0\0\x26r".to_vec(alloc)?;
     bytes.extend_from_slice(&written.to_be_bytes())?;
     bytes.extend_from_slice(&flushed.to_be_bytes())?;
     bytes.extend_from_slice(&applied.to_be_bytes())?;

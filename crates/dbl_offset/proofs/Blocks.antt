@@ -92,7 +92,7 @@ module _ (slot other : ℕ) (two : slot + other ≡ 1) where
         (λ position below.
         let eight : position < 8 = omega (arith, length-take 8 new) in
         get_or-take 8 new position 0 eight ∙ head_stays old new keeps position (omega arith) (omega (arith, was.there))
-            ∙ sym (get_or-take 8 old position 0 eight))
+        ∙ sym (get_or-take 8 old position 0 eight))
         ∙ was.magic;
     there = omega (arith, keeps.no_shorter, was.there);
     parity = was.parity ∙ ap (λ (n : ℕ). n % 2) (sym (head_stays old new keeps 8 (omega arith) was.there));
@@ -145,8 +145,11 @@ module _ (bytes crashed : List ℕ) (torn : Torn 8 1 bytes crashed) where
       ] in
       elim which [
         | inl first ↦ inl (record { selects = selects_torn selected slot was first; short = short_old; content = content_kept slot (slot_content old) has_old })
-        | inr second ↦ inr (record { selects = selects_torn selected other was second; short = short_entry;
-            content = content_kept other (slot_content entry) has_entry })
+        | inr second ↦ inr (record {
+          selects = selects_torn selected other was second;
+          short = short_entry;
+          content = content_kept other (slot_content entry) has_entry;
+        })
       ]
 
 -- the selector is written
@@ -182,7 +185,7 @@ unfolding slot_content
 one_content bytes slot a b short_a short_b has_a has_b =
     let four : take 4 (slot_content a) ≡ take 4 (slot_content b) =
     ext_get_or 0 (take 4 (slot_content a)) (take 4 (slot_content b))
-        (omega (arith, length-take 4 (slot_content a), length-take 4 (slot_content b), length-slot_content a, length-slot_content b))
+    (omega (arith, length-take 4 (slot_content a), length-take 4 (slot_content b), length-slot_content a, length-slot_content b))
     (λ p below.
     let small : p < 4 = omega (arith, length-take 4 (slot_content a)) in
     get_or-take 4 (slot_content a) p 0 small
@@ -191,11 +194,11 @@ one_content bytes slot a b short_a short_b has_a has_b =
     let lengths : to_be_bytes w32 (length a) ≡ to_be_bytes w32 (length b) =
     sym (take_at (to_be_bytes w32 (length a)) a 4 refl) ∙ four ∙ take_at (to_be_bytes w32 (length b)) b 4 refl in
     let long : length a ≡ length b = sym (from_be_bytes-to_be_bytes_4 (length a) (omega arith)) ∙ ap (from_be_bytes w32) lengths
-        ∙ from_be_bytes-to_be_bytes_4 (length b) (omega arith) in
+    ∙ from_be_bytes-to_be_bytes_4 (length b) (omega arith) in
     let whole : slot_content a ≡ slot_content b =
     ext_get_or 0 (slot_content a) (slot_content b) (omega (arith, length-slot_content a, length-slot_content b, long))
     (λ p below. same_byte bytes slot (slot_content a) (slot_content b) has_a has_b p below
-        (omega (arith, length-slot_content a, length-slot_content b, long))) in
+    (omega (arith, length-slot_content a, length-slot_content b, long))) in
     sym (drop_at (to_be_bytes w32 (length a)) a 4 refl) ∙ ap (λ (l : List ℕ). drop 4 l) whole ∙ drop_at (to_be_bytes w32 (length b)) b 4 refl
 
 pub one_slot : (bytes : List ℕ) (first second : ℕ) → SelectsSlot bytes first → SelectsSlot bytes second → first ≡ second

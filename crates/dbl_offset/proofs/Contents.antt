@@ -1,7 +1,7 @@
 -- How a slot's content is read.
 use Rattle.std.proofs.Common.{◌≡◌, ◌∙◌, inl, inr, ℕ, ◌+◌, ◌-◌, ◌*◌, ◌/◌, ◌%◌, ◌<◌, ◌≤◌, ◌^◌, min, List, ◌++◌, length, take, drop, get_or, refl, sym, ap}
 use Rattle.std.proofs.Common.{arith, length-append, length-take, length-drop}
-use Rattle.std.proofs.lemmas.List.{get_or_append_left, get_or-append_right, get_or-take, get_or-drop, ext_get_or, take-append-drop, drop_at}
+use Rattle.std.proofs.lemmas.List.{get_or_append_left, get_or-append_right, get_or-take, get_or-drop, ext_get_or, take-append-drop, take_all, drop_at}
 use Rattle.std.proofs.lemmas.Nat.{div-add-mod', mod_below, from_be_bytes-to_be_bytes_4}
 use Rattle.std.proofs.lemmas.Bool.{cases_lt}
 use Rattle.std.specs.Int.{to_be_bytes, from_be_bytes, w32}
@@ -20,7 +20,7 @@ pub got_enough : (bytes buffer content : List ℕ) (slot block total count got :
 got_enough bytes buffer content slot block total count got reaches long within few buffer_long got_is = elim (cases_lt 0 count) [
   | inl some ↦ (
       let last : block_start slot block + (count - 1) < length bytes = reaches block (count - 1) (omega (arith, few, some))
-          (omega (arith, long, within, some)) in
+      (omega (arith, long, within, some)) in
       omega (arith, last, got_is, buffer_long, few, some))
   | inr none ↦ omega (arith, none)
 ]
@@ -33,7 +33,7 @@ pub block_read : (bytes buffer content : List ℕ) (slot block total count got :
     → HasSlotContent bytes slot (content ++ take count buffer)
 block_read bytes buffer content slot block total count got reaches has long within few buffer_long got_is moved k j small inner =
     let whole : length (content ++ take count buffer) ≡ length content + count = omega
-        (arith, length-append content (take count buffer), length-take count buffer, buffer_long, few) in
+    (arith, length-append content (take count buffer), length-take count buffer, buffer_long, few) in
     elim (cases_lt (4096 * k + j) (length content)) [
       | inl earlier ↦ (
           let was = has k j small earlier in
@@ -92,7 +92,7 @@ pub same_count : (bytes : List ℕ) (slot : ℕ) (entry : List ℕ) (n : ℕ) �
     → HasFour bytes slot (to_be_bytes w32 n) → n ≡ length entry
 same_count bytes slot entry n fits short has stands =
     sym (from_be_bytes-to_be_bytes_4 n fits) ∙ ap (from_be_bytes w32) (same_length bytes slot entry (to_be_bytes w32 n) refl has stands)
-        ∙ from_be_bytes-to_be_bytes_4 (length entry) (omega arith)
+    ∙ from_be_bytes-to_be_bytes_4 (length entry) (omega arith)
 
 -- what was read is a content
 pub is_content : (bytes : List ℕ) (slot : ℕ) (content : List ℕ) (n : ℕ) → length content ≡ n + 4 → HasSlotContent bytes slot content
@@ -119,3 +119,7 @@ four_read bytes buffer at got j got_is moved enough small = record {
 pub entry_of : (content entry : List ℕ) → content ≡ slot_content entry → drop 4 content ≡ entry
 unfolding slot_content
 entry_of content entry is = ap (λ (l : List ℕ). drop 4 l) is ∙ drop_at (to_be_bytes w32 (length entry)) entry 4 refl
+
+-- the entry, read from there to the content's end
+pub entry_read : (content entry : List ℕ) → content ≡ slot_content entry → take (length content - 4) (drop 4 content) ≡ entry
+entry_read content entry is = take_all (length content - 4) (drop 4 content) (omega (arith, length-drop 4 content)) ∙ entry_of content entry is

@@ -119,7 +119,7 @@ magic_or_wrong k (suc n) bytes all same =
         | inr other ↦ inl (k, record { within = below; same = same; differs = differs_at bytes k below (inr other) })
         | inl equal ↦ magic_or_wrong (k + 1) n bytes (omega arith)
             (take_more bytes k 0 there ∙ ap (λ bs. bs ++ get_or bytes k 0 ∷ []) same ∙ ap (λ b. take k store_magic ++ b ∷ []) equal ∙ sym
-                (take_more store_magic k 0 (omega (arith, length-store_magic))))
+            (take_more store_magic k 0 (omega (arith, length-store_magic))))
       ]
     ]
 
@@ -201,9 +201,15 @@ module _ (bytes : List ℕ) (fit : IsBytes bytes) (slot : ℕ) where
         let content : List ℕ = content_in bytes slot (count + 4) in
         let long = length-content_in bytes slot (count + 4) in
         let has = has_content bytes slot (count + 4) places in
-        let is = is_content bytes slot content count long has has_quad in
-        (drop 4 content, record { selects = selects; short = omega (arith, long, length-drop 4 content, fine); content = subst
-            (HasSlotContent bytes slot) is has })
+        let is = is_content bytes slot content count long has has_quad in (
+          drop 4 content,
+          record {
+            selects = selects;
+            short = omega (arith, long, length-drop 4 content, fine);
+            content = subst
+                (HasSlotContent bytes slot) is has;
+          },
+        )
 
     entry_within : SelectsSlot bytes slot → ((entry : List ℕ) × HasSelectedEntry bytes slot entry) ⊎ ((entry : List ℕ) → ¬ HasSelectedEntry bytes slot entry)
     entry_within selects = elim (cases_lt (2 ^ 28) count) [

@@ -17,8 +17,8 @@ mod writing;
 
 pub use error::OffsetError;
 pub use laws::{
-    bytes_are_a_store_or_not, offsets_are_spelled_once, stores_are_read_once, stores_come_of_stores,
-    stores_hold_one_offset, stores_or_faults, torn_stores_are_empty,
+    bytes_are_a_store_or_not, offsets_are_spelled_once, stores_are_read_once,
+    stores_come_of_stores, stores_hold_one_offset, stores_or_faults, torn_stores_are_empty,
 };
 pub use offset::Offset;
 pub use store::OffsetStore;

@@ -35,11 +35,7 @@ impl Offset {
     }
 
     /// An offset that is equal but for these cursors.
-    pub fn with_cursors(
-        &self,
-        alloc: Global,
-        cursors: Seq<Cursor>,
-    ) -> Result<Offset, AllocError>
+    pub fn with_cursors(&self, alloc: Global, cursors: Seq<Cursor>) -> Result<Offset, AllocError>
         ensures { IfOk result (λ offset. offset ≡ record self.now { cursors = cursors }) }
     {
         Ok(Offset {

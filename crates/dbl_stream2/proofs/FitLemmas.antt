@@ -50,11 +50,10 @@ kept_fit x later (m ∷ past) e =
 pub part_fits : (past : List StreamMessage) (m : StreamMessage) → AreEncoded (m ∷ past) → AllFit (flat_part past m)
 part_fits past (Start xid first) e = tt
 part_fits past Stop e = tt
-part_fits past (Commit xid flags lsn end_lsn time) e =
-    (
-      (e.1.1.3, e.1.1.5, e.1.1.1),
-      all_joined (kept_messages xid [] past) _ (kept_fit xid [] past e.0) ((e.1.1.2, e.1.1.3, e.1.1.4, e.1.1.5), tt),
-    )
+part_fits past (Commit xid flags lsn end_lsn time) e = (
+  (e.1.1.3, e.1.1.5, e.1.1.1),
+  all_joined (kept_messages xid [] past) _ (kept_fit xid [] past e.0) ((e.1.1.2, e.1.1.3, e.1.1.4, e.1.1.5), tt),
+)
 part_fits past (Abort xid subxid) e = tt
 part_fits past (Plain m) e = unless_fits (is_inside past) (m ∷ []) (e.1.1.0.fits.fields, tt)
 part_fits past (Carried xid m) e = tt

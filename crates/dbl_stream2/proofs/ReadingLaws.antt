@@ -25,7 +25,7 @@ use Rattle.dbl_stream2.specs.Wire.{has_xid, carries_xid, width_by, width_of, IsC
 use Rattle.dbl_stream2.specs.Wire.{IsBytesFault, too_long, cut, trailing, in_xid, carried, plain}
 use Rattle.dbl_stream2.specs.Reading.{number4, number8, fixed, with_width, carrying, carried_at, plain_of, by_width, read}
 
--- ---- what a call to the decoder of version 1 gives
+-- ---- what a call to the decoder of version 1 returns
 
 pub gives_whole : (bytes : List ℕ) (r : Result Message MsgError) → IfOk r (λ m. Spells bytes m) → IfErr r (λ e. (e ≡ Memory) ⊎ IsFault bytes e)
     → Gives (λ m. m) r (whole bytes)
@@ -527,7 +527,7 @@ module _ (inside : Bool) where
   pub either : (bytes : List ℕ) → AreBytes bytes → ((m : StreamMessage) × Encodes inside bytes m) ⊎ ((e : MsgError) × IsBytesFault inside bytes e)
   either bytes all = either_of bytes (IsBytes-of bytes all) (read inside bytes) refl
 
-  -- ---- what a call that gives what reading gives has returned
+  -- ---- what a call has returned whose result is that of reading
 
   pub is_encoded : (bytes : List ℕ) (r : Result StreamMessage MsgError) → IsBytes bytes → Gives (λ m. m) r (read inside bytes)
       → IfOk r (λ m. Encodes inside bytes m)

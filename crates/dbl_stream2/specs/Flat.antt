@@ -96,7 +96,7 @@ bound_tag (plain.Begin lsn time xid) = Some (byte "B")
 bound_tag (plain.Commit flags lsn end_lsn time) = Some (byte "C")
 bound_tag m = None
 
--- the error if the test holds
+-- the error, if the test is true
 abbrev pub error_if : Bool → StreamError → Option StreamError
 error_if true error = Some error
 error_if false error = None

@@ -204,7 +204,7 @@ impl Unstream {
 
     /// Takes the bytes of the next message, and returns what it adds to the flattened stream:
     /// itself outside blocks, and a streamed transaction as a whole at its Stream Commit. After an
-    /// error the `Unstream` must not be used.
+    /// error nothing is promised of later calls.
     pub fn take(&mut self, alloc: Global, bytes: &[u8]) -> Result<Vec<Message>, StreamError>
         ensures taken { (past : List StreamMessage) → HasReceived past self.old →
             IfOk result (λ out. HasTaken past bytes.now out.items self.new) }

@@ -31,13 +31,20 @@ returns-in_err-content-clause-none g c bytes at told is =
       selects = c.in_ok-slot.ensures.read bytes before;
       none = λ entry has.
           c.read_content.ensures.none bytes entry at (c.read_slot.ensures.seen ∙ before) (c.in_ok-len.ensures.told bytes (c.sync.ensures.seen ∙ told))
-              (c.in_err-content.was ∙ ap (λ (x : OffsetError). Err x) e) has.short has.content;
+          (c.in_err-content.was ∙ ap (λ (x : OffsetError). Err x) e) has.short has.content;
       start = reported c.in_err-content.field-0.0 at _ c.in_err-content.ensures.kinds e;
     }))
 
 pub returns-clause-read : goal.returns-clause-read
 returns-clause-read g c bytes told =
     let before = c.len.ensures.seen ∙ c.sync.ensures.seen ∙ told in
-    let read = c.in_ok-content.ensures.read bytes (c.read_slot.ensures.seen ∙ before) (c.in_ok-len.ensures.told bytes (c.sync.ensures.seen ∙ told)) in
-    (read.0, read.1, record { selects = c.in_ok-slot.ensures.read bytes before; short = read.2; content = subst
-        (HasSlotContent bytes c.in_ok-slot.slot) read.1 read.3 })
+    let read = c.in_ok-content.ensures.read bytes (c.read_slot.ensures.seen ∙ before) (c.in_ok-len.ensures.told bytes (c.sync.ensures.seen ∙ told)) in (
+      read.0,
+      read.1,
+      record {
+        selects = c.in_ok-slot.ensures.read bytes before;
+        short = read.2;
+        content = subst
+            (HasSlotContent bytes c.in_ok-slot.slot) read.1 read.3;
+      },
+    )

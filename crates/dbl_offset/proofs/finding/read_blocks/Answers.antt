@@ -15,9 +15,9 @@ returns-then-got-count-clause-reached g c bytes at told reaches is =
     let enough : count ≤ c.in_ok-got.got =
     got_enough bytes c.read_at.new.buffer content c.args.slot c.each.block c.args.total count c.in_ok-got.got reaches (c.each.invariant.full begun)
     (omega (arith, c.block_end.ensures.forward, c.block_end.ensures.within, here)) (omega (arith, c.block_end.ensures.few, here))
-        (omega (arith, c.read_at.auto.buffer))
+    (omega (arith, c.read_at.auto.buffer))
     (c.in_ok-got.ensures.told bytes (c.each.invariant.seen ∙ told) ∙ ap (λ (n : ℕ). min n (length bytes - block_start c.args.slot c.each.block))
-        (sym c.read_at.auto.buffer)) in
+    (sym c.read_at.auto.buffer)) in
     absurd (omega (arith, enough, c.if-got-count.true, too))
 
 pub each-preserved : goal.each-preserved
@@ -33,9 +33,9 @@ each-preserved g c =
     let inside : c.block_end.result ≤ c.args.total = omega (arith, c.block_end.ensures.within) in
     let buffer_long : length buffer ≡ 4096 = omega (arith, c.read_at.auto.buffer) in
     let items : c.extend_from_slice.new.self.items ≡ content ++ take count buffer = c.in_ok-extend_from_slice.ensures.items
-        ∙ ap (λ (n : ℕ). content ++ take (c.block_end.result - n) buffer) too in
+    ∙ ap (λ (n : ℕ). content ++ take (c.block_end.result - n) buffer) too in
     let long : length c.extend_from_slice.new.self.items ≡ c.block_end.result = omega
-        (arith, ap length items, length-append content (take count buffer), length-take count buffer, buffer_long, few, forward) in
+    (arith, ap length items, length-append content (take count buffer), length-take count buffer, buffer_long, few, forward) in
     record {
       slot = c.requires.slot;
       short = c.requires.short;
@@ -49,9 +49,9 @@ each-preserved g c =
       read = λ bytes told places.
           subst (λ (l : List ℕ). HasSlotContent bytes c.args.slot l) (sym items)
           (block_read bytes buffer content c.args.slot c.each.block c.args.total count c.in_ok-got.got places (c.each.invariant.read bytes told places)
-              (c.each.invariant.full begun) (omega (arith, forward, inside)) few buffer_long
+          (c.each.invariant.full begun) (omega (arith, forward, inside)) few buffer_long
           (c.in_ok-got.ensures.told bytes (c.each.invariant.seen ∙ told) ∙ ap (λ (n : ℕ). min n (length bytes - block_start c.args.slot c.each.block))
-              (sym c.read_at.auto.buffer)) (c.in_ok-got.ensures.moved bytes (c.each.invariant.seen ∙ told)));
+          (sym c.read_at.auto.buffer)) (c.in_ok-got.ensures.moved bytes (c.each.invariant.seen ∙ told)));
       seen = c.read_at.ensures.seen ∙ c.each.invariant.seen;
       crash = λ crashed. (
         (λ left. (c.each.invariant.crash crashed).0 ((c.read_at.ensures.crash crashed).0 left)),

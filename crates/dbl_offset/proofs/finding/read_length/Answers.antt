@@ -14,4 +14,4 @@ returns-clause-read g c bytes told at small =
     subst (λ (l : List ℕ). HasByteAt bytes (block_start c.args.slot 0 + at) (get_or l at 0)) c.length_in.ensures.spelled
     (subst (λ (p : ℕ). HasByteAt bytes p (get_or c.read_at.new.buffer at 0)) (omega arith)
     (four_read bytes c.read_at.new.buffer (16 + 4096 * c.args.slot) c.in_ok-got.got at (c.in_ok-got.ensures.told bytes told)
-        (c.in_ok-got.ensures.moved bytes told) (omega (arith, c.if-got-lt4.false)) small))
+    (c.in_ok-got.ensures.moved bytes told) (omega (arith, c.if-got-lt4.false)) small))

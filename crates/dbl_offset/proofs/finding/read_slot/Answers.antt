@@ -9,7 +9,7 @@ returns-then-at-lt8-clause-none g c bytes at told is =
     let front : List ℕ = take c.in_ok-got.got c.read_at.new.buffer in
     let front_is = front_of bytes c.read_at.new.buffer c.in_ok-got.got (c.in_ok-got.ensures.told bytes told) (c.in_ok-got.ensures.moved bytes told) in
     inl (subst (λ (n : ℕ). HasWrongMagic bytes n) here
-        (wrong_magic bytes front c.matching-at.result front_is c.if-at-lt8.true c.matching-at.ensures.same (c.matching-at.ensures.differs c.if-at-lt8.true)))
+    (wrong_magic bytes front c.matching-at.result front_is c.if-at-lt8.true c.matching-at.ensures.same (c.matching-at.ensures.differs c.if-at-lt8.true)))
 
 pub returns-then-got-lt9-clause-none : goal.returns-then-got-lt9-clause-none
 returns-then-got-lt9-clause-none g c bytes at told is =
@@ -19,7 +19,7 @@ returns-then-got-lt9-clause-none g c bytes at told is =
     let got_is = c.in_ok-got.ensures.told bytes told in
     let front_is = front_of bytes c.read_at.new.buffer c.in_ok-got.got got_is (c.in_ok-got.ensures.moved bytes told) in
     let none = no_selector bytes (has_magic bytes front front_is (subst (λ (n : ℕ). take n front ≡ take n store_magic) eight c.matching-at.ensures.same))
-        (omega (arith, got_is, c.if-got-lt9.true)) in
+    (omega (arith, got_is, c.if-got-lt9.true)) in
     inr (record { magic = none.magic; end = sym here })
 
 pub returns-clause-read : goal.returns-clause-read

@@ -12,7 +12,7 @@ returns-clause-selected g c old told =
 pub returns-clause-steady : goal.returns-clause-steady
 returns-clause-steady g c old told =
     on_ok_weaker c.sync.result (λ same. same ∙ c.in_ok-write_at.ensures.steady old told)
-        (c.sync.ensures.steady (written old 8 (c.args.slot ∷ [])) (c.in_ok-write_at.ensures.written old told))
+    (c.sync.ensures.steady (written old 8 (c.args.slot ∷ [])) (c.in_ok-write_at.ensures.written old told))
 
 pub returns-in_err-write_at-clause-cause : goal.returns-in_err-write_at-clause-cause
 returns-in_err-write_at-clause-cause g c = record { later = c.write_at.ensures.cause.later; cause = λ is. c.in_err-write_at.ensures.cause.cause refl }

@@ -17,7 +17,7 @@ pub write_at-requires : goal.write_at-requires
 unfolding piece
 write_at-requires g c old told beyond =
     let small = few c.args.content.now c.each.block c.block_end-upto.result (omega (arith, c.block_end-upto.ensures.forward))
-        (omega (arith, c.block_end-upto.ensures.within)) (omega (arith, c.block_end-upto.ensures.few)) in
+    (omega (arith, c.block_end-upto.ensures.within)) (omega (arith, c.block_end-upto.ensures.few)) in
     omega (arith, small, c.each-test.true, c.requires.slot, c.requires.short)
 
 pub returns-in_err-write_at-clause-keeps : goal.returns-in_err-write_at-clause-keeps
@@ -26,7 +26,7 @@ returns-in_err-write_at-clause-keeps g c old told =
     let was = c.each.invariant.wrote old told in
     let left = c.in_err-write_at.ensures.torn was.now was.told in
     let small = few c.args.content.now c.each.block c.block_end-upto.result (omega (arith, c.block_end-upto.ensures.forward))
-        (omega (arith, c.block_end-upto.ensures.within)) (omega (arith, c.block_end-upto.ensures.few)) in
+    (omega (arith, c.block_end-upto.ensures.within)) (omega (arith, c.block_end-upto.ensures.few)) in
     (left.0, left.1, keeps_more c.args.slot old was.now left.0 was.keeps (keeps_torn c.args.slot c.each.block _ was.now left.0 small left.2))
 
 pub returns-in_err-write_at-clause-crash : goal.returns-in_err-write_at-clause-crash
@@ -35,7 +35,7 @@ returns-in_err-write_at-clause-crash g c crashed leaves =
     let from = c.write_at.ensures.crash crashed leaves in
     let first = c.each.invariant.crash from.0 from.1 in
     let small = few c.args.content.now c.each.block c.block_end-upto.result (omega (arith, c.block_end-upto.ensures.forward))
-        (omega (arith, c.block_end-upto.ensures.within)) (omega (arith, c.block_end-upto.ensures.few)) in
+    (omega (arith, c.block_end-upto.ensures.within)) (omega (arith, c.block_end-upto.ensures.few)) in
     (first.0, first.1, keeps_more c.args.slot first.0 from.0 crashed first.2 (keeps_torn c.args.slot c.each.block _ from.0 crashed small from.2))
 
 pub returns-in_err-write_at-clause-grows : goal.returns-in_err-write_at-clause-grows
@@ -44,7 +44,7 @@ returns-in_err-write_at-clause-grows g c count old new enough told now =
     let was = c.each.invariant.wrote old told in
     let left = c.in_err-write_at.ensures.torn was.now was.told in
     let small = few c.args.content.now c.each.block c.block_end-upto.result (omega (arith, c.block_end-upto.ensures.forward))
-        (omega (arith, c.block_end-upto.ensures.within)) (omega (arith, c.block_end-upto.ensures.few)) in
+    (omega (arith, c.block_end-upto.ensures.within)) (omega (arith, c.block_end-upto.ensures.few)) in
     let is : new ≡ left.0 = cc (left.1) in
     omega (arith, ap length is, left.2.no_longer, was.short, small, c.each-test.true, enough, c.requires.slot)
 
@@ -78,8 +78,13 @@ each-preserved g c =
             blocks = block_written c.args.slot c.each.block was.now content (piece content c.each.block upto) was.blocks (omega (arith, long, order, within))
                 (λ short. omega (arith, long, order, c.block_end-upto.ensures.whole (omega (arith, long, order, short))))
                 (λ j below. get_or-piece content (c.each.block * 4096) upto j (omega (arith, long, below)) ∙ ap (λ (n : ℕ). get_or content n 0) (omega arith));
-            short = omega (arith, length-written was.now (block_start c.args.slot c.each.block) (piece content c.each.block upto), was.short, small,
-                c.requires.slot);
+            short = omega (
+              arith,
+              length-written was.now (block_start c.args.slot c.each.block) (piece content c.each.block upto),
+              was.short,
+              small,
+              c.requires.slot,
+            );
           });
       crash = λ crashed leaves. (
           let from = c.write_at.ensures.crash crashed leaves in

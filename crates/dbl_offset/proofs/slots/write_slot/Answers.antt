@@ -42,7 +42,7 @@ returns-clause-left g c bytes old entry crashed told only has is may =
     let stable = c.in_ok-sync.ensures.stable made.0 made.1 in
     let from = c.select.ensures.crash crashed may in
     chosen c.args.slot bytes made.0 from.0 crashed old entry c.args.content.now c.requires.slot c.requires.short is has made.2 made.3
-        (stable from.0 from.1) from.2
+    (stable from.0 from.1) from.2
 
 pub returns-clause-stored : goal.returns-clause-stored
 returns-clause-stored g c bytes old entry told has is =
@@ -52,8 +52,13 @@ returns-clause-stored g c bytes old entry told has is =
     let selects = selects_stays (1 - slot) slot two bytes made.0 (1 - slot) made.2 has.selects in
     let content = subst (λ (l : List ℕ). HasSlotContent made.0 slot l) is made.3 in
     on_ok_weaker c.select.result
-    (λ now. (written made.0 8 (slot ∷ []), now.0, now.1, entry_selected slot (1 - slot) made.0 entry c.requires.slot selects
-        (short_of c.args.content.now entry c.requires.short is) content))
+    (λ now. (
+      written made.0 8 (slot ∷ []),
+      now.0,
+      now.1,
+      entry_selected slot (1 - slot) made.0 entry c.requires.slot selects
+          (short_of c.args.content.now entry c.requires.short is) content,
+    ))
     (c.select.ensures.selected made.0 (c.sync.ensures.seen ∙ made.1))
 
 -- the blocks of a content
@@ -89,7 +94,7 @@ pub returns-clause-steady : goal.returns-clause-steady
 returns-clause-steady g c old told =
     let made = c.in_ok-write_content.ensures.written old told in
     on_ok_weaker c.select.result (λ same. same ∙ c.in_ok-sync.ensures.steady made.0 made.1 ∙ c.in_ok-write_content.ensures.steady old told)
-        (c.select.ensures.steady made.0 (c.sync.ensures.seen ∙ made.1))
+    (c.select.ensures.steady made.0 (c.sync.ensures.seen ∙ made.1))
 
 pub returns-in_err-write_content-clause-cause : goal.returns-in_err-write_content-clause-cause
 returns-in_err-write_content-clause-cause g c =

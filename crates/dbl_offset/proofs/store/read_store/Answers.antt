@@ -5,7 +5,7 @@ use Rattle.dbl_offset.specs.declared.error.OffsetError.TheVariants as error
 use Rattle.dbl_offset.specs.Offsets.{IsOffsetEntry}
 use Rattle.dbl_offset.specs.Slots.{HasSelectedEntry}
 use Rattle.dbl_offset.specs.Stores.{HasBadOffset, IsSlotEntry}
-use Rattle.dbl_offset.proofs.Contents.{entry_of}
+use Rattle.dbl_offset.proofs.Contents.{entry_read}
 use Rattle.dbl_offset.proofs.StoreLaws.{err_one}
 use Rattle.dbl_offset.proofs.store.read_store.Goals as goal
 
@@ -20,9 +20,12 @@ bad_of bytes entry read slot index e has same (inr bad) is =
 
 pub returns-clause-read : goal.returns-clause-read
 returns-clause-read g c bytes told =
-    let read = c.in_ok-found.ensures.read bytes told in
-    (read.0, read.2, subst (λ (l : List ℕ). IsSlotEntry l c.in_ok-offset.offset)
-        (entry_of _ read.0 (c.as_slice.ensures.value ∙ read.1)) c.in_ok-offset.ensures.read)
+    let read = c.in_ok-found.ensures.read bytes told in (
+      read.0,
+      read.2,
+      subst (λ (l : List ℕ). IsSlotEntry l c.in_ok-offset.offset)
+          (entry_read _ read.0 (c.as_slice.ensures.value ∙ read.1)) c.in_ok-offset.ensures.read,
+    )
 
 pub returns-in_err-offset-clause-bad_offset : goal.returns-in_err-offset-clause-bad_offset
 returns-in_err-offset-clause-bad_offset g c bytes index told is =
@@ -30,7 +33,7 @@ returns-in_err-offset-clause-bad_offset g c bytes index told is =
     let e : c.in_err-offset.field-0.0 ≡ error.BadOffset index = sym p.2 ∙ err_one p.0 (error.BadOffset index) (sym p.1 ∙ is) in
     let read = c.in_ok-found.ensures.read bytes told in
     bad_of bytes read.0 _ c.in_ok-found.found.slot index c.in_err-offset.field-0.0 read.2
-        (entry_of _ read.0 (c.as_slice.ensures.value ∙ read.1)) c.in_err-offset.ensures.refused e
+    (entry_read _ read.0 (c.as_slice.ensures.value ∙ read.1)) c.in_err-offset.ensures.refused e
 
 pub returns-in_err-found-clause-keeps : goal.returns-in_err-found-clause-keeps
 returns-in_err-found-clause-keeps g c =

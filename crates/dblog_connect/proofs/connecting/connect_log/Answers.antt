@@ -103,4 +103,4 @@ pub returns-in-Ok-clause-offsets_bounded : goal.returns-in-Ok-clause-offsets_bou
 returns-in-Ok-clause-offsets_bounded g c =
     store_bounded_on g.F.Disk c.args.offsets (disk_of c.in-Ok.store) c.into_disk-in-Ok-2.result c.in-Ok.ensures.keeps.same
     (moved_to (λ d. IsStoreBounded (g.F.Disk.seen (disk_of c.in-Ok.store)) (g.F.Disk.seen d))
-        (disk_of c.run_session-end.new.store) c.into_disk-in-Ok-2.result c.into_disk-in-Ok-2.ensures c.run_session-end.ensures.store_bounded)
+    (disk_of c.run_session-end.new.store) c.into_disk-in-Ok-2.result c.into_disk-in-Ok-2.ensures c.run_session-end.ensures.store_bounded)

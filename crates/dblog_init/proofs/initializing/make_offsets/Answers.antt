@@ -13,7 +13,7 @@ returns-in-Ok-clause-makes g c = record {
   leaves =
       subst (λ (d : g.row.D.Denot). LeavesDisk g.D.Disk Offsets _ c.args.disk d) (sym c.into_disk.ensures)
       (leaves_short g.D.Disk Offsets _ c.args.disk _ c.requires c.in-Ok.ensures.makes.later (λ is. let t = is in cc)
-          (λ no. c.in-Ok.ensures.makes.steady (λ never. never))
+      (λ no. c.in-Ok.ensures.makes.steady (λ never. never))
       (λ bytes was is. (let few = c.in-Ok.ensures.makes.small bytes was is in omega (arith, few))));
 }
 
@@ -28,7 +28,7 @@ returns-in-Err-clause-makes g c =
       untouched = λ unwritten. absurd (subst (λ (e : InitError). EndsBeforeWriting Offsets (Err e)) is unwritten);
       leaves =
           leaves_short g.D.Disk Offsets _ c.args.disk _ c.requires c.in-Err.ensures.makes.later
-              (λ failed. c.in-Err.ensures.makes.cause c.in-Err.ensures.refused)
+          (λ failed. c.in-Err.ensures.makes.cause c.in-Err.ensures.refused)
           (λ no. absurd (no (ap (λ (e : InitError). Err e) is))) (λ bytes was is. (let few = c.in-Err.ensures.makes.small bytes was is in omega (arith, few)));
     }
 

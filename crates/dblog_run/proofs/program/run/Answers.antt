@@ -218,7 +218,7 @@ returns-in-Ok-clause-topics_short g c = λ some.
 pub returns-in-Ok-clause-offsets_short : goal.returns-in-Ok-clause-offsets_short
 returns-in-Ok-clause-offsets_short g c = λ some.
     made_by _ c.in-Ok.command (λ init. (c.run_command.ensures.offsets_left init).short)
-        (λ number rows groups same. (c.run_command.ensures.generated number rows groups same).offsets_short)
+    (λ number rows groups same. (c.run_command.ensures.generated number rows groups same).offsets_short)
     (as_spelled _ (λ (k : Command). makes k ≡ true) some.0 c.in-Ok.command some.1 c.in-Ok.ensures.spelled some.2)
 
 pub returns-in-Err-Usage-clause-full_stay : goal.returns-in-Err-Usage-clause-full_stay

@@ -32,4 +32,4 @@ returns-in-Ok-clause-keeps g c = keeps_told_as g.D.Disk _ ⊥ _ _ (λ never. abs
 pub returns-in-Err-clause-keeps : goal.returns-in-Err-clause-keeps
 returns-in-Err-clause-keeps g c =
     keeps_told_as g.D.Disk _ (c.in-Err.error ≡ error.Failed) _ _ (λ is. c.in-Err.is ∙ ap (λ (e : OffsetError). Err e) is)
-        (λ is. let t = sym c.in-Err.is ∙ is in cc) c.read_store.ensures.keeps
+    (λ is. let t = sym c.in-Err.is ∙ is in cc) c.read_store.ensures.keeps

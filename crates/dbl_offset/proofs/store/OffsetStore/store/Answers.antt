@@ -4,7 +4,6 @@ use Rattle.std.proofs.lemmas.Nat.{div-add-mod'}
 use Rattle.std.proofs.lemmas.Result.{err_from_is_err_and}
 use Rattle.dbl_base.specs.Streams.{FaultCounted}
 use Rattle.dbl_offset.specs.declared.error.OffsetError.{OffsetError}
-use Rattle.dbl_offset.specs.declared.error.OffsetError.TheVariants as error
 use Rattle.dbl_offset.specs.Entries.{offset_bytes_form}
 use Rattle.dbl_offset.specs.Offsets.{EncodesOffset}
 use Rattle.dbl_offset.specs.Slots.{HasSelectedEntry, slot_content}
@@ -35,6 +34,11 @@ grown n before after content long = subst (λ (m : ℕ). after ≤ max before (1
 few : (n before after : ℕ) → n ≤ 2 ^ 28 + 4 → after ≤ max before (16 + 8192 * ((n + 4095) / 4096)) → after ≤ max before (2 ^ 30)
 few n before after short most = omega (arith, div-add-mod' (n + 4095) 4096, short, most)
 
+pub write_slot-requires-clause-short : goal.write_slot-requires-clause-short
+write_slot-requires-clause-short g c =
+    let long = long_of c.as_slice.result.now (offset_bytes_form c.args.offset) (c.as_slice.ensures.value ∙ c.in_ok-content.ensures) in
+    omega (arith, long, c.measure-count.ensures.long, c.if-count-gt-OFFSET_LIMIT.false)
+
 pub returns-in_err-write_slot-clause-left : goal.returns-in_err-write_slot-clause-left
 returns-in_err-write_slot-clause-left g c old holds =
     let held = subst (λ (s : StoreOn _). HoldsOffset g.D.Disk s old) (sym c.self.view_is) holds in
@@ -42,10 +46,10 @@ returns-in_err-write_slot-clause-left g c old holds =
     let form : List ℕ = offset_bytes_form c.args.offset in
     let is : c.as_slice.result.now ≡ slot_content form = c.as_slice.ensures.value ∙ c.in_ok-content.ensures in
     let spells : EncodesOffset form c.args.offset =
-        record { asked = c.requires.offset; fits = c.measure-count.ensures.fits (omega (arith, c.if-count.false)); spelled = refl } in
+    record { asked = c.requires.offset; fits = c.measure-count.ensures.fits (omega (arith, c.if-count-gt-OFFSET_LIMIT.false)); spelled = refl } in
     leaves g.D.Disk c.write_slot.new.disk (1 - (1 - slot)) (1 - slot) held.entry form old c.args.offset held.is spells
     (λ crashed may. c.write_slot.ensures.left held.bytes held.entry form crashed held.told held.only
-        (back slot held.bytes held.entry c.self.invariant.0 held.selected) is may)
+    (back slot held.bytes held.entry c.self.invariant.0 held.selected) is may)
 
 pub returns-clause-left : goal.returns-clause-left
 returns-clause-left g c old holds =
@@ -54,10 +58,10 @@ returns-clause-left g c old holds =
     let form : List ℕ = offset_bytes_form c.args.offset in
     let is : c.as_slice.result.now ≡ slot_content form = c.as_slice.ensures.value ∙ c.in_ok-content.ensures in
     let spells : EncodesOffset form c.args.offset =
-        record { asked = c.requires.offset; fits = c.measure-count.ensures.fits (omega (arith, c.if-count.false)); spelled = refl } in
+    record { asked = c.requires.offset; fits = c.measure-count.ensures.fits (omega (arith, c.if-count-gt-OFFSET_LIMIT.false)); spelled = refl } in
     leaves g.D.Disk c.write_slot.new.disk (1 - (1 - slot)) (1 - slot) held.entry form old c.args.offset held.is spells
     (λ crashed may. c.write_slot.ensures.left held.bytes held.entry form crashed held.told held.only
-        (back slot held.bytes held.entry c.self.invariant.0 held.selected) is may)
+    (back slot held.bytes held.entry c.self.invariant.0 held.selected) is may)
 
 pub returns-clause-stored : goal.returns-clause-stored
 returns-clause-stored g c old holds =
@@ -73,7 +77,7 @@ returns-clause-stored g c old holds =
       only = made.2;
       entry = form;
       selected = made.3;
-      is = record { asked = c.requires.offset; fits = c.measure-count.ensures.fits (omega (arith, c.if-count.false)); spelled = refl };
+      is = record { asked = c.requires.offset; fits = c.measure-count.ensures.fits (omega (arith, c.if-count-gt-OFFSET_LIMIT.false)); spelled = refl };
       offset_is = refl;
     }
 
@@ -81,14 +85,14 @@ pub returns-in_err-write_slot-clause-grows : goal.returns-in_err-write_slot-clau
 returns-in_err-write_slot-clause-grows g c before after told now =
     let form : List ℕ = offset_bytes_form c.args.offset in
     grown (4 + length form) (length before) (length after) c.as_slice.result.now
-        (long_of c.as_slice.result.now form (c.as_slice.ensures.value ∙ c.in_ok-content.ensures))
+    (long_of c.as_slice.result.now form (c.as_slice.ensures.value ∙ c.in_ok-content.ensures))
     (c.write_slot.ensures.grows before after (ap (λ (s : StoreOn _). g.D.Disk.seen s.disk) c.self.view_is ∙ told) now)
 
 pub returns-clause-grows : goal.returns-clause-grows
 returns-clause-grows g c before after told now =
     let form : List ℕ = offset_bytes_form c.args.offset in
     grown (4 + length form) (length before) (length after) c.as_slice.result.now
-        (long_of c.as_slice.result.now form (c.as_slice.ensures.value ∙ c.in_ok-content.ensures))
+    (long_of c.as_slice.result.now form (c.as_slice.ensures.value ∙ c.in_ok-content.ensures))
     (c.write_slot.ensures.grows before after (ap (λ (s : StoreOn _). g.D.Disk.seen s.disk) c.self.view_is ∙ told) now)
 
 pub returns-in_err-write_slot-clause-comes : goal.returns-in_err-write_slot-clause-comes
@@ -96,9 +100,9 @@ returns-in_err-write_slot-clause-comes g c most known =
     let was = ap (λ (s : StoreOn _). g.D.Disk.seen s.disk) c.self.view_is ∙ known.told in
     let left = c.write_slot.ensures.told known.bytes was in
     let long = long_of c.as_slice.result.now (offset_bytes_form c.args.offset) (c.as_slice.ensures.value ∙ c.in_ok-content.ensures) in
-    let short : length c.as_slice.result.now ≤ 2 ^ 28 + 4 = omega (arith, long, c.measure-count.ensures.long, c.if-count.false) in
+    let short : length c.as_slice.result.now ≤ 2 ^ 28 + 4 = omega (arith, long, c.measure-count.ensures.long, c.if-count-gt-OFFSET_LIMIT.false) in
     let most_of : length left.0 ≤ max (length known.bytes) (2 ^ 30) = few (length c.as_slice.result.now) (length known.bytes) (length left.0) short
-        (c.write_slot.ensures.grows known.bytes left.0 was left.1) in
+    (c.write_slot.ensures.grows known.bytes left.0 was left.1) in
     record { bytes = left.0; told = left.1; short = omega (arith, most_of, known.short) }
 
 pub returns-clause-comes : goal.returns-clause-comes
@@ -106,9 +110,9 @@ returns-clause-comes g c most known =
     let was = ap (λ (s : StoreOn _). g.D.Disk.seen s.disk) c.self.view_is ∙ known.told in
     let left = c.write_slot.ensures.told known.bytes was in
     let long = long_of c.as_slice.result.now (offset_bytes_form c.args.offset) (c.as_slice.ensures.value ∙ c.in_ok-content.ensures) in
-    let short : length c.as_slice.result.now ≤ 2 ^ 28 + 4 = omega (arith, long, c.measure-count.ensures.long, c.if-count.false) in
+    let short : length c.as_slice.result.now ≤ 2 ^ 28 + 4 = omega (arith, long, c.measure-count.ensures.long, c.if-count-gt-OFFSET_LIMIT.false) in
     let most_of : length left.0 ≤ max (length known.bytes) (2 ^ 30) = few (length c.as_slice.result.now) (length known.bytes) (length left.0) short
-        (c.write_slot.ensures.grows known.bytes left.0 was left.1) in
+    (c.write_slot.ensures.grows known.bytes left.0 was left.1) in
     record { bytes = left.0; told = left.1; short = omega (arith, most_of, known.short) }
 
 pub returns-in_err-write_slot-clause-puts : goal.returns-in_err-write_slot-clause-puts

@@ -19,21 +19,21 @@ use Rattle.dbl_stream2.proofs.Refusals.{none_refused, one_refusal}
 use Rattle.dbl_stream2.proofs.FitLemmas.{part_fits}
 use Rattle.dblog_replay.specs.declared.log_fault.LogFault.{LogFault}
 use Rattle.dblog_replay.specs.Pieces.{Piece, Carries, Stops, CarryMessages, AllFitFields}
-use Rattle.dblog_replay.specs.Streams.{refusal_fault, block_end, numbered, IsRefused, IsReceived}
+use Rattle.dblog_replay.specs.Streams.{refusal_fault, block_end, pieces_at, IsStringRefused, IsReceived}
 use Rattle.dblog_replay.specs.Streams.{AreReceived, AreStreamed, EndsStream, IsFlattened, ReadsPieces}
 use Rattle.dblog_replay.proofs.PieceLemmas.{pieces_one, pieces_exist, pieces_fit}
 use Rattle.dblog_replay.specs.Streams.{StreamPiecesAreOne, StreamPiecesExist, StreamPiecesFit, StreamsAreFlattened}
 
 -- ---- at most one list of pieces
 
-refused_once : (number : ℕ) (past : List StreamMessage) (bytes : List ℕ) (one other : List Piece) → IsRefused number past bytes one
-    → IsRefused number past bytes other → one ≡ other
+refused_once : (number : ℕ) (past : List StreamMessage) (bytes : List ℕ) (one other : List Piece) → IsStringRefused number past bytes one
+    → IsStringRefused number past bytes other → one ≡ other
 refused_once number past bytes one other r s =
     r.stops ∙ ap (λ (e : StreamError). Stops (refusal_fault number e) ∷ []) (one_refusal past bytes r.error s.error r.refusal s.refusal) ∙ sym s.stops
 
 -- a byte string that is received isn't refused
 not_both : (number : ℕ) (past : List StreamMessage) (bytes : List ℕ) (message : StreamMessage) (one other left : List Piece)
-    → IsRefused number past bytes one → IsReceived number past bytes message other left → ⊥
+    → IsStringRefused number past bytes one → IsReceived number past bytes message other left → ⊥
 not_both number past bytes message one other left r is = none_refused past bytes message r.error is.encoded is.clean r.refusal
 
 pub stream_pieces_one : StreamPiecesAreOne
@@ -45,8 +45,8 @@ stream_pieces_one number past (bytes ∷ strings) one other (inr (m, left, is, r
     let same : n ≡ m = one_message (is_inside past) bytes n m is2.encoded is.encoded in
     let lefts : left ≡ left2 = stream_pieces_one (number + 1) (m ∷ past) strings left left2 rest
     (subst (λ (x : StreamMessage). AreReceived (number + 1) (x ∷ past) strings left2) same rest2) in
-    is.parts ∙ ap (λ (l : List Piece). numbered number (flat_part past m) ++ l) lefts
-    ∙ ap (λ (x : StreamMessage). numbered number (flat_part past x) ++ left2) (sym same) ∙ sym is2.parts
+    is.parts ∙ ap (λ (l : List Piece). pieces_at number (flat_part past m) ++ l) lefts
+    ∙ ap (λ (x : StreamMessage). pieces_at number (flat_part past x) ++ left2) (sym same) ∙ sym is2.parts
 
 -- ---- some list of pieces
 
@@ -61,7 +61,7 @@ refuse number past bytes strings message error encoded is =
 receive : (number : ℕ) (past : List StreamMessage) (bytes : List ℕ) (strings : List (List ℕ)) (message : StreamMessage) → Encodes (is_inside past) bytes message
     → stream_fault past message ≡ None → Received (number + 1) (message ∷ past) strings → Received number past (bytes ∷ strings)
 receive number past bytes strings message encoded clean (left, read) =
-    (numbered number (flat_part past message) ++ left, inr (message, left, record { encoded = encoded; clean = clean; parts = refl }, read))
+    (pieces_at number (flat_part past message) ++ left, inr (message, left, record { encoded = encoded; clean = clean; parts = refl }, read))
 
 by_fault : (number : ℕ) (past : List StreamMessage) (bytes : List ℕ) (strings : List (List ℕ)) (message : StreamMessage) (fault : Option StreamError)
     → Encodes (is_inside past) bytes message → stream_fault past message ≡ fault → Received (number + 1) (message ∷ past) strings
@@ -72,7 +72,8 @@ by_fault number past bytes strings message (Some error) encoded is next = refuse
 by_bytes : (number : ℕ) (past : List StreamMessage) (bytes : List ℕ) (strings : List (List ℕ))
     → ((message : StreamMessage) × Encodes (is_inside past) bytes message) ⊎ ((error : MsgError) × IsBytesFault (is_inside past) bytes error)
     → ((message : StreamMessage) → Received (number + 1) (message ∷ past) strings) → Received number past (bytes ∷ strings)
-by_bytes number past bytes strings (inl (message, encoded)) next = by_fault number past bytes strings message (stream_fault past message) encoded refl (next message)
+by_bytes number past bytes strings (inl (message, encoded)) next =
+    by_fault number past bytes strings message (stream_fault past message) encoded refl (next message)
 by_bytes number past bytes strings (inr (error, fault)) next = (
   Stops (refusal_fault number (stream.Message error)) ∷ [],
   inl (record { error = stream.Message error; refusal = in_bytes error fault refl; stops = refl }),
@@ -81,7 +82,8 @@ by_bytes number past bytes strings (inr (error, fault)) next = (
 pub stream_pieces_exist : StreamPiecesExist
 stream_pieces_exist number past [] bytes_all = (block_end (is_inside past), refl)
 stream_pieces_exist number past (bytes ∷ strings) bytes_all =
-    by_bytes number past bytes strings (either (is_inside past) bytes bytes_all.0) (λ message. stream_pieces_exist (number + 1) (message ∷ past) strings bytes_all.1)
+    by_bytes number past bytes strings (either (is_inside past) bytes bytes_all.0)
+    (λ message. stream_pieces_exist (number + 1) (message ∷ past) strings bytes_all.1)
 
 -- ---- the messages fit
 
@@ -89,7 +91,8 @@ end_fits : (inside : Bool) → AllFitFields (block_end inside)
 end_fits true = tt
 end_fits false = tt
 
-fit_joined : (number : ℕ) (ms : List Message) (left : List Piece) → AllByRecursion FitsFields ms → AllFitFields left → AllFitFields (numbered number ms ++ left)
+fit_joined : (number : ℕ) (ms : List Message) (left : List Piece) → AllByRecursion FitsFields ms → AllFitFields left
+    → AllFitFields (pieces_at number ms ++ left)
 fit_joined number [] left fits rest = rest
 fit_joined number (m ∷ ms) left fits rest = (fits.0, fit_joined number ms left fits.1 rest)
 
@@ -108,7 +111,7 @@ stream_pieces_fit number strings pieces read = pieces_fit_after number [] string
 -- ---- the flattened stream
 
 carried_numbered : (number : ℕ) (ms : List Message) (front : List Piece) (more : List Message) → CarryMessages front more
-    → CarryMessages (numbered number ms ++ front) (ms ++ more)
+    → CarryMessages (pieces_at number ms ++ front) (ms ++ more)
 carried_numbered number [] front more carried = carried
 carried_numbered number (m ∷ ms) front more carried = ((number, refl), carried_numbered number ms front more carried)
 
@@ -156,10 +159,10 @@ flattened_more number past bytes strings m pieces left is next =
       streamed = (m, is.encoded, is.clean, next.streamed);
       more = flat_part past m ++ next.more;
       joined = next.joined ∙ append_assoc (flat past) (flat_part past m) next.more;
-      front = numbered number (flat_part past m) ++ next.front;
+      front = pieces_at number (flat_part past m) ++ next.front;
       rest = next.rest;
-      split = is.parts ∙ ap (λ (l : List Piece). numbered number (flat_part past m) ++ l) next.split
-          ∙ sym (append_assoc (numbered number (flat_part past m)) next.front next.rest);
+      split = is.parts ∙ ap (λ (l : List Piece). pieces_at number (flat_part past m) ++ l) next.split
+          ∙ sym (append_assoc (pieces_at number (flat_part past m)) next.front next.rest);
       carried = carried_numbered number (flat_part past m) next.front next.more next.carried;
       ends = subst (λ (n : ℕ). EndsStream n next.all next.others next.rest) sum next.ends;
     }
@@ -169,7 +172,7 @@ flattened_after : (number : ℕ) (past : List StreamMessage) (strings : List (Li
 flattened_after number past [] pieces is = flattened_end number past [] pieces is
 flattened_after number past (bytes ∷ strings) pieces (inl r) =
     let sum : number ≡ number + 0 = omega arith in
-    flattened_end number past (bytes ∷ strings) pieces (subst (λ (n : ℕ). IsRefused n past bytes pieces) sum r)
+    flattened_end number past (bytes ∷ strings) pieces (subst (λ (n : ℕ). IsStringRefused n past bytes pieces) sum r)
 flattened_after number past (bytes ∷ strings) pieces (inr (m, left, is, rest)) =
     flattened_more number past bytes strings m pieces left is (flattened_after (number + 1) (m ∷ past) strings left rest)
 

@@ -26,8 +26,8 @@ use Rattle.dblog_replay.specs.Following.{FollowsMessages, IsReplaying}
 use Rattle.dblog_replay.specs.Pieces.{Piece, Carries, Stops}
 use Rattle.dblog_replay.specs.Log.{lines_in, IsTaken, end_fault, LogWrites}
 use Rattle.dblog_replay.specs.LogPrinting.{IsHalted, IsStepped, step_starved, step_cut, StopsAt, StepsPrinting, IsLogPut}
-use Rattle.dblog_replay.specs.Streams.{refusal_fault, block_end, numbered, IsRefused, IsReceived, AreReceived}
-use Rattle.dblog_replay.specs.Streaming.{IsReceiving, IsStreaming, HasAdded, IsRefusedAs, PiecesWrite, ArePut}
+use Rattle.dblog_replay.specs.Streams.{refusal_fault, block_end, pieces_at, IsStringRefused, IsReceived, AreReceived}
+use Rattle.dblog_replay.specs.Streaming.{IsReceiving, IsStreaming, HasAdded, IsRefusedAs, PiecesWrite, ArePiecesPut}
 use Rattle.dblog_replay.specs.Streaming.{AreStoppedAt, PutsPieces, StepsStreaming, starved, refused, stepped}
 use Rattle.dbl_stream2.proofs.ReadingLaws.{one_message}
 use Rattle.dbl_stream2.proofs.Refusals.{none_refused, one_refusal}
@@ -95,7 +95,7 @@ module _ (options : LogOptions) (now : ℤ) where
 
 -- ---- the messages that one byte string adds
 
-numbered_append : (number : ℕ) (a b : List Message) → numbered number (a ++ b) ≡ numbered number a ++ numbered number b
+numbered_append : (number : ℕ) (a b : List Message) → pieces_at number (a ++ b) ≡ pieces_at number a ++ pieces_at number b
 numbered_append number [] b = refl
 numbered_append number (m ∷ a) b = ap (λ (l : List Piece). Carries number m ∷ l) (numbered_append number a b)
 
@@ -126,7 +126,7 @@ pub record IsAdding (options : LogOptions) (now : ℤ) (ms : List Message) (numb
     (before after : Option (List ℕ)) (r : Replayer) : Type 0 where
   pub done : List Message
   pub split : all ≡ done ++ left
-  pub put : ArePut options now ms (numbered number done) gathered later r before after
+  pub put : ArePiecesPut options now ms (pieces_at number done) gathered later r before after
 
 pub adding_begins : (options : LogOptions) (now : ℤ) (ms : List Message) (number : ℕ) (all : List Message) (gathered : List ℕ) (before : Option (List ℕ))
     (r : Replayer) → FollowsMessages options ms r → IsAdding options now ms number all all gathered gathered before before r
@@ -142,15 +142,15 @@ module _ (options : LogOptions) (now : ℤ) (ms : List Message) (number : ℕ) (
   all_is : all ≡ so_far.done ++ m ∷ next
   all_is = so_far.split ∙ ap (λ (l : List Message). so_far.done ++ l) split
 
-  pieces_are : numbered number all ≡ numbered number so_far.done ++ Carries number m ∷ numbered number next
-  pieces_are = ap (numbered number) all_is ∙ numbered_append number so_far.done (m ∷ next)
+  pieces_are : pieces_at number all ≡ pieces_at number so_far.done ++ Carries number m ∷ pieces_at number next
+  pieces_are = ap (pieces_at number) all_is ∙ numbered_append number so_far.done (m ∷ next)
 
   pub adding_more : IsStepped options now so_far.put.last (Carries number m) middle later s between after
       → IsAdding options now ms number all next gathered later before after s
   adding_more is =
       let at = stepped_at options now so_far.put.last number m middle later s between after is in
       let here : List (List ℕ) = printed options now so_far.put.last m at.infos in
-      let one : PiecesWrite options now so_far.put.last (numbered number (m ∷ [])) here (m ∷ so_far.put.last) =
+      let one : PiecesWrite options now so_far.put.last (pieces_at number (m ∷ [])) here (m ∷ so_far.put.last) =
       (at.infos, [], at.taken, sym (append-nil here), (refl, refl)) in
       record {
         done = so_far.done ++ m ∷ [];
@@ -161,7 +161,7 @@ module _ (options : LogOptions) (now : ℤ) (ms : List Message) (number : ℕ) (
           writes =
               subst (λ (l : List Piece). PiecesWrite options now ms l (so_far.put.lines ++ here) (m ∷ so_far.put.last))
               (sym (numbered_append number so_far.done (m ∷ [])))
-              (pieces_then options now ms (numbered number so_far.done) (numbered number (m ∷ [])) so_far.put.lines here so_far.put.last
+              (pieces_then options now ms (pieces_at number so_far.done) (pieces_at number (m ∷ [])) so_far.put.lines here so_far.put.last
               (m ∷ so_far.put.last) so_far.put.writes one);
           follows = at.follows;
           puts = puts_then so_far.put.lines here gathered middle later before between after so_far.put.puts at.puts;
@@ -169,11 +169,11 @@ module _ (options : LogOptions) (now : ℤ) (ms : List Message) (number : ℕ) (
       }
 
   pub adding_stops : (fault : LogFault) → StepsPrinting options now so_far.put.last (Carries number m) middle later s (Ok (Some fault)) between after
-      → PutsPieces options now ms (numbered number all) gathered later s (Ok (Some fault)) before after
+      → PutsPieces options now ms (pieces_at number all) gathered later s (Ok (Some fault)) before after
   adding_stops fault (stops, halted) = record {
-    front = numbered number so_far.done;
+    front = pieces_at number so_far.done;
     piece = Carries number m;
-    rest = numbered number next;
+    rest = pieces_at number next;
     split = pieces_are;
     lines = so_far.put.lines;
     last = so_far.put.last;
@@ -185,16 +185,16 @@ module _ (options : LogOptions) (now : ℤ) (ms : List Message) (number : ℕ) (
   }
 
   -- what a log that goes on with the messages writes after those that were processed
-  onto : (rest : List Piece) (lines : List (List ℕ)) (end : Option LogFault) → LogWrites options now ms (numbered number all ++ rest) lines end
+  onto : (rest : List Piece) (lines : List (List ℕ)) (end : Option LogFault) → LogWrites options now ms (pieces_at number all ++ rest) lines end
       → (more : List (List ℕ)) × (lines ≡ so_far.put.lines ++ more)
-      × LogWrites options now so_far.put.last (Carries number m ∷ (numbered number next ++ rest)) more end
+      × LogWrites options now so_far.put.last (Carries number m ∷ (pieces_at number next ++ rest)) more end
   onto rest lines end writes =
-      pieces_onto options now ms (numbered number so_far.done) (Carries number m ∷ (numbered number next ++ rest)) so_far.put.lines so_far.put.last lines end
+      pieces_onto options now ms (pieces_at number so_far.done) (Carries number m ∷ (pieces_at number next ++ rest)) so_far.put.lines so_far.put.last lines end
       so_far.put.writes (subst (λ (l : List Piece). LogWrites options now ms l lines end)
-      (ap (λ (l : List Piece). l ++ rest) pieces_are ∙ append_assoc (numbered number so_far.done) (Carries number m ∷ numbered number next) rest) writes)
+      (ap (λ (l : List Piece). l ++ rest) pieces_are ∙ append_assoc (pieces_at number so_far.done) (Carries number m ∷ pieces_at number next) rest) writes)
 
   pub adding_fails : (error : PrintError) → StepsPrinting options now so_far.put.last (Carries number m) middle later s (Err error) between after
-      → PutsPieces options now ms (numbered number all) gathered later s (Err error) before after
+      → PutsPieces options now ms (pieces_at number all) gathered later s (Err error) before after
   adding_fails error (step_starved memory same) rest lines end writes =
       let told = onto rest lines end writes in
       subst (λ (e : PrintError). PutFails lines gathered e before after) (sym memory)
@@ -203,7 +203,7 @@ module _ (options : LogOptions) (now : ℤ) (ms : List Message) (number : ℕ) (
   adding_fails error (step_cut n k infos carries taken fails) rest lines end writes =
       let told = onto rest lines end writes in
       let same : k ≡ m = same_message number n m k carries in
-      let more = goes options now so_far.put.last number m (numbered number next ++ rest) infos told.0 end
+      let more = goes options now so_far.put.last number m (pieces_at number next ++ rest) infos told.0 end
       (subst (λ (x : Message). IsTaken options so_far.put.last x infos) same taken) told.2 in
       putting_fails lines told.0 (printed options now so_far.put.last m infos) more.more gathered middle error before between after
       (record { first = so_far.put.lines; is = sym told.1; puts = so_far.put.puts }) more.split
@@ -211,10 +211,10 @@ module _ (options : LogOptions) (now : ℤ) (ms : List Message) (number : ℕ) (
 
 pub adding_ends : (options : LogOptions) (now : ℤ) (ms : List Message) (number : ℕ) (all left : List Message) (gathered later : List ℕ)
     (before after : Option (List ℕ)) (r : Replayer) → IsAdding options now ms number all left gathered later before after r → left ≡ []
-    → ArePut options now ms (numbered number all) gathered later r before after
+    → ArePiecesPut options now ms (pieces_at number all) gathered later r before after
 adding_ends options now ms number all left gathered later before after r so_far none =
     let same : so_far.done ≡ all = sym (append-nil so_far.done) ∙ ap (λ (l : List Message). so_far.done ++ l) (sym none) ∙ sym so_far.split in
-    subst (λ (l : List Message). ArePut options now ms (numbered number l) gathered later r before after) same so_far.put
+    subst (λ (l : List Message). ArePiecesPut options now ms (pieces_at number l) gathered later r before after) same so_far.put
 
 -- ---- the byte strings
 
@@ -252,12 +252,12 @@ stream_begins options now all unread gathered before u r follows receiving read 
 -- the pieces of the next byte string, which was received
 next_received : (number : ℕ) (past : List StreamMessage) (b : List ℕ) (next : List (List ℕ)) (left : List Piece) (added : List Message) (u : Unstream)
     → AreReceived number past (b ∷ next) left → (has : HasAdded past b added u)
-    → (rest : List Piece) × (left ≡ numbered number added ++ rest) × AreReceived (number + 1) (has.message ∷ past) next rest
+    → (rest : List Piece) × (left ≡ pieces_at number added ++ rest) × AreReceived (number + 1) (has.message ∷ past) next rest
 next_received number past b next left added u (inl r) has = absurd (none_refused past b has.message r.error has.encoded has.clean r.refusal)
 next_received number past b next left added u (inr (m, rest, is, read)) has =
     let same : m ≡ has.message = one_message (is_inside past) b m has.message is.encoded has.encoded in (
       rest,
-      is.parts ∙ ap (λ (l : List Message). numbered number l ++ rest) (ap (flat_part past) same ∙ sym has.adds),
+      is.parts ∙ ap (λ (l : List Message). pieces_at number l ++ rest) (ap (flat_part past) same ∙ sym has.adds),
       subst (λ (x : StreamMessage). AreReceived (number + 1) (x ∷ past) next rest) same read,
     )
 
@@ -288,11 +288,11 @@ module _ (options : LogOptions) (now : ℤ) (all : List Piece) (unread next : Li
   read_next = subst (λ (l : List (List ℕ)). AreReceived (number + 1) so_far.past l so_far.left) split so_far.read
 
   more_put : (added : List Message) (has : HasAdded so_far.past b added v)
-      → ArePut options now so_far.ms (numbered (number + 1) added) middle later s between after
+      → ArePiecesPut options now so_far.ms (pieces_at (number + 1) added) middle later s between after
       → IsStreamPut options now all next gathered later before after (number + 1) v s
   more_put added has put =
       let rest = next_received (number + 1) so_far.past b next so_far.left added v read_next has in
-      let pieces : List Piece = numbered (number + 1) added in
+      let pieces : List Piece = pieces_at (number + 1) added in
       record {
         past = has.message ∷ so_far.past;
         ms = put.last;

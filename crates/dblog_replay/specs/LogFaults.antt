@@ -33,7 +33,7 @@ message_text (bytes.TooLong len) = codes "too long " ++ decimal len
 message_text (bytes.TooManyColumns at) = codes "too many columns at " ++ decimal at
 message_text bytes.Memory = codes "out of memory"
 
--- The words for a message that can't follow in a stream of protocol version 2.
+-- The text of the fault of a stream of protocol version 2.
 abbrev pub stream_text : StreamError → List ℕ
 stream_text stream.NestedStream = codes "nested stream"
 stream_text stream.NotStreaming = codes "not streaming"

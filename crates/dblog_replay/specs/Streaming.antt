@@ -1,4 +1,4 @@
--- For private clauses: a log of protocol version 2 under way. Lists of stream messages have the newest first.
+-- For private clauses: a log of protocol version 2 in progress. Lists of stream messages have the newest first.
 use Rattle.std.specs.Prelude.{◌≡◌, ◌⊎◌, ℕ, ℤ, ◌++◌, Option, None, Some, Result, Ok, Err, List, [], ◌∷◌}
 use Rattle.dbl_lines.specs.declared.error.PrintError.{PrintError}
 use Rattle.dbl_lines.specs.declared.error.PrintError.TheVariants.{Memory}
@@ -19,7 +19,7 @@ use Rattle.dblog_replay.specs.Following.{FollowsMessages}
 use Rattle.dblog_replay.specs.LogPrinting.{IsHalted, StopsAt}
 use Rattle.dblog_replay.specs.Pieces.{Piece, Carries, Stops}
 use Rattle.dblog_replay.specs.Log.{lines_in, IsTaken, LogWrites}
-use Rattle.dblog_replay.specs.Streams.{refusal_fault, numbered}
+use Rattle.dblog_replay.specs.Streams.{refusal_fault, pieces_at}
 
 -- The state after these messages of the stream.
 pub record IsReceiving (past : List StreamMessage) (u : Unstream) : Type 0 where
@@ -53,7 +53,7 @@ PiecesWrite options now ms (Carries number m ∷ pieces) lines after =
     × PiecesWrite options now (m ∷ ms) pieces more after
 
 -- All of the pieces were processed.
-pub record ArePut (options : LogOptions) (now : ℤ) (ms : List Message) (pieces : List Piece) (gathered later : List ℕ) (r : Replayer)
+pub record ArePiecesPut (options : LogOptions) (now : ℤ) (ms : List Message) (pieces : List Piece) (gathered later : List ℕ) (r : Replayer)
     (before after : Option (List ℕ)) : Type 0 where
   pub lines : List (List ℕ)
   pub last : List Message
@@ -78,7 +78,7 @@ pub record AreStoppedAt (options : LogOptions) (now : ℤ) (ms : List Message) (
 -- log that goes on with them was put.
 abbrev pub PutsPieces : LogOptions → ℤ → List Message → List Piece → List ℕ → List ℕ → Replayer → Result (Option LogFault) PrintError
     → Option (List ℕ) → Option (List ℕ) → Type 0
-PutsPieces options now ms pieces gathered later r (Ok None) before after = ArePut options now ms pieces gathered later r before after
+PutsPieces options now ms pieces gathered later r (Ok None) before after = ArePiecesPut options now ms pieces gathered later r before after
 PutsPieces options now ms pieces gathered later r (Ok (Some fault)) before after =
     AreStoppedAt options now ms pieces gathered later fault before after
 PutsPieces options now ms pieces gathered later r (Err error) before after =
@@ -95,5 +95,5 @@ pub data StepsStreaming (options : LogOptions) (now : ℤ) (past : List StreamMe
   refused : (fault : LogFault) → IsRefusedAs past number bytes fault → result ≡ Ok (Some fault) → IsHalted gathered later before after
       → StepsStreaming options now past ms number bytes u gathered later r result before after
   stepped : (added : List Message) → HasAdded past bytes added u
-      → PutsPieces options now ms (numbered number added) gathered later r result before after
+      → PutsPieces options now ms (pieces_at number added) gathered later r result before after
       → StepsStreaming options now past ms number bytes u gathered later r result before after

@@ -26,11 +26,11 @@ block_end true = Stops log.Unfinished ∷ []
 block_end false = []
 
 -- The pieces with these messages, each of which has this number.
-abbrev pub numbered : ℕ → List Message → List Piece
-numbered number messages = map (Carries number) messages
+abbrev pub pieces_at : ℕ → List Message → List Piece
+pieces_at number messages = map (Carries number) messages
 
 -- The byte string of this number is refused after these messages, and ends the log.
-pub record IsRefused (number : ℕ) (past : List StreamMessage) (bytes : List ℕ) (pieces : List Piece) : Type 0 where
+pub record IsStringRefused (number : ℕ) (past : List StreamMessage) (bytes : List ℕ) (pieces : List Piece) : Type 0 where
   pub error : StreamError
   pub refusal : IsStreamRefusal past bytes error
   pub stops : pieces ≡ Stops (refusal_fault number error) ∷ []
@@ -40,13 +40,13 @@ pub record IsReceived (number : ℕ) (past : List StreamMessage) (bytes : List �
     : Type 0 where
   pub encoded : Encodes (is_inside past) bytes message
   pub clean : stream_fault past message ≡ None
-  pub parts : pieces ≡ numbered number (flat_part past message) ++ left
+  pub parts : pieces ≡ pieces_at number (flat_part past message) ++ left
 
 -- The byte strings, of which the first has this number, are read as these pieces after these messages, up to the first that is refused.
 abbrev pub AreReceived : ℕ → List StreamMessage → List (List ℕ) → List Piece → Type 0
 AreReceived number past [] pieces = pieces ≡ block_end (is_inside past)
 AreReceived number past (bytes ∷ strings) pieces =
-    IsRefused number past bytes pieces
+    IsStringRefused number past bytes pieces
     ⊎ ((message : StreamMessage) × (left : List Piece) × IsReceived number past bytes message pieces left
     × AreReceived (number + 1) (message ∷ past) strings left)
 
@@ -81,7 +81,7 @@ AreStreamed past (bytes ∷ strings) all =
 -- After these messages no byte string is left, or the next, which has this number, is refused.
 abbrev pub EndsStream : ℕ → List StreamMessage → List (List ℕ) → List Piece → Type 0
 EndsStream number all [] rest = rest ≡ block_end (is_inside all)
-EndsStream number all (bytes ∷ strings) rest = IsRefused number all bytes rest
+EndsStream number all (bytes ∷ strings) rest = IsStringRefused number all bytes rest
 
 -- The first byte strings are these messages of the stream, and the first pieces carry their flattened stream; then the log ends, or the
 -- next byte string is refused.

@@ -11,7 +11,7 @@ ghost use Rattle.dblog_replay.specs.declared.options.LogOptions.{LogOptions};
 ghost use Rattle.dblog_replay.specs.Following.{FollowsMessages, IsReplaying};
 ghost use Rattle.dblog_replay.specs.LogPrinting.{PutsLog};
 ghost use Rattle.dblog_replay.specs.Pieces.{Piece};
-ghost use Rattle.dblog_replay.specs.Streams.{AreReceived, numbered, refusal_fault};
+ghost use Rattle.dblog_replay.specs.Streams.{AreReceived, pieces_at, refusal_fault};
 ghost use Rattle.dblog_replay.specs.Streaming.{IsReceiving, IsStreaming, HasAdded, IsRefusedAs};
 ghost use Rattle.dblog_replay.specs.Streaming.{PutsPieces, StepsStreaming};
 
@@ -71,7 +71,7 @@ fn put_added<O: Output>(
     requires fits { AllByRecursion FitsFields messages.items }
     ensures puts { (options : LogOptions) (ms : List Message) →
         FollowsMessages options ms replayer.old
-        → PutsPieces options now_ms.now ms (numbered number messages.items) lines.old lines.new
+        → PutsPieces options now_ms.now ms (pieces_at number messages.items) lines.old lines.new
         replayer.new result (O.written output.old) (O.written output.new) }
     ensures cause { FailsOnlyIfCounted (result ≡ Err PrintError.OutputFailed)
         (O.faults output.old) (O.faults output.new) }

@@ -1,5 +1,5 @@
-//! The listing of `compact`: the records of a topic log that a new consumer needs. The log isn't
-//! held: a pass from its last group to the first marks records, and a pass forward prints them.
+//! The listing of `compact`: the records of a topic log that a new consumer needs. A pass from the
+//! last group to the first marks records, and a pass forward prints those; the log isn't in memory.
 ghost use Rattle.std.specs.Prelude.{◌≡◌, ◌⊎◌, ◌+◌, ◌∷◌, ℕ, List, Bool, [], Option, Ok, Err, length};
 ghost use Rattle.std.specs.Prelude.{drop, IfOk, IfErr, OnOk, MatchResult, IsTrue, map};
 ghost use Rattle.dbl_base.specs.Streams.{FailsOnlyIfCounted};

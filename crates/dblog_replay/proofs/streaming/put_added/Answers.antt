@@ -11,8 +11,8 @@ messages-init g c =
     let written : Option (List _) = g.O.Output.written c.args.output.now in
     let all : c.into_iter-message-iterator.result.rest.items ≡ c.args.messages.items = c.into_iter-message-iterator.ensures.into_iter_gives.0 in (
       λ options ms follows. subst
-          (λ (left : List Message). IsAdding options c.args.now_ms.now ms c.args.number c.args.messages.items left c.args.lines.now c.args.lines.now written written
-          c.args.replayer.now) (sym all)
+          (λ (left : List Message). IsAdding options c.args.now_ms.now ms c.args.number c.args.messages.items left c.args.lines.now c.args.lines.now written
+          written c.args.replayer.now) (sym all)
           (adding_begins options c.args.now_ms.now ms c.args.number c.args.messages.items c.args.lines.now written c.args.replayer.now follows),
       c.requires.replaying,
       subst (λ (l : List Message). AllByRecursion FitsFields l) (sym all) c.requires.fits,

@@ -12,8 +12,8 @@ strings-init g c =
     let all : c.into_iter-bytes-iterator.result.rest.items ≡ c.args.strings.items = c.into_iter-bytes-iterator.ensures.into_iter_gives.0 in
     let receiving = begins_receiving c.make-unstream.result c.make-unstream.ensures in (
       λ options pieces follows read. subst
-          (λ (left : List (List ℕ)). IsStreamPut options c.args.now_ms.now pieces left c.args.lines.now c.args.lines.now written written 0 c.make-unstream.result
-          c.args.replayer.now) (sym all)
+          (λ (left : List (List ℕ)). IsStreamPut options c.args.now_ms.now pieces left c.args.lines.now c.args.lines.now written written 0
+          c.make-unstream.result c.args.replayer.now) (sym all)
           (stream_begins options c.args.now_ms.now pieces c.args.strings.items c.args.lines.now written c.make-unstream.result c.args.replayer.now follows
           receiving read),
       record { past = []; receiving = receiving },
@@ -28,7 +28,8 @@ strings-preserved g c =
     let u = c.strings.invariant.1 in
     let f = c.strings.invariant.2 in
     let on = streaming_same f.options c.args.now_ms.now u.past f.ms (c.strings.number + 1) c.in-Some.bytes c.put_received.new.unstream _ _
-    c.put_received.new.replayer c.in-Ok-None.field-0 None _ _ (c.in-Ok-None.ensures.steps f.options u.past f.ms u.receiving f.follows) c.in-Ok-None.field-0-is in (
+    c.put_received.new.replayer c.in-Ok-None.field-0 None _ _ (c.in-Ok-None.ensures.steps f.options u.past f.ms u.receiving f.follows)
+    c.in-Ok-None.field-0-is in (
       λ options pieces follows read. (
           let so_far = c.strings.invariant.0 options pieces follows read in
           stream_more _ _ _ _ _ _ _ _ _ _ _ _ _ _ _ _ _ so_far split

@@ -1,6 +1,6 @@
 -- Words spell a command, or none.
 use Rattle.std.proofs.Common.{◌≡◌, ◌⊎◌, inl, inr, ◌∙◌, Bool, true, false, List, [], ◌∷◌, ◌++◌, Option, Some, None, codes, refl, sym, ap}
-use Rattle.std.specs.Prelude.{if◌then◌else◌}
+use Rattle.std.specs.Prelude.{MatchOption, if◌then◌else◌}
 use Rattle.std.specs.Str.{bytes_eq}
 use Rattle.std.proofs.lemmas.Bool.{both_ways}
 use Rattle.std.proofs.lemmas.Slice.Eq.{bytes_eq-Decides}
@@ -36,6 +36,12 @@ verb_is name =
     (by_name name verb.Apply _ _ refl
     (by_name name verb.Replay _ _ refl
     (by_name name verb.Gen _ _ refl (λ w none. cc)))))))))
+
+pub verb_matches : (name : Text) (o : Option Verb) → o ≡ verb_by name → MatchOption o ((verb : Verb) → name_of verb ≡ name → ⊥) (λ verb. name_of verb ≡ name)
+verb_matches name None is = λ (verb : Verb) (same : name_of verb ≡ name).
+    let found : None ≡ Some verb = is ∙ ap verb_by (sym same) ∙ verb_named verb in
+    cc
+verb_matches name (Some v) is = sym (verb_is name v (sym is))
 
 -- ---- two readings of the same words pass both or neither
 

@@ -7,3 +7,4 @@ pub mod Checks
 pub mod Parsers
 pub mod Reads
 pub mod Found
+pub mod Verbs

@@ -223,7 +223,12 @@ pub fn read(alloc: Global, verb: Verb, found: &ArgMatches<'_>) -> Result<Command
         Verb::Capture => capture(alloc, found),
         Verb::Resume => resume(found),
         Verb::Apply => apply(alloc, found.get_flag("lines"), found.get_str("placeholder")),
-        Verb::Replay => replay(alloc, found, found.get_flag("raw"), found.get_flag("stream")),
+        Verb::Replay => replay(
+            alloc,
+            found,
+            found.get_flag("raw"),
+            found.get_flag("stream"),
+        ),
         Verb::Gen => generate(found, found.get_flag("run")),
     }
 }

@@ -101,7 +101,7 @@ bad_table line e f (inl memory) told = inl (told ∙ ap model_error memory)
 bad_table line e f (inr fault) told =
     elim (told_model e) [
       | inl memory ↦ inl (told ∙ memory)
-      | inr model ↦ inr (e, (fault, told ∙ model))
+      | inr model ↦ inr (e, fault, told ∙ model)
     ]
 
 pub bad_table_in : (lines : List ScriptTable) (n : ℕ) (line : ScriptTable) (f : DemoError) → n < length lines → line ≡ get_or lines n line → AllByRecursion (λ other. table_fault other.raw ≡ None) (take n lines)
@@ -109,7 +109,7 @@ pub bad_table_in : (lines : List ScriptTable) (n : ℕ) (line : ScriptTable) (f 
 bad_table_in lines n line f lt is good (inl memory) = inl memory
 bad_table_in lines n line f lt is good (inr bad) =
     let split = split_here lines n line lt is in
-    inr (record { before = take n lines; table = line; subsequent = split.0; are = split.1; good = good; fault = bad.0; is_fault = bad.1.0; is = bad.1.1 })
+    inr (record { before = take n lines; table = line; subsequent = split.0; are = split.1; good = good; fault = bad.0; is_fault = bad.1; is = bad.2 })
 
 -- ---- rows
 

@@ -20,6 +20,10 @@ returns-in-Ok-open_offsets-clause-told g c = λ t f told other.
     apply_run c.args.listing t f opened.0 c.in-Ok-open_offsets.store.offset c.print_stored-end.result _ _ opened.1 (c.in-Ok-open_offsets.ensures.opened f other)
     (subst (λ o. AppliesStores c.args.listing opened.0 o c.print_stored-end.result (g.O.Output.written c.args.output.now) (g.O.Output.written c.print_stored-end.new.output)) c.load.ensures.offset (c.print_stored-end.ensures.told opened.0 opened.2))
 
+pub returns-in-Ok-open_offsets-clause-known_unwritten : goal.returns-in-Ok-open_offsets-clause-known_unwritten
+returns-in-Ok-open_offsets-clause-known_unwritten g c = λ t f told other.
+    let opened = c.in-Ok.ensures.opened t told in c.print_stored-end.ensures.known_unwritten opened.0 opened.2
+
 pub returns-in-Ok-open_offsets-clause-unopened : goal.returns-in-Ok-open_offsets-clause-unopened
 returns-in-Ok-open_offsets-clause-unopened g c = λ t told none. let opened = c.in-Ok.ensures.opened t told in absurd (none opened.0 opened.1)
 

@@ -150,5 +150,9 @@ pub(crate) fn put_streamed<O: Output>(
             Err(error) => return Err(error),
         }
     }
-    Ok(unfinished_fault(unstream.inside() || replayer.inside()))
+    if unstream.inside() {
+        return Ok(Some(LogFault::Unfinished));
+    }
+    let inside = replayer.inside();
+    Ok(unfinished_fault(inside))
 }

@@ -44,7 +44,7 @@ pub returns-in-Ok-Some-clause-puts : goal.returns-in-Ok-Some-clause-puts
 returns-in-Ok-Some-clause-puts g c = λ options ms follows.
     let so_far = c.messages.invariant.0 options ms follows in
     let split : c.messages.message-iterator.rest.items ≡ c.in-Some.message ∷ c.next.new.self.rest.items = search rules in
-    adding_stops _ _ _ _ _ _ _ _ _ _ _ _ _ _ _ _ so_far split c.in-Ok-Some.fault
+    adding_stops _ _ _ _ _ _ _ _ _ _ _ _ _ _ _ c.put_message.new.replayer so_far split c.in-Ok-Some.fault
     (stepping_same options c.args.now_ms.now so_far.put.last c.args.number c.in-Some.message _ _ c.put_message.new.replayer c.in-Ok-Some.field-0
     (Some c.in-Ok-Some.fault) _ _ (c.in-Ok-Some.ensures.steps options so_far.put.last so_far.put.follows) c.in-Ok-Some.field-0-is)
 
@@ -52,7 +52,8 @@ pub returns-in-Err-clause-puts : goal.returns-in-Err-clause-puts
 returns-in-Err-clause-puts g c = λ options ms follows.
     let so_far = c.messages.invariant.0 options ms follows in
     let split : c.messages.message-iterator.rest.items ≡ c.in-Some.message ∷ c.next.new.self.rest.items = search rules in
-    adding_fails _ _ _ _ _ _ _ _ _ _ _ _ _ _ _ _ so_far split c.in-Err.error (c.in-Err.ensures.steps options so_far.put.last so_far.put.follows)
+    adding_fails _ _ _ _ _ _ _ _ _ _ c.put_message.new.lines _ _ _ _ c.put_message.new.replayer so_far split c.in-Err.error
+    (c.in-Err.ensures.steps options so_far.put.last so_far.put.follows)
 
 pub returns-clause-puts : goal.returns-clause-puts
 returns-clause-puts g c = λ options ms follows.

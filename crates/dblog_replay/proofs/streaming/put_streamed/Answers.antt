@@ -1,5 +1,7 @@
-use Rattle.std.proofs.Common.{◌≡◌, ℕ, ◌+◌, Bool, Option, Some, None, List, [], ◌∷◌, length, sym, ap, ap₂, ◌∙◌, subst, arith, rules}
-use Rattle.std.specs.Prelude.{◌||◌}
+use Rattle.std.proofs.Common.{◌≡◌, ℕ, ◌+◌, Bool, true, false, Option, Some, None, List, [], ◌∷◌, length, sym, ap, ◌∙◌, subst, arith, rules}
+use Rattle.std.specs.Prelude.{◌||◌, is_some}
+use Rattle.dbl_model_commit.specs.Past.{begin_of}
+use Rattle.dbl_stream2.specs.Flat.{is_inside}
 use Rattle.dblog_replay.specs.Log.{end_fault}
 use Rattle.dblog_replay.proofs.FollowLemmas.{empty_is}
 use Rattle.dblog_replay.proofs.StreamingLemmas.{IsStreamPut, stream_begins, stream_more, stream_stops, stream_fails}
@@ -58,14 +60,23 @@ returns-in-Err-clause-puts g c = λ options pieces follows read.
     stream_fails _ _ _ _ _ _ _ _ _ _ _ _ _ _ _ _ _ so_far split c.in-Err.error
     (c.in-Err.ensures.steps options so_far.past so_far.ms so_far.receiving so_far.follows)
 
+pub returns-then-inside-clause-puts : goal.returns-then-inside-clause-puts
+returns-then-inside-clause-puts g c = λ options pieces follows read.
+    let so_far = c.strings.invariant.0 options pieces follows read in
+    let none : c.strings.bytes-iterator.rest.items ≡ [] =
+    empty_is c.strings.bytes-iterator.rest.items (omega (arith, c.in-None.ensures.steps.0, c.strings.bytes-iterator.rest.ok)) in
+    let in_block : true ≡ is_inside so_far.past = sym c.if-inside.true ∙ c.inside.ensures so_far.past so_far.receiving.received in
+    stream_ends _ _ _ _ _ _ _ _ _ _ _ so_far _ none (ap (λ (b : Bool). end_fault (b || is_some (begin_of so_far.ms))) in_block)
+
 pub returns-clause-puts : goal.returns-clause-puts
 returns-clause-puts g c = λ options pieces follows read.
     let so_far = c.strings.invariant.0 options pieces follows read in
     let none : c.strings.bytes-iterator.rest.items ≡ [] =
     empty_is c.strings.bytes-iterator.rest.items (omega (arith, c.in-None.ensures.steps.0, c.strings.bytes-iterator.rest.ok)) in
+    let outside : false ≡ is_inside so_far.past = sym c.if-inside.false ∙ c.inside.ensures so_far.past so_far.receiving.received in
     stream_ends _ _ _ _ _ _ _ _ _ _ _ so_far _ none
-    (c.unfinished_fault.ensures ∙ ap end_fault (ap₂ (λ (a b : Bool). a || b) (c.inside.ensures so_far.past so_far.receiving.received)
-    (c.inside-2.ensures options so_far.ms so_far.follows)))
+    (c.unfinished_fault.ensures ∙ ap end_fault (c.inside-inside.ensures options so_far.ms so_far.follows)
+    ∙ ap (λ (b : Bool). end_fault (b || is_some (begin_of so_far.ms))) outside)
 
 pub overflow_add-number : goal.overflow_add-number
 overflow_add-number g c = omega (arith, c.strings.invariant.3, c.args.strings.ok)

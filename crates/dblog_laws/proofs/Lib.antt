@@ -19,3 +19,4 @@ pub mod BudgetLaws
 pub mod Growing
 pub mod AgainLaws
 pub mod MadeLaws
+pub mod SequenceLaws

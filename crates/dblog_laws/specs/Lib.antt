@@ -6,3 +6,4 @@ pub mod Sessions
 pub mod Commands
 pub mod Budgets
 pub mod RunLaws
+pub mod Sequences

@@ -8,6 +8,7 @@ ghost use Rattle.dblog_laws.specs.RunLaws.{GeneratedInitsSucceed, GeneratedStatu
 ghost use Rattle.dblog_laws.specs.RunLaws.{OtherRunsSucceed, PrintedWorkloadsSucceed};
 ghost use Rattle.dblog_laws.specs.RunLaws.{StatusesTellBudgets, SupportedGeneratedRunsSucceed};
 ghost use Rattle.dblog_laws.specs.RunLaws.{SupportedRunsSucceed, SupportedSessionsSucceed};
+ghost use Rattle.dblog_laws.specs.Sequences.{DisksStayKept};
 
 use dbl_disk::Disk;
 
@@ -25,6 +26,12 @@ pub fn supported_runs_succeed<W: Disk, T: Disk, F: Disk>()
         SupportedRunsSucceed
         (W.may_leave old.wal) (T.may_leave old.topics) (F.may_leave old.offsets)
         (W.may_leave new.wal) (T.may_leave new.topics) (F.may_leave new.offsets) }
+{}
+
+/// Any number of runs and crashes leaves crash-consistent disks crash-consistent, and each further
+/// run keeps the connector's guarantees.
+pub fn disks_stay_kept<W: Disk, T: Disk, F: Disk>()
+    ensures { DisksStayKept W.Disk T.Disk F.Disk }
 {}
 
 /// A session that exits with 3 has used up its message budget exactly, and one that exits with 0

@@ -6,7 +6,7 @@ ghost use Rattle.dbl_offset.specs.Stores.{IsLive};
 use crate::steps::{self, Device};
 use anyhow::{Result, bail};
 use cases_items::words;
-use dbl_disk::{Choice, Disk, FuseDisk};
+use dbl_disk::{Choice, Disk, FuseDisk, MemDisk};
 use dbl_offset::{Offset, OffsetStore};
 use std::alloc::Global;
 use std::fmt::Write;
@@ -31,7 +31,7 @@ pub fn step(
 }
 
 fn make(alloc: Global, shown: &mut String, disk: &mut Device) -> Result<()> {
-    match OffsetStore::make(steps::empty(alloc)) {
+    match OffsetStore::make(FuseDisk::make(MemDisk::make(alloc, Vec::new(alloc)), u64::MAX)) {
         Ok(store) => {
             *disk = store.into_disk();
             words::add(shown, "ok")

@@ -1,3 +1,4 @@
 pub mod WritingLemmas
 pub mod PutLemmas
 pub mod SayLemmas
+pub mod LongTextLemmas

@@ -3,3 +3,4 @@ pub mod Writing
 pub mod Statuses
 pub mod Faults
 pub mod Says
+pub mod LongTexts

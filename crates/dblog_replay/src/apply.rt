@@ -11,8 +11,9 @@ ghost use Rattle.dblog_replay.specs.Apply.{line_fault_of, fault_in, first_line_f
 ghost use Rattle.dblog_replay.specs.Apply.{reading_of_line, readings_of_lines};
 ghost use Rattle.dblog_replay.specs.Apply.{refusal_text, words_of, fault_text};
 
-use dbl_base::{Text, next_line};
+use dbl_base::Text;
 use dbl_consume::{ConsumeError, Consumer};
+use dbl_lines::LongText;
 use dbl_record::{ParsedLine, RecordError, parse_line};
 use std::alloc::{AllocError, Global};
 use std::str;
@@ -110,34 +111,43 @@ fn take_line(alloc: Global, held: &mut Consumer, line: &[u8]) -> Result<(), Line
     }
 }
 
+fn out_of_memory(number: u64) -> FaultAt
+    ensures { result.fault ≡ LineFault.Memory }
+{
+    FaultAt {
+        number,
+        fault: LineFault::Memory,
+    }
+}
+
 /// A consumer that applied the records of the lines of the text, or the first line that isn't
-/// applied.
-pub fn consume(alloc: Global, placeholder: Text, text: &[u8]) -> Result<Consumer, FaultAt>
-    ensures took { IfOk result (Took (readings_of_lines (lines_of text.now))) }
+/// applied. The text is freed as its lines are applied.
+pub fn consume(alloc: Global, placeholder: Text, text: LongText) -> Result<Consumer, FaultAt>
+    ensures took { IfOk result (Took (readings_of_lines (lines_of text))) }
     ensures placeholder { IfOk result (λ held. placeholder_of held ≡ placeholder) }
-    ensures good { OnOk result (first_line_fault placeholder (lines_of text.now) ≡ None) }
+    ensures good { OnOk result (first_line_fault placeholder (lines_of text) ≡ None) }
     ensures bad { IfErr result (λ at. at.fault ≢ LineFault.Memory →
-        first_line_fault placeholder (lines_of text.now) ≡ Some at) }
+        first_line_fault placeholder (lines_of text) ≡ Some at) }
 {
     let mut held = match Consumer::make(alloc, placeholder) {
         Ok(held) => held,
-        Err(_) => {
-            return Err(FaultAt {
-                number: 0,
-                fault: LineFault::Memory,
-            });
-        }
+        Err(_) => return Err(out_of_memory(0)),
     };
+    let mut line = Vec::new(alloc);
     let mut rest = text;
     let mut number = 0u64;
-    'lines: while !rest.is_empty() {
-        let (line, subsequent) = next_line(rest);
-        rest = subsequent;
+    'lines: loop {
+        let more = match rest.next_line(&mut line) {
+            Ok(more) => more,
+            Err(_) => return Err(out_of_memory(number)),
+        };
+        if !more {
+            return Ok(held);
+        }
         number += 1;
-        match take_line(alloc, &mut held, line) {
+        match take_line(alloc, &mut held, line.as_slice()) {
             Ok(()) => {}
             Err(fault) => return Err(FaultAt { number, fault }),
         }
     }
-    Ok(held)
 }

@@ -12,10 +12,10 @@ ghost use Rattle.dbl_consume.specs.Holdings.{Took, placeholder_of};
 ghost use Rattle.dblog_streams.specs.Applies.{PrintedAs, RunsApplying, line_fault};
 ghost use Rattle.dblog_streams.specs.Statuses.{IsApplyStatus};
 
-use crate::input::read_input;
+use crate::input::read_text;
 use dbl_base::{Input, Output, Text};
 use dbl_consume::Consumer;
-use dbl_lines::{RunError, Status, say, write_text};
+use dbl_lines::{LongText, RunError, Status, say, write_text};
 use dblog_replay::{FaultAt, LineFault, PrintError, consume};
 use std::alloc::Global;
 
@@ -54,9 +54,9 @@ fn print_rows<O: Output>(alloc: Global, held: &Consumer, output: &mut O) -> Stat
     }
 }
 
-fn apply_text<O: Output>(alloc: Global, placeholder: Text, text: &[u8], output: &mut O) -> Status
-    requires { length text.now ≤ input_limit }
-    ensures told { RunsApplying placeholder text.now result
+fn apply_text<O: Output>(alloc: Global, placeholder: Text, text: LongText, output: &mut O) -> Status
+    requires { length text ≤ input_limit }
+    ensures told { RunsApplying placeholder text result
         (O.written output.old) (O.written output.new) }
     ensures output_failed { result ≡ StdoutFailed →
         FaultCounted (O.faults output.old) (O.faults output.new) }
@@ -88,8 +88,8 @@ pub fn apply_lines<I: Input, O: Output>(
     ensures output_failed { result ≡ StdoutFailed →
         FaultCounted (O.faults output.old) (O.faults output.new) }
 {
-    match read_input(alloc, input) {
-        Ok(bytes) => apply_text(alloc, placeholder, bytes.items().as_slice(), output),
+    match read_text(alloc, input) {
+        Ok(text) => apply_text(alloc, placeholder, text, output),
         Err(halt) => say(alloc, halt, output),
     }
 }

@@ -7,7 +7,7 @@ ghost use Rattle.dblog_streams.specs.declared.unread.Unread.TheVariants.{Run};
 ghost use Rattle.dblog_streams.specs.Streaming.{HaltsReading};
 
 use dbl_base::{Bytes, Input, InputError, read_all};
-use dbl_lines::RunError;
+use dbl_lines::{LongText, RunError, read_long_text};
 use std::alloc::Global;
 
 /// The bytes of the input, which is read to its end, unless it is too long.
@@ -21,8 +21,6 @@ pub(crate) fn read_input<I: Input>(alloc: Global, input: &mut I) -> Result<Bytes
         IfErr result (λ reason. HaltsReading false bytes (Run reason)) }
     ensures long { (bytes : List ℕ) → I.left input.old ≡ Some bytes → length bytes ≤ input_limit →
         IfErr result (λ halt. (halt ≡ RunError.InputFailed) ⊎ (halt ≡ RunError.Memory)) }
-    ensures applying { (bytes placeholder : List ℕ) → I.left input.old ≡ Some bytes →
-        IfErr result (HaltsApplying placeholder bytes) }
     ensures failed { result ≡ Err RunError.InputFailed →
         FaultCounted (I.faults input.old) (I.faults input.new) }
     ensures kinds { IfErr result
@@ -32,6 +30,31 @@ pub(crate) fn read_input<I: Input>(alloc: Global, input: &mut I) -> Result<Bytes
 {
     match read_all(alloc, input) {
         Ok(bytes) => Ok(bytes),
+        Err(InputError::Failed) => Err(RunError::InputFailed),
+        Err(InputError::TooLong) => Err(RunError::InputTooLong),
+        Err(InputError::Memory) => Err(RunError::Memory),
+    }
+}
+
+/// The bytes of the input, unless it is too long.
+pub(crate) fn read_text<I: Input>(alloc: Global, input: &mut I) -> Result<LongText, RunError>
+    ensures all { (bytes : List ℕ) → I.left input.old ≡ Some bytes →
+        IfOk result (λ read. read ≡ bytes) }
+    ensures end { (bytes : List ℕ) → I.left input.old ≡ Some bytes →
+        OnOk result (I.left input.new ≡ Some []) }
+    ensures within { IfOk result (λ read. length read ≤ input_limit) }
+    ensures long { (bytes : List ℕ) → I.left input.old ≡ Some bytes → length bytes ≤ input_limit →
+        IfErr result (λ halt. (halt ≡ RunError.InputFailed) ⊎ (halt ≡ RunError.Memory)) }
+    ensures applying { (bytes placeholder : List ℕ) → I.left input.old ≡ Some bytes →
+        IfErr result (HaltsApplying placeholder bytes) }
+    ensures failed { result ≡ Err RunError.InputFailed →
+        FaultCounted (I.faults input.old) (I.faults input.new) }
+    ensures kinds { IfErr result
+        (λ halt. (halt ≡ RunError.InputFailed)
+        ⊎ ((halt ≡ RunError.InputTooLong) ⊎ (halt ≡ RunError.Memory))) }
+{
+    match read_long_text(alloc, input) {
+        Ok(text) => Ok(text),
         Err(InputError::Failed) => Err(RunError::InputFailed),
         Err(InputError::TooLong) => Err(RunError::InputTooLong),
         Err(InputError::Memory) => Err(RunError::Memory),

@@ -1,3 +1,6 @@
+pub mod JsonValueLemmas
+pub mod CellLemmas
+pub mod EnvelopeLemmas
 pub mod FlatLemmas
 pub mod TableLemmas
 pub mod PrintingLemmas

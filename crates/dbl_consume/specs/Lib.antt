@@ -1,4 +1,8 @@
 pub mod Answers
+pub mod Cells
+pub mod JsonValues
+pub mod Parts
+pub mod Records
 pub mod RowTexts
 pub mod Holdings
 pub mod Printing

@@ -1,79 +1,102 @@
 //! The kind of a record's effect, for callers that don't need the cells: none is copied.
 ghost use Rattle.std.specs.Prelude.{◌≡◌, ◌≢◌, Ok, Err, is_some, IfOk, IfErr};
-ghost use Rattle.serde_json.specs.View.{view, members_view};
+ghost use Rattle.serde_json.specs.Find.{as_object};
 ghost use Rattle.dbl_record.specs.declared.acts.ConsumeError.TheVariants.{Memory, BadJson};
+ghost use Rattle.dbl_record.specs.declared.acts.ConsumeError.TheVariants.{BadAfter};
 ghost use Rattle.dbl_record.specs.Acts as spec;
 ghost use Rattle.dbl_record.specs.Acts.{json_in, or_error};
 ghost use Rattle.dbl_consume.specs.Answers.{Answers};
+ghost use Rattle.dbl_consume.specs.Cells.{cells_data};
+ghost use Rattle.dbl_consume.specs.JsonValues.{data_at, data_or_null};
 ghost use Rattle.dbl_consume.specs.Kinds as kinds;
 ghost use Rattle.dbl_consume.specs.Kinds.{are_sent, kind_in};
 
-use crate::acting::{bare_value, check_cells, is_progress, key_text, operation_in, value_of};
+use crate::acting::{
+    bare_key, bare_value, check_cells, is_placeholder, is_progress, key_text, operation_in, tape_of,
+};
+use crate::cells::object_cells;
 use crate::kinds::Kind;
+use crate::part::Part;
 use dbl_base::Text;
 use dbl_record::{ConsumeError, Operation};
-use serde_json::{Map, Value};
+use json::{Scratch, Tape};
 use std::alloc::Global;
 
-fn is_sent(placeholder: &Text, cell: &Value) -> bool
-    ensures { result ≡ is_some (spec.sent_text placeholder.now (view cell.now)) }
+fn is_sent<'t, 'a>(placeholder: &Text, cell: &Part<'t, 'a>) -> bool
+    ensures { result ≡ is_some (spec.sent_text placeholder.now (data_at cell.now)) }
 {
-    match cell.as_str() {
-        Some(text) => text != placeholder.as_str(),
-        None => true,
-    }
+    !is_placeholder(placeholder, cell)
 }
 
-fn are_sent(placeholder: &Text, cells: &Map<String, Value>) -> bool
-    ensures { result ≡ are_sent (spec.cells_of placeholder.now (members_view cells.now.entries)) }
+fn are_sent<'t, 'a>(placeholder: &Text, cells: &[(&'a str, Part<'t, 'a>)]) -> bool
+    ensures { result ≡ are_sent (spec.cells_of placeholder.now (cells_data cells.now)) }
 {
-    for (_name, cell) in cells.iter() {
-        if !is_sent(placeholder, cell) {
+    for cell in cells {
+        if !is_sent(placeholder, &cell.1) {
             return false;
         }
     }
     true
 }
 
-fn set_kind(
+fn set_kind<'t, 'a>(
     alloc: Global,
     placeholder: &Text,
     key: Text,
-    cells: &Map<String, Value>,
+    cells: &[(&'a str, Part<'t, 'a>)],
 ) -> Result<Kind, ConsumeError>
-    ensures { Answers (kind_in (spec.set_of placeholder.now key (members_view cells.now.entries)
-        (spec.first_error (members_view cells.now.entries)))) result }
+    ensures { Answers (kind_in (spec.set_of placeholder.now key (cells_data cells.now)
+        (spec.first_error (cells_data cells.now)))) result }
 {
-    check_cells(alloc, cells)?;
+    match check_cells(alloc, cells) {
+        Ok(()) => {}
+        Err(error) => return Err(error),
+    }
     Ok(Kind::Set {
         key,
         whole: are_sent(placeholder, cells),
     })
 }
 
-fn put_kind(
+fn kind_after<'t, 'a>(
     alloc: Global,
     placeholder: &Text,
     key: Text,
-    value: &Value,
+    after: &Part<'t, 'a>,
 ) -> Result<Kind, ConsumeError>
-    ensures { Answers (kind_in (spec.put_of placeholder.now (view value.now) key)) result }
+    ensures { Answers (kind_in (or_error BadAfter (λ ms. spec.set_of placeholder.now key ms
+        (spec.first_error ms)) (as_object (data_at after.now)))) result }
 {
-    match value.get("after").and_then(Value::as_object) {
-        Some(cells) => set_kind(alloc, placeholder, key, cells),
+    match object_cells(alloc, after) {
+        Ok(Some(cells)) => set_kind(alloc, placeholder, key, cells.as_slice()),
+        Ok(None) => Err(ConsumeError::BadAfter),
+        Err(_) => Err(ConsumeError::Memory),
+    }
+}
+
+fn put_kind<'t, 'a>(
+    alloc: Global,
+    placeholder: &Text,
+    key: Text,
+    value: &Part<'t, 'a>,
+) -> Result<Kind, ConsumeError>
+    ensures { Answers (kind_in (spec.put_of placeholder.now (data_at value.now) key)) result }
+{
+    match value.member("after") {
+        Some(after) => kind_after(alloc, placeholder, key, &after),
         None => Err(ConsumeError::BadAfter),
     }
 }
 
-fn kind_by(
+fn kind_by<'t, 'a>(
     alloc: Global,
     placeholder: &Text,
-    key: &Value,
-    value: &Value,
+    key: &Option<Part<'t, 'a>>,
+    value: &Part<'t, 'a>,
     operation: Operation,
 ) -> Result<Kind, ConsumeError>
     ensures { Answers (kind_in
-        (spec.act_by placeholder.now (view key.now) (view value.now) operation)) result }
+        (spec.act_by placeholder.now (data_or_null key.now) (data_at value.now) operation)) result }
 {
     match operation {
         Operation::Put => match key_text(alloc, key) {
@@ -90,14 +113,14 @@ fn kind_by(
 }
 
 // The kind of a record's effect, given its key and value without schema envelopes.
-fn kind_of_values(
+fn kind_of_bare<'t, 'a>(
     alloc: Global,
     placeholder: &Text,
-    key: &Value,
-    value: &Value,
+    key: &Option<Part<'t, 'a>>,
+    value: &Part<'t, 'a>,
 ) -> Result<Kind, ConsumeError>
     ensures { Answers (kind_in
-        (spec.act_of_data placeholder.now (view key.now) (view value.now))) result }
+        (spec.act_of_data placeholder.now (data_or_null key.now) (data_at value.now))) result }
 {
     if value.is_null() {
         return Ok(Kind::Nothing);
@@ -108,18 +131,42 @@ fn kind_of_values(
     }
 }
 
-// The kind of a record's effect, given its parsed key and the text of its value.
-fn kind_by_key(
+// The kind of a record's effect, given its key, `null` if absent, and its value.
+fn kind_of_values<'t, 'a>(
     alloc: Global,
     placeholder: &Text,
-    key: &Value,
+    key: Option<Part<'t, 'a>>,
+    value: Part<'t, 'a>,
+) -> Result<Kind, ConsumeError>
+    ensures { Answers (kind_in (spec.act_of_data placeholder.now
+        (spec.bare_value (data_or_null key.entry)) (spec.bare_value (data_at value.entry))))
+        result }
+{
+    let key = match bare_key(alloc, key) {
+        Ok(key) => key,
+        Err(_) => return Err(ConsumeError::Memory),
+    };
+    let value = match bare_value(alloc, value) {
+        Ok(value) => value,
+        Err(_) => return Err(ConsumeError::Memory),
+    };
+    kind_of_bare(alloc, placeholder, &key, &value)
+}
+
+// The kind of a record's effect, given its parsed key and the text of its value.
+fn kind_by_key<'a>(
+    alloc: Global,
+    placeholder: &Text,
+    key: &Tape<'a>,
     value: &Text,
 ) -> Result<Kind, ConsumeError>
     ensures { Answers (kind_in (or_error BadJson (λ v. spec.act_of_data placeholder.now
-        (spec.bare_value (view key.now)) (spec.bare_value v)) (json_in value.now))) result }
+        (spec.bare_value (data_at key.now)) (spec.bare_value v)) (json_in value.now))) result }
 {
-    match value_of(alloc, value) {
-        Ok(value) => kind_of_values(alloc, placeholder, bare_value(key), bare_value(&value)),
+    let mut scratch = Scratch::new(alloc);
+    let parsed = tape_of(alloc, value, &mut scratch);
+    match parsed {
+        Ok(tape) => kind_of_values(alloc, placeholder, Some(Part::root(key)), Part::root(&tape)),
         Err(error) => Err(error),
     }
 }
@@ -142,8 +189,10 @@ pub fn kind(
     if is_progress(topic) {
         return Ok(Kind::Nothing);
     }
-    match value_of(alloc, key) {
-        Ok(key) => kind_by_key(alloc, placeholder, &key, value),
+    let mut scratch = Scratch::new(alloc);
+    let parsed = tape_of(alloc, key, &mut scratch);
+    match parsed {
+        Ok(tape) => kind_by_key(alloc, placeholder, &tape, value),
         Err(error) => Err(error),
     }
 }

@@ -1,6 +1,5 @@
 ghost use Rattle.std.specs.Prelude.{◌≡◌, ◌≢◌, ◌++◌, ◌∷◌, [], List, ℕ};
-ghost use Rattle.std.specs.Prelude.{Some, Err, IsOk, IfOk, IfErr, OnOk};
-ghost use Rattle.serde_json.specs.View.{view};
+ghost use Rattle.std.specs.Prelude.{Err, IsOk, IfOk, IfErr, OnOk};
 ghost use Rattle.dbl_record.specs.declared.acts.ConsumeError.TheVariants.{Memory};
 ghost use Rattle.dbl_record.specs.Acts as spec;
 ghost use Rattle.dbl_record.specs.Acts.{Reading, reading_of};
@@ -9,15 +8,16 @@ ghost use Rattle.dbl_consume.specs.Holdings.{Took, placeholder_of, tables_of};
 ghost use Rattle.dbl_base.specs.Streams.{FailsOnlyIfCounted};
 ghost use Rattle.dbl_lines.specs.declared.error.PrintError.TheVariants.{OutputFailed};
 ghost use Rattle.dbl_consume.specs.Printing.{PrintsRows};
+ghost use Rattle.dbl_consume.specs.Records.{recorded_as};
 ghost use Rattle.dbl_consume.specs.Rows.{row_at};
 
-use crate::acting::{act, act_of_values};
+use crate::acting::{act, act_of_parsed};
+use crate::parsed::ParsedRecord;
 use crate::printing::{look_at_order, print};
 use crate::tables::{Tables, perform};
 use dbl_base::{Output, Text};
 use dbl_lines::PrintError;
 use dbl_record::ConsumeError;
-use serde_json::Value;
 use std::alloc::Global;
 use std::collections::BTreeMap;
 
@@ -64,39 +64,19 @@ impl Consumer {
         }
     }
 
-    /// Applies a record whose key and value are parsed.
-    pub fn apply_values(
-        &mut self,
-        topic: &Text,
-        key: &Value,
-        value: &Value,
-    ) -> Result<(), ConsumeError>
+    /// Applies a parsed record.
+    pub fn apply_parsed<'a>(&mut self, parsed: &ParsedRecord<'a>) -> Result<(), ConsumeError>
         ensures took { (taken : List Reading) → Took taken self.old →
-            OnOk result (Took (taken ++ record {
-              topic = topic.now;
-              key = Some
-                  (view key.now);
-              value = Some (view value.now);
-            } ∷ []) self.new) }
-        ensures accepted { OnOk result (IsOk (spec.act_of (placeholder_of self.old)
-            (record {
-              topic = topic.now;
-              key = Some (view key.now);
-              value = Some
-                  (view value.now);
-            }))) }
+            OnOk result (Took (taken ++ recorded_as parsed.now ∷ []) self.new) }
+        ensures accepted { OnOk result
+            (IsOk (spec.act_of (placeholder_of self.old) (recorded_as parsed.now))) }
         ensures refused { IfErr result (λ e. e ≢ Memory →
-            spec.act_of (placeholder_of self.old) (record {
-              topic = topic.now;
-              key = Some
-                  (view key.now);
-              value = Some (view value.now);
-            }) ≡ Err e) }
+            spec.act_of (placeholder_of self.old) (recorded_as parsed.now) ≡ Err e) }
         ensures unchanged { IfErr result (λ e. e ≢ Memory → self.new ≡ self.old) }
         ensures placeholder { placeholder_of self.new ≡ placeholder_of self.old }
     {
-        match act_of_values(self.alloc, &self.placeholder, topic, key, value) {
-            Ok(act) => perform(self.alloc, &mut self.tables, topic, act),
+        match act_of_parsed(self.alloc, &self.placeholder, parsed) {
+            Ok(act) => perform(self.alloc, &mut self.tables, parsed.topic(), act),
             Err(error) => Err(error),
         }
     }

@@ -6,7 +6,6 @@ use Rattle.std.specs.Option.{option_to_list}
 use Rattle.std.specs.Str.{IsUtf8, is_utf8}
 use Rattle.std.proofs.lemmas.Str.{IsUtf8-from_is_utf8, is_utf8-from_IsUtf8}
 use Rattle.dbl_base.specs.Lines.{lines_of}
-use Rattle.serde_json.specs.Data.{Data}
 use Rattle.dbl_record.specs.Acts.{Reading}
 use Rattle.dbl_record.specs.Reading.{reading_in}
 use Rattle.dbl_consume.specs.declared.consumer.Consumer.{Consumer}
@@ -64,10 +63,6 @@ fault_next placeholder text rest line subsequent old number next fault so_far fi
     so_far.faults ∙ ap (first_fault_from (number + 1) placeholder) first ∙ ap (λ f. or_later_line (number + 1) f (first_fault_from (number + 1 + 1) placeholder (lines_of subsequent))) bad'
     ∙ ap (λ n. Some (record { number = n; fault = fault })) (sym next_is)
 
--- the record of a topic, a key and a value that are a reading's is the reading
-pub reading_is : (topic : List ℕ) (r : Reading) (key value : Option Data) → topic ≡ r.topic → key ≡ r.key → value ≡ r.value → record { topic = topic; key = key; value = value } ≡ r
-reading_is topic r key value p q s i = record { topic = p i; key = q i; value = s i }
-
 -- ---- one line
 
 module _ (line : List ℕ) (some : 0 < length line) where
@@ -96,9 +91,9 @@ module _ (line : List ℕ) (some : 0 < length line) where
       go [] some = absurd (omega arith)
       go (c ∷ cs) some = refl
 
--- a line whose record is this
-pub line_tells : (line text : List ℕ) (reading : Reading) → 0 < length line → text ≡ line → IsUtf8 line → reading_in text ≡ Some reading → reading_of_line line ≡ Some reading
-line_tells line text reading some same utf8 tells = reading_of_text line some utf8 ∙ ap reading_in (sym same) ∙ tells
+-- a line whose record is this, if it has one
+pub reading_of_bytes : (line text : List ℕ) (reading : Option Reading) → 0 < length line → text ≡ line → IsUtf8 line → reading_in text ≡ reading → reading_of_line line ≡ reading
+reading_of_bytes line text reading some same utf8 is = reading_of_text line some utf8 ∙ ap reading_in (sym same) ∙ is
 
 pub some_bytes : (line : List ℕ) → (length line == 0) ≡ false → 0 < length line
 some_bytes line e = grind (arith, nat_tests)

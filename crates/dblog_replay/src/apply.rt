@@ -5,16 +5,16 @@ ghost use Rattle.std.specs.Option.{option_to_list};
 ghost use Rattle.std.specs.String.{string_bytes};
 ghost use Rattle.dbl_base.specs.Lines.{lines_of, lines_text};
 ghost use Rattle.dbl_record.specs.Acts.{Reading};
-ghost use Rattle.dbl_record.specs.Reading.{parsed_as};
 ghost use Rattle.dbl_consume.specs.Holdings.{Took, placeholder_of};
+ghost use Rattle.dbl_consume.specs.Records.{recorded_as};
 ghost use Rattle.dblog_replay.specs.Apply.{line_fault_of, fault_in, first_line_fault};
 ghost use Rattle.dblog_replay.specs.Apply.{reading_of_line, readings_of_lines};
 ghost use Rattle.dblog_replay.specs.Apply.{refusal_text, words_of, fault_text};
 
 use dbl_base::Text;
-use dbl_consume::{ConsumeError, Consumer};
+use dbl_consume::{ConsumeError, Consumer, ParsedRecord, parse_record};
 use dbl_lines::LongText;
-use dbl_record::{ParsedLine, RecordError, parse_line};
+use json::Scratch;
 use std::alloc::{AllocError, Global};
 use std::str;
 
@@ -73,23 +73,28 @@ impl FaultAt {
     }
 }
 
-fn take_parsed(held: &mut Consumer, parsed: &ParsedLine) -> Result<(), LineFault>
+fn take_parsed<'a>(held: &mut Consumer, parsed: &ParsedRecord<'a>) -> Result<(), LineFault>
     ensures took { (taken : List Reading) → Took taken held.old →
-        OnOk result (Took (taken ++ parsed_as parsed.now ∷ []) held.new) }
+        OnOk result (Took (taken ++ recorded_as parsed.now ∷ []) held.new) }
     ensures good { OnOk result
-        (line_fault_of (placeholder_of held.old) (Some (parsed_as parsed.now)) ≡ None) }
+        (line_fault_of (placeholder_of held.old) (Some (recorded_as parsed.now)) ≡ None) }
     ensures bad { IfErr result (λ fault. fault ≢ LineFault.Memory →
-        line_fault_of (placeholder_of held.old) (Some (parsed_as parsed.now)) ≡ Some fault) }
+        line_fault_of (placeholder_of held.old) (Some (recorded_as parsed.now)) ≡ Some fault) }
     ensures placeholder { placeholder_of held.new ≡ placeholder_of held.old }
 {
-    match held.apply_values(parsed.topic(), parsed.key(), parsed.value()) {
+    match held.apply_parsed(parsed) {
         Ok(()) => Ok(()),
         Err(ConsumeError::Memory) => Err(LineFault::Memory),
         Err(error) => Err(LineFault::Refused { error }),
     }
 }
 
-fn take_line(alloc: Global, held: &mut Consumer, line: &[u8]) -> Result<(), LineFault>
+fn take_line(
+    alloc: Global,
+    scratch: &mut Scratch,
+    held: &mut Consumer,
+    line: &[u8],
+) -> Result<(), LineFault>
     ensures took { (taken : List Reading) → Took taken held.old →
         OnOk result (Took (taken ++ option_to_list (reading_of_line line.now)) held.new) }
     ensures good { OnOk result (fault_in (placeholder_of held.old) line.now ≡ None) }
@@ -104,10 +109,10 @@ fn take_line(alloc: Global, held: &mut Consumer, line: &[u8]) -> Result<(), Line
         Ok(text) => text,
         Err(_) => return Err(LineFault::BadRecord),
     };
-    match parse_line(alloc, text) {
-        Ok(parsed) => take_parsed(held, &parsed),
-        Err(RecordError::BadRecord { at: _ }) => Err(LineFault::BadRecord),
-        Err(RecordError::Memory) => Err(LineFault::Memory),
+    match parse_record(alloc, text, scratch) {
+        Ok(Some(parsed)) => take_parsed(held, &parsed),
+        Ok(None) => Err(LineFault::BadRecord),
+        Err(_) => Err(LineFault::Memory),
     }
 }
 
@@ -133,6 +138,7 @@ pub fn consume(alloc: Global, placeholder: Text, text: LongText) -> Result<Consu
         Ok(held) => held,
         Err(_) => return Err(out_of_memory(0)),
     };
+    let mut scratch = Scratch::new(alloc);
     let mut line = Vec::new(alloc);
     let mut rest = text;
     let mut number = 0u64;
@@ -145,7 +151,7 @@ pub fn consume(alloc: Global, placeholder: Text, text: LongText) -> Result<Consu
             return Ok(held);
         }
         number += 1;
-        match take_line(alloc, &mut held, line.as_slice()) {
+        match take_line(alloc, &mut scratch, &mut held, line.as_slice()) {
             Ok(()) => {}
             Err(fault) => return Err(FaultAt { number, fault }),
         }

@@ -1,7 +1,10 @@
-use Rattle.std.proofs.Common.{◌≡◌, ◌++◌, None}
-use Rattle.serde_json.specs.View.{members_view}
+use Rattle.std.proofs.Common.{◌≡◌, ◌++◌, None, drop}
 use Rattle.dbl_record.specs.Acts.{first_error, cells_of}
+use Rattle.dbl_consume.specs.Cells.{cells_data}
 use Rattle.dbl_consume.proofs.acting.cells_of.Given as goal
 
-abbrev pub invariant-loop-name : goal.invariant-loop-name
-invariant-loop-name l = (first_error (members_view l.name-iterator) ≡ None) × (l.given.items ++ cells_of l.placeholder (members_view l.name-iterator) ≡ cells_of l.placeholder (members_view l.cells.entries))
+abbrev pub invariant-loop-cell : goal.invariant-loop-cell
+invariant-loop-cell l = record {
+  unread : first_error (cells_data (drop l.cell-index l.cells)) ≡ None;
+  given : l.given.items ++ cells_of l.placeholder (cells_data (drop l.cell-index l.cells)) ≡ cells_of l.placeholder (cells_data l.cells);
+}

@@ -1,7 +1,7 @@
-use Rattle.std.proofs.Common.{◌≡◌}
-use Rattle.serde_json.specs.View.{members_view}
+use Rattle.std.proofs.Common.{◌≡◌, drop}
 use Rattle.dbl_record.specs.Acts.{first_error}
+use Rattle.dbl_consume.specs.Cells.{cells_data}
 use Rattle.dbl_consume.proofs.acting.check_cells.Given as goal
 
-abbrev pub invariant-loop-name : goal.invariant-loop-name
-invariant-loop-name l = first_error (members_view l.cells.entries) ≡ first_error (members_view l.name-iterator)
+abbrev pub invariant-loop-cell : goal.invariant-loop-cell
+invariant-loop-cell l = first_error (cells_data (drop l.cell-index l.cells)) ≡ first_error (cells_data l.cells)

@@ -1,0 +1,12 @@
+use Rattle.std.proofs.Common.{◌∙◌, Some, ap, subst}
+use Rattle.dbl_record.specs.declared.acts.ConsumeError.TheVariants.{BadAfter}
+use Rattle.dbl_record.specs.Acts.{or_error, set_of, first_error}
+use Rattle.dbl_consume.specs.Answers.{Answers}
+use Rattle.dbl_consume.specs.Cells.{cells_data}
+use Rattle.dbl_consume.specs.Kinds.{kind_in}
+use Rattle.dbl_consume.proofs.classifying.kind_after.Goals as goal
+
+pub returns-in-Ok-Some : goal.returns-in-Ok-Some
+returns-in-Ok-Some c =
+    subst (λ found. Answers (kind_in (or_error BadAfter (λ ms. set_of c.args.placeholder.now c.args.key ms (first_error ms)) found)) c.set_kind.result)
+    (ap (λ l. Some (cells_data l)) c.as_slice.ensures.value ∙ c.in-Ok-Some.ensures) c.set_kind.ensures

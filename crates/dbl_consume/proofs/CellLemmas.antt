@@ -10,7 +10,7 @@ use Rattle.json.specs.Json as json
 use Rattle.serde_json.specs.Data.{Data, Members, no_members, member, put}
 use Rattle.serde_json.specs.Events.{members_len}
 use Rattle.dbl_base.specs.Texts.{text_cmp}
-use Rattle.dbl_consume.specs.Cells.{Cell, ascend_after, ascend, cells_data}
+use Rattle.dbl_consume.specs.Cells.{Cell, names_ascend_after, names_ascend, cells_data}
 use Rattle.dbl_consume.specs.JsonValues.{put_all, data_of, data_members, data_at}
 
 -- ---- members whose names ascend
@@ -25,16 +25,16 @@ less_and Less b e = (refl, e)
 less_and Equal b e = absurd (cc)
 less_and Greater b e = absurd (cc)
 
-precedes_later : (first previous : List ℕ) (ms : Members) → text_cmp first previous ≡ Less → ascend_after previous ms ≡ true → Precedes first ms
+precedes_later : (first previous : List ℕ) (ms : Members) → text_cmp first previous ≡ Less → names_ascend_after previous ms ≡ true → Precedes first ms
 precedes_later first previous no_members less e = tt
 precedes_later first previous (member name d ms) less e =
-    let p = less_and (text_cmp previous name) (ascend_after name ms) e in
+    let p = less_and (text_cmp previous name) (names_ascend_after name ms) e in
     let here : text_cmp first name ≡ Less = nat_list_cmp_total.trans first previous name less p.0 in
     (here, precedes_later first name ms here p.1)
 
-precedes : (name : List ℕ) (ms : Members) → ascend_after name ms ≡ true → Precedes name ms
+precedes : (name : List ℕ) (ms : Members) → names_ascend_after name ms ≡ true → Precedes name ms
 precedes name no_members e = tt
-precedes name (member other d ms) e = let p = less_and (text_cmp name other) (ascend_after other ms) e in (p.0, precedes_later name other ms p.0 p.1)
+precedes name (member other d ms) e = let p = less_and (text_cmp name other) (names_ascend_after other ms) e in (p.0, precedes_later name other ms p.0 p.1)
 
 put_later : (ms earlier : Members) (k : List ℕ) (d : Data) → Precedes k ms → put_all ms (member k d earlier) ≡ member k d (put_all ms earlier)
 put_later no_members earlier k d h = refl
@@ -42,32 +42,32 @@ put_later (member l e ms) earlier k d h =
     let above : slice_cmp nat_cmp l k ≡ Greater = nat_list_cmp_total.antisymm l k ∙ ap ordering_reverse h.0 in
     rw above (put_later ms (put l e earlier) k d h.1)
 
-put_after : (previous : List ℕ) (ms : Members) → ascend_after previous ms ≡ true → put_all ms no_members ≡ ms
+put_after : (previous : List ℕ) (ms : Members) → names_ascend_after previous ms ≡ true → put_all ms no_members ≡ ms
 put_after previous no_members e = refl
 put_after previous (member name d ms) e =
-    let p = less_and (text_cmp previous name) (ascend_after name ms) e in
+    let p = less_and (text_cmp previous name) (names_ascend_after name ms) e in
     put_later ms no_members name d (precedes name ms p.1) ∙ ap (member name d) (put_after name ms p.1)
 
 -- members that are in order stay as they are
-pub put_ascending : (ms : Members) → ascend ms ≡ true → put_all ms no_members ≡ ms
+pub put_ascending : (ms : Members) → names_ascend ms ≡ true → put_all ms no_members ≡ ms
 put_ascending no_members e = refl
 put_ascending (member name d ms) e = put_later ms no_members name d (precedes name ms e) ∙ ap (member name d) (put_after name ms e)
 
 not_less : (o : Ordering) (b : Bool) → (o ≡ Less → ⊥) → match_ordering o b false false ≡ false
-not_less Less b no = absurd (no refl)
-not_less Equal b no = refl
-not_less Greater b no = refl
+not_less Less b apart = absurd (apart refl)
+not_less Equal b apart = refl
+not_less Greater b apart = refl
 
 -- one cell more ascends
 pub ascends_on : (previous : List ℕ) (cells rest : List Cell) (cell : Cell) → cells ≡ cell ∷ rest → slice_cmp nat_cmp previous cell.0.now ≡ Less
-    → ascend_after cell.0.now (cells_data rest) ≡ ascend_after previous (cells_data cells)
+    → names_ascend_after cell.0.now (cells_data rest) ≡ names_ascend_after previous (cells_data cells)
 ascends_on previous cells rest cell here less =
-    sym (ap (λ l. ascend_after previous (cells_data l)) here ∙ ap (λ o. match_ordering o (ascend_after cell.0.now (cells_data rest)) false false) less)
+    sym (ap (λ l. names_ascend_after previous (cells_data l)) here ∙ ap (λ o. match_ordering o (names_ascend_after cell.0.now (cells_data rest)) false false) less)
 
 pub ascends_no_more : (previous : List ℕ) (cells rest : List Cell) (cell : Cell) → cells ≡ cell ∷ rest → (slice_cmp nat_cmp previous cell.0.now ≡ Less → ⊥)
-    → false ≡ ascend_after previous (cells_data cells)
+    → false ≡ names_ascend_after previous (cells_data cells)
 ascends_no_more previous cells rest cell here other =
-    sym (ap (λ l. ascend_after previous (cells_data l)) here ∙ not_less (slice_cmp nat_cmp previous cell.0.now) (ascend_after cell.0.now (cells_data rest)) other)
+    sym (ap (λ l. names_ascend_after previous (cells_data l)) here ∙ not_less (slice_cmp nat_cmp previous cell.0.now) (names_ascend_after cell.0.now (cells_data rest)) other)
 
 -- ---- a map by name
 

@@ -1,5 +1,5 @@
 -- The payload of a schema envelope, and the effect of a record without envelopes.
-use Rattle.std.proofs.Common.{◌≡◌, ◌∙◌, ◌==◌, ◌&&◌, ℕ, List, Bool, true, false, Option, Some, None, is_some, is_none, cond, unwrap_or, option_map, option_and_then, codes, Result, Ok, refl, sym, ap, ap₂}
+use Rattle.std.proofs.Common.{◌≡◌, ◌∙◌, ◌==◌, ◌&&◌, ℕ, List, Bool, true, false, Option, Some, None, is_some, cond, unwrap_or, option_map, option_and_then, codes, Result, Ok, refl, sym, ap, ap₂}
 use Rattle.serde_json.specs.Data.{Data, null, boolean, number, string, array, object, Members}
 use Rattle.serde_json.specs.Events.{members_len}
 use Rattle.serde_json.specs.Find.{get, get_member, as_object}
@@ -49,11 +49,11 @@ envelope (array ds) some two = refl
 envelope (object ms) some two = ap₂ (λ a b. option_map object (cond (a && b) (option_and_then as_object (get_member (codes "payload") ms)) None)) two some
 
 -- a value that isn't found has no data, and one that is found has some
-pub none_found : {A B : Type 0} (f : A → B) (o : Option A) (d : Option B) → option_map f o ≡ d → is_none o ≡ true → d ≡ None
+pub none_found : {A B : Type 0} (f : A → B) (o : Option A) (d : Option B) → option_map f o ≡ d → is_some o ≡ false → d ≡ None
 none_found f None d e is = sym e
 none_found f (Some a) d e is = absurd (cc)
 
-pub some_found : {A B : Type 0} (f : A → B) (o : Option A) (d : Option B) → option_map f o ≡ d → is_none o ≡ false → is_some d ≡ true
+pub some_found : {A B : Type 0} (f : A → B) (o : Option A) (d : Option B) → option_map f o ≡ d → is_some o ≡ true → is_some d ≡ true
 some_found f None d e is = absurd (cc)
 some_found f (Some a) d e is = ap is_some (sym e)
 
@@ -81,14 +81,14 @@ effect p key value = or_error BadJson (λ k. or_error BadJson (λ v. act_of_data
 
 pub progress_act : (p topic : List ℕ) (r : Reading) → topic ≡ r.topic → is_progress topic ≡ true → act_of p r ≡ Ok Nothing
 unfolding act_of
-progress_act p topic r same yes = ap (λ b. cond b (Ok Nothing) (effect p r.key r.value)) (ap is_progress (sym same) ∙ yes)
+progress_act p topic r same is = ap (λ b. cond b (Ok Nothing) (effect p r.key r.value)) (ap is_progress (sym same) ∙ is)
 
 pub parsed_act : (p topic : List ℕ) (r : Reading) (key value : Data) → topic ≡ r.topic → is_progress topic ≡ false → Some key ≡ r.key → Some value ≡ r.value
     → act_of p r ≡ act_of_data p (bare_value key) (bare_value value)
 unfolding act_of
-parsed_act p topic r key value same no key_is value_is =
-    ap (λ b. cond b (Ok Nothing) (effect p r.key r.value)) (ap is_progress (sym same) ∙ no) ∙ ap₂ (effect p) (sym key_is) (sym value_is)
+parsed_act p topic r key value same other key_is value_is =
+    ap (λ b. cond b (Ok Nothing) (effect p r.key r.value)) (ap is_progress (sym same) ∙ other) ∙ ap₂ (effect p) (sym key_is) (sym value_is)
 
 -- a record without a value has no effect
 pub no_value_act : (p topic : List ℕ) (r : Reading) (key : Data) → topic ≡ r.topic → is_progress topic ≡ false → Some key ≡ r.key → Some null ≡ r.value → act_of p r ≡ Ok Nothing
-no_value_act p topic r key same no key_is value_is = parsed_act p topic r key null same no key_is value_is
+no_value_act p topic r key same other key_is value_is = parsed_act p topic r key null same other key_is value_is

@@ -220,7 +220,7 @@ shallow_json text true e = inr (sym e)
 shallow_json text false e = no_value (json_in text) e
 
 pub some_is : {A : Type 0} (o : Option A) → IsSome o → (a : A) × (o ≡ Some a)
-some_is None h = elim h [ ]
+some_is None h = absurd (cc)
 some_is (Some a) h = (a, refl)
 
 -- ---- members

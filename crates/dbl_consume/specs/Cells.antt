@@ -20,14 +20,14 @@ cells_data [] = no_members
 cells_data (cell ∷ cells) = member cell.0.now (data_at cell.1) (cells_data cells)
 
 -- the names of the members are in strict byte order and after this one
-abbrev pub ascend_after : List ℕ → Members → Bool
-ascend_after previous no_members = true
-ascend_after previous (member name d members) = match_ordering (text_cmp previous name) (ascend_after name members) false false
+abbrev pub names_ascend_after : List ℕ → Members → Bool
+names_ascend_after previous no_members = true
+names_ascend_after previous (member name d members) = match_ordering (text_cmp previous name) (names_ascend_after name members) false false
 
 -- the names of the members are in strict byte order
-abbrev pub ascend : Members → Bool
-ascend no_members = true
-ascend (member name d members) = ascend_after name members
+abbrev pub names_ascend : Members → Bool
+names_ascend no_members = true
+names_ascend (member name d members) = names_ascend_after name members
 
 -- a supported cell's value: neither nested nor a number that isn't a 64-bit integer
 abbrev pub is_supported : Data → Bool

@@ -2,7 +2,7 @@
 ghost use Rattle.std.specs.Prelude.{◌≡◌, IfOk, option_map};
 ghost use Rattle.serde_json.specs.Data.{no_members};
 ghost use Rattle.serde_json.specs.Find.{as_object};
-ghost use Rattle.dbl_consume.specs.Cells.{ascend_after, ascend, cells_data};
+ghost use Rattle.dbl_consume.specs.Cells.{names_ascend_after, names_ascend, cells_data};
 ghost use Rattle.dbl_consume.specs.JsonValues.{data_at, put_all};
 
 use crate::part::Part;
@@ -11,8 +11,8 @@ use std::cmp::Ordering;
 use std::collections::BTreeMap;
 
 // Whether the names are in strict byte order, and after this one.
-fn ascend_after<'t, 'a>(first: &'a str, cells: &[(&'a str, Part<'t, 'a>)]) -> bool
-    ensures { result ≡ ascend_after first.now (cells_data cells.now) }
+fn names_ascend_after<'t, 'a>(first: &'a str, cells: &[(&'a str, Part<'t, 'a>)]) -> bool
+    ensures { result ≡ names_ascend_after first.now (cells_data cells.now) }
 {
     let mut previous = first;
     for cell in cells {
@@ -25,17 +25,17 @@ fn ascend_after<'t, 'a>(first: &'a str, cells: &[(&'a str, Part<'t, 'a>)]) -> bo
 }
 
 // Whether the names are in strict byte order.
-fn ascend<'t, 'a>(cells: &[(&'a str, Part<'t, 'a>)]) -> bool
-    ensures { result ≡ ascend (cells_data cells.now) }
+fn names_ascend<'t, 'a>(cells: &[(&'a str, Part<'t, 'a>)]) -> bool
+    ensures { result ≡ names_ascend (cells_data cells.now) }
 {
     match cells {
         [] => true,
-        [first, rest @ ..] => ascend_after(first.0, rest),
+        [first, rest @ ..] => names_ascend_after(first.0, rest),
     }
 }
 
 // The cells by name, the last of those with one name.
-fn by_name<'t, 'a>(
+fn index_cells<'t, 'a>(
     alloc: Global,
     cells: Vec<(&'a str, Part<'t, 'a>)>,
 ) -> Result<BTreeMap<&'a str, Part<'t, 'a>>, AllocError>
@@ -49,7 +49,7 @@ fn by_name<'t, 'a>(
     Ok(found)
 }
 
-fn listed<'t, 'a>(
+fn list_cells<'t, 'a>(
     alloc: Global,
     cells: BTreeMap<&'a str, Part<'t, 'a>>,
 ) -> Result<Vec<(&'a str, Part<'t, 'a>)>, AllocError>
@@ -59,31 +59,31 @@ fn listed<'t, 'a>(
 }
 
 // The cells in byte order of their names, the last of those with one name.
-fn sorted<'t, 'a>(
+fn sort_cells<'t, 'a>(
     alloc: Global,
     cells: Vec<(&'a str, Part<'t, 'a>)>,
 ) -> Result<Vec<(&'a str, Part<'t, 'a>)>, AllocError>
     ensures { IfOk result (λ found. cells_data found.items
         ≡ put_all (cells_data cells.entry.items) no_members) }
 {
-    match by_name(alloc, cells) {
-        Ok(found) => listed(alloc, found),
+    match index_cells(alloc, cells) {
+        Ok(found) => list_cells(alloc, found),
         Err(error) => Err(error),
     }
 }
 
 // The cells in byte order of their names, the last of those with one name.
-fn in_order<'t, 'a>(
+fn put_in_order<'t, 'a>(
     alloc: Global,
     cells: Vec<(&'a str, Part<'t, 'a>)>,
 ) -> Result<Vec<(&'a str, Part<'t, 'a>)>, AllocError>
     ensures { IfOk result (λ found. cells_data found.items
         ≡ put_all (cells_data cells.entry.items) no_members) }
 {
-    if ascend(cells.as_slice()) {
+    if names_ascend(cells.as_slice()) {
         Ok(cells)
     } else {
-        sorted(alloc, cells)
+        sort_cells(alloc, cells)
     }
 }
 
@@ -101,7 +101,7 @@ pub(crate) fn object_cells<'t, 'a>(
         Ok(None) => return Ok(None),
         Err(error) => return Err(error),
     };
-    match in_order(alloc, cells) {
+    match put_in_order(alloc, cells) {
         Ok(cells) => Ok(Some(cells)),
         Err(error) => Err(error),
     }

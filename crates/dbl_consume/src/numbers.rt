@@ -7,7 +7,7 @@ ghost use Rattle.dbl_consume.specs.JsonValues.{num_of, num_in};
 use fast_float::Numeral;
 
 /// A JSON number.
-#[derive(Clone, Copy, Debug)]
+#[derive(Clone, Copy)]
 pub(crate) enum JsonNumber {
     Unsigned(u64),
     /// An integer below 0.

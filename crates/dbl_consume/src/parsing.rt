@@ -94,7 +94,7 @@ fn is_shallow<'a>(alloc: Global, text: &str, tape: &Tape<'a>) -> Result<bool, Al
 
 /// Parses a text as JSON (RFC 8259); none if it isn't JSON, nests more than 127 levels, or has a
 /// number beyond the range of 64-bit floats, which serde_json doesn't parse. The tape borrows the
-/// text and the scratch, which is kept for later texts. A text of more than 4 GiB is an error too.
+/// text and the scratch. A text of more than 4 GiB is reported as out of memory.
 pub(crate) fn parse_json<'a>(
     alloc: Global,
     text: &'a str,
@@ -151,7 +151,7 @@ impl<'a> ParsedRecord<'a> {
 }
 
 /// Parses a record's line; members other than `topic`, `key` and `value` are ignored. None if the
-/// line isn't a JSON object with a string `topic`. The scratch is kept for later lines.
+/// line isn't a JSON object with a string `topic`. The scratch is for later lines.
 pub fn parse_record<'a>(
     alloc: Global,
     line: &'a str,

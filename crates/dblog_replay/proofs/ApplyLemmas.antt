@@ -41,10 +41,12 @@ one_applied placeholder text rest line subsequent old new number next so_far fir
       took = took so_far.taken so_far.took;
       same = kept ∙ so_far.same;
       faults =
-          so_far.faults ∙ ap (first_fault_from (number + 1) placeholder) first ∙ ap (λ f. or_later_line (number + 1) f (first_fault_from (number + 1 + 1) placeholder (lines_of subsequent))) good'
+          so_far.faults ∙ ap (first_fault_from (number + 1) placeholder) first
+          ∙ ap (λ f. or_later_line (number + 1) f (first_fault_from (number + 1 + 1) placeholder (lines_of subsequent))) good'
           ∙ ap (λ n. first_fault_from (n + 1) placeholder (lines_of subsequent)) (sym next_is);
       all =
-          so_far.all ∙ ap (λ lines. so_far.taken ++ readings_of_lines lines) first ∙ ap (λ rs. so_far.taken ++ rs) (cons_option-append (reading_of_line line) (readings_of_lines (lines_of subsequent)))
+          so_far.all ∙ ap (λ lines. so_far.taken ++ readings_of_lines lines) first
+          ∙ ap (λ rs. so_far.taken ++ rs) (cons_option-append (reading_of_line line) (readings_of_lines (lines_of subsequent)))
           ∙ sym (append_assoc so_far.taken (option_to_list (reading_of_line line)) (readings_of_lines (lines_of subsequent)));
       count = omega arith;
     }
@@ -52,15 +54,19 @@ one_applied placeholder text rest line subsequent old new number next so_far fir
 -- at the end of the text all lines were applied
 pub applied_all : (placeholder text rest : List ℕ) (held : Consumer) (number : ℕ) → IsApplying placeholder text rest held number → length rest ≡ 0
     → Took (readings_of_lines (lines_of text)) held × (placeholder_of held ≡ placeholder) × (first_line_fault placeholder (lines_of text) ≡ None)
-applied_all placeholder text [] held number so_far end = (subst (λ taken. Took taken held) (sym (so_far.all ∙ append-nil so_far.taken)) so_far.took, so_far.same, so_far.faults)
+applied_all placeholder text [] held number so_far end =
+    (subst (λ taken. Took taken held) (sym (so_far.all ∙ append-nil so_far.taken)) so_far.took, so_far.same, so_far.faults)
 applied_all placeholder text (c ∷ cs) held number so_far end = absurd (omega arith)
 
 -- the next line is the first that isn't applied
-pub fault_next : (placeholder text rest line subsequent : List ℕ) (old : Consumer) (number next : ℕ) (fault : LineFault) → IsApplying placeholder text rest old number
-    → lines_of rest ≡ line ∷ lines_of subsequent → next ≡ number + 1 → fault_in (placeholder_of old) line ≡ Some fault → first_line_fault placeholder (lines_of text) ≡ Some (record { number = next; fault = fault })
+pub fault_next : (placeholder text rest line subsequent : List ℕ) (old : Consumer) (number next : ℕ) (fault : LineFault)
+    → IsApplying placeholder text rest old number
+    → lines_of rest ≡ line ∷ lines_of subsequent → next ≡ number + 1 → fault_in (placeholder_of old) line ≡ Some fault
+    → first_line_fault placeholder (lines_of text) ≡ Some (record { number = next; fault = fault })
 fault_next placeholder text rest line subsequent old number next fault so_far first next_is bad =
     let bad' : fault_in placeholder line ≡ Some fault = subst (λ p. fault_in p line ≡ Some fault) so_far.same bad in
-    so_far.faults ∙ ap (first_fault_from (number + 1) placeholder) first ∙ ap (λ f. or_later_line (number + 1) f (first_fault_from (number + 1 + 1) placeholder (lines_of subsequent))) bad'
+    so_far.faults ∙ ap (first_fault_from (number + 1) placeholder) first
+    ∙ ap (λ f. or_later_line (number + 1) f (first_fault_from (number + 1 + 1) placeholder (lines_of subsequent))) bad'
     ∙ ap (λ n. Some (record { number = n; fault = fault })) (sym next_is)
 
 -- ---- one line
@@ -92,7 +98,8 @@ module _ (line : List ℕ) (some : 0 < length line) where
       go (c ∷ cs) some = refl
 
 -- a line whose record is this, if it has one
-pub reading_of_bytes : (line text : List ℕ) (reading : Option Reading) → 0 < length line → text ≡ line → IsUtf8 line → reading_in text ≡ reading → reading_of_line line ≡ reading
+pub reading_of_bytes : (line text : List ℕ) (reading : Option Reading) → 0 < length line → text ≡ line → IsUtf8 line → reading_in text ≡ reading
+    → reading_of_line line ≡ reading
 reading_of_bytes line text reading some same utf8 is = reading_of_text line some utf8 ∙ ap reading_in (sym same) ∙ is
 
 pub some_bytes : (line : List ℕ) → (length line == 0) ≡ false → 0 < length line

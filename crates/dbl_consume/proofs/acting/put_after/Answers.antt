@@ -7,5 +7,6 @@ use Rattle.dbl_consume.proofs.acting.put_after.Goals as goal
 
 pub returns-in-Ok-Some : goal.returns-in-Ok-Some
 returns-in-Ok-Some c =
-    subst (λ found. Answers (or_error BadAfter (λ ms. set_of c.args.placeholder.now c.args.key ms (first_error ms)) found) c.set_of.result)
-    (ap (λ l. Some (cells_data l)) c.as_slice.ensures.value ∙ c.in-Ok-Some.ensures) c.set_of.ensures
+    let found = rw c.in-Ok-Some.field-0-is at c.in-Ok-Some.ensures in
+    subst (λ members. Answers (or_error BadAfter (λ ms. set_of c.args.placeholder.now c.args.key ms (first_error ms)) members) c.set_of.result)
+    (ap (λ l. Some (cells_data l)) c.as_slice.ensures.value ∙ found) c.set_of.ensures

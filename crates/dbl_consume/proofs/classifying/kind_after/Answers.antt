@@ -8,5 +8,6 @@ use Rattle.dbl_consume.proofs.classifying.kind_after.Goals as goal
 
 pub returns-in-Ok-Some : goal.returns-in-Ok-Some
 returns-in-Ok-Some c =
-    subst (λ found. Answers (kind_in (or_error BadAfter (λ ms. set_of c.args.placeholder.now c.args.key ms (first_error ms)) found)) c.set_kind.result)
-    (ap (λ l. Some (cells_data l)) c.as_slice.ensures.value ∙ c.in-Ok-Some.ensures) c.set_kind.ensures
+    let found = rw c.in-Ok-Some.field-0-is at c.in-Ok-Some.ensures in
+    subst (λ members. Answers (kind_in (or_error BadAfter (λ ms. set_of c.args.placeholder.now c.args.key ms (first_error ms)) members)) c.set_kind.result)
+    (ap (λ l. Some (cells_data l)) c.as_slice.ensures.value ∙ found) c.set_kind.ensures

@@ -1,6 +1,6 @@
 use Rattle.std.proofs.Common.{◌≡◌, ◌∙◌, refl, sym, ap}
 use Rattle.json.specs.Json as json
-use Rattle.dbl_consume.specs.JsonValues.{data_members}
+use Rattle.dbl_consume.specs.JsonValues.{data_members, data_at}
 use Rattle.dbl_consume.proofs.CellLemmas.{cells_before, cells_before-no_members, one_listed}
 use Rattle.dbl_consume.proofs.JsonValueLemmas.{data_at-is}
 use Rattle.dbl_consume.proofs.part.members_left.Goals as goal
@@ -25,7 +25,7 @@ members-preserved c =
       copied = λ ms inside.
           let now = l.invariant.copied ms inside in
           let f = c.in-Some.ensures.value now.0 now.1 in
-          (f.1, f.4, one_listed l.cells.items c.push.new.self.items _ now.0 f.1 f.0 c.in_ok-push.ensures.items f.2 (data_at-is _ f.0 f.3) ∙ now.2);
+          (f.1, f.4, one_listed l.cells.items c.push.new.self.items _ now.0 f.1 f.0 c.in_ok-push.ensures.items f.2 (ap data_at c.part_of.ensures ∙ data_at-is _ f.0 f.3) ∙ now.2);
     }
 
 pub returns : goal.returns

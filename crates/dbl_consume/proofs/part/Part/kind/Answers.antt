@@ -14,18 +14,18 @@ returns-in-Some c =
     let v = c.self.invariant in
     part_data c.self.inside.element c.args.self.now v c.self.view_is ∙ kind_truth v.0 c.in-Some.truth (c.in-Some.ensures v.0 v.1)
 
-pub returns-in-Some-2 : goal.returns-in-Some-2
-returns-in-Some-2 c =
+pub returns-in-Some-as_number : goal.returns-in-Some-as_number
+returns-in-Some-as_number c =
     let v = c.self.invariant in
-    part_data c.self.inside.element c.args.self.now v c.self.view_is ∙ kind_number v.0 c.in-Some-2.text.now (c.in-Some-2.ensures v.0 v.1)
+    part_data c.self.inside.element c.args.self.now v c.self.view_is ∙ kind_number v.0 c.in-Some-as_number.text.now (c.in-Some-as_number.ensures v.0 v.1)
 
-pub returns-in-Some-3 : goal.returns-in-Some-3
-returns-in-Some-3 c =
+pub returns-in-Some-as_str : goal.returns-in-Some-as_str
+returns-in-Some-as_str c =
     let v = c.self.invariant in
-    part_data c.self.inside.element c.args.self.now v c.self.view_is ∙ kind_text v.0 c.in-Some-3.text.now (c.in-Some-3.ensures v.0 v.1)
+    part_data c.self.inside.element c.args.self.now v c.self.view_is ∙ kind_text v.0 c.in-Some-as_str.text.now (c.in-Some-as_str.ensures v.0 v.1)
 
 pub returns-in-None : goal.returns-in-None
 returns-in-None c =
     let v = c.self.invariant in
     subst (λ d. is_nested d ≡ true) (sym (part_data c.self.inside.element c.args.self.now v c.self.view_is))
-    (kind_nested v.0 (sym (c.is_null.ensures v.0 v.1) ∙ c.if-is_null.false) (c.in_default.ensures v.0 v.1) (c.in_default-2.ensures v.0 v.1) (c.in-None.ensures v.0 v.1))
+    (kind_nested v.0 (sym (c.is_null.ensures v.0 v.1) ∙ c.if-is_null.false) (c.in_default.ensures v.0 v.1) (c.in_default-as_number.ensures v.0 v.1) (c.in-None.ensures v.0 v.1))

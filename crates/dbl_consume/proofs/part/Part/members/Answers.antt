@@ -16,3 +16,8 @@ returns-in-Ok c =
     let v = c.self.invariant in
     let shape = c.in-Some.ensures v.0 v.1 in
     ap (λ ms. Some (put_all ms no_members)) (c.in-Ok.ensures shape.0 shape.2) ∙ sym (object_found v.0 shape.0 shape.1) ∙ ap as_object (sym (part_data c.self.inside.element c.args.self.now v c.self.view_is))
+
+pub returns-in_default : goal.returns-in_default
+returns-in_default c =
+    let v = c.self.invariant in
+    sym (ap as_object (part_data c.self.inside.element c.args.self.now v c.self.view_is) ∙ no_object v.0 (c.in_default.ensures v.0 v.1))

@@ -3,7 +3,7 @@ use Rattle.std.specs.Vec.Iter.{into_iter_items}
 use Rattle.dbl_consume.specs.Cells.{cells_data}
 use Rattle.dbl_consume.specs.JsonValues.{put_all}
 use Rattle.dbl_consume.proofs.CellLemmas.{one_put, no_cells}
-use Rattle.dbl_consume.proofs.cells.by_name.Goals as goal
+use Rattle.dbl_consume.proofs.cells.index_cells.Goals as goal
 
 pub loop-name-preserved : goal.loop-name-preserved
 loop-name-preserved c =

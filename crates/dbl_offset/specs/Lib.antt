@@ -4,3 +4,4 @@ pub mod Slots
 pub mod Stores
 pub mod Reading
 pub mod Measures
+pub mod Keeps

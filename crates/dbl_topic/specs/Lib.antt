@@ -4,3 +4,5 @@ pub mod Memory
 pub mod Held
 pub mod Faults
 pub mod SinkLaws
+pub mod Model
+pub mod Keeps

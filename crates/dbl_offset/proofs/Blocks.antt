@@ -7,7 +7,8 @@ use Rattle.std.proofs.lemmas.Bool.{cases_lt}
 use Rattle.std.specs.Int.{to_be_bytes, from_be_bytes, w32}
 use Rattle.dbl_disk.specs.Disks.{Torn, written}
 use Rattle.dbl_disk.proofs.Tears.{inside_written, length-written, outside_one, torn_written}
-use Rattle.dbl_offset.specs.Slots.{HasByteAt, HasSelectedEntry, HasSlotContent, IsOutsideSlot, KeepsOutsideSlot, SelectsSlot, block_start, slot_content}
+use Rattle.dbl_offset_content.specs.Entries.{slot_content}
+use Rattle.dbl_offset.specs.Slots.{HasByteAt, HasSelectedEntry, HasSlotContent, IsOutsideSlot, KeepsOutsideSlot, SelectsSlot, block_start}
 use Rattle.dbl_offset.specs.Slots.{store_magic}
 
 -- the first blocks of the slot have this content

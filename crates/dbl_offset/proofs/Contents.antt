@@ -5,7 +5,8 @@ use Rattle.std.proofs.lemmas.List.{get_or_append_left, get_or-append_right, get_
 use Rattle.std.proofs.lemmas.Nat.{div-add-mod', mod_below, from_be_bytes-to_be_bytes_4}
 use Rattle.std.proofs.lemmas.Bool.{cases_lt}
 use Rattle.std.specs.Int.{to_be_bytes, from_be_bytes, w32}
-use Rattle.dbl_offset.specs.Slots.{HasByteAt, HasSlotContent, ReachesInSlot, block_start, slot_content}
+use Rattle.dbl_offset_content.specs.Entries.{slot_content}
+use Rattle.dbl_offset.specs.Slots.{HasByteAt, HasSlotContent, ReachesInSlot, block_start}
 use Rattle.dbl_offset.proofs.Blocks.{length-slot_content}
 
 -- what a read moved into the buffer

@@ -3,7 +3,8 @@ use Rattle.std.proofs.Common.{◌≡◌, ◌≢◌, ◌∙◌, ℕ, ◌+◌, ◌
 use Rattle.std.proofs.Common.{refl, sym, ap, arith, length-append}
 use Rattle.std.proofs.lemmas.List.{append-nil, drop_all, get_or-append_right, get_or-replicate, take_all, take_at, take_min, take-take}
 use Rattle.dbl_disk.specs.Disks.{written}
-use Rattle.dbl_offset.specs.Slots.{HasNoSelector, HasSelectedEntry, HasSlotContent, HasWrongMagic, SelectsSlot, block_start, empty_store, slot_content}
+use Rattle.dbl_offset_content.specs.Entries.{slot_content}
+use Rattle.dbl_offset.specs.Slots.{HasNoSelector, HasSelectedEntry, HasSlotContent, HasWrongMagic, SelectsSlot, block_start, empty_store}
 use Rattle.dbl_offset.specs.Slots.{store_magic}
 use Rattle.dbl_offset.proofs.Blocks.{length-slot_content}
 use Rattle.dbl_offset.proofs.Contents.{moved_at}

@@ -1,9 +1,3 @@
-pub mod FieldLaws
-pub mod Many
-pub mod CellLaws
-pub mod TableLaws
-pub mod OffsetLaws
-pub mod Sizes
 pub mod Blocks
 pub mod Contents
 pub mod Heads

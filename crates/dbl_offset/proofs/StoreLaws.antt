@@ -10,17 +10,17 @@ use Rattle.std.proofs.lemmas.Nat.{be_bytes_4, div-add-mod', from_be_bytes-to_be_
 use Rattle.dbl_disk.specs.Model.{DiskModel}
 use Rattle.dbl_record.specs.declared.error.RecordError.{RecordError}
 use Rattle.dbl_record.proofs.FieldLaws.{IsBytes, IsBytes-drop, IsBytes-take}
-use Rattle.dbl_offset.specs.declared.offset.Offset.{Offset}
-use Rattle.dbl_offset.specs.Entries.{offset_bytes_form}
-use Rattle.dbl_offset.specs.Offsets.{EncodesOffset, IsOffsetEntry}
-use Rattle.dbl_offset.specs.Reading.{whole}
-use Rattle.dbl_offset.specs.Slots.{HasNoSelector, HasSelectedEntry, HasSlotContent, HasWrongMagic, ReachesInSlot, SelectsSlot, block_start, slot_content}
+use Rattle.dbl_offset_content.specs.declared.offset.Offset.{Offset}
+use Rattle.dbl_offset_content.specs.Entries.{offset_bytes_form, slot_content}
+use Rattle.dbl_offset_content.specs.Offsets.{EncodesOffset, IsOffsetEntry}
+use Rattle.dbl_offset_content.specs.Reading.{whole}
+use Rattle.dbl_offset.specs.Slots.{HasNoSelector, HasSelectedEntry, HasSlotContent, HasWrongMagic, ReachesInSlot, SelectsSlot, block_start}
 use Rattle.dbl_offset.specs.Slots.{store_magic}
 use Rattle.dbl_offset.specs.Stores.{BeginsTorn, HasBadOffset, HoldsOffset, IsSlotEntry, IsNoStoreAt, IsStore, LeavesOffset, StoreOn, StoresOffset, disk_of}
 use Rattle.dbl_offset.proofs.Blocks.{length-slot_content, one_entry, one_slot}
 use Rattle.dbl_offset.proofs.Contents.{HasFour, all_there, entry_of, is_content, last_there, same_length}
 use Rattle.dbl_offset.proofs.Heads.{length-store_magic, magic_front, no_selector}
-use Rattle.dbl_offset.proofs.OffsetLaws.{no_entry, one_offset, whole_takes}
+use Rattle.dbl_offset_content.proofs.OffsetLaws.{no_entry, one_offset, whole_takes}
 
 -- ---- entries
 

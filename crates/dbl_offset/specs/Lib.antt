@@ -1,7 +1,6 @@
-pub mod Entries
-pub mod Offsets
+pub use Rattle.dbl_offset_content.specs.Entries
+pub use Rattle.dbl_offset_content.specs.Measures
+pub use Rattle.dbl_offset_content.specs.Offsets
 pub mod Slots
 pub mod Stores
-pub mod Reading
-pub mod Measures
 pub mod Keeps

@@ -1,7 +1,7 @@
 -- The bytes of an offset store: a magic, a selector, and two slots, of which the selected one counts.
 use Rattle.std.specs.Prelude.{◌≡◌, ◌≢◌, ℕ, ◌+◌, ◌*◌, ◌%◌, ◌<◌, ◌≤◌, List, [], ◌∷◌, ◌++◌, length, take, replicate, slice_index}
-use Rattle.std.specs.Int.{to_be_bytes, w32}
-use Rattle.dbl_offset.specs.Measures.{offset_limit}
+use Rattle.dbl_offset_content.specs.Entries.{slot_content}
+use Rattle.dbl_offset_content.specs.Measures.{offset_limit}
 
 -- ---- the layout
 
@@ -12,10 +12,6 @@ store_magic = 68 ∷ 66 ∷ 76 ∷ 79 ∷ 70 ∷ 70 ∷ 83 ∷ 50 ∷ []
 -- The position at which a slot's block with this number begins. The blocks of the two slots alternate, after a head of 16 bytes.
 abbrev pub block_start : ℕ → ℕ → ℕ
 block_start slot block = 16 + 8192 * block + 4096 * slot
-
--- The content of a slot: the length of an entry in four bytes, big-endian, and the entry, which is empty if no offset is stored.
-unfoldable pub slot_content : List ℕ → List ℕ
-slot_content entry = to_be_bytes w32 (length entry) ++ entry
 
 -- The bytes of a store that was just made: the magic, selector 0, seven zeros, and the length 0 of slot 0.
 abbrev pub empty_store : List ℕ

@@ -3,9 +3,9 @@ use Rattle.std.specs.Prelude.{◌≡◌, ◌≢◌, ◌⊎◌, ℕ, ◌+◌, ◌
 use Rattle.dbl_disk.specs.Calls.{WritesDisk}
 use Rattle.dbl_disk.specs.Disks.{IsOnly, Torn}
 use Rattle.dbl_disk.specs.Model.{DiskModel}
-use Rattle.dbl_offset.specs.declared.offset.Offset.{Offset}
-use Rattle.dbl_offset.specs.Entries.{offset_bytes_form}
-use Rattle.dbl_offset.specs.Offsets.{EncodesOffset, IsOffsetEntry}
+use Rattle.dbl_offset_content.specs.declared.offset.Offset.{Offset}
+use Rattle.dbl_offset_content.specs.Entries.{offset_bytes_form}
+use Rattle.dbl_offset_content.specs.Offsets.{EncodesOffset, IsOffsetEntry}
 use Rattle.dbl_offset.specs.Slots.{HasBadContent, HasNoSelector, HasSelectedEntry, HasWrongMagic}
 
 -- ---- on bytes

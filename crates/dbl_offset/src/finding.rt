@@ -5,18 +5,18 @@ ghost use Rattle.std.specs.Prelude.{◌≤◌, List, length, take, slice_index, 
 ghost use Rattle.std.specs.Int.{to_be_bytes, w32};
 ghost use Rattle.dbl_base.specs.Streams.{FailsOnlyIfCounted};
 ghost use Rattle.dbl_disk.specs.Disks.{IsOnly};
-ghost use Rattle.dbl_offset.specs.Measures.{offset_limit};
+ghost use Rattle.dbl_offset_content.specs.Entries.{slot_content};
+ghost use Rattle.dbl_offset_content.specs.Measures.{offset_limit};
 ghost use Rattle.dbl_offset.specs.Slots.{HasByteAt, HasNoSelector};
 ghost use Rattle.dbl_offset.specs.Slots.{HasSelectedEntry, HasSlotContent, HasWrongMagic};
-ghost use Rattle.dbl_offset.specs.Slots.{ReachesInSlot, SelectsSlot, block_start, slot_content};
+ghost use Rattle.dbl_offset.specs.Slots.{ReachesInSlot, SelectsSlot, block_start};
 ghost use Rattle.dbl_offset.specs.Slots.{store_magic};
 ghost use Rattle.dbl_offset.specs.Stores.{IsNoStoreAt};
 
 use crate::OffsetError;
-use crate::measuring::OFFSET_LIMIT;
 use crate::slots::{BLOCK, block_end};
-use crate::writing::LENGTH_BYTES;
 use dbl_disk::Disk;
+use dbl_offset_content::{LENGTH_BYTES, OFFSET_LIMIT};
 use std::alloc::Global;
 
 const MAGIC: [u8; 8] = *b"DBLOFFS2";

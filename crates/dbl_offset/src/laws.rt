@@ -1,24 +1,13 @@
-//! Theorems about offsets and their stores, as contracts of empty functions.
+//! Theorems about stores of offsets, as contracts of empty functions.
 
 ghost use Rattle.std.specs.Prelude.{◌≡◌, ◌⊎◌, ℕ, ◌<◌, ◌≤◌, Option, Some, None, List, [], length};
 ghost use Rattle.std.specs.Prelude.{max, slice_index};
-ghost use Rattle.dbl_offset.specs.declared.offset.Offset.{Offset};
-ghost use Rattle.dbl_offset.specs.Entries.{FitsOffset, offset_bytes_form};
-ghost use Rattle.dbl_offset.specs.Offsets.{IsOffset, EncodesOffset};
+ghost use Rattle.dbl_offset_content.specs.declared.offset.Offset.{Offset};
 ghost use Rattle.dbl_offset.specs.Stores.{BeginsTorn, ExtendsOffsets, HasBadOffset};
 ghost use Rattle.dbl_offset.specs.Stores.{HoldsOffset, IsNoStoreAt, IsStore, LeavesOffset};
 ghost use Rattle.dbl_offset.specs.Stores.{MayLeaveOffset, StoreOn, disk_of, greatest_room};
 
 use dbl_disk::Disk;
-
-/// Bytes encode at most one offset, and each valid offset that the format can represent has its
-/// bytes.
-pub fn offsets_are_spelled_once()
-    ensures one { (bytes : List ℕ) (first second : Offset) → EncodesOffset bytes first →
-        EncodesOffset bytes second → first ≡ second }
-    ensures spelled { (offset : Offset) → IsOffset offset → FitsOffset offset →
-        EncodesOffset (offset_bytes_form offset) offset }
-{}
 
 /// Bytes are a store of at most one offset, or of none.
 pub fn stores_are_read_once()

@@ -4,9 +4,10 @@ ghost use Rattle.std.specs.Prelude.{◌≡◌, ◌⊎◌, ℕ, ◌+◌, ◌-◌,
 ghost use Rattle.std.specs.Prelude.{length, max, Some, IsErr, OnOk};
 ghost use Rattle.dbl_base.specs.Streams.{FailsOnlyIfCounted};
 ghost use Rattle.dbl_disk.specs.Disks.{Follows, IsOnly, Torn, written};
-ghost use Rattle.dbl_offset.specs.Measures.{offset_limit};
+ghost use Rattle.dbl_offset_content.specs.Entries.{slot_content};
+ghost use Rattle.dbl_offset_content.specs.Measures.{offset_limit};
 ghost use Rattle.dbl_offset.specs.Slots.{HasSelectedEntry, HasSlotContent, KeepsOutsideSlot};
-ghost use Rattle.dbl_offset.specs.Slots.{empty_store, slot_content};
+ghost use Rattle.dbl_offset.specs.Slots.{empty_store};
 
 use dbl_base::Failed;
 use dbl_disk::Disk;

@@ -3,23 +3,21 @@ ghost use Rattle.std.specs.Prelude.{option_map, Option, Some, None, Ok, Err, IfO
 ghost use Rattle.std.specs.Prelude.{IfSome, OnOk, OnErr, MatchResult};
 ghost use Rattle.dbl_disk.specs.Calls.{Keeps, Makes};
 ghost use Rattle.dbl_disk.specs.Disks.{Follows, IsOnly};
-ghost use Rattle.dbl_offset.specs.declared.offset.Offset.{Offset};
-ghost use Rattle.dbl_offset.specs.Entries.{offset_bytes_form};
-ghost use Rattle.dbl_offset.specs.Measures.{capped, offset_limit};
-ghost use Rattle.dbl_offset.specs.Offsets.{IsOffset, IsOffsetEntry};
+ghost use Rattle.dbl_offset_content.specs.declared.offset.Offset.{Offset};
+ghost use Rattle.dbl_offset_content.specs.Entries.{offset_bytes_form};
+ghost use Rattle.dbl_offset_content.specs.Measures.{capped, offset_limit};
+ghost use Rattle.dbl_offset_content.specs.Offsets.{IsOffset, IsOffsetEntry};
 ghost use Rattle.dbl_offset.specs.Slots.{HasSelectedEntry};
 ghost use Rattle.dbl_offset.specs.Stores.{BeginsTorn, ExtendsOffsets, HasBadOffset, HoldsOffset};
 ghost use Rattle.dbl_offset.specs.Stores.{IsLive, IsNoStoreAt, IsSlotEntry, IsStore, LeavesOffset};
 ghost use Rattle.dbl_offset.specs.Stores.{PutLeaves, disk_of, least_room, room_of};
 
-use crate::decoding::decode;
+use crate::OffsetError;
 use crate::finding::find;
-use crate::measuring::{OFFSET_LIMIT, measure};
 use crate::slots::{start, write_slot};
-use crate::writing::{LENGTH_BYTES, encode};
-use crate::{Offset, OffsetError};
 use dbl_base::Failed;
 use dbl_disk::{Disk, Refused};
+use dbl_offset_content::{LENGTH_BYTES, OFFSET_LIMIT, Offset, decode, encode, measure};
 use dbl_record::RecordError;
 use std::alloc::Global;
 use std::marker::Model;
@@ -41,7 +39,7 @@ pub struct OffsetStore<D: Disk> {
 
 impl<D: Disk> Model for OffsetStore<D> {
     ghost use Rattle.std.specs.Prelude.{◌<◌, IfSome};
-    ghost use Rattle.dbl_offset.specs.Offsets.{IsOffset};
+    ghost use Rattle.dbl_offset_content.specs.Offsets.{IsOffset};
     ghost use Rattle.dbl_offset.specs.Stores.{StoreOn};
 
     ghost Value = { StoreOn D };

@@ -2,7 +2,7 @@ use Rattle.std.proofs.Common.{◌≡◌, ◌∙◌, ◌+◌, ℕ, drop, Result, 
 use Rattle.std.proofs.lemmas.Result.{err_from_is_err_and}
 use Rattle.dbl_offset.specs.declared.error.OffsetError.{OffsetError}
 use Rattle.dbl_offset.specs.declared.error.OffsetError.TheVariants as error
-use Rattle.dbl_offset.specs.Slots.{slot_content}
+use Rattle.dbl_offset_content.specs.Entries.{slot_content}
 use Rattle.dbl_offset.proofs.Blocks.{length-slot_content}
 use Rattle.dbl_offset.proofs.Contents.{all_there, is_content, last_there, same_count}
 use Rattle.dbl_offset.proofs.StoreLaws.{err_one}

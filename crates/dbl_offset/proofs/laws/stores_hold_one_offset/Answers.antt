@@ -1,5 +1,5 @@
 use Rattle.std.proofs.Common.{◌≡◌, ◌⊎◌, Option, Some, List, ℕ, subst}
-use Rattle.dbl_offset.specs.declared.offset.Offset.{Offset}
+use Rattle.dbl_offset_content.specs.declared.offset.Offset.{Offset}
 use Rattle.dbl_offset.specs.Stores.{IsStore}
 use Rattle.dbl_offset.proofs.StoreLaws.{one_store, store_of}
 use Rattle.dbl_offset.proofs.laws.stores_hold_one_offset.Goals as goal

@@ -2,7 +2,8 @@ use Rattle.std.proofs.Common.{◌≡◌, ◌∙◌, ◌⊎◌, ◌<◌, ◌≤�
 use Rattle.std.proofs.lemmas.Nat.{div-add-mod', mod_below}
 use Rattle.std.proofs.lemmas.Result.{on_ok_weaker}
 use Rattle.dbl_disk.specs.Disks.{Torn, written}
-use Rattle.dbl_offset.specs.Slots.{HasSelectedEntry, HasSlotContent, KeepsOutsideSlot, slot_content}
+use Rattle.dbl_offset_content.specs.Entries.{slot_content}
+use Rattle.dbl_offset.specs.Slots.{HasSelectedEntry, HasSlotContent, KeepsOutsideSlot}
 use Rattle.dbl_offset.proofs.Blocks.{content_stays, entry_selected, entry_stays, length-slot_content, one_selected, selects_stays}
 use Rattle.dbl_offset.proofs.slots.write_slot.Goals as goal
 

@@ -2,7 +2,7 @@ use Rattle.std.proofs.Common.{◌≡◌, ◌≢◌, ◌⊎◌, ◌∙◌, ℕ, L
 use Rattle.std.proofs.lemmas.Result.{err_from_is_err_and}
 use Rattle.dbl_offset.specs.declared.error.OffsetError.{OffsetError}
 use Rattle.dbl_offset.specs.declared.error.OffsetError.TheVariants as error
-use Rattle.dbl_offset.specs.Offsets.{IsOffsetEntry}
+use Rattle.dbl_offset_content.specs.Offsets.{IsOffsetEntry}
 use Rattle.dbl_offset.specs.Slots.{HasSelectedEntry}
 use Rattle.dbl_offset.specs.Stores.{HasBadOffset, IsSlotEntry}
 use Rattle.dbl_offset.proofs.Contents.{entry_read}

@@ -4,12 +4,12 @@ use Rattle.std.proofs.lemmas.Nat.{div-add-mod'}
 use Rattle.std.proofs.lemmas.Result.{err_from_is_err_and}
 use Rattle.dbl_base.specs.Streams.{FaultCounted}
 use Rattle.dbl_offset.specs.declared.error.OffsetError.{OffsetError}
-use Rattle.dbl_offset.specs.Entries.{offset_bytes_form}
-use Rattle.dbl_offset.specs.Offsets.{EncodesOffset}
-use Rattle.dbl_offset.specs.Slots.{HasSelectedEntry, slot_content}
+use Rattle.dbl_offset_content.specs.Entries.{offset_bytes_form, slot_content}
+use Rattle.dbl_offset_content.specs.Offsets.{EncodesOffset}
+use Rattle.dbl_offset.specs.Slots.{HasSelectedEntry}
 use Rattle.dbl_offset.specs.Stores.{HoldsOffset, StoreOn}
 use Rattle.dbl_offset.proofs.Blocks.{length-slot_content}
-use Rattle.dbl_offset.proofs.OffsetLaws.{same_long}
+use Rattle.dbl_offset_content.proofs.OffsetLaws.{same_long}
 use Rattle.dbl_offset.proofs.StoreLaws.{leaves}
 use Rattle.dbl_offset.proofs.store.OffsetStore.store.Goals as goal
 

@@ -1,7 +1,0 @@
-use Rattle.std.proofs.Common.{◌≡◌, ◌++◌, drop}
-use Rattle.std.specs.List.{flat_map}
-use Rattle.dbl_offset.specs.Entries.{column}
-use Rattle.dbl_offset.proofs.writing.write_each_column.Given as goal
-
-abbrev pub invariant-loop-item : goal.invariant-loop-item
-invariant-loop-item l = l.out.items ++ flat_map column (drop l.item-index l.columns) ≡ l.fn.out.items ++ flat_map column l.columns

@@ -1,7 +1,0 @@
-use Rattle.std.proofs.Common.{◌≡◌, ◌++◌, drop}
-use Rattle.std.specs.List.{flat_map, zip}
-use Rattle.dbl_offset.specs.Entries.{entry}
-use Rattle.dbl_offset.proofs.writing.write_entries.Given as goal
-
-abbrev pub invariant-loop-i : goal.invariant-loop-i
-invariant-loop-i l = l.out.items ++ flat_map entry (drop l.i (zip l.infos l.cursors)) ≡ l.fn.out.items ++ flat_map entry (zip l.infos l.cursors)

@@ -1,0 +1,6 @@
+pub mod FieldLaws
+pub mod Many
+pub mod CellLaws
+pub mod TableLaws
+pub mod OffsetLaws
+pub mod Sizes

@@ -1,0 +1,12 @@
+use Rattle.std.proofs.Common.{◌≡◌, ◌-◌, length}
+use Rattle.std.specs.List.{zip}
+use Rattle.dbl_record.specs.GroupReading.{many_at}
+use Rattle.dbl_offset_content.specs.Reading.{table_cursor_at}
+use Rattle.dbl_record.proofs.Many.{with_front}
+use Rattle.dbl_offset_content.proofs.decoding.read_each_table.Given as goal
+
+abbrev pub invariant-loop : goal.invariant-loop
+invariant-loop l = record {
+  read : with_front table_cursor_at (zip l.infos.items l.cursors.items) (many_at table_cursor_at (l.count - l.counter) l.rest) ≡ many_at table_cursor_at l.count l.bytes;
+  long : length l.cursors.items ≡ length l.infos.items;
+}

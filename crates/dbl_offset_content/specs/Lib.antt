@@ -1,0 +1,4 @@
+pub mod Entries
+pub mod Offsets
+pub mod Reading
+pub mod Measures

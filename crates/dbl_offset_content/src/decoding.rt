@@ -1,0 +1,189 @@
+//! From an entry's bytes to its offset.
+
+ghost use Rattle.std.specs.Prelude.{◌≡◌, ◌⊎◌, ℕ, ◌^◌, ◌<◌, ◌≤◌, Err, Ok, IfOk, length, map};
+ghost use Rattle.std.specs.List.{list_any, zip};
+ghost use Rattle.dbl_record.specs.GroupReading.{Gives, many_at};
+ghost use Rattle.dbl_model_table.specs.Tables.{are_distinct, same_name};
+ghost use Rattle.dbl_offset_content.specs.declared.offset.Offset.{Offset};
+ghost use Rattle.dbl_offset_content.specs.Offsets.{IsOffsetEntry, EncodesOffset};
+ghost use Rattle.dbl_offset_content.specs.Reading.{table_cursor_at, identity_at, numbers_at};
+ghost use Rattle.dbl_offset_content.specs.Reading.{offset_at, tables_at, version_at, whole};
+
+use crate::cursors::read_entry;
+use crate::offset::Offset;
+use crate::reading::{NO_OFFSET, byte};
+use dbl_base::{Lsn, Seq};
+use dbl_model_history::Cursor;
+use dbl_model_table::{Identity, TableInfo};
+use dbl_record::RecordError;
+use dbl_record::fields::{read_number32, read_number64, read_text};
+use std::alloc::Global;
+
+/// The most tables of an offset.
+const TABLES: u32 = 64;
+
+/// The number of the format that is read and written.
+pub(crate) const VERSION: u8 = 1;
+
+#[tactic(auto, unfolding(crate::specs::Reading::version_at))]
+fn read_version(bytes: &[u8]) -> Result<&[u8], RecordError>
+    ensures { Gives (λ x. x.now) result (version_at bytes.now) }
+{
+    let (version, rest) = byte(bytes)?;
+    if version != VERSION {
+        return Err(NO_OFFSET);
+    }
+    Ok(rest)
+}
+
+#[tactic(auto, unfolding(crate::specs::Reading::identity_at))]
+fn read_identity(alloc: Global, bytes: &[u8]) -> Result<(Identity, &[u8]), RecordError>
+    ensures { Gives (λ x. (x.0, x.1.now)) result (identity_at bytes.now) }
+{
+    let (prefix, rest) = read_text(alloc, 0, bytes)?;
+    let (db, rest) = read_text(alloc, 0, rest)?;
+    let (placeholder, rest) = read_text(alloc, 0, rest)?;
+    let identity = Identity {
+        prefix,
+        db,
+        placeholder,
+    };
+    if !identity.is_good() {
+        return Err(NO_OFFSET);
+    }
+    Ok((identity, rest))
+}
+
+// The incarnation, the start, the LSN and the end LSN.
+#[derive(Clone, Copy)]
+struct Numbers {
+    incarnation: u64,
+    start: u64,
+    lsn: u64,
+    end_lsn: u64,
+}
+
+#[tactic(auto, unfolding(crate::specs::Reading::numbers_at))]
+fn read_numbers(bytes: &[u8]) -> Result<(Numbers, &[u8]), RecordError>
+    ensures { Gives (λ x. ((x.0.incarnation, x.0.start, x.0.lsn, x.0.end_lsn), x.1.now)) result
+        (numbers_at bytes.now) }
+{
+    let (incarnation, rest) = read_number64(0, bytes)?;
+    let (start, rest) = read_number64(0, rest)?;
+    let (lsn, rest) = read_number64(0, rest)?;
+    let (end_lsn, rest) = read_number64(0, rest)?;
+    if incarnation == 0 || incarnation > 1 << 63 || start > lsn {
+        return Err(NO_OFFSET);
+    }
+    let numbers = Numbers {
+        incarnation,
+        start,
+        lsn,
+        end_lsn,
+    };
+    Ok((numbers, rest))
+}
+
+// The tables, each with its progress at the same index.
+#[derive(Drop)]
+struct Tables {
+    infos: Vec<TableInfo>,
+    cursors: Vec<Cursor>,
+}
+
+fn read_each_table(
+    alloc: Global,
+    count: usize,
+    bytes: &[u8],
+) -> Result<(Tables, &[u8]), RecordError>
+    ensures read { Gives (λ x. (zip x.0.infos.items x.0.cursors.items, x.1.now)) result
+        (many_at table_cursor_at count bytes.now) }
+    ensures long { IfOk result (λ x. length x.0.cursors.items ≡ length x.0.infos.items) }
+{
+    let mut infos = Vec::new(alloc);
+    let mut cursors = Vec::new(alloc);
+    let mut rest = bytes;
+    for _ in 0..count {
+        let (info, cursor, after) = read_entry(alloc, rest)?;
+        infos.push(info)?;
+        cursors.push(cursor)?;
+        rest = after;
+    }
+    Ok((Tables { infos, cursors }, rest))
+}
+
+fn is_named_again(info: &TableInfo, others: &[TableInfo]) -> bool
+    ensures { result ≡ list_any (λ other. same_name info.now.name other.name) others.now }
+{
+    others.iter().any(|other| info.name == other.name)
+}
+
+// Each table is compared with each, as they are few.
+fn have_distinct_names(infos: &[TableInfo]) -> bool
+    ensures { result ≡ are_distinct same_name (map (λ info. info.name) infos.now) }
+{
+    for (i, info) in infos.iter().enumerate() {
+        if is_named_again(info, &infos[i + 1..]) {
+            return false;
+        }
+    }
+    true
+}
+
+#[tactic(auto, unfolding(crate::specs::Reading::tables_at))]
+fn read_tables(alloc: Global, bytes: &[u8]) -> Result<(Tables, &[u8]), RecordError>
+    ensures read { Gives (λ x. (zip x.0.infos.items x.0.cursors.items, x.1.now)) result
+        (tables_at bytes.now) }
+    ensures long { IfOk result (λ x. length x.0.cursors.items ≡ length x.0.infos.items) }
+{
+    let (count, rest) = read_number32(0, bytes)?;
+    if count == 0 || count > TABLES {
+        return Err(NO_OFFSET);
+    }
+    let (tables, rest) = read_each_table(alloc, count as usize, rest)?;
+    if !have_distinct_names(tables.infos.as_slice()) {
+        return Err(NO_OFFSET);
+    }
+    Ok((tables, rest))
+}
+
+#[tactic(auto, unfolding(crate::specs::Reading::offset_at))]
+fn read_offset(alloc: Global, bytes: &[u8]) -> Result<(Offset, &[u8]), RecordError>
+    ensures { Gives (λ x. (x.0, x.1.now)) result (offset_at bytes.now) }
+{
+    let rest = read_version(bytes)?;
+    let (identity, rest) = read_identity(alloc, rest)?;
+    let (numbers, rest) = read_numbers(rest)?;
+    let (tables, rest) = read_tables(alloc, rest)?;
+    let Tables { infos, cursors } = tables;
+    let offset = Offset {
+        identity,
+        incarnation: numbers.incarnation,
+        start: Lsn(numbers.start),
+        lsn: Lsn(numbers.lsn),
+        end_lsn: Lsn(numbers.end_lsn),
+        infos: Seq::make(infos),
+        cursors: Seq::make(cursors),
+    };
+    Ok((offset, rest))
+}
+
+#[tactic(auto, unfolding(crate::specs::Reading::whole, crate::specs::Reading::ended))]
+fn read_whole(alloc: Global, bytes: &[u8]) -> Result<Offset, RecordError>
+    ensures { Gives (λ o. o) result (whole bytes.now) }
+{
+    let (offset, rest) = read_offset(alloc, bytes)?;
+    if !rest.is_empty() {
+        return Err(NO_OFFSET);
+    }
+    Ok(offset)
+}
+
+/// The offset that the bytes encode.
+pub fn decode(alloc: Global, bytes: &[u8]) -> Result<Offset, RecordError>
+    ensures read { IfOk result (λ offset. EncodesOffset bytes.now offset) }
+    ensures refused { (at : ℕ) → result ≡ Err (RecordError.BadRecord at)
+        → ¬ IsOffsetEntry bytes.now }
+{
+    read_whole(alloc, bytes)
+}

@@ -10,7 +10,7 @@ ghost use Rattle.dbl_source.specs.SourceModel.Leaves.{Leaves, LeavesSome};
 ghost use Rattle.dbl_source.specs.SourceModel.Standings.{MovesTo, CrashState};
 ghost use Rattle.dbl_source.specs.SourceModel.Standings.{SourceState, HasState};
 ghost use Rattle.dbl_source.specs.SourceModel.Trace.{Head, IsTakenBy, LastAnswerIs, Trace};
-ghost use Rattle.dbl_offset.specs.declared.offset.Offset.{Offset as SpecOffset};
+ghost use Rattle.dbl_offset_content.specs.declared.offset.Offset.{Offset as SpecOffset};
 ghost use Rattle.dbl_offset.specs.Offsets.{IsOffset};
 ghost use Rattle.dbl_offset.specs.Stores.{ExtendsOffsets, IsLive, disk_of};
 ghost use Rattle.dbl_capture_work.specs.CaptureModel.Entries.{SessionStart as SpecEntry};

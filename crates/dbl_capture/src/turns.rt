@@ -7,7 +7,7 @@ ghost use Rattle.dbl_record.specs.declared.record.Record.{Record as SpecRecord};
 ghost use Rattle.dbl_model_history.specs.Ranges.{IsMomentInRange};
 ghost use Rattle.dbl_source.specs.SourceModel.Standings.{CrashState, SourceState};
 ghost use Rattle.dbl_source.specs.SourceModel.Trace.{Trace};
-ghost use Rattle.dbl_offset.specs.declared.offset.Offset.{Offset as SpecOffset};
+ghost use Rattle.dbl_offset_content.specs.declared.offset.Offset.{Offset as SpecOffset};
 ghost use Rattle.dbl_offset.specs.Stores.{ExtendsOffsets, IsLive, disk_of};
 ghost use Rattle.dbl_capture_work.specs.Follow.declared.window.Window.TheVariants as windows;
 ghost use Rattle.dbl_capture_work.specs.CaptureModel.Entries.{SessionStart as SpecEntry};

@@ -14,7 +14,7 @@ use Rattle.dbl_capture_work.specs.ModelHistory.History.RawBody.{Changes, Mark}
 use Rattle.dbl_capture_work.specs.ModelHistory.MarkTexts.Side.{Low, High}
 use Rattle.dbl_capture_work.specs.SourceModel.Standings.{Reading, SourceState, CrashState}
 use Rattle.dbl_capture_work.specs.Offset.declared.offset.Offset.{Offset}
-use Rattle.dbl_capture_work.specs.Offset.Stores.{StoreOn}
+use Rattle.dbl_capture_work.specs.OffsetStore.Stores.{StoreOn}
 use Rattle.dbl_capture_work.proofs.FaithfulItems.{first_some, at_all, all_weaker}
 use Rattle.dbl_capture_work.specs.Faithful.Lag.{IsMarkedBy}
 use Rattle.dbl_capture_work.specs.Window.Plans.{Plan, Chunk}

@@ -17,7 +17,7 @@ use Rattle.dbl_capture_work.specs.SourceModel.Growth.{Grows}
 use Rattle.dbl_capture_work.specs.SourceModel.Standings.{Reading, SourceState, CrashState}
 use Rattle.dbl_capture_work.proofs.SourceModelGrowthLemmas.{grows_none, grows_on, no_mark_more}
 use Rattle.dbl_capture_work.specs.Offset.declared.offset.Offset.{Offset}
-use Rattle.dbl_capture_work.specs.Offset.Stores.{StoreOn, HoldsOffset, LeavesOffset, disk_of}
+use Rattle.dbl_capture_work.specs.OffsetStore.Stores.{StoreOn, HoldsOffset, LeavesOffset, disk_of}
 use Rattle.dbl_capture_work.proofs.FaithfulItems.{at_left, at_take, at_all, all_by_place, mapped, map_get, taken_at}
 use Rattle.dbl_capture_work.specs.Faithful.Lag.{IsUnread}
 use Rattle.dbl_capture_work.specs.Faithful.Kept.{IsTakenOver}

@@ -13,7 +13,7 @@ use Rattle.dbl_capture_work.specs.ModelHistory.Fit.{AreInfosOf, IsFitHistory}
 use Rattle.dbl_capture_work.specs.ModelHistory.History.{History, RawCommit}
 use Rattle.dbl_capture_work.specs.SourceModel.Standings.{SourceState, CrashState, left_of}
 use Rattle.dbl_capture_work.specs.Offset.declared.offset.Offset.{Offset}
-use Rattle.dbl_capture_work.specs.Offset.Stores.{HoldsOffset, StoreOn, disk_of}
+use Rattle.dbl_capture_work.specs.OffsetStore.Stores.{HoldsOffset, StoreOn, disk_of}
 use Rattle.dbl_capture_work.specs.Follow.declared.window.Window.{Window}
 use Rattle.dbl_capture_work.specs.Follow.declared.window.Window.TheVariants.{Absent}
 use Rattle.dbl_capture_work.specs.Follow.Followed.{Following}

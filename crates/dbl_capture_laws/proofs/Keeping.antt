@@ -12,7 +12,7 @@ use Rattle.dbl_capture_work.specs.SourceModel.Leaves.{MayFollow, MayFollowConfir
 use Rattle.dbl_capture_work.specs.SourceModel.Standings.{Reading, SourceState, CrashState, left_of}
 use Rattle.dbl_capture_work.specs.SourceModel.Calls.{Moved, IsConfirmed}
 use Rattle.dbl_capture_work.specs.Offset.declared.offset.Offset.{Offset}
-use Rattle.dbl_capture_work.specs.Offset.Stores.{StoreOn, HoldsOffset, IsStore, LeavesOffset, disk_of}
+use Rattle.dbl_capture_work.specs.OffsetStore.Stores.{StoreOn, HoldsOffset, IsStore, LeavesOffset, disk_of}
 use Rattle.dbl_capture_work.specs.Faithful.Kept.{HasGrown}
 use Rattle.dbl_capture_work.proofs.OffsetStoreLaws.{store_of}
 use Rattle.dbl_capture_work.proofs.WindowHonestLemmas.{captured_stays}

@@ -25,7 +25,7 @@ use Rattle.dbl_capture_work.specs.SourceModel.Standings.{Reading, SourceState, C
 use Rattle.dbl_capture_work.specs.SourceModel.Stated.{commits_after, to_state, IsReadRight}
 use Rattle.dbl_capture_work.proofs.SourceModelReadLemmas.{states_so_far}
 use Rattle.dbl_capture_work.specs.Offset.declared.offset.Offset.{Offset}
-use Rattle.dbl_capture_work.specs.Offset.Stores.{StoreOn, disk_of}
+use Rattle.dbl_capture_work.specs.OffsetStore.Stores.{StoreOn, disk_of}
 use Rattle.dbl_capture_work.proofs.FaithfulItems.{first_some}
 use Rattle.dbl_capture_work.proofs.FaithfulLists.{longer, is_longer}
 use Rattle.dbl_capture_work.proofs.WindowHonestLemmas.{captured_stays}

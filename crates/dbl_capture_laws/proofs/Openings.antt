@@ -10,7 +10,7 @@ use Rattle.dbl_capture_work.specs.SourceModel.Leaves.{MayFollow}
 use Rattle.dbl_capture_work.specs.SourceModel.Standings.{SourceState, CrashState, left_of}
 use Rattle.dbl_capture_work.proofs.SourceModelGrowthLemmas.{grows_none}
 use Rattle.dbl_capture_work.specs.Offset.declared.offset.Offset.{Offset}
-use Rattle.dbl_capture_work.specs.Offset.Stores.{StoreOn, HoldsOffset, LeavesOffset, disk_of}
+use Rattle.dbl_capture_work.specs.OffsetStore.Stores.{StoreOn, HoldsOffset, LeavesOffset, disk_of}
 use Rattle.dbl_capture_work.specs.CaptureModel.Entries.{SessionStart}
 use Rattle.dbl_capture_work.specs.Begins.{MayRest}
 use Rattle.dbl_capture_laws.specs.Found.{BeganAt, BeginsAt, Found, IsFound, session_start_at}

@@ -23,7 +23,7 @@ use Rattle.dbl_capture_work.specs.SourceModel.Standings.{Reading, SourceState}
 use Rattle.dbl_capture_work.specs.SourceModel.Stated.{IsReadRight}
 use Rattle.dbl_capture_work.specs.SourceModel.Trace.{Trace}
 use Rattle.dbl_capture_work.specs.Offset.declared.offset.Offset.{Offset}
-use Rattle.dbl_capture_work.specs.Offset.Stores.{StoreOn}
+use Rattle.dbl_capture_work.specs.OffsetStore.Stores.{StoreOn}
 use Rattle.dbl_capture_work.specs.SourceLog.declared.error.SourceError.{SourceError}
 use Rattle.dbl_capture_work.specs.SourceLog.declared.error.SourceError.TheVariants as source
 use Rattle.dbl_capture_work.specs.Faithful.Faithful.{IsFaithful}

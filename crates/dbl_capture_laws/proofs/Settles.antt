@@ -11,7 +11,7 @@ use Rattle.dbl_capture_work.specs.SourceModel.Growth.{HasChanges, AreOthers, Gro
 use Rattle.dbl_capture_work.specs.SourceModel.Leaves.{MayFollow, MayFollowConfirm}
 use Rattle.dbl_capture_work.specs.SourceModel.Standings.{Reading, SourceState, CrashState, left_of}
 use Rattle.dbl_capture_work.specs.Offset.declared.offset.Offset.{Offset}
-use Rattle.dbl_capture_work.specs.Offset.Stores.{StoreOn, HoldsOffset, LeavesOffset, disk_of}
+use Rattle.dbl_capture_work.specs.OffsetStore.Stores.{StoreOn, HoldsOffset, LeavesOffset, disk_of}
 use Rattle.dbl_capture_work.specs.Follow.Followed.{Following}
 use Rattle.dbl_capture_work.specs.CaptureModel.Entries.{SessionStart, WasFaithful}
 use Rattle.dbl_capture_work.specs.CaptureModel.Stages.{Stage, next_offset}

@@ -16,7 +16,7 @@ use Rattle.dbl_capture_work.specs.ModelHistory.Typed.{typed_commit}
 use Rattle.dbl_capture_work.specs.ModelCommit.Stated.{commits_of}
 use Rattle.dbl_capture_work.specs.SourceModel.Standings.{Reading, SourceState}
 use Rattle.dbl_capture_work.specs.Offset.declared.offset.Offset.{Offset}
-use Rattle.dbl_capture_work.specs.Offset.Stores.{StoreOn}
+use Rattle.dbl_capture_work.specs.OffsetStore.Stores.{StoreOn}
 use Rattle.dbl_capture_work.proofs.FaithfulItems.{all_by_place, at_all, at_left, at_right, first_some, mapped, taken_at}
 use Rattle.dbl_capture_work.specs.Window.Plans.{Chunk, high_text}
 use Rattle.dbl_capture_work.specs.Follow.declared.window.Window.{Window}

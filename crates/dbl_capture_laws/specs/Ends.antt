@@ -6,7 +6,7 @@ use Rattle.dbl_capture_work.specs.Disk.Model.{DiskModel}
 use Rattle.dbl_capture_work.specs.ModelHistory.declared.cursor.Cursor.{Cursor}
 use Rattle.dbl_capture_work.specs.SourceModel.Standings.{CrashState}
 use Rattle.dbl_capture_work.specs.Offset.declared.offset.Offset.{Offset}
-use Rattle.dbl_capture_work.specs.Offset.Stores.{HoldsOffset, StoreOn, LeavesOffset, disk_of}
+use Rattle.dbl_capture_work.specs.OffsetStore.Stores.{HoldsOffset, StoreOn, LeavesOffset, disk_of}
 use Rattle.dbl_capture_work.specs.Follow.declared.window.Window.{Window}
 use Rattle.dbl_capture_work.specs.Follow.declared.window.Window.TheVariants.{Absent, Armed, Open}
 use Rattle.dbl_capture_work.specs.CaptureModel.Entries.{SessionStart, WasFaithful}

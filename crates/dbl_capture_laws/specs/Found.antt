@@ -9,7 +9,7 @@ use Rattle.dbl_capture_work.specs.SourceModel.Calls.{Moved}
 use Rattle.dbl_capture_work.specs.SourceModel.Growth.{Grows}
 use Rattle.dbl_capture_work.specs.SourceModel.Standings.{SourceState}
 use Rattle.dbl_capture_work.specs.Offset.declared.offset.Offset.{Offset}
-use Rattle.dbl_capture_work.specs.Offset.Stores.{StoreOn, HoldsOffset}
+use Rattle.dbl_capture_work.specs.OffsetStore.Stores.{StoreOn, HoldsOffset}
 use Rattle.dbl_capture_work.specs.Faithful.Onward.{IsFirstOffset}
 use Rattle.dbl_capture_work.specs.CaptureModel.Entries.{SessionStart}
 use Rattle.dbl_capture_work.specs.CaptureModel.Going.{BeganWith}

@@ -4,6 +4,7 @@ pub use Rattle.dbl_capture_work.specs.Follow
 pub use Rattle.dbl_capture_work.specs.Window
 pub use Rattle.dbl_capture_work.specs.Faithful
 pub use Rattle.dbl_capture_work.specs.Offset
+pub use Rattle.dbl_capture_work.specs.OffsetStore
 pub use Rattle.dbl_capture_work.specs.ConsumeLaws
 pub mod Sessions
 pub mod Turns

@@ -7,7 +7,7 @@ use Rattle.dbl_capture_work.specs.Disk.Model.{DiskModel}
 use Rattle.dbl_capture_work.specs.ModelHistory.Fit.{AreInfosOf}
 use Rattle.dbl_capture_work.specs.ModelHistory.History.{History}
 use Rattle.dbl_capture_work.specs.Offset.declared.offset.Offset.{Offset}
-use Rattle.dbl_capture_work.specs.Offset.Stores.{StoreOn, HoldsOffset, LeavesOffset, disk_of}
+use Rattle.dbl_capture_work.specs.OffsetStore.Stores.{StoreOn, HoldsOffset, LeavesOffset, disk_of}
 use Rattle.dbl_capture_work.specs.SourceModel.Growth.{marks_in}
 use Rattle.dbl_capture_work.specs.SourceModel.Standings.{SourceState, CrashState}
 use Rattle.dbl_capture_work.specs.CaptureModel.Entries.{SessionStart, WasFaithful}

@@ -5,7 +5,7 @@ use Rattle.dbl_model_table.specs.declared.change.Commit.{Commit}
 use Rattle.dbl_capture_work.specs.Disk.Model.{DiskModel}
 use Rattle.dbl_capture_work.specs.SourceModel.Stated.{to_state}
 use Rattle.dbl_capture_work.specs.SourceModel.Standings.{SourceState}
-use Rattle.dbl_capture_work.specs.Offset.Stores.{StoreOn}
+use Rattle.dbl_capture_work.specs.OffsetStore.Stores.{StoreOn}
 use Rattle.dbl_capture_work.specs.CaptureModel.Entries.{SessionStart}
 use Rattle.dbl_capture_work.specs.CaptureModel.Stages.{read_at, next_offset}
 use Rattle.dbl_capture_work.specs.declared.halt.Halt.{Halt}

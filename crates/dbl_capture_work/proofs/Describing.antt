@@ -27,7 +27,7 @@ use Rattle.dbl_source_model.specs.Calls.{IsHead, Moved}
 use Rattle.dbl_source_model.specs.Leaves.{MayFollow}
 use Rattle.dbl_source_model.specs.Standings.{SourceState, CrashState}
 use Rattle.dbl_source_model.proofs.GrowthLemmas.{grows_on}
-use Rattle.dbl_offset.specs.declared.offset.Offset.{Offset}
+use Rattle.dbl_offset_content.specs.declared.offset.Offset.{Offset}
 use Rattle.dbl_offset.specs.Offsets.{IsOffset}
 use Rattle.dbl_capture_model.proofs.FaithfulItems.{all_weaker}
 use Rattle.dbl_capture_model.specs.Faithful.Lag.{IsUnread}

@@ -10,7 +10,7 @@ use Rattle.dbl_source_model.specs.Trace.{Trace, IsTakenBy}
 use Rattle.dbl_source_model.proofs.GrowthLemmas.{grows_on}
 use Rattle.dbl_offset.specs.declared.error.OffsetError.{OffsetError}
 use Rattle.dbl_offset.specs.declared.error.OffsetError.TheVariants as offset
-use Rattle.dbl_offset.specs.declared.offset.Offset.{Offset}
+use Rattle.dbl_offset_content.specs.declared.offset.Offset.{Offset}
 use Rattle.dbl_offset.specs.Entries.{offset_bytes_form}
 use Rattle.dbl_offset.specs.Measures.{capped}
 use Rattle.dbl_source.specs.SourceLog.declared.error.SourceError.{SourceError}

@@ -5,7 +5,7 @@ use Rattle.dbl_model_table.specs.declared.table.TableInfo.{TableInfo}
 use Rattle.dbl_model_history.specs.Cursors.{AreCursorsOf}
 use Rattle.dbl_model_commit.specs.Stated.{open_changes}
 use Rattle.dbl_txn.specs.Stands.{Stands, StandsWhole}
-use Rattle.dbl_offset.specs.declared.offset.Offset.{Offset}
+use Rattle.dbl_offset_content.specs.declared.offset.Offset.{Offset}
 use Rattle.dbl_offset.specs.Offsets.{IsOffset}
 use Rattle.dbl_follow.specs.Followed.{Following}
 use Rattle.dbl_capture_model.specs.Steps.{following_of}

@@ -15,7 +15,7 @@ use Rattle.dbl_source_model.specs.Calls.{Moved}
 use Rattle.dbl_source_model.specs.Leaves.{MayFollow}
 use Rattle.dbl_source_model.specs.Standings.{SourceState, CrashState, left_of}
 use Rattle.dbl_source_model.specs.Trace.{Trace, Described}
-use Rattle.dbl_offset.specs.declared.offset.Offset.{Offset}
+use Rattle.dbl_offset_content.specs.declared.offset.Offset.{Offset}
 use Rattle.dbl_offset.specs.Entries.{offset_bytes_form}
 use Rattle.dbl_offset.specs.Measures.{capped, offset_limit}
 use Rattle.dbl_capture_model.specs.Faithful.Lag.{IsUnread}

@@ -21,7 +21,7 @@ use Rattle.dbl_envelope.specs.ModelEvent.Clashes.{clash_of}
 use Rattle.dbl_envelope.specs.ModelEvent.EventJson.{envelopes}
 use Rattle.dbl_envelope.specs.ModelEvent.Snapshots.{AreInKeyOrder}
 use Rattle.dbl_txn.specs.Stands.{StandsWhole}
-use Rattle.dbl_offset.specs.declared.offset.Offset.{Offset}
+use Rattle.dbl_offset_content.specs.declared.offset.Offset.{Offset}
 use Rattle.dbl_offset.specs.Offsets.{IsOffset}
 use Rattle.dbl_window.specs.Plans.{Plan, Chunk}
 use Rattle.dbl_follow.specs.declared.window.Window.{Window}

@@ -9,7 +9,7 @@ ghost use Rattle.dbl_source_model.specs.Standings.{SourceState, MovesTo};
 ghost use Rattle.dbl_source_model.specs.Calls.{Moved, IsHead, IsBegun};
 ghost use Rattle.dbl_source_model.specs.Leaves.{Leaves, LeavesSome, MayFollow};
 ghost use Rattle.dbl_source_model.specs.Trace.{Began, Head, IsTakenBy, IsTakenAnew, LastAnswerIs};
-ghost use Rattle.dbl_offset.specs.declared.offset.Offset.{Offset as SpecOffset};
+ghost use Rattle.dbl_offset_content.specs.declared.offset.Offset.{Offset as SpecOffset};
 ghost use Rattle.dbl_offset.specs.Entries.{offset_bytes_form};
 ghost use Rattle.dbl_offset.specs.Measures.{capped, offset_limit};
 ghost use Rattle.dbl_offset.specs.Offsets.{IsOffset};

@@ -13,7 +13,7 @@ use Rattle.dbl_consume_laws.specs.ModelHistory.KeyBounds.{IsUpTo}
 use Rattle.dbl_consume_laws.specs.ModelHistory.History.{AreRising, RawBody, RawCommit, History}
 use Rattle.dbl_consume_laws.specs.ModelHistory.History.RawBody.{Changes, Mark}
 use Rattle.dbl_consume_laws.proofs.ModelHistoryMomentLemmas.{lsns}
-use Rattle.dbl_offset.specs.declared.offset.Offset.{Offset}
+use Rattle.dbl_offset_content.specs.declared.offset.Offset.{Offset}
 use Rattle.dbl_consume_laws.specs.Commits.{moment_after, AreFitCommits}
 use Rattle.dbl_consume_laws.specs.Ages.{IsAged}
 use Rattle.dbl_consume_laws.specs.KnownKeys.{IsTold}

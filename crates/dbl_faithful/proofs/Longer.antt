@@ -11,7 +11,7 @@ use Rattle.dbl_consume_laws.specs.ModelHistory.History.{AreRising, RawCommit, Hi
 use Rattle.dbl_consume_laws.specs.ModelHistory.Typed.{typed_commit}
 use Rattle.dbl_consume_laws.specs.ModelHistory.Fit.{AreInfosOf, IsFitHistory}
 use Rattle.dbl_consume_laws.proofs.ModelHistoryMomentLemmas.{lsns}
-use Rattle.dbl_offset.specs.declared.offset.Offset.{Offset}
+use Rattle.dbl_offset_content.specs.declared.offset.Offset.{Offset}
 use Rattle.dbl_consume_laws.proofs.Notices.{all_append}
 use Rattle.dbl_consume_laws.specs.Commits.{AreFitCommits}
 use Rattle.dbl_consume_laws.proofs.Commits.{fit_commits}

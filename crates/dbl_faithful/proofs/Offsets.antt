@@ -10,7 +10,7 @@ use Rattle.dbl_model_table.specs.declared.table.TableInfo.{TableInfo}
 use Rattle.dbl_consume_laws.specs.ModelHistory.History.RawBody.{Changes, Mark}
 use Rattle.dbl_consume_laws.specs.ModelHistory.History.{RawBody, RawCommit, History}
 use Rattle.dbl_consume_laws.specs.ModelHistory.declared.cursor.Cursor.{Cursor}
-use Rattle.dbl_offset.specs.declared.offset.Offset.{Offset}
+use Rattle.dbl_offset_content.specs.declared.offset.Offset.{Offset}
 use Rattle.dbl_faithful.specs.ToldEvents.{ToldEvent, commits_since, events_since}
 use Rattle.dbl_faithful.proofs.Exact.{put_more}
 use Rattle.dbl_faithful.proofs.Items.{at_left, at_all, all_weaker, zip_weaker}

@@ -10,7 +10,7 @@ use Rattle.dbl_model_table.specs.declared.table.TableInfo.{TableInfo}
 use Rattle.dbl_model_table.specs.declared.change.Commit.{Commit}
 use Rattle.dbl_consume_laws.specs.ModelHistory.declared.cursor.Cursor.{Cursor}
 use Rattle.dbl_consume_laws.specs.ModelHistory.History.{History}
-use Rattle.dbl_offset.specs.declared.offset.Offset.{Offset}
+use Rattle.dbl_offset_content.specs.declared.offset.Offset.{Offset}
 use Rattle.dbl_consume_laws.specs.ModelEvent.Snapshots.{chunk_records}
 use Rattle.dbl_consume_laws.proofs.Notices.{all_append}
 use Rattle.dbl_faithful.specs.ToldEvents.{ToldEvent, commits_since, events_since, IsPrint}

@@ -11,7 +11,7 @@ use Rattle.dbl_consume_laws.specs.ModelHistory.Image.{IsImage}
 use Rattle.dbl_consume_laws.specs.ModelHistory.Fit.{IsFitHistory}
 use Rattle.dbl_consume_laws.specs.Laws.{HoldsJsonTexts}
 use Rattle.dbl_consume_laws.specs.Ages.{held_row}
-use Rattle.dbl_offset.specs.declared.offset.Offset.{Offset}
+use Rattle.dbl_offset_content.specs.declared.offset.Offset.{Offset}
 use Rattle.dbl_faithful.specs.Stores.{top_position}
 use Rattle.dbl_faithful.specs.Faithful.{captured_commits, IsFaithfulTo}
 

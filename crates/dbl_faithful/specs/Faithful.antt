@@ -8,7 +8,7 @@ use Rattle.dbl_model_table.specs.Rows.{moment_at}
 use Rattle.dbl_consume_laws.specs.ModelHistory.History.{RawBody, History}
 use Rattle.dbl_consume_laws.specs.ModelHistory.History.RawBody.{Changes, Mark}
 use Rattle.dbl_consume_laws.specs.ModelHistory.Typed.{typed}
-use Rattle.dbl_offset.specs.declared.offset.Offset.{Offset}
+use Rattle.dbl_offset_content.specs.declared.offset.Offset.{Offset}
 use Rattle.dbl_consume_laws.specs.Ages.{IsAged, HasNamedRows}
 use Rattle.dbl_faithful.specs.Agreements.{Agrees}
 use Rattle.dbl_faithful.specs.ToldEvents.{events_since}

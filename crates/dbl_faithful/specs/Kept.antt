@@ -5,7 +5,7 @@ use Rattle.dbl_base.specs.declared.lsn.Lsn.{Lsn}
 use Rattle.dbl_record.specs.declared.record.Record.{Record}
 use Rattle.dbl_consume_laws.specs.ModelHistory.History.{RawBody, RawCommit, History}
 use Rattle.dbl_consume_laws.specs.ModelHistory.Fit.{IsFitHistory}
-use Rattle.dbl_offset.specs.declared.offset.Offset.{Offset}
+use Rattle.dbl_offset_content.specs.declared.offset.Offset.{Offset}
 use Rattle.dbl_faithful.specs.Lag.{IsMarkedBy, IsOffsetOf, IsBehind}
 use Rattle.dbl_faithful.specs.Faithful.{HasNoMark, IsFaithfulTo, IsFaithful}
 

@@ -12,7 +12,7 @@ use Rattle.dbl_consume_laws.specs.ModelHistory.Typed.{typed}
 use Rattle.dbl_consume_laws.specs.ModelHistory.Fit.{AreInfosOf}
 use Rattle.dbl_consume_laws.specs.ModelHistory.MarkTexts.{Side, mark_text}
 use Rattle.dbl_consume_laws.specs.Prints.{ReportsProgress}
-use Rattle.dbl_offset.specs.declared.offset.Offset.{Offset}
+use Rattle.dbl_offset_content.specs.declared.offset.Offset.{Offset}
 use Rattle.dbl_faithful.specs.ToldEvents.{ToldEvent, events_since, HasRecordOfEvent}
 use Rattle.dbl_faithful.specs.Stores.{IsCommitAt, IsPositionOf}
 

@@ -12,7 +12,7 @@ use Rattle.dbl_consume_laws.specs.ModelHistory.declared.cursor.Cursor.{Cursor}
 use Rattle.dbl_consume_laws.specs.ModelHistory.History.{History}
 use Rattle.dbl_consume_laws.specs.ModelHistory.Fit.{AreInfosOf, IsFitHistory}
 use Rattle.dbl_consume_laws.specs.ModelHistory.Laws.{CommitsRise}
-use Rattle.dbl_offset.specs.declared.offset.Offset.{Offset}
+use Rattle.dbl_offset_content.specs.declared.offset.Offset.{Offset}
 use Rattle.dbl_consume_laws.specs.ModelEvent.declared.closed.Closed.{Closed}
 use Rattle.dbl_consume_laws.specs.ModelEvent.SnapshotLists.{IsSnapshot}
 use Rattle.dbl_consume_laws.specs.KnownKeys.{AreToldUpTo}

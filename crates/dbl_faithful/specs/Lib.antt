@@ -1,4 +1,4 @@
-pub use Rattle.dbl_offset.specs as Offset
+pub use Rattle.dbl_offset_content.specs as Offset
 pub use Rattle.dbl_consume_laws.specs as ConsumeLaws
 pub use Rattle.dbl_consume_laws.specs.ModelEvent
 pub use Rattle.dbl_consume_laws.specs.ModelHistory

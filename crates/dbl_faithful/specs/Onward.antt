@@ -8,7 +8,7 @@ use Rattle.dbl_model_table.specs.declared.row.Key.{Key}
 use Rattle.dbl_consume_laws.specs.ModelHistory.declared.cursor.Cursor.{Cursor}
 use Rattle.dbl_consume_laws.specs.ModelHistory.History.{History}
 use Rattle.dbl_consume_laws.specs.ModelHistory.KeyBounds.{IsUpTo}
-use Rattle.dbl_offset.specs.declared.offset.Offset.{Offset}
+use Rattle.dbl_offset_content.specs.declared.offset.Offset.{Offset}
 use Rattle.dbl_faithful.specs.Stores.{Stores, IsPositionOf}
 
 -- Whether the old list is a prefix of the new one.

@@ -6,7 +6,7 @@ use Rattle.dbl_base.specs.declared.lsn.Lsn.{Lsn}
 use Rattle.dbl_record.specs.declared.record.Record.{Record}
 use Rattle.dbl_record.specs.Places.{Place, IsTop}
 use Rattle.dbl_consume_laws.specs.ModelHistory.History.{RawCommit, History, IsRising}
-use Rattle.dbl_offset.specs.declared.offset.Offset.{Offset}
+use Rattle.dbl_offset_content.specs.declared.offset.Offset.{Offset}
 
 -- The stores of a connector: the source's history, the confirmed position up to which its log isn't needed, the records of the topic log,
 -- and the offset, if one is stored.

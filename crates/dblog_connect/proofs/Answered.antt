@@ -16,7 +16,7 @@ use Rattle.dbl_demo.specs.SourceModel.Stated.{commits_after}
 use Rattle.dbl_topic.specs.Held.{HoldsGroups}
 use Rattle.dbl_topic.specs.Logs.{IsLog}
 use Rattle.dbl_topic.specs.SinkLaws.{log_of, only_held}
-use Rattle.dbl_offset.specs.declared.offset.Offset.{Offset}
+use Rattle.dbl_offset_content.specs.declared.offset.Offset.{Offset}
 use Rattle.dbl_offset.specs.Stores.{IsStore, StoreOn, StoresOffset, disk_of}
 use Rattle.dbl_offset.proofs.StoreLaws.{store_of}
 use Rattle.dbl_demo.specs.DemoWal.Sound.{logged_in}

@@ -14,7 +14,7 @@ use Rattle.dbl_demo.proofs.SourceLogLogLemmas.{is_rising}
 use Rattle.dbl_demo.proofs.SourceLogSentLemmas.{reads_what_is_sent}
 use Rattle.dbl_demo.specs.SourceModel.Calls.{head_after, head_of}
 use Rattle.dbl_demo.specs.SourceModel.Standings.{Reading, SourceState}
-use Rattle.dbl_offset.specs.declared.offset.Offset.{Offset}
+use Rattle.dbl_offset_content.specs.declared.offset.Offset.{Offset}
 use Rattle.dbl_demo.specs.DemoWal.Sound.{logged_in}
 use Rattle.dbl_demo.specs.DemoWal.Standings.{messages_sent, standing_in, tables_of}
 use Rattle.dbl_demo.specs.DemoWal.Wals.{Wal}

@@ -8,7 +8,7 @@ use Rattle.dbl_model_table.specs.Configs.{IsGoodConfig}
 use Rattle.dbl_cli.specs.declared.commands.CaptureOptions.{CaptureOptions}
 use Rattle.dbl_cli.specs.declared.commands.ResumeOptions.{ResumeOptions}
 use Rattle.dbl_cli.specs.Limits.{AreGoodNames, AreGoodTables, IsGoodPace}
-use Rattle.dbl_offset.specs.declared.offset.Offset.{Offset}
+use Rattle.dbl_offset_content.specs.declared.offset.Offset.{Offset}
 use Rattle.dbl_offset.specs.Offsets.{IsOffset}
 use Rattle.dbl_demo.specs.DemoWorkload.Ready.{AreTableNames}
 use Rattle.dblog_promise.specs.PromiseLaws.{AreFewNames}

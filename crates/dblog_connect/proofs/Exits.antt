@@ -5,7 +5,7 @@ use Rattle.dbl_disk.specs.Model.{DiskModel}
 use Rattle.dbl_model_table.specs.declared.config.Config.{Config}
 use Rattle.dbl_model_table.specs.declared.table.TableName.{TableName}
 use Rattle.dbl_journal.specs.Stored.{OnDisk}
-use Rattle.dbl_offset.specs.declared.offset.Offset.{Offset}
+use Rattle.dbl_offset_content.specs.declared.offset.Offset.{Offset}
 use Rattle.dbl_offset.specs.Stores.{ExtendsOffsets as StoreComesOf, StoreOn, disk_of}
 use Rattle.dbl_topic.specs.Held.{ExtendsTopics as LogComesOf}
 use Rattle.dbl_demo.specs.DemoLaws.Demo.{ExtendsDemo, Demo}

@@ -5,7 +5,7 @@ use Rattle.dbl_model_table.specs.declared.config.Config.{Config}
 use Rattle.dbl_demo.specs.SourceLog.declared.reader_position.ReaderPosition.{ReaderPosition}
 use Rattle.dbl_demo.specs.SourceModel.Standings.{SourceState}
 use Rattle.dbl_demo.specs.SourceModel.Trace.{Trace}
-use Rattle.dbl_offset.specs.declared.offset.Offset.{Offset}
+use Rattle.dbl_offset_content.specs.declared.offset.Offset.{Offset}
 use Rattle.dbl_demo.specs.DemoWal.Standings.{standing_in}
 use Rattle.dbl_demo.specs.DemoWal.Wals.{Wal}
 use Rattle.dbl_capture.specs.CaptureWork.declared.halt.Halt.{Halt}

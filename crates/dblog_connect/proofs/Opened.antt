@@ -9,7 +9,7 @@ use Rattle.dbl_record.specs.declared.record.Record.{Record}
 use Rattle.dbl_model_table.specs.declared.config.Config.{Config}
 use Rattle.dbl_topic.specs.Held.{HasGroups, HoldsGroups}
 use Rattle.dbl_topic.specs.SinkLaws.{leaves_held}
-use Rattle.dbl_offset.specs.declared.offset.Offset.{Offset}
+use Rattle.dbl_offset_content.specs.declared.offset.Offset.{Offset}
 use Rattle.dbl_offset.specs.Stores.{HoldsOffset, IsStore, StoreOn, disk_of}
 use Rattle.dbl_offset.proofs.StoreLaws.{one_store, store_of}
 use Rattle.dbl_demo.specs.DemoWal.Standings.{standing_in}

@@ -8,7 +8,7 @@ use Rattle.dbl_model_table.specs.declared.config.Config.{Config}
 use Rattle.dbl_journal.specs.Stored.{OnDisk}
 use Rattle.dbl_demo.specs.SourceModel.Standings.{CrashState, SourceState, HasState}
 use Rattle.dbl_topic.specs.Held.{ExtendsTopics as LogComesOf, HoldsGroups, MayLeaveGroups}
-use Rattle.dbl_offset.specs.declared.offset.Offset.{Offset}
+use Rattle.dbl_offset_content.specs.declared.offset.Offset.{Offset}
 use Rattle.dbl_offset.specs.Stores.{ExtendsOffsets as StoreComesOf, HoldsOffset, StoreOn}
 use Rattle.dbl_demo.specs.DemoWal.Standings.{MayLeaveWal}
 use Rattle.dbl_demo.specs.DemoLaws.Demo.{ExtendsDemo, Demo, HasDemoState}

@@ -6,7 +6,7 @@ use Rattle.dbl_model_table.specs.declared.table.TableName.{TableName}
 use Rattle.dbl_cli.specs.declared.commands.CaptureOptions.{CaptureOptions}
 use Rattle.dbl_cli.specs.declared.commands.ResumeOptions.{ResumeOptions}
 use Rattle.dbl_cli.specs.Limits.{AreGoodNames, AreGoodTables, IsGoodPace}
-use Rattle.dbl_offset.specs.declared.offset.Offset.{Offset}
+use Rattle.dbl_offset_content.specs.declared.offset.Offset.{Offset}
 use Rattle.dbl_demo.specs.DemoWal.Wals.{Wal}
 use Rattle.dblog_promise.specs.Contents.{Contents}
 use Rattle.dblog_connect.specs.declared.asked.Asked.{Asked}

@@ -14,7 +14,7 @@ use Rattle.dbl_demo.specs.SourceModel.Standings.{Reading}
 use Rattle.dbl_demo.specs.SourceModel.Stated.{commits_after}
 use Rattle.dbl_topic.specs.Logs.{IsLog}
 use Rattle.dbl_topic.specs.Logs as log_bytes
-use Rattle.dbl_offset.specs.declared.offset.Offset.{Offset}
+use Rattle.dbl_offset_content.specs.declared.offset.Offset.{Offset}
 use Rattle.dbl_offset.specs.Stores.{HasBadOffset, IsNoStoreAt, IsStore}
 use Rattle.dbl_demo.specs.DemoWal.Standings.{confirmed_of, history_in}
 use Rattle.dbl_demo.specs.DemoWal.Wals.{IsWal, Wal}

@@ -5,7 +5,7 @@ use Rattle.dbl_record.specs.declared.record.Record.{Record}
 use Rattle.dbl_model_table.specs.declared.config.Config.{Config}
 use Rattle.dbl_demo.specs.SourceModel.Standings.{Reading}
 use Rattle.dbl_topic.specs.Logs.{IsLog}
-use Rattle.dbl_offset.specs.declared.offset.Offset.{Offset}
+use Rattle.dbl_offset_content.specs.declared.offset.Offset.{Offset}
 use Rattle.dbl_demo.specs.DemoWal.Wals.{IsWal, Wal}
 use Rattle.dbl_capture.specs.CaptureWork.declared.halt.Halt.{Halt}
 use Rattle.dbl_capture.specs.CaptureWork.declared.halt.Halt.TheVariants as halt

@@ -15,7 +15,7 @@ use Rattle.dbl_source_log.specs.Histories.{commits_from}
 use Rattle.dbl_source_log.specs.Numbers.{commits_upto}
 use Rattle.dbl_source_log.specs.TextRows.{no_text_rows}
 use Rattle.dbl_source_model.specs.Growth.{marks_in}
-use Rattle.dbl_offset.specs.declared.offset.Offset.{Offset}
+use Rattle.dbl_offset_content.specs.declared.offset.Offset.{Offset}
 use Rattle.dbl_offset.proofs.StoreLaws.{one_store}
 use Rattle.dblog_run.specs.CaptureModel.Outcomes.{CoverRows}
 use Rattle.dbl_demo_wal.specs.Sound.{session_commits, logged_in}

@@ -21,7 +21,7 @@ use Rattle.dbl_source_log.specs.Histories.{commits_from, history_of, text_rows_a
 use Rattle.dbl_source_log.specs.Numbers.{commits_upto}
 use Rattle.dbl_source_log.specs.TextRows.{TextRows, no_text_rows}
 use Rattle.dbl_source_model.specs.Growth.{mark_in_body, marks_in}
-use Rattle.dbl_offset.specs.declared.offset.Offset.{Offset}
+use Rattle.dbl_offset_content.specs.declared.offset.Offset.{Offset}
 use Rattle.dbl_offset.proofs.StoreLaws.{one_store}
 use Rattle.dblog_run.specs.CaptureModel.Outcomes.{CoverRows}
 use Rattle.dbl_demo_wal.specs.Sound.{logged_in}

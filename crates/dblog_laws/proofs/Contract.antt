@@ -9,7 +9,7 @@ use Rattle.dbl_model_table.specs.declared.table.TableInfo.{TableInfo}
 use Rattle.dbl_model_history.specs.Fit.{AreInfosOf}
 use Rattle.dbl_source_model.specs.Standings.{CrashState, SourceState, left_of}
 use Rattle.dbl_source_model.specs.Trace.{Trace}
-use Rattle.dbl_offset.specs.declared.offset.Offset.{Offset}
+use Rattle.dbl_offset_content.specs.declared.offset.Offset.{Offset}
 use Rattle.dbl_offset.specs.Stores.{HoldsOffset, StoreOn, disk_of}
 use Rattle.dbl_offset.proofs.StoreLaws.{one_store, store_of}
 use Rattle.dbl_faithful.specs.Lag.{IsOffsetOf}

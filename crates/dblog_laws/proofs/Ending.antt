@@ -22,7 +22,7 @@ use Rattle.dbl_model_event.specs.Snapshots.{snapshot}
 use Rattle.dbl_faithful.proofs.Items.{at_all}
 use Rattle.dbl_source_model.specs.Standings.{Reading, SourceState}
 use Rattle.dbl_source_model.specs.Trace.{Trace}
-use Rattle.dbl_offset.specs.declared.offset.Offset.{Offset}
+use Rattle.dbl_offset_content.specs.declared.offset.Offset.{Offset}
 use Rattle.dbl_faithful.specs.Lag.{IsOffsetOf}
 use Rattle.dblog_run.specs.CaptureModel.Entries.{SessionStart}
 use Rattle.dblog_run.specs.CaptureWork.declared.halt.Halt.{Halt}

@@ -11,7 +11,7 @@ use Rattle.dbl_model_table.specs.declared.table.TableName.{TableName}
 use Rattle.dbl_model_commit.specs.declared.txn_error.TxnError.{TxnError}
 use Rattle.dbl_model_commit.specs.Blocks.{AreWithoutFault}
 use Rattle.dbl_source_model.specs.Standings.{Reading}
-use Rattle.dbl_offset.specs.declared.offset.Offset.{Offset}
+use Rattle.dbl_offset_content.specs.declared.offset.Offset.{Offset}
 use Rattle.dbl_offset.proofs.StoreLaws.{one_store}
 use Rattle.dbl_faithful.specs.Lag.{IsOffsetOf}
 use Rattle.dbl_faithful.specs.Faithful.{IsFaithful, IsFaithfulTo}

@@ -13,7 +13,7 @@ use Rattle.dbl_source_log.specs.declared.logged.LogTable.{LogTable}
 use Rattle.dbl_source_log.specs.Numbers.{commits_upto}
 use Rattle.dbl_source_log.specs.Sent.{messages_in, sent_after}
 use Rattle.dbl_source_model.specs.Growth.{marks_in}
-use Rattle.dbl_offset.specs.declared.offset.Offset.{Offset}
+use Rattle.dbl_offset_content.specs.declared.offset.Offset.{Offset}
 use Rattle.dbl_offset.specs.Stores.{IsStore}
 use Rattle.dblog_run.specs.Init.declared.disks.Disks.{Disks}
 use Rattle.dblog_run.specs.CaptureModel.Outcomes.{CoverRows}

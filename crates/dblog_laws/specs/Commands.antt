@@ -4,7 +4,7 @@ use Rattle.dbl_base.specs.Lines.{lines_of}
 use Rattle.dbl_base.specs.Streams.{input_limit}
 use Rattle.dbl_record.specs.declared.record.Record.{Record}
 use Rattle.dbl_topic.specs.Logs.{IsLog}
-use Rattle.dbl_offset.specs.declared.offset.Offset.{Offset}
+use Rattle.dbl_offset_content.specs.declared.offset.Offset.{Offset}
 use Rattle.dbl_offset.specs.Stores.{IsStore}
 use Rattle.dbl_demo_wal.specs.Workloads.{IsWorkload, Workload}
 use Rattle.dbl_cli.specs.declared.commands.Command.{Command}

@@ -5,7 +5,7 @@ use Rattle.dbl_record.specs.declared.record.Record.{Record}
 use Rattle.dbl_source_model.specs.Standings.{CrashState, SourceState}
 use Rattle.dbl_source_model.specs.Trace.{Trace}
 use Rattle.dbl_model_table.specs.declared.config.Config.{Config}
-use Rattle.dbl_offset.specs.declared.offset.Offset.{Offset}
+use Rattle.dbl_offset_content.specs.declared.offset.Offset.{Offset}
 use Rattle.dbl_offset.specs.Stores.{StoreOn}
 use Rattle.dblog_run.specs.CaptureModel.Entries.{SessionStart, HadOwnTables, IsKeptAfter, WasFaithful}
 use Rattle.dblog_run.specs.CaptureLaws.Ends.{CacheMatchesDisk}

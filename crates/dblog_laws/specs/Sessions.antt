@@ -14,7 +14,7 @@ use Rattle.dbl_demo_wal.specs.Wals.{Wal}
 use Rattle.dbl_source_model.specs.Standings.{Reading}
 use Rattle.dblog_laws.specs.Supported.{CanBegin, CanSend, OffsetsAreShort, RowsAreReadable, WindowsAreSupported}
 use Rattle.dbl_model_history.specs.History.{History}
-use Rattle.dbl_offset.specs.declared.offset.Offset.{Offset}
+use Rattle.dbl_offset_content.specs.declared.offset.Offset.{Offset}
 use Rattle.dblog_run.specs.CaptureLaws.Sessions.{Captures}
 use Rattle.dblog_run.specs.Promise.Restarts.{restart_at}
 use Rattle.dblog_run.specs.Promise.Causes.{standing_left}

@@ -22,7 +22,7 @@ use Rattle.dbl_model_event.specs.EventJson.{envelopes}
 use Rattle.dbl_model_event.specs.Snapshots.{snapshot}
 use Rattle.dbl_source_model.specs.Selected.{rows_up_to}
 use Rattle.dbl_source_model.specs.Standings.{Reading, SourceState}
-use Rattle.dbl_offset.specs.declared.offset.Offset.{Offset}
+use Rattle.dbl_offset_content.specs.declared.offset.Offset.{Offset}
 use Rattle.dbl_offset.specs.Entries.{offset_bytes_form}
 use Rattle.dbl_offset.specs.Measures.{offset_limit}
 use Rattle.dbl_faithful.specs.Lag.{IsOffsetOf}

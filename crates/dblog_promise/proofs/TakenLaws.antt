@@ -43,7 +43,7 @@ use Rattle.dbl_capture_laws.proofs.FaithfulItems.{all_by_place, at_all, taken_at
 use Rattle.dbl_capture_laws.proofs.FaithfulRightSnapshots.{at_test, filter_has}
 use Rattle.dbl_capture_laws.proofs.FaithfulTrace.{all_filter, told_at}
 use Rattle.dbl_capture_laws.specs.Offset.declared.offset.Offset.{Offset}
-use Rattle.dbl_capture_laws.specs.Offset.Stores.{IsStore}
+use Rattle.dbl_capture_laws.specs.OffsetStore.Stores.{IsStore}
 use Rattle.dbl_capture_laws.specs.Faithful.Faithful.{IsFaithful, IsFaithfulTo, captured_commits}
 use Rattle.dblog_stores.specs.Answers.{accepts, first_refused_from, takes}
 use Rattle.dblog_promise.specs.Applied.{KeptLogsArePrinted}

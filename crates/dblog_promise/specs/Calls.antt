@@ -4,7 +4,7 @@ use Rattle.dbl_disk.specs.Model.{DiskModel}
 use Rattle.dbl_record.specs.declared.record.Record.{Record}
 use Rattle.dbl_model_table.specs.declared.config.Config.{Config}
 use Rattle.dbl_source.specs.SourceModel.Standings.{CrashState}
-use Rattle.dbl_capture_laws.specs.Offset.Stores.{IsStore, StoreOn, disk_of}
+use Rattle.dbl_capture_laws.specs.OffsetStore.Stores.{IsStore, StoreOn, disk_of}
 use Rattle.dbl_capture_laws.specs.CaptureModel.Entries.{HadOwnTables}
 use Rattle.dbl_capture_laws.specs.Sessions.{LeavesGoing}
 use Rattle.dblog_promise.specs.Restarts.{After, ByPromise, FoundStores, restart_at, source_of}

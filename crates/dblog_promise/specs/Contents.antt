@@ -9,7 +9,7 @@ use Rattle.dbl_model_history.specs.History.{History}
 use Rattle.dbl_model_history.specs.Typed.{typed}
 use Rattle.dbl_topic.specs.Logs.{IsLog}
 use Rattle.dbl_capture_laws.specs.Offset.declared.offset.Offset.{Offset}
-use Rattle.dbl_capture_laws.specs.Offset.Stores.{IsStore}
+use Rattle.dbl_capture_laws.specs.OffsetStore.Stores.{IsStore}
 use Rattle.dbl_demo_laws.specs.DemoWal.Standings.{history_in, confirmed_of}
 use Rattle.dbl_demo_laws.specs.DemoWal.Wals.{Wal, IsWal}
 use Rattle.dblog_promise.specs.Restarts.{FoundStores}

@@ -9,7 +9,7 @@ use Rattle.dbl_model_table.specs.Tables.{are_distinct, same_name}
 use Rattle.dbl_model_commit.specs.Past.{last_lsn}
 use Rattle.dbl_topic.specs.Logs.{IsLog}
 use Rattle.dbl_capture_laws.specs.Offset.declared.offset.Offset.{Offset}
-use Rattle.dbl_capture_laws.specs.Offset.Stores.{IsStore}
+use Rattle.dbl_capture_laws.specs.OffsetStore.Stores.{IsStore}
 use Rattle.dbl_source.specs.SourceLog.declared.reader_position.ReaderPosition.{ReaderPosition}
 use Rattle.dbl_demo_laws.specs.DemoWal.Standings.{left_in, wal_reading, standing_in}
 use Rattle.dbl_demo_laws.specs.DemoWal.Wals.{IsWal}

@@ -5,7 +5,7 @@ use Rattle.dbl_record.specs.Consumers.{consumer_of}
 use Rattle.dbl_record.specs.Cuts.{joined}
 use Rattle.dbl_consume.specs.Printing.{row_line}
 use Rattle.dbl_topic.specs.Logs.{IsLog}
-use Rattle.dbl_offset.specs.declared.offset.Offset.{Offset}
+use Rattle.dbl_offset_content.specs.declared.offset.Offset.{Offset}
 use Rattle.dbl_offset.specs.Stores.{IsStore}
 use Rattle.dblog_stores.specs.declared.error.CommandError.{CommandError}
 use Rattle.dblog_stores.specs.declared.error.CommandError.TheVariants.{NotStarted}

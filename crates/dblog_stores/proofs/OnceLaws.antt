@@ -13,7 +13,7 @@ use Rattle.dbl_journal.proofs.Reading.{one_fault}
 use Rattle.dbl_topic.specs.Logs.{HasBadEntry, IsLog}
 use Rattle.dbl_topic.specs.SinkLaws.{one_log}
 use Rattle.dbl_topic.proofs.LogLaws as logs
-use Rattle.dbl_offset.specs.declared.offset.Offset.{Offset}
+use Rattle.dbl_offset_content.specs.declared.offset.Offset.{Offset}
 use Rattle.dbl_offset.specs.Stores.{HasBadOffset, IsNoStoreAt, IsStore}
 use Rattle.dbl_offset.proofs.StoreLaws.{no_bad_offset, no_fault, not_both, one_bad_offset, one_no_store, one_store}
 use Rattle.dblog_stores.specs.declared.error.CommandError.{CommandError}

@@ -23,7 +23,7 @@ use Rattle.dbl_journal.proofs.Appends.{length-body, length-magic}
 use Rattle.dbl_journal.proofs.Scans.{differs_at, has_magic}
 use Rattle.dbl_topic.specs.Logs.{AreLogEntries, IsLog, IsLogEntry}
 use Rattle.dbl_pgmsg.specs.Faults.{AreBytes}
-use Rattle.dbl_offset.specs.declared.offset.Offset.{Offset}
+use Rattle.dbl_offset_content.specs.declared.offset.Offset.{Offset}
 use Rattle.dbl_offset.specs.Stores.{IsStore}
 use Rattle.dbl_offset.proofs.StoreLaws.{store_or_not}
 use Rattle.dblog_stores.specs.declared.error.CommandError.{CommandError}

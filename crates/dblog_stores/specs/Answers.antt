@@ -17,7 +17,7 @@ use Rattle.dbl_model_history.specs.declared.cursor.Cursor.{Cursor}
 use Rattle.dbl_model_history.specs.Image.{key_text}
 use Rattle.dbl_journal.specs.Form.{IsFaultAt}
 use Rattle.dbl_topic.specs.Logs.{IsLog, HasBadEntry}
-use Rattle.dbl_offset.specs.declared.offset.Offset.{Offset}
+use Rattle.dbl_offset_content.specs.declared.offset.Offset.{Offset}
 use Rattle.dbl_offset.specs.Stores.{HasBadOffset, IsNoStoreAt, IsStore}
 use Rattle.dblog_stores.specs.declared.error.CommandError.{CommandError}
 use Rattle.dblog_stores.specs.declared.error.CommandError.TheVariants.{NotStarted, NotAStore, BadEntry}

@@ -7,7 +7,7 @@ use Rattle.dbl_record.specs.Line.{line_of}
 use Rattle.dbl_record.specs.Reading.{as_line}
 use Rattle.dbl_consume.specs.Printing.{HeldRow, AreRowsOf, row_line}
 use Rattle.dbl_compact.specs.Kept.{kept}
-use Rattle.dbl_offset.specs.declared.offset.Offset.{Offset}
+use Rattle.dbl_offset_content.specs.declared.offset.Offset.{Offset}
 use Rattle.dblog_stores.specs.declared.error.CommandError.{CommandError}
 use Rattle.dblog_stores.specs.declared.error.CommandError.TheVariants.{NotStarted}
 use Rattle.dblog_stores.specs.declared.listing.Listing.{Listing}

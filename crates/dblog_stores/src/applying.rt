@@ -8,7 +8,7 @@ ghost use Rattle.dbl_record.specs.Consumers.{consumer_of};
 ghost use Rattle.dbl_consume.specs.Holdings.{Took, placeholder_of};
 ghost use Rattle.dbl_topic.specs.Held.{HoldsGroups};
 ghost use Rattle.dbl_topic.specs.Logs.{IsLog};
-ghost use Rattle.dbl_offset.specs.declared.offset.Offset.{Offset};
+ghost use Rattle.dbl_offset_content.specs.declared.offset.Offset.{Offset};
 ghost use Rattle.dblog_stores.specs.declared.listing.Listing.TheVariants.{Rows};
 ghost use Rattle.dblog_stores.specs.Answers.{AnswersListing};
 ghost use Rattle.dblog_stores.specs.Applying.{AppliesStores, AppliesGroups, PrintedRows};

@@ -4,7 +4,7 @@ ghost use Rattle.std.specs.Prelude.{◌≡◌, ℕ, Option, Some, List};
 ghost use Rattle.dbl_record.specs.declared.record.Record.{Record};
 ghost use Rattle.dbl_journal.specs.Stored.{OnDisk};
 ghost use Rattle.dbl_topic.specs.Held.{HoldsGroups};
-ghost use Rattle.dbl_offset.specs.declared.offset.Offset.{Offset};
+ghost use Rattle.dbl_offset_content.specs.declared.offset.Offset.{Offset};
 ghost use Rattle.dbl_offset.specs.Stores.{HoldsOffset, StoreOn, disk_of};
 ghost use Rattle.dblog_stores.specs.Stores.{ReadAsStores};
 ghost use Rattle.dblog_stores.specs.Laws.{ListingAnswersOnce, ListingAnswersStand, OffsetsAnswerOnce};

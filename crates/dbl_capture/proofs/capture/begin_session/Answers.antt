@@ -1,7 +1,7 @@
 use Rattle.std.proofs.Common.{◌≡◌, ◌∙◌, ◌⊎◌, inl, inr, Some, refl, sym, subst, le_refl}
 use Rattle.dbl_model_history.specs.Fit.{IsFitHistory}
 use Rattle.dbl_source.specs.SourceModel.Standings.{left_of}
-use Rattle.dbl_offset.specs.declared.offset.Offset.{Offset}
+use Rattle.dbl_offset_content.specs.declared.offset.Offset.{Offset}
 use Rattle.dbl_offset.specs.Stores.{HoldsOffset, LeavesOffset, disk_of}
 use Rattle.dbl_capture_work.specs.declared.halt.Halt.TheVariants as halt
 use Rattle.dbl_capture_laws.proofs.StepCauses.{OfNone, OfStore, err_at, residual_is, residual_of, store_of}

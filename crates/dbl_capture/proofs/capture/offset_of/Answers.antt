@@ -2,7 +2,7 @@ use Rattle.std.proofs.Common.{◌∙◌, inl, inr, Some, Option, refl, sym, ap, 
 use Rattle.std.specs.Prelude.{IfOk}
 use Rattle.dbl_source.proofs.SourceModelGrowthLemmas.{grows_none}
 use Rattle.dbl_source.specs.SourceModel.Standings.{SourceState, left_of}
-use Rattle.dbl_offset.specs.declared.offset.Offset.{Offset}
+use Rattle.dbl_offset_content.specs.declared.offset.Offset.{Offset}
 use Rattle.dbl_capture_work.specs.Begins.{IsAgain, IsOffsetFor}
 use Rattle.dbl_capture_laws.proofs.Beginnings.{again_for, begins_again, begins_first, first_at_head, none_again}
 use Rattle.dbl_capture_laws.proofs.StepCauses.{OfNone, OfSource, again_of, err_at, err_then, first_of, residual_of}

@@ -4,7 +4,7 @@ use Rattle.dbl_model_table.specs.declared.config.Config.{Config}
 use Rattle.dbl_model_history.specs.Fit.{IsFitHistory}
 use Rattle.dbl_source.specs.SourceModel.Standings.{left_of}
 use Rattle.dbl_capture_work.proofs.FaithfulItems.{first_some}
-use Rattle.dbl_offset.specs.declared.offset.Offset.{Offset}
+use Rattle.dbl_offset_content.specs.declared.offset.Offset.{Offset}
 use Rattle.dbl_capture_work.specs.Works.{BeginsWithOffset}
 use Rattle.dbl_capture_work.proofs.Exits.{later_on, rose_behind}
 use Rattle.dbl_capture_laws.proofs.StepCauses.{OfNone, OfSource, err_at, err_then, residual_is, residual_of, start_of}

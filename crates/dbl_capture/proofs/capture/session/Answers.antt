@@ -2,7 +2,7 @@ use Rattle.std.proofs.Common.{◌≡◌, ◌∙◌, arith, inl, inr, ℤ, true, 
 use Rattle.std.specs.Prelude.{OnOk}
 use Rattle.std.proofs.Math.Facts.{to_z-of_z}
 use Rattle.dbl_model_history.specs.Ranges.{IsMomentInRange}
-use Rattle.dbl_offset.specs.declared.offset.Offset.{Offset}
+use Rattle.dbl_offset_content.specs.declared.offset.Offset.{Offset}
 use Rattle.dbl_offset.specs.Stores.{disk_of}
 use Rattle.dbl_capture_work.specs.Begins.{IsOffsetFor}
 use Rattle.dbl_capture_work.specs.Works.{next_offset_of}

@@ -28,7 +28,7 @@ use Rattle.dbl_capture_laws.proofs.Sinking.{few_taken, follow_puts, none_other, 
 use Rattle.dbl_capture_laws.proofs.Going.{follow_reads, source_reads, taken_reads}
 use Rattle.dbl_capture_laws.proofs.Nevers.{follow_honest, many_at, one_longer, source_honest, taken_honest, took_at}
 use Rattle.dbl_model_table.specs.declared.table.TableInfo.{TableInfo}
-use Rattle.dbl_offset.specs.declared.offset.Offset.{Offset}
+use Rattle.dbl_offset_content.specs.declared.offset.Offset.{Offset}
 use Rattle.dbl_source.specs.ModelCommit.Blocks.{AreWithoutFault}
 use Rattle.dbl_capture_laws.specs.Nevers.{IsHonestHalt}
 use Rattle.dbl_capture_work.proofs.WindowHonestLemmas.{captured_stays}

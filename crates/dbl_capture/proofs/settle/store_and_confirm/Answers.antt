@@ -1,7 +1,7 @@
 use Rattle.std.proofs.Common.{◌≡◌, ◌∙◌, ◌⊎◌, Err, Option, Some, subst, inl, inr, refl, sym, ap, le_refl}
 use Rattle.dbl_source.specs.SourceModel.Calls.{IsConfirmed}
 use Rattle.dbl_source.specs.SourceModel.Leaves.{MayFollowConfirm}
-use Rattle.dbl_offset.specs.declared.offset.Offset.{Offset}
+use Rattle.dbl_offset_content.specs.declared.offset.Offset.{Offset}
 use Rattle.dbl_offset.specs.Stores.{HoldsOffset, LeavesOffset, disk_of}
 use Rattle.std.proofs.lemmas.Result.{err_from_is_err_and}
 use Rattle.dbl_capture_work.specs.declared.halt.Halt.TheVariants as halt

@@ -4,7 +4,7 @@ use Rattle.std.proofs.lemmas.Result.{IfOk-weaker}
 use Rattle.dbl_base.specs.Lines.{lines_text}
 use Rattle.dbl_base.proofs.LineLemmas.{lines_text-append}
 use Rattle.dbl_model_history.specs.Cursors.{AreCursorsOf}
-use Rattle.dbl_offset.proofs.OffsetLaws.{same_long}
+use Rattle.dbl_offset_content.proofs.OffsetLaws.{same_long}
 use Rattle.dblog_stores.specs.Answers.{number_lines, table_line}
 use Rattle.dblog_stores.proofs.offsets.offset_text.Goals as goal
 

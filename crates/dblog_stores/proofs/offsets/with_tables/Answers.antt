@@ -3,7 +3,7 @@ use Rattle.std.specs.List.{zip}
 use Rattle.std.specs.String.{string_bytes}
 use Rattle.dbl_base.specs.Lines.{lines_text}
 use Rattle.dbl_model_history.specs.Cursors.{IsCursorOf}
-use Rattle.dbl_offset.proofs.Sizes.{zip_at, zip_long}
+use Rattle.dbl_offset_content.proofs.Sizes.{zip_at, zip_long}
 use Rattle.dblog_stores.specs.Answers.{table_line}
 use Rattle.dblog_stores.proofs.CrashState.{nothing_left}
 use Rattle.dblog_stores.proofs.OffsetTexts.{all_zip_at, lines_go}

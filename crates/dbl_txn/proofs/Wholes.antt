@@ -1,5 +1,5 @@
 -- A list of messages, one after another.
-use Rattle.std.proofs.Common.{◌≡◌, ◌⊎◌, inl, inr, List, [], ◌∷◌, ◌++◌, length, refl, sym, ◌∙◌, ap, append_assoc, arith}
+use Rattle.std.proofs.Common.{◌≡◌, ◌⊎◌, inl, inr, List, [], ◌∷◌, ◌++◌, refl, sym, ◌∙◌, ap, append_assoc}
 use Rattle.std.specs.Prelude.{Option, Some, None}
 use Rattle.dbl_base.specs.declared.lsn.Lsn.{Lsn}
 use Rattle.dbl_pgmsg.specs.declared.messages.Message.{Message}
@@ -41,7 +41,3 @@ module _ (infos : List TableInfo) (after : Lsn) (ms list : List Message) where
 
   pub end_clean : (left : List Message) (a : Assembler) (cs : List Commit) (s : TakenSoFar infos after ms list left a cs) → left ≡ [] → first_transaction_fault infos after ms list ≡ None
   end_clean left a cs s is = s.clean ∙ ap (first_transaction_fault infos after s.now) is
-
-pub no_items : {A : Type 0} (xs : List A) → length xs ≡ 0 → xs ≡ []
-no_items [] is = refl
-no_items (x ∷ xs) is = absurd (omega arith)

@@ -31,7 +31,7 @@ module _ {A : Type 0} (read : ℕ → Column → TupleCell → Result A TxnError
       → each_from read place (drop place columns) items ≡ (r >>= λ x. each_from read (place + 1) (drop (place + 1) columns) rest >>= λ xs. Ok (x ∷ xs))
   left_to_read place column items rest cell r lt is items_are read_is =
       ap₂ (λ (cs : List Column) (l : List TupleCell). each_from read place cs l)
-          (drop_more columns place column lt ∙ ap (λ (x : Column). x ∷ drop (place + 1) columns) (sym is)) items_are
+      (drop_more columns place column lt ∙ ap (λ (x : Column). x ∷ drop (place + 1) columns) (sym is)) items_are
       ∙ ap (λ (o : Result A TxnError). o >>= λ x. each_from read (place + 1) (drop (place + 1) columns) rest >>= λ xs. Ok (x ∷ xs)) read_is
 
   -- one more cell is read

@@ -1,5 +1,5 @@
 -- One more message.
-use Rattle.std.proofs.Common.{◌≡◌, ℕ, ℤ, ◌+◌, List, [], ◌∷◌, ◌++◌, refl, sym, ◌∙◌, ap, subst, eq-eqb}
+use Rattle.std.proofs.Common.{◌≡◌, ℕ, ℤ, List, [], ◌∷◌, ◌++◌, refl, sym, ◌∙◌, ap, subst, eq-eqb}
 use Rattle.std.proofs.lemmas.List.{append-nil}
 use Rattle.std.specs.Prelude.{Bool, if◌then◌else◌, Result, Ok, Err, Option, Some, None, is_some, option_map, nat_eq}
 use Rattle.indexmap.specs.IndexMap.{get}
@@ -15,7 +15,7 @@ use Rattle.dbl_model_commit.specs.declared.message_parts.RowChange.TheVariants a
 use Rattle.dbl_model_commit.specs.declared.txn_error.TxnError.{TxnError}
 use Rattle.dbl_model_commit.specs.declared.txn_error.TxnError.TheVariants as errors
 use Rattle.dbl_model_commit.specs.Past.{relation_of, Begun, begin_of, open_mark, HasNoRelation}
-use Rattle.dbl_model_commit.specs.Stated.{has_some, stated, ok_or_none, open_changes, mismatch, first_of, commit_of, ended_with, target}
+use Rattle.dbl_model_commit.specs.Stated.{has_some, stated, ok_or_none, open_changes, mismatch, first_of, commit_of, ended_with}
 use Rattle.dbl_model_commit.proofs.Learning.{changes_learnt, other_relation, target_learnt}
 use Rattle.dbl_txn.specs.declared.assembler.Block.{Block}
 use Rattle.dbl_txn.specs.declared.assembler.Assembler.{Assembler}

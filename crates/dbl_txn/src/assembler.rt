@@ -168,9 +168,7 @@ fn clears_in(alloc: Global, targets: &Vec<Target>) -> Result<Vec<Change>, AllocE
     let mut changes = Vec::new(alloc);
     for target in targets {
         if let Target::Captured(table) = target {
-            if changes.push(Change::Clear { table: *table }).is_err() {
-                return Err(AllocError);
-            }
+            changes.push(Change::Clear { table: *table })?;
         }
     }
     Ok(changes)

@@ -23,8 +23,7 @@ loop-cell-preserved c =
     let lt : place < length columns = omega (arith, counted, long) in
     let is : column ≡ get_or columns place column = c.index.ensures ∙ ap (λ (l : List Column). get_or l place column) c.items-columns.ensures in
     let value = c.in_ok-next_cell.field-0 in
-    let pushed : c.push.new.self.items ≡ front ++ value ∷ [] = c.in_ok-push.ensures.items in
-    (
+    let pushed : c.push.new.self.items ≡ front ++ value ∷ [] = c.in_ok-push.ensures.items in (
       ap (λ (l : List Cell). with_front l (each_from read (place + 1) (drop (place + 1) columns) rest)) pushed
           ∙ cell_more read columns place column front items rest c.in-Some.cell value _ c.loop-cell.invariant.0 lt is are c.in_ok-next_cell.ensures,
       omega (arith, counted, long),

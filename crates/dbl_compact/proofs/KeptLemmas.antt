@@ -1,7 +1,6 @@
 -- A consumer of the kept records has the rows of a consumer of all, and of kept records all are kept.
-use Rattle.std.proofs.Common.{◌≡◌, ◌∙◌, ◌⊎◌, ℕ, List, [], ◌∷◌, Bool, true, false, not, ◌&&◌, ◌||◌, Option, Some, None, Result, Ok, Err, fold, map, cond}
-use Rattle.std.proofs.Common.{bytes_eq, refl, sym, ap, subst, inl, inr}
-use Rattle.std.specs.List.{list_any}
+use Rattle.std.proofs.Common.{◌≡◌, ◌∙◌, ◌⊎◌, ℕ, List, [], ◌∷◌, Bool, true, false, not, ◌&&◌, ◌||◌, Option, None, Result, Ok, Err, fold, map, cond}
+use Rattle.std.proofs.Common.{bytes_eq, refl, sym, ap, inl, inr}
 use Rattle.std.proofs.lemmas.Bool.{cases_Bool, or_parts, not-true}
 use Rattle.std.proofs.lemmas.Slice.Eq.{bytes_eq-Decides}
 use Rattle.dbl_record.specs.declared.record.Record.{Record}

@@ -1,4 +1,4 @@
-pub mod EndedLemmas
+pub mod EndingLemmas
 pub mod EffectLemmas
 pub mod KeptLemmas
 pub mod PassLemmas

@@ -1,14 +1,13 @@
 -- A pass over records, one record at a time from the last to the first.
-use Rattle.std.proofs.Common.{◌≡◌, ◌∙◌, ℕ, zero, suc, ◌+◌, ◌-◌, ◌<◌, List, [], ◌∷◌, ◌++◌, Bool, true, false, Option, Some, None, Result, Ok, Err, reverse}
-use Rattle.std.proofs.Common.{length, drop, cond, refl, sym, ap, subst, arith}
-use Rattle.std.specs.Prelude.{Vec, IsOk, slice_get}
+use Rattle.std.proofs.Common.{◌≡◌, ◌∙◌, ℕ, zero, suc, ◌+◌, ◌-◌, ◌<◌, List, [], ◌∷◌, ◌++◌, Bool, true, false, Option, Some, Result, Ok, Err, reverse}
+use Rattle.std.proofs.Common.{drop, cond, refl, sym, ap, subst, arith}
+use Rattle.std.specs.Prelude.{IsOk, slice_get}
 use Rattle.std.proofs.lemmas.List.{reverse-append}
 use Rattle.dbl_record.specs.declared.record.Record.{Record}
 use Rattle.dbl_record.specs.declared.acts.ConsumeError.{ConsumeError}
 use Rattle.dbl_consume.specs.declared.kinds.Kind.{Kind}
 use Rattle.dbl_compact.specs.declared.error.CompactError.{CompactError}
 use Rattle.dbl_compact.specs.declared.error.CompactError.TheVariants.{Refused}
-use Rattle.dbl_compact.specs.declared.compactor.Compactor.{Compactor}
 use Rattle.dbl_compact.specs.declared.compacting.Pass.{Pass}
 use Rattle.dbl_compact.specs.Kept.{kind_at, sets_unended, are_ending, is_kept, kept}
 use Rattle.dbl_compact.specs.Refusals.{refusal_or, refusal_from}

@@ -2,8 +2,8 @@
 use Rattle.std.specs.Prelude.{◌≡◌, ℕ, List}
 use Rattle.dbl_record.specs.declared.record.Record.{Record}
 use Rattle.dbl_compact.specs.declared.compactor.Compactor.{Compactor}
+use Rattle.dbl_compact_ended.specs.Ended.{has_row}
 use Rattle.dbl_compact.specs.Kept.{are_ending}
-use Rattle.dbl_compact.specs.Ended.{has_row}
 
 -- the placeholder of values that weren't sent
 abbrev pub placeholder_of : Compactor → List ℕ

@@ -1,6 +1,5 @@
 pub mod Kept
 pub mod Refusals
-pub mod Ended
 pub mod Compactors
 pub mod Passes
 pub mod Marks

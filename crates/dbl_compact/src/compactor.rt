@@ -1,7 +1,7 @@
 ghost use Rattle.std.specs.Prelude.{◌≡◌, codes};
 
-use crate::ended::EndedRows;
 use dbl_base::Text;
+use dbl_compact_ended::EndedRows;
 use std::alloc::Global;
 
 /// Reads records from the last to the first, and reports of each whether a compaction keeps it. It

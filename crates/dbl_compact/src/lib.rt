@@ -3,7 +3,6 @@
 
 mod compacting;
 mod compactor;
-mod ended;
 mod error;
 mod laws;
 mod marks;

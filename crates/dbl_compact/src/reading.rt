@@ -1,14 +1,16 @@
-ghost use Rattle.std.specs.Prelude.{◌≡◌, ◌≢◌, ◌∷◌, [], List, Ok, Err, IsOk, OnOk, IfOk, IfErr};
-ghost use Rattle.std.specs.Prelude.{codes};
+ghost use Rattle.std.specs.Prelude.{◌≡◌, ◌≢◌, ◌&&◌, ◌||◌, ◌∷◌, [], List, ℕ, codes};
+ghost use Rattle.std.specs.Prelude.{Ok, Err, IsOk, OnOk, IfOk, IfErr};
+ghost use Rattle.std.specs.Str.{bytes_eq};
 ghost use Rattle.dbl_record.specs.declared.record.Record.{Record};
 ghost use Rattle.dbl_record.specs.declared.acts.ConsumeError.TheVariants.{Memory};
 ghost use Rattle.dbl_record.specs.Line.{text_or_null};
-ghost use Rattle.dbl_compact.specs.Kept.{is_kept, kind_at};
+ghost use Rattle.dbl_compact_ended.specs.Ended.{has_row};
+ghost use Rattle.dbl_compact.specs.Kept.{ends_key, is_kept, kind_at, sets_unended};
 ghost use Rattle.dbl_compact.specs.Compactors.{HasRead, placeholder_of};
 
 use crate::Compactor;
-use crate::ended::end_rows;
 use dbl_base::Text;
+use dbl_compact_ended::{EndedRows, end_row, end_set_row, end_topic};
 use dbl_consume::{ConsumeError, Kind, kind};
 use dbl_record::Record;
 use std::alloc::{AllocError, Global};
@@ -21,6 +23,33 @@ fn text_or<'a>(text: &'a Option<Text>, null: &'a Text) -> &'a Text
     match text {
         Some(text) => text,
         None => null,
+    }
+}
+
+// Ends the rows that an effect of this kind ends, and reports whether it sets a row that wasn't
+// ended yet.
+fn end_rows(
+    alloc: Global,
+    ended: &mut EndedRows,
+    topic: &Text,
+    kind: Kind,
+) -> Result<bool, AllocError>
+    ensures ended { OnOk result ((t k : List ℕ) → has_row ended.new t k ≡
+        ((bytes_eq topic.now t && ends_key (Ok kind) k) || has_row ended.old t k)) }
+    ensures unended { IfOk result
+        (λ unended. unended ≡ sets_unended (Ok kind) (has_row ended.old topic.now)) }
+{
+    match kind {
+        Kind::Nothing => Ok(false),
+        Kind::Wipe => match end_topic(alloc, ended, topic) {
+            Ok(()) => Ok(false),
+            Err(error) => Err(error),
+        },
+        Kind::Remove { key } => match end_row(alloc, ended, topic, key) {
+            Ok(()) => Ok(false),
+            Err(error) => Err(error),
+        },
+        Kind::Set { key, whole } => end_set_row(alloc, ended, topic, key, whole),
     }
 }
 

@@ -1,4 +1,4 @@
-use Rattle.std.proofs.Common.{◌≡◌, ◌∙◌, ◌≤◌, length, sym, arith}
+use Rattle.std.proofs.Common.{◌≡◌, ◌∙◌, length, sym, arith}
 use Rattle.dbl_compact.proofs.MarkLemmas.{pop_bit, pop_byte, no_marks, no_bytes}
 use Rattle.dbl_compact.proofs.marks.Marks.pop.Goals as goal
 

@@ -1,9 +1,9 @@
--- For private clauses: the rows that records end, as they are stored.
+-- The rows that are ended, as they are stored.
 use Rattle.std.specs.Prelude.{ℕ, ◌||◌, List, Bool, false, option_map, unwrap_or}
 use Rattle.std.specs.BTreeMap.{BTreeMap, get}
 use Rattle.std.specs.BTreeSet.{contains}
 use Rattle.dbl_base.specs.Texts.{text_cmp}
-use Rattle.dbl_compact.specs.declared.ended.EndedKeys.{EndedKeys}
+use Rattle.dbl_compact_ended.specs.declared.ended.EndedKeys.{EndedKeys}
 
 -- the ended keys by topic
 abbrev pub EndedRows : Type 0

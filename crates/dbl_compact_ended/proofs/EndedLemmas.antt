@@ -9,8 +9,8 @@ use Rattle.std.specs.BTreeMap.{get, is_at, Updates}
 use Rattle.std.specs.BTreeSet.{contains}
 use Rattle.std.specs.BTreeSet as sets
 use Rattle.dbl_base.specs.Texts.{text_cmp}
-use Rattle.dbl_compact.specs.declared.ended.EndedKeys.{EndedKeys}
-use Rattle.dbl_compact.specs.Ended.{EndedRows, has_key, has_row}
+use Rattle.dbl_compact_ended.specs.declared.ended.EndedKeys.{EndedKeys}
+use Rattle.dbl_compact_ended.specs.Ended.{EndedRows, has_key, has_row}
 
 -- ---- one topic's keys
 
@@ -93,13 +93,9 @@ none_ended ended none t k = ap (λ (es : List (List ℕ × EndedKeys)). in_keys 
 
 -- ---- what stays
 
-pub nothing_more : (b before : Bool) → before ≡ ((b && false) || before)
+nothing_more : (b before : Bool) → before ≡ ((b && false) || before)
 nothing_more true before = refl
 nothing_more false before = refl
-
-pub all_more : (b before : Bool) → (b || before) ≡ ((b && true) || before)
-all_more true before = refl
-all_more false before = refl
 
 -- a row that is ended already
 already : (topics keys : Bool) (whole there : Bool) → (topics ≡ true → keys ≡ true → there ≡ true) → there ≡ ((topics && (whole && keys)) || there)

@@ -1,9 +1,9 @@
-use Rattle.std.proofs.Common.{◌≡◌, ◌∙◌, ◌||◌, ℕ, List, Bool, Some, IsSome, bytes_eq, refl, ap, subst}
+use Rattle.std.proofs.Common.{◌≡◌, ◌∙◌, ◌||◌, Bool, Some, IsSome, bytes_eq, refl, ap, subst}
 use Rattle.std.proofs.lemmas.Result.{on_ok_weaker}
 use Rattle.std.specs.BTreeMap.{Updates, get}
 use Rattle.dbl_base.specs.Texts.{text_cmp}
-use Rattle.dbl_compact.proofs.EndedLemmas.{row_ended, keys_at}
-use Rattle.dbl_compact.proofs.ended.end_row.Goals as goal
+use Rattle.dbl_compact_ended.proofs.EndedLemmas.{row_ended, keys_at}
+use Rattle.dbl_compact_ended.proofs.ended.end_row.Goals as goal
 
 pub returns-in-Some : goal.returns-in-Some
 returns-in-Some c =

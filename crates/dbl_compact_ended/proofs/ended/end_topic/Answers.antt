@@ -1,9 +1,9 @@
 use Rattle.std.proofs.Common.{ℕ, List, true, Some, refl, subst}
 use Rattle.std.specs.BTreeMap.{Updates}
 use Rattle.dbl_base.specs.Texts.{text_cmp}
-use Rattle.dbl_compact.specs.declared.ended.EndedKeys.{EndedKeys}
-use Rattle.dbl_compact.proofs.EndedLemmas.{topic_ended}
-use Rattle.dbl_compact.proofs.ended.end_topic.Goals as goal
+use Rattle.dbl_compact_ended.specs.declared.ended.EndedKeys.{EndedKeys}
+use Rattle.dbl_compact_ended.proofs.EndedLemmas.{topic_ended}
+use Rattle.dbl_compact_ended.proofs.ended.end_topic.Goals as goal
 
 pub returns : goal.returns
 returns c =

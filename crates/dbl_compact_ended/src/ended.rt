@@ -1,23 +1,20 @@
-//! The rows that records end, by topic and key text.
 ghost use Rattle.std.specs.Prelude.{◌≡◌, ◌&&◌, ◌||◌, not, List, ℕ, false, IfOk, OnOk};
 ghost use Rattle.std.specs.Str.{bytes_eq};
-ghost use Rattle.dbl_compact.specs.Kept.{ends_key, sets_unended};
-ghost use Rattle.dbl_compact.specs.Ended.{has_key, has_row};
+ghost use Rattle.dbl_compact_ended.specs.Ended.{has_key, has_row};
 
 use dbl_base::Text;
-use dbl_consume::Kind;
 use std::alloc::{AllocError, Global};
 use std::collections::{BTreeMap, BTreeSet};
 
 /// The keys of a topic whose rows are ended: all, or some.
 #[derive(Drop)]
-pub(crate) struct EndedKeys {
+pub struct EndedKeys {
     all: bool,
     keys: BTreeSet<Text>,
 }
 
 /// The ended keys by topic.
-pub(crate) type EndedRows = BTreeMap<Text, EndedKeys>;
+pub type EndedRows = BTreeMap<Text, EndedKeys>;
 
 fn end_key(ended: &mut EndedKeys, key: Text) -> Result<(), AllocError>
     ensures { OnOk result
@@ -46,8 +43,13 @@ fn end_first_row(
     Ok(())
 }
 
-// Ends the row of a topic and a key.
-fn end_row(alloc: Global, ended: &mut EndedRows, topic: &Text, key: Text) -> Result<(), AllocError>
+/// Ends the row of a topic and a key.
+pub fn end_row(
+    alloc: Global,
+    ended: &mut EndedRows,
+    topic: &Text,
+    key: Text,
+) -> Result<(), AllocError>
     ensures { OnOk result ((t k : List ℕ) → has_row ended.new t k ≡
         ((bytes_eq topic.now t && bytes_eq key k) || has_row ended.old t k)) }
 {
@@ -57,8 +59,8 @@ fn end_row(alloc: Global, ended: &mut EndedRows, topic: &Text, key: Text) -> Res
     }
 }
 
-// Ends all rows of a topic, and forgets its keys.
-fn end_topic(alloc: Global, ended: &mut EndedRows, topic: &Text) -> Result<(), AllocError>
+/// Ends all rows of a topic, and forgets its keys.
+pub fn end_topic(alloc: Global, ended: &mut EndedRows, topic: &Text) -> Result<(), AllocError>
     ensures { OnOk result ((t k : List ℕ) →
         has_row ended.new t k ≡ (bytes_eq topic.now t || has_row ended.old t k)) }
 {
@@ -70,23 +72,18 @@ fn end_topic(alloc: Global, ended: &mut EndedRows, topic: &Text) -> Result<(), A
     Ok(())
 }
 
-fn has_key(keys: &EndedKeys, key: &Text) -> bool
-    ensures { result ≡ has_key keys.now key.now }
-{
-    keys.all || keys.keys.contains(key)
-}
-
-fn has_row(ended: &EndedRows, topic: &Text, key: &Text) -> bool
+/// Whether the row of a topic and a key is ended.
+pub fn has_row(ended: &EndedRows, topic: &Text, key: &Text) -> bool
     ensures { result ≡ has_row ended.now topic.now key.now }
 {
     match ended.get(topic) {
-        Some(keys) => has_key(keys, key),
+        Some(keys) => keys.all || keys.keys.contains(key),
         None => false,
     }
 }
 
-// Ends the row of a key that is set whole, and reports whether it wasn't ended yet.
-fn end_set_row(
+/// Ends the row of a key that is set whole, and reports whether it wasn't ended yet.
+pub fn end_set_row(
     alloc: Global,
     ended: &mut EndedRows,
     topic: &Text,
@@ -103,33 +100,8 @@ fn end_set_row(
     if !whole {
         return Ok(true);
     }
-    end_row(alloc, ended, topic, key)?;
-    Ok(true)
-}
-
-/// Ends the rows that an effect of this kind ends, and reports whether it sets a row that wasn't
-/// ended yet.
-pub(crate) fn end_rows(
-    alloc: Global,
-    ended: &mut EndedRows,
-    topic: &Text,
-    kind: Kind,
-) -> Result<bool, AllocError>
-    ensures ended { OnOk result ((t k : List ℕ) → has_row ended.new t k ≡
-        ((bytes_eq topic.now t && ends_key (Ok kind) k) || has_row ended.old t k)) }
-    ensures unended { IfOk result
-        (λ unended. unended ≡ sets_unended (Ok kind) (has_row ended.old topic.now)) }
-{
-    match kind {
-        Kind::Nothing => Ok(false),
-        Kind::Wipe => {
-            end_topic(alloc, ended, topic)?;
-            Ok(false)
-        }
-        Kind::Remove { key } => {
-            end_row(alloc, ended, topic, key)?;
-            Ok(false)
-        }
-        Kind::Set { key, whole } => end_set_row(alloc, ended, topic, key, whole),
+    match end_row(alloc, ended, topic, key) {
+        Ok(()) => Ok(true),
+        Err(error) => Err(error),
     }
 }

@@ -1,8 +1,8 @@
-use Rattle.std.proofs.Common.{◌≡◌, ◌∙◌, ◌||◌, ℕ, List, Bool, false, Some, bytes_eq, refl, sym, ap, subst}
+use Rattle.std.proofs.Common.{◌∙◌, ◌||◌, ℕ, List, Bool, false, Some, bytes_eq, refl, sym, ap, subst}
 use Rattle.std.specs.BTreeMap.{Updates}
 use Rattle.dbl_base.specs.Texts.{text_cmp}
-use Rattle.dbl_compact.proofs.EndedLemmas.{row_ended, no_key}
-use Rattle.dbl_compact.proofs.ended.end_first_row.Goals as goal
+use Rattle.dbl_compact_ended.proofs.EndedLemmas.{row_ended, no_key}
+use Rattle.dbl_compact_ended.proofs.ended.end_first_row.Goals as goal
 
 pub returns : goal.returns
 returns c =

@@ -25,9 +25,9 @@ use Rattle.dbl_tables_rows.specs.Holders.{other_than, lesser_if}
 use Rattle.dbl_tables_rows.specs.Views.{owner_at, seen_at}
 use Rattle.dbl_tables_changes.specs.declared.planned.Planned.{Planned}
 use Rattle.dbl_tables_changes.specs.declared.sessions.Session.{Session}
-use Rattle.dbl_tables_changes.specs.Planned.{MeasuresEntry, Blocks, IsLate, IsUpdateLate, IsUpdateRefused, UpdatePlans, Plans, IsAskedOfTable}
+use Rattle.dbl_tables_changes.specs.Planned.{MeasuresEntry, Blocks, Judges, IsInsertLate, IsInsertRefused, IsLate, IsUpdateLate, IsUpdateRefused, UpdatePlans, Plans, IsAskedOfTable}
 use Rattle.dbl_tables_changes.specs.AcceptedSteps.{AreRows}
-use Rattle.dbl_tables_changes.proofs.VerdictLemmas.{insert_unreadable, insert_too_large, insert_locked, delete_unreadable, delete_too_large, delete_locked_none, delete_locked, update_unreadable, update_locked_none, update_refused, update_planned}
+use Rattle.dbl_tables_changes.proofs.VerdictLemmas.{insert_unreadable, insert_too_large, insert_locked, insert_exists, delete_unreadable, delete_too_large, delete_locked_none, delete_locked, update_unreadable, update_locked_none, update_refused, update_planned}
 
 -- ---- tests
 
@@ -91,6 +91,25 @@ utf8_given table cells r m is utf8 few = utf8 (subst (λ (n : ℕ). n ≤ 1600) 
 pub utf8_wide : (table : DemoTable) (r : Texts) (m : Message) → length r ≡ length table.info.columns → (length r ≤ 1600 → IsUtf8Change m) → length table.info.columns ≤ 1600 → IsUtf8Change m
 utf8_wide table r m wide utf8 few = utf8 (subst (λ (n : ℕ). n ≤ 1600) (sym wide) few)
 
+-- ---- an insert that comes late
+
+module _ (rows : Rows) (s : List ℕ) (messages : List Message) (m : Message) (key : Key) where
+  insert_locked_late : (o : Option (List ℕ)) (e : StepError) → Blocks {A = Unit {0}} o (Err e) → (e ≡ errors.Memory) ⊎ IsInsertLate rows s key e o
+  insert_locked_late None e told = absurd told
+  insert_locked_late (Some by) e (inl mem) = inl mem
+  insert_locked_late (Some by) e (inr is) = inr is
+
+  insert_if_late : (e : StepError) → is_too_large rows.table messages m ≡ false → (e ≡ errors.Memory) ⊎ IsInsertLate rows s key e (other_than s (owner_at rows key)) → (e ≡ errors.Memory) ⊎ IsInsertRefused rows s messages m key e
+  insert_if_late e small (inl mem) = inl mem
+  insert_if_late e small (inr late) = inr (record { why = inr (small, late) })
+
+  pub insert_judged : (e : StepError) → Judges rows.table messages m (other_than s (owner_at rows key)) (Err e) → (e ≡ errors.Memory) ⊎ IsInsertRefused rows s messages m key e
+  insert_judged e (inl large) = inr (record { why = inl large })
+  insert_judged e (inr told) = insert_if_late e told.0 (insert_locked_late (other_than s (owner_at rows key)) e told.1)
+
+  pub insert_taken : is_too_large rows.table messages m ≡ false → other_than s (owner_at rows key) ≡ None → is_some (seen_at rows s key) ≡ true → IsInsertRefused rows s messages m key errors.RowExists
+  insert_taken small free taken = record { why = inr (small, subst (IsInsertLate rows s key errors.RowExists) (sym free) (refl, taken)) }
+
 -- ---- an update that comes late
 
 module _ (rows : Rows) (s : List ℕ) (messages : List Message) (m : Message) (from to : Key) (small : is_too_large rows.table messages m ≡ false) where
@@ -109,6 +128,11 @@ module _ (rows : Rows) (s : List ℕ) (messages : List Message) (m : Message) (f
   pub late_by_row : lesser_if (other_than s (owner_at rows from)) (other_than s (owner_at rows to)) ≡ None → (not (same_key from to) && is_some (seen_at rows s to)) ≡ true → IsUpdateRefused rows s messages m from to errors.RowExists
   late_by_row free taken = record { why = inr (small, subst (IsLate rows s from to errors.RowExists) (sym free) (refl, taken)) }
 
+pub update_judged : (rows : Rows) (s : List ℕ) (messages : List Message) (m : Message) (from to : Key) (e : StepError)
+    → Judges rows.table messages m (lesser_if (other_than s (owner_at rows from)) (other_than s (owner_at rows to))) (Err e) → (e ≡ errors.Memory) ⊎ IsUpdateRefused rows s messages m from to e
+update_judged rows s messages m from to e (inl large) = inr (record { why = inl large })
+update_judged rows s messages m from to e (inr told) = late_by_lock rows s messages m from to told.0 e told.1
+
 -- ---- plans
 
 pub session_short : (tables : List DemoTable) (past : List Accepted) (s : List ℕ) (at : FoundTable) (rows : Rows) (session : Session) → IsAskedOfTable tables past s at rows session → session.size ≤ entry_limit
@@ -120,22 +144,31 @@ wide_seen tables past s at rows session asked key row there = subst (λ (o : Opt
 
 module _ (tables : List DemoTable) (past : List Accepted) (s : List ℕ) (at : FoundTable) (rows : Rows) (session : Session) (asked : IsAskedOfTable tables past s at rows session) where
   module _ (cells : List NamedCell) where
-    pub insert_by_cells : (e : StepError) → (e ≡ errors.Memory) ⊎ ((e ≡ errors.BadRow) × (are_readable (raw_of at.table) cells ≡ false)) → (e ≡ errors.Memory) ⊎ (insert_in tables past s at cells (row_given (raw_of at.table) cells) ≡ Err e)
-    insert_by_cells e (inl m) = inl m
-    insert_by_cells e (inr told) = inr (insert_unreadable tables past s at rows session asked cells (both_no_left (are_readable (raw_of at.table) cells) (has_key_texts (raw_of at.table) cells) told.1) ∙ ap (λ (x : StepError). Err x) (sym told.0))
+    abbrev given : Texts
+    given = row_given (raw_of at.table) cells
 
-    pub insert_by_key : has_key_texts (raw_of at.table) cells ≡ false → insert_in tables past s at cells (row_given (raw_of at.table) cells) ≡ Err errors.BadRow
-    insert_by_key none = insert_unreadable tables past s at rows session asked cells (both_no_right (are_readable (raw_of at.table) cells) (has_key_texts (raw_of at.table) cells) none)
+    abbrev insert_verdict : Result Accepted StepError
+    insert_verdict = insert_in tables past s at cells given
 
-    module _ (readable : are_readable (raw_of at.table) cells ≡ true) (has : has_key_texts (raw_of at.table) cells ≡ true) where
-      pub insert_by_size : (e : StepError) → MeasuresEntry at.table (messages_by s past) (insert_message at.oid (row_given (raw_of at.table) cells)) (Err e) → insert_in tables past s at cells (row_given (raw_of at.table) cells) ≡ Err e
-      insert_by_size e large = insert_too_large tables past s at rows session asked cells (both_yes (are_readable (raw_of at.table) cells) (has_key_texts (raw_of at.table) cells) readable has) large.1 ∙ ap (λ (x : StepError). Err x) (sym large.0)
+    pub insert_unread : (e : StepError) → (e ≡ errors.Memory) ⊎ ((e ≡ errors.BadRow) × ((are_readable (raw_of at.table) cells && has_key_texts (raw_of at.table) cells) ≡ false)) → (e ≡ errors.Memory) ⊎ (insert_verdict ≡ Err e)
+    insert_unread e (inl m) = inl m
+    insert_unread e (inr told) = inr (insert_unreadable tables past s at rows session asked cells told.1 ∙ ap (λ (x : StepError). Err x) (sym told.0))
 
-      pub insert_by_lock : is_too_large at.table (messages_by s past) (insert_message at.oid (row_given (raw_of at.table) cells)) ≡ false → (e : StepError) → Blocks {A = Unit {0}} (other_than s (owner_at rows (key_in (raw_of at.table) (row_given (raw_of at.table) cells)))) (Err e)
-          → (e ≡ errors.Memory) ⊎ (insert_in tables past s at cells (row_given (raw_of at.table) cells) ≡ Err e)
-      insert_by_lock small e told =
-          blocked (other_than s (owner_at rows (key_in (raw_of at.table) (row_given (raw_of at.table) cells)))) e (insert_in tables past s at cells (row_given (raw_of at.table) cells)) told
-          (insert_locked tables past s at rows session asked cells (both_yes (are_readable (raw_of at.table) cells) (has_key_texts (raw_of at.table) cells) readable has) small)
+    module _ (readable : (are_readable (raw_of at.table) cells && has_key_texts (raw_of at.table) cells) ≡ true) (e : StepError) where
+      insert_late : is_too_large at.table (messages_by s past) (insert_message at.oid given) ≡ false → (o : Option (List ℕ)) → other_than s (owner_at rows (key_in (raw_of at.table) given)) ≡ o → IsInsertLate rows s (key_in (raw_of at.table) given) e o → insert_verdict ≡ Err e
+      insert_late small (Some by) is late = insert_locked tables past s at rows session asked cells readable small by is ∙ ap (λ (x : StepError). Err x) (sym late)
+      insert_late small None is late = insert_exists tables past s at rows session asked cells readable small is late.1 ∙ ap (λ (x : StepError). Err x) (sym late.0)
+
+      insert_why : ((e ≡ errors.BadRow) × (is_too_large at.table (messages_by s past) (insert_message at.oid given) ≡ true))
+          ⊎ ((is_too_large at.table (messages_by s past) (insert_message at.oid given) ≡ false) × IsInsertLate rows s (key_in (raw_of at.table) given) e (other_than s (owner_at rows (key_in (raw_of at.table) given)))) → insert_verdict ≡ Err e
+      insert_why (inl large) = insert_too_large tables past s at rows session asked cells readable large.1 ∙ ap (λ (x : StepError). Err x) (sym large.0)
+      insert_why (inr late) = insert_late late.0 (other_than s (owner_at rows (key_in (raw_of at.table) given))) refl late.1
+
+      pub insert_refused : (e ≡ errors.Memory) ⊎ IsInsertRefused rows s (messages_by s past) (insert_message at.oid given) (key_in (raw_of at.table) given) e → (e ≡ errors.Memory) ⊎ (insert_verdict ≡ Err e)
+      insert_refused (inl mem) = inl mem
+      insert_refused (inr told) =
+          inr (insert_why (subst (λ (t : DemoTable). ((e ≡ errors.BadRow) × (is_too_large t (messages_by s past) (insert_message at.oid given) ≡ true))
+          ⊎ ((is_too_large t (messages_by s past) (insert_message at.oid given) ≡ false) × IsInsertLate rows s (key_in (raw_of at.table) given) e (other_than s (owner_at rows (key_in (raw_of at.table) given))))) asked.are_rows.table told.why))
 
   module _ (key : List NamedCell) where
     pub delete_by_key : (e : StepError) → (e ≡ errors.Memory) ⊎ ((e ≡ errors.BadRow) × (is_readable_key (raw_of at.table) key ≡ false)) → (e ≡ errors.Memory) ⊎ (delete_in tables past s at key (key_given (raw_of at.table) key) ≡ Err e)
@@ -147,13 +180,18 @@ module _ (tables : List DemoTable) (past : List Accepted) (s : List ℕ) (at : F
       delete_by_lock_none none e told =
           blocked (other_than s (owner_at rows (key_given (raw_of at.table) key))) e (delete_in tables past s at key (key_given (raw_of at.table) key)) told (λ by held. delete_locked_none tables past s at rows session asked key readable by none held)
 
-      pub delete_by_size : (before : Texts) → seen_at rows s (key_given (raw_of at.table) key) ≡ Some before → (e : StepError) → MeasuresEntry at.table (messages_by s past) (delete_message at.oid at.table before) (Err e) → delete_in tables past s at key (key_given (raw_of at.table) key) ≡ Err e
+      delete_by_size : (before : Texts) → seen_at rows s (key_given (raw_of at.table) key) ≡ Some before → (e : StepError) → MeasuresEntry at.table (messages_by s past) (delete_message at.oid at.table before) (Err e) → delete_in tables past s at key (key_given (raw_of at.table) key) ≡ Err e
       delete_by_size before there e large = delete_too_large tables past s at rows session asked key readable before there large.1 ∙ ap (λ (x : StepError). Err x) (sym large.0)
 
-      pub delete_by_lock : (before : Texts) → seen_at rows s (key_given (raw_of at.table) key) ≡ Some before → is_too_large at.table (messages_by s past) (delete_message at.oid at.table before) ≡ false → (e : StepError)
+      delete_by_lock : (before : Texts) → seen_at rows s (key_given (raw_of at.table) key) ≡ Some before → is_too_large at.table (messages_by s past) (delete_message at.oid at.table before) ≡ false → (e : StepError)
           → Blocks {A = Unit {0}} (other_than s (owner_at rows (key_given (raw_of at.table) key))) (Err e) → (e ≡ errors.Memory) ⊎ (delete_in tables past s at key (key_given (raw_of at.table) key) ≡ Err e)
       delete_by_lock before there small e told =
           blocked (other_than s (owner_at rows (key_given (raw_of at.table) key))) e (delete_in tables past s at key (key_given (raw_of at.table) key)) told (λ by held. delete_locked tables past s at rows session asked key readable before there small by held)
+
+      pub delete_judged : (before : Texts) → seen_at rows s (key_given (raw_of at.table) key) ≡ Some before → (e : StepError)
+          → Judges at.table (messages_by s past) (delete_message at.oid at.table before) (other_than s (owner_at rows (key_given (raw_of at.table) key))) (Err e) → (e ≡ errors.Memory) ⊎ (delete_in tables past s at key (key_given (raw_of at.table) key) ≡ Err e)
+      delete_judged before there e (inl large) = inr (delete_by_size before there e large)
+      delete_judged before there e (inr told) = delete_by_lock before there told.0 e told.1
 
   module _ (key set : List NamedCell) where
     abbrev update_verdict : Result Accepted StepError

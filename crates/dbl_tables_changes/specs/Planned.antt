@@ -76,7 +76,42 @@ IsUpdateWritten session from to row (a ∷ b ∷ []) = (same_key from to ≡ fal
     × IsWrite session to (Some row) b
 IsUpdateWritten session from to row (a ∷ b ∷ c ∷ writes) = ⊥
 
+-- The only write is of this row at a key, under the session's lock.
+abbrev pub IsOnlyWrite : List ℕ → Key → Option RawRow → List Write → Type 0
+IsOnlyWrite session key row writes = (write : Write) × (writes ≡ write ∷ []) × IsWrite session key row write
+
 -- ---- blocking sessions
+
+-- The size of the entry with one more change of a row that no other session blocks, or the first refusal that applies.
+abbrev pub Judges : DemoTable → List Message → Message → Option (List ℕ) → Result ℕ StepError → Type 0
+Judges table messages message by (Ok size) = MeasuresEntry table messages message (Ok size) × (by ≡ None)
+Judges table messages message by (Err e) = MeasuresEntry table messages message (Err e)
+    ⊎ ((is_too_large table messages message ≡ false) × Blocks {A = Unit {0}} by (Err e))
+
+-- An insert is refused late: by another session's lock on its key, or else by a row at the key.
+abbrev pub IsInsertLate : Rows → List ℕ → Key → StepError → Option (List ℕ) → Type 0
+IsInsertLate rows session key e (Some by) = e ≡ errors.RowLocked by
+IsInsertLate rows session key e None = (e ≡ errors.RowExists) × (is_some (seen_at rows session key) ≡ true)
+
+-- The first refusal of an insert of a readable row that applies.
+pub record IsInsertRefused (rows : Rows) (session : List ℕ) (messages : List Message) (message : Message) (key : Key)
+    (e : StepError) : Type 0 where
+  pub why : ((e ≡ errors.BadRow) × (is_too_large rows.table messages message ≡ true))
+      ⊎ ((is_too_large rows.table messages message ≡ false)
+      × IsInsertLate rows session key e (other_than session (owner_at rows key)))
+
+-- An insert of a readable row that passes the tests, with the size of its entry.
+pub record IsInsertAllowed (rows : Rows) (session : List ℕ) (messages : List Message) (message : Message) (key : Key)
+    (size : ℕ) : Type 0 where
+  pub fits : MeasuresEntry rows.table messages message (Ok size)
+  pub free : other_than session (owner_at rows key) ≡ None
+  pub absent : is_some (seen_at rows session key) ≡ false
+
+-- The size of the entry with an insert of a readable row, or the insert's refusal.
+abbrev pub JudgesInsert : Rows → List ℕ → List Message → Message → Key → Result ℕ StepError → Type 0
+JudgesInsert rows session messages message key (Ok size) = IsInsertAllowed rows session messages message key size
+JudgesInsert rows session messages message key (Err e) = (e ≡ errors.Memory)
+    ⊎ IsInsertRefused rows session messages message key e
 
 -- An update is refused late: by another session's lock, or else by a row at its new key.
 abbrev pub IsLate : Rows → List ℕ → Key → Key → StepError → Option (List ℕ) → Type 0
@@ -102,6 +137,19 @@ pub record IsUpdateRefused (rows : Rows) (session : List ℕ) (messages : List M
     (e : StepError) : Type 0 where
   pub why : ((e ≡ errors.BadRow) × (is_too_large rows.table messages message ≡ true))
       ⊎ ((is_too_large rows.table messages message ≡ false) × IsUpdateLate rows session from to e)
+
+-- An update of an existing row that passes the tests, with the size of its entry.
+pub record IsUpdateAllowed (rows : Rows) (session : List ℕ) (messages : List Message) (message : Message) (from to : Key)
+    (size : ℕ) : Type 0 where
+  pub fits : MeasuresEntry rows.table messages message (Ok size)
+  pub free : lesser_if (other_than session (owner_at rows from)) (other_than session (owner_at rows to)) ≡ None
+  pub absent : (not (same_key from to) && is_some (seen_at rows session to)) ≡ false
+
+-- The size of the entry with an update of an existing row, or the update's refusal.
+abbrev pub JudgesUpdate : Rows → List ℕ → List Message → Message → Key → Key → Result ℕ StepError → Type 0
+JudgesUpdate rows session messages message from to (Ok size) = IsUpdateAllowed rows session messages message from to size
+JudgesUpdate rows session messages message from to (Err e) = (e ≡ errors.Memory)
+    ⊎ IsUpdateRefused rows session messages message from to e
 
 -- The plan of an update of an existing row, or its refusal.
 abbrev pub UpdatePlans : Rows → List ℕ → List Message → Message → Key → Key → RawRow → Result Planned StepError → Type 0

@@ -8,14 +8,15 @@ ghost use Rattle.dbl_model_table.specs.Keys.{same_key};
 ghost use Rattle.dbl_tables_rows.specs.declared.demo_table.DemoTable.{DemoTable};
 ghost use Rattle.dbl_tables_rows.specs.Acts.{Accepted};
 ghost use Rattle.dbl_tables_rows.specs.Cells.{row_given, key_texts, key_given, key_set};
-ghost use Rattle.dbl_tables_rows.specs.Cells.{is_readable_key, are_readable};
+ghost use Rattle.dbl_tables_rows.specs.Cells.{is_readable_key, are_readable, has_key_texts};
 ghost use Rattle.dbl_tables_rows.specs.Sending.{raw_of, entry_size, entry_limit};
 ghost use Rattle.dbl_tables_rows.specs.Steps.{insert_in, update_in, delete_in};
 ghost use Rattle.dbl_tables_rows.specs.Given.{HasCells, HasColumns, IsUtf8Change};
 ghost use Rattle.dbl_tables_rows.specs.Holders.{other_than, lesser_if};
 ghost use Rattle.dbl_tables_rows.specs.Views.{owner_at, seen_at};
 ghost use Rattle.dbl_tables_changes.specs.Planned.{MeasuresEntry, ReadsIfReadable, Blocks};
-ghost use Rattle.dbl_tables_changes.specs.Planned.{IsUpdateWritten, UpdatePlans, Plans};
+ghost use Rattle.dbl_tables_changes.specs.Planned.{IsOnlyWrite, IsUpdateWritten, UpdatePlans, Plans};
+ghost use Rattle.dbl_tables_changes.specs.Planned.{Judges, JudgesInsert, JudgesUpdate};
 ghost use Rattle.dbl_tables_changes.specs.Planned.{IsAskedOfTable, found_here};
 
 use crate::planned::{Planned, Write};
@@ -61,6 +62,23 @@ pub fn pass(alloc: Global, by: Option<&Text>) -> Result<(), StepError>
     }
 }
 
+// The size of the entry with one more message of a row that no other session blocks.
+fn judge(
+    alloc: Global,
+    table: &DemoTable,
+    size: u64,
+    message: &Message,
+    by: Option<&Text>,
+) -> Result<u64, StepError>
+    ensures { (messages : List Message) → (length table.now.info.columns ≤ 1600 →
+        IsUtf8Change message.now) → size ≤ entry_limit → size ≡ entry_size messages →
+        Judges table.now messages message.now (option_copied by.entry) result }
+{
+    let size = measure(table, size, message)?;
+    pass(alloc, by)?;
+    Ok(size)
+}
+
 fn read_cells<'a>(
     alloc: Global,
     rows: &Rows,
@@ -98,6 +116,57 @@ fn write_of(
     })
 }
 
+fn one_write(
+    alloc: Global,
+    session: &Text,
+    key: Key,
+    row: Option<RawRow>,
+) -> Result<Vec<Write>, AllocError>
+    ensures { IfOk result (λ writes. IsOnlyWrite session.now key row writes.items) }
+{
+    let write = write_of(alloc, session, key, row)?;
+    let mut writes = Vec::new(alloc);
+    writes.push(write)?;
+    Ok(writes)
+}
+
+// The row of these cells, which has no null in its key.
+fn read_row(alloc: Global, rows: &Rows, cells: &[NamedCell]) -> Result<RawRow, StepError>
+    ensures reads { HasColumns rows.now.table.info rows.now.places →
+        ReadsIfReadable (are_readable (raw_of rows.now.table) cells.now && has_key_texts (raw_of
+        rows.now.table) cells.now) result }
+    ensures row { IfOk result (λ row. row.cells ≡ row_given (raw_of rows.now.table) cells.now) }
+{
+    let info = &rows.table.info;
+    let mut places = BTreeMap::new(alloc);
+    read_cells(alloc, rows, cells, &mut places)?;
+    if !has_key_texts(info, cells, &places) {
+        return Err(StepError::BadRow);
+    }
+    Ok(row_given(alloc, info, cells, &places)?)
+}
+
+// The size of the entry with the insert of a row whose cells were read.
+fn judge_insert(
+    alloc: Global,
+    rows: &Rows,
+    name: &Text,
+    size: u64,
+    message: &Message,
+    key: &Key,
+) -> Result<u64, StepError>
+    ensures { (messages : List Message) → (length rows.now.table.info.columns ≤ 1600 →
+        IsUtf8Change message.now) → size ≤ entry_limit → size ≡ entry_size messages →
+        JudgesInsert rows.now name.now messages message.now key.now result }
+{
+    let by = key_holder(rows, name, key);
+    let size = judge(alloc, &rows.table, size, message, by)?;
+    if seen_row(rows, name, key).is_some() {
+        return Err(StepError::RowExists);
+    }
+    Ok(size)
+}
+
 /// Plans the insert of a row with these cells.
 pub fn plan_insert(
     alloc: Global,
@@ -112,22 +181,11 @@ pub fn plan_insert(
         Plans tables past name.now (found_here oid rows.now) (insert_in tables past name.now
         (found_here oid rows.now) cells.now (row_given (raw_of rows.now.table) cells.now)) result }
 {
-    let info = &rows.table.info;
-    let mut places = BTreeMap::new(alloc);
-    read_cells(alloc, rows, cells, &mut places)?;
-    if !has_key_texts(info, cells, &places) {
-        return Err(StepError::BadRow);
-    }
-    let row = row_given(alloc, info, cells, &places)?;
-    let key = key_in(alloc, info, &row)?;
+    let row = read_row(alloc, rows, cells)?;
+    let key = key_in(alloc, &rows.table.info, &row)?;
     let message = insert_message(alloc, oid, &row)?;
-    let size = measure(&rows.table, session.size, &message)?;
-    pass(alloc, key_holder(rows, name, &key))?;
-    if seen_row(rows, name, &key).is_some() {
-        return Err(StepError::RowExists);
-    }
-    let mut writes = Vec::new(alloc);
-    writes.push(write_of(alloc, name, key, Some(row))?)?;
+    let size = judge_insert(alloc, rows, name, session.size, &message, &key)?;
+    let writes = one_write(alloc, name, key, Some(row))?;
     Ok(Planned {
         message,
         size,
@@ -150,6 +208,16 @@ fn read_key(alloc: Global, rows: &Rows, key: &[NamedCell]) -> Result<Vec<Option<
         return Err(StepError::BadRow);
     }
     Ok(key_texts(alloc, info, key, &places)?)
+}
+
+// The key that these cells make.
+fn read_from(alloc: Global, rows: &Rows, key: &[NamedCell]) -> Result<Key, StepError>
+    ensures reads { HasColumns rows.now.table.info rows.now.places →
+        ReadsIfReadable (is_readable_key (raw_of rows.now.table) key.now) result }
+    ensures key { IfOk result (λ from. from ≡ key_given (raw_of rows.now.table) key.now) }
+{
+    let texts = read_key(alloc, rows, key)?;
+    Ok(key_from(alloc, &rows.table.info, texts.as_slice())?)
 }
 
 fn update_writes(
@@ -189,6 +257,28 @@ fn is_taken(rows: &Rows, name: &Text, from: &Key, to: &Key) -> bool
     seen_row(rows, name, to).is_some()
 }
 
+// The size of the entry with the update of an existing row.
+fn judge_update(
+    alloc: Global,
+    rows: &Rows,
+    name: &Text,
+    size: u64,
+    message: &Message,
+    from: &Key,
+    to: &Key,
+) -> Result<u64, StepError>
+    ensures { (messages : List Message) → (length rows.now.table.info.columns ≤ 1600 →
+        IsUtf8Change message.now) → size ≤ entry_limit → size ≡ entry_size messages →
+        JudgesUpdate rows.now name.now messages message.now from.now to.now result }
+{
+    let by = in_the_way(rows, name, from, to);
+    let size = judge(alloc, &rows.table, size, message, by)?;
+    if is_taken(rows, name, from, to) {
+        return Err(StepError::RowExists);
+    }
+    Ok(size)
+}
+
 fn plan_update_of(
     alloc: Global,
     rows: &Rows,
@@ -203,15 +293,12 @@ fn plan_update_of(
         IsUtf8Change message) → size ≤ entry_limit → size ≡ entry_size messages →
         UpdatePlans rows.now name.now messages message from to row result }
 {
-    let size = measure(&rows.table, size, &message)?;
-    pass(alloc, in_the_way(rows, name, &from, &to))?;
-    if is_taken(rows, name, &from, &to) {
-        return Err(StepError::RowExists);
-    }
+    let size = judge_update(alloc, rows, name, size, &message, &from, &to)?;
+    let writes = update_writes(alloc, name, from, to, row)?;
     Ok(Planned {
         message,
         size,
-        writes: update_writes(alloc, name, from, to, row)?,
+        writes,
     })
 }
 
@@ -264,17 +351,15 @@ pub fn plan_delete(
         Plans tables past name.now (found_here oid rows.now) (delete_in tables past name.now
         (found_here oid rows.now) key.now (key_given (raw_of rows.now.table) key.now)) result }
 {
-    let texts = read_key(alloc, rows, key)?;
-    let from = key_from(alloc, &rows.table.info, texts.as_slice())?;
+    let from = read_from(alloc, rows, key)?;
     let Some(before) = seen_row(rows, name, &from) else {
         pass(alloc, key_holder(rows, name, &from))?;
         return Err(StepError::NoRow);
     };
     let message = delete_message(alloc, oid, &rows.table, before)?;
-    let size = measure(&rows.table, session.size, &message)?;
-    pass(alloc, key_holder(rows, name, &from))?;
-    let mut writes = Vec::new(alloc);
-    writes.push(write_of(alloc, name, from, None)?)?;
+    let by = key_holder(rows, name, &from);
+    let size = judge(alloc, &rows.table, session.size, &message, by)?;
+    let writes = one_write(alloc, name, from, None)?;
     Ok(Planned {
         message,
         size,

@@ -1,7 +1,7 @@
 -- How the store applies a planned change, and what it leaves if memory runs out.
 use Rattle.std.specs.Prelude.{◌≡◌, ◌||◌, ◌++◌, ℕ, true, List, [], ◌∷◌, bytes_eq}
 use Rattle.std.specs.List.{AllByRecursion}
-use Rattle.std.specs.BTreeSet.{contains}
+use Rattle.std.specs.BTreeSet.{BTreeSet, contains}
 use Rattle.dbl_base.specs.Texts.{text_cmp}
 use Rattle.dbl_pgmsg.specs.declared.messages.Message.{Message}
 use Rattle.dbl_model_table.specs.declared.row.Key.{Key}
@@ -37,10 +37,13 @@ pub record IsSameTable (old new : Rows) : Type 0 where
   pub places : new.places ≡ old.places
   pub cleared : new.cleared ≡ old.cleared
 
+-- One more name is in the set.
+abbrev pub IsAdded : List ℕ → BTreeSet (List ℕ) → BTreeSet (List ℕ) → Type 0
+IsAdded added old new = (name : List ℕ) → contains text_cmp new name ≡ (bytes_eq added name || contains text_cmp old name)
+
 -- One more session has a lock in the table.
 abbrev pub HoldsToo : List ℕ → Rows → Rows → Type 0
-HoldsToo session old new = (name : List ℕ)
-    → contains text_cmp new.holders name ≡ (bytes_eq session name || contains text_cmp old.holders name)
+HoldsToo session old new = IsAdded session old.holders new.holders
 
 -- The sessions with locks in the table are the same.
 abbrev pub HoldsAsBefore : Rows → Rows → Type 0

@@ -1,4 +1,7 @@
 //! Changes of rows, judged and planned before the store applies them.
+//!
+//! A message that isn't sent is dropped by name: that is one call, whereas a drop at the end of a
+//! scope is proved variant by variant at each exit.
 
 ghost use Rattle.std.specs.Prelude.{◌≡◌, ◌≤◌, ◌&&◌, not, is_some, List};
 ghost use Rattle.std.specs.Prelude.{IfOk, OnOk, length, option_copied};
@@ -184,8 +187,17 @@ pub fn plan_insert(
     let row = read_row(alloc, rows, cells)?;
     let key = key_in(alloc, &rows.table.info, &row)?;
     let message = insert_message(alloc, oid, &row)?;
-    let size = judge_insert(alloc, rows, name, session.size, &message, &key)?;
-    let writes = one_write(alloc, name, key, Some(row))?;
+    let size = match judge_insert(alloc, rows, name, session.size, &message, &key) {
+        Ok(size) => size,
+        Err(error) => {
+            drop(message);
+            return Err(error);
+        }
+    };
+    let Ok(writes) = one_write(alloc, name, key, Some(row)) else {
+        drop(message);
+        return Err(StepError::Memory);
+    };
     Ok(Planned {
         message,
         size,
@@ -293,8 +305,17 @@ fn plan_update_of(
         IsUtf8Change message) → size ≤ entry_limit → size ≡ entry_size messages →
         UpdatePlans rows.now name.now messages message from to row result }
 {
-    let size = judge_update(alloc, rows, name, size, &message, &from, &to)?;
-    let writes = update_writes(alloc, name, from, to, row)?;
+    let size = match judge_update(alloc, rows, name, size, &message, &from, &to) {
+        Ok(size) => size,
+        Err(error) => {
+            drop(message);
+            return Err(error);
+        }
+    };
+    let Ok(writes) = update_writes(alloc, name, from, to, row) else {
+        drop(message);
+        return Err(StepError::Memory);
+    };
     Ok(Planned {
         message,
         size,
@@ -358,8 +379,17 @@ pub fn plan_delete(
     };
     let message = delete_message(alloc, oid, &rows.table, before)?;
     let by = key_holder(rows, name, &from);
-    let size = judge(alloc, &rows.table, session.size, &message, by)?;
-    let writes = one_write(alloc, name, from, None)?;
+    let size = match judge(alloc, &rows.table, session.size, &message, by) {
+        Ok(size) => size,
+        Err(error) => {
+            drop(message);
+            return Err(error);
+        }
+    };
+    let Ok(writes) = one_write(alloc, name, from, None) else {
+        drop(message);
+        return Err(StepError::Memory);
+    };
     Ok(Planned {
         message,
         size,

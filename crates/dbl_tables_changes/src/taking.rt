@@ -1,12 +1,12 @@
 //! How a planned change is applied: each step that can run out of memory comes before any visible
 //! one.
 
-ghost use Rattle.std.specs.Prelude.{OnOk, OnErr};
+ghost use Rattle.std.specs.Prelude.{◌≡◌, OnOk, OnErr};
 ghost use Rattle.std.specs.List.{AllByRecursion};
 ghost use Rattle.dbl_tables_rows.specs.Changing.{HasSlot};
 ghost use Rattle.dbl_tables_changes.specs.Written.{WritesAll};
 ghost use Rattle.dbl_tables_changes.specs.Taking.{HasMadeRoom, AreReady, Joins};
-ghost use Rattle.dbl_tables_changes.specs.Taking.{IsUnjoined, TakesChange, IsUntaken};
+ghost use Rattle.dbl_tables_changes.specs.Taking.{IsAdded, IsUnjoined, TakesChange, IsUntaken};
 
 use crate::planned::{Planned, Write};
 use crate::sessions::Session;
@@ -14,6 +14,7 @@ use dbl_base::Text;
 use dbl_pgmsg::Message;
 use dbl_tables_rows::{HeldKey, Rows, Slots, hold, list_key, make_slot};
 use std::alloc::{AllocError, Global};
+use std::collections::BTreeSet;
 
 // Makes room for each write, and lists its key, with no visible effect.
 fn make_ready(
@@ -43,6 +44,16 @@ fn hold_all(slots: &mut Slots, writes: Vec<Write>)
     }
 }
 
+// Adds a session to those with a lock in a table.
+fn add_holder(alloc: Global, holders: &mut BTreeSet<Text>, name: &Text) -> Result<(), AllocError>
+    ensures added { OnOk result (IsAdded name.now holders.old holders.new) }
+    ensures kept { OnErr result (holders.new.keys ≡ holders.old.keys) }
+{
+    let holder = name.copy(alloc)?;
+    holders.insert(holder)?;
+    Ok(())
+}
+
 // Adds a message to a session, and the session to those with a lock in the table: both or neither.
 fn join(
     alloc: Global,
@@ -56,14 +67,18 @@ fn join(
         session.new) }
     ensures kept { OnErr result (IsUnjoined rows.old rows.new session.old session.new) }
 {
-    let holder = name.copy(alloc)?;
+    let count = session.messages.len();
     session.messages.push(message)?;
-    let Ok(_added) = rows.holders.insert(holder) else {
-        session.messages.pop();
-        return Err(AllocError);
-    };
-    session.size = size;
-    Ok(())
+    match add_holder(alloc, &mut rows.holders, name) {
+        Ok(()) => {
+            session.size = size;
+            Ok(())
+        }
+        Err(error) => {
+            session.messages.truncate(count);
+            Err(error)
+        }
+    }
 }
 
 /// Applies a planned change of a table's rows.

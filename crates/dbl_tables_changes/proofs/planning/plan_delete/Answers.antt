@@ -46,9 +46,8 @@ returns-in_default c tables past asked =
     inr (delete_missing tables past c.args.name.now here c.args.rows.now c.args.session.now asked c.args.key.now readable none (unblocked (other_than c.args.name.now (owner_at c.args.rows.now (key_given (raw_of c.args.rows.now.table) c.args.key.now))) tt (subst (λ (o : Option (List ℕ)). Blocks {A = Unit {0}} o (Ok tt)) holder c.in_ok-pass.ensures)))
 
 -- too long, or somebody holds the key
-pub returns-in_err-size : goal.returns-in_err-size
-returns-in_err-size c tables past asked =
-    let p = err_from_is_err_and c.from_residual-in_err-size.result c.from_residual-in_err-size.ensures.1 in
+pub returns-in-Err : goal.returns-in-Err
+returns-in-Err c tables past asked =
     let here = found_here c.args.oid c.args.rows.now in
     let messages : List Message = messages_by c.args.name.now past in
     let readable : is_readable_key (raw_of c.args.rows.now.table) c.args.key.now ≡ true = c.in_ok-from.ensures.reads (has_columns tables past here c.args.rows.now asked.are_rows) in
@@ -58,10 +57,10 @@ returns-in_err-size c tables past asked =
     let utf8 : length c.args.rows.now.table.info.columns ≤ 1600 → IsUtf8Change c.in_ok-message.message = utf8_wide c.args.rows.now.table before c.in_ok-message.message (wide_seen tables past c.args.name.now here c.args.rows.now c.args.session.now asked (key_given (raw_of c.args.rows.now.table) c.args.key.now) before there) c.in_ok-message.ensures.utf8 in
     let short : c.args.session.now.size ≤ entry_limit = session_short tables past c.args.name.now here c.args.rows.now c.args.session.now asked in
     let holder : option_copied c.key_holder-by.result ≡ other_than c.args.name.now (owner_at c.args.rows.now (key_given (raw_of c.args.rows.now.table) c.args.key.now)) = c.key_holder-by.ensures ∙ ap (λ (k : Key). other_than c.args.name.now (owner_at c.args.rows.now k)) from in
-    let told : Judges c.args.rows.now.table messages (delete_message c.args.oid c.args.rows.now.table before) (other_than c.args.name.now (owner_at c.args.rows.now (key_given (raw_of c.args.rows.now.table) c.args.key.now))) (Err c.in_err-size.field-0.0) =
-    subst (λ (m : Message). Judges c.args.rows.now.table messages m (other_than c.args.name.now (owner_at c.args.rows.now (key_given (raw_of c.args.rows.now.table) c.args.key.now))) (Err c.in_err-size.field-0.0)) c.in_ok-message.ensures.message
-    (subst (λ (o : Option (List ℕ)). Judges c.args.rows.now.table messages c.in_ok-message.message o (Err c.in_err-size.field-0.0)) holder (c.in_err-size.ensures messages utf8 short asked.is_session.size)) in
-    rw (p.1, p.2) (delete_judged tables past c.args.name.now here c.args.rows.now c.args.session.now asked c.args.key.now readable before there c.in_err-size.field-0.0 told)
+    let told : Judges c.args.rows.now.table messages (delete_message c.args.oid c.args.rows.now.table before) (other_than c.args.name.now (owner_at c.args.rows.now (key_given (raw_of c.args.rows.now.table) c.args.key.now))) (Err c.in-Err.error) =
+    subst (λ (m : Message). Judges c.args.rows.now.table messages m (other_than c.args.name.now (owner_at c.args.rows.now (key_given (raw_of c.args.rows.now.table) c.args.key.now))) (Err c.in-Err.error)) c.in_ok-message.ensures.message
+    (subst (λ (o : Option (List ℕ)). Judges c.args.rows.now.table messages c.in_ok-message.message o (Err c.in-Err.error)) holder (c.in-Err.ensures messages utf8 short asked.is_session.size)) in
+    delete_judged tables past c.args.name.now here c.args.rows.now c.args.session.now asked c.args.key.now readable before there c.in-Err.error told
 
 pub returns : goal.returns
 returns c tables past asked =
@@ -74,10 +73,10 @@ returns c tables past asked =
     let utf8 : length c.args.rows.now.table.info.columns ≤ 1600 → IsUtf8Change c.in_ok-message.message = utf8_wide c.args.rows.now.table before c.in_ok-message.message (wide_seen tables past c.args.name.now here c.args.rows.now c.args.session.now asked (key_given (raw_of c.args.rows.now.table) c.args.key.now) before there) c.in_ok-message.ensures.utf8 in
     let short : c.args.session.now.size ≤ entry_limit = session_short tables past c.args.name.now here c.args.rows.now c.args.session.now asked in
     let holder : option_copied c.key_holder-by.result ≡ other_than c.args.name.now (owner_at c.args.rows.now (key_given (raw_of c.args.rows.now.table) c.args.key.now)) = c.key_holder-by.ensures ∙ ap (λ (k : Key). other_than c.args.name.now (owner_at c.args.rows.now k)) from in
-    let told : Judges c.args.rows.now.table messages (delete_message c.args.oid c.args.rows.now.table before) (other_than c.args.name.now (owner_at c.args.rows.now (key_given (raw_of c.args.rows.now.table) c.args.key.now))) (Ok c.in_ok-size.size) =
-    subst (λ (m : Message). Judges c.args.rows.now.table messages m (other_than c.args.name.now (owner_at c.args.rows.now (key_given (raw_of c.args.rows.now.table) c.args.key.now))) (Ok c.in_ok-size.size)) c.in_ok-message.ensures.message
-    (subst (λ (o : Option (List ℕ)). Judges c.args.rows.now.table messages c.in_ok-message.message o (Ok c.in_ok-size.size)) holder (c.in_ok-size.ensures messages utf8 short asked.is_session.size)) in
-    let w = c.in_ok-writes.ensures in
+    let told : Judges c.args.rows.now.table messages (delete_message c.args.oid c.args.rows.now.table before) (other_than c.args.name.now (owner_at c.args.rows.now (key_given (raw_of c.args.rows.now.table) c.args.key.now))) (Ok c.in-Ok.size) =
+    subst (λ (m : Message). Judges c.args.rows.now.table messages m (other_than c.args.name.now (owner_at c.args.rows.now (key_given (raw_of c.args.rows.now.table) c.args.key.now))) (Ok c.in-Ok.size)) c.in_ok-message.ensures.message
+    (subst (λ (o : Option (List ℕ)). Judges c.args.rows.now.table messages c.in_ok-message.message o (Ok c.in-Ok.size)) holder (c.in-Ok.ensures messages utf8 short asked.is_session.size)) in
+    let w = c.in-Ok-one_write.ensures in
     delete_planned tables past c.args.name.now here c.args.rows.now c.args.session.now asked c.args.key.now readable before there told.0.0
-    (record { message = c.in_ok-message.message; size = c.in_ok-size.size; writes = c.in_ok-writes.writes }) w.0 told.1 c.in_ok-message.ensures.message w.1
+    (record { message = c.in_ok-message.message; size = c.in-Ok.size; writes = c.in-Ok-one_write.writes }) w.0 told.1 c.in_ok-message.ensures.message w.1
     (subst (λ (k : Key). IsWrite c.args.name.now k None w.0) from w.2) told.0.1 told.0.2 told.0.3

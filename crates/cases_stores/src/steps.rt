@@ -135,7 +135,7 @@ fn found(
     }
 }
 
-// The same for the old bytes, the new ones, and other bytes than 1 and 1 wherever any may be left.
+// The same for the old bytes, the new ones, and 165 and 1 where any byte may be left.
 fn left(alloc: Global, shown: &mut String, family: &str, disk: &MemDisk) -> Result<()> {
     for word in ["old", "new", "165", "1"] {
         write!(shown, "({word}: ")?;
@@ -146,7 +146,7 @@ fn left(alloc: Global, shown: &mut String, family: &str, disk: &MemDisk) -> Resu
 }
 
 /// Adds the position of the offset in what a crash leaves: the old bytes, the new ones, and an odd
-/// byte and an even one wherever any may be left.
+/// byte and an even one where any byte may be left.
 pub fn show_positions(alloc: Global, shown: &mut String, disk: &MemDisk) -> Result<()> {
     for word in ["old", "new", "165", "164"] {
         words::add(shown, " ")?;

@@ -47,8 +47,7 @@ pub data Follows {W T F : Type 0} (wal_model : DiskModel W) (topics_model : Disk
   crashes : (old new : Disks W T F) → Follows wal_model topics_model offsets_model first old
       → AreReopened wal_model topics_model offsets_model old new → Follows wal_model topics_model offsets_model first new
 
--- After any runs and crashes from crash-consistent disks, such as a done `init` leaves, the disks are crash-consistent, and each further run
--- keeps the guarantees.
+-- The last disks are crash-consistent, and each further run over them keeps the guarantees.
 pub record StayKept {W T F : Type 0} (wal_model : DiskModel W) (topics_model : DiskModel T) (offsets_model : DiskModel F)
     (first last : Disks W T F) : Type 0 where
   pub kept : AreKeptDisks wal_model topics_model offsets_model last
@@ -56,6 +55,8 @@ pub record StayKept {W T F : Type 0} (wal_model : DiskModel W) (topics_model : D
       → RunsFrom wal_model topics_model offsets_model words status last new
       → KeepsGuarantees wal_model topics_model offsets_model words status last new
 
+-- Any runs and crashes, beginning with crash-consistent disks, such as an `init` that is done leaves, end with disks that are
+-- crash-consistent too.
 abbrev pub DisksStayKept : {W T F : Type 0} → DiskModel W → DiskModel T → DiskModel F → Type 0
 DisksStayKept {W} {T} {F} wal_model topics_model offsets_model = (first last : Disks W T F)
     → AreKeptDisks wal_model topics_model offsets_model first → Follows wal_model topics_model offsets_model first last

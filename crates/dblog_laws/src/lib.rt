@@ -1,5 +1,5 @@
-//! When the program's runs must succeed, and what `replay | apply --lines` prints: theorems over
-//! definitions.
+//! When the program's runs must succeed, what runs and crashes in a row leave, and what
+//! `replay | apply --lines` prints: theorems over definitions.
 #![tactic(auto)]
 
 mod pipe_laws;

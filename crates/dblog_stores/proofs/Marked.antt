@@ -52,8 +52,8 @@ module _ (placeholder : List ℕ) (number : ℕ) (item : Record) (part : List Re
         (accepted_is (act placeholder (as_line item)) (subst (λ (p : List ℕ). IsOk (kind_at p item)) so_far.same ok)));
   }
 
-  pub part_refused : (error : ConsumeError) → new.marks ≡ false ∷ old.marks → new.refused ≡ Some number → kind_at (placeholder_of old.compactor) item ≡ Err error
-      → HasMarkedPart placeholder number (item ∷ part) groups new
+  pub part_refused : (error : ConsumeError) → new.marks ≡ false ∷ old.marks → new.refused ≡ Some number
+      → kind_at (placeholder_of old.compactor) item ≡ Err error → HasMarkedPart placeholder number (item ∷ part) groups new
   part_refused error pushed stays is =
       let bad : kind_at placeholder item ≡ Err error = subst (λ (p : List ℕ). kind_at p item ≡ Err error) so_far.same is in
       record {
@@ -80,8 +80,8 @@ pub part_ends : (placeholder : List ℕ) (number : ℕ) (group : List Record) (g
 part_ends placeholder number group groups marking part = record { same = part.same; read = part.read; marks_are = part.marks_are; refuses = part.refuses }
 
 -- the records from the one before an index on
-pub part_before : (placeholder : List ℕ) (number : ℕ) (group : List Record) (index : ℕ) (item : Record) (groups : List (List Record)) (marking : Marking) → 0 < index
-    → slice_get group (index - 1) ≡ Some item → HasMarkedPart placeholder number (item ∷ drop index group) groups marking
+pub part_before : (placeholder : List ℕ) (number : ℕ) (group : List Record) (index : ℕ) (item : Record) (groups : List (List Record)) (marking : Marking)
+    → 0 < index → slice_get group (index - 1) ≡ Some item → HasMarkedPart placeholder number (item ∷ drop index group) groups marking
     → HasMarkedPart placeholder number (drop (index - 1) group) groups marking
 part_before placeholder number group index item groups marking some there part =
     let next : (index - 1) + 1 ≡ index = omega arith in

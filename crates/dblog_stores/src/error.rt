@@ -45,12 +45,13 @@ pub enum CommandError {
     /// No offset is stored.
     #[error("not started")]
     NotStarted,
-    /// The disk has no journal. `at` is the first wrong or missing byte of the magic, the missing
-    /// commit byte, or the commit byte of the entry that is torn or too long.
+    /// The disk has no journal, or no offset store. `at` is the position of the first wrong or
+    /// missing byte of the magic; of a journal's missing commit byte, or that of the entry that is
+    /// torn or too long; of an offset store's missing selector, or of the selected slot's content.
     #[error("not a store: {store} at {at}")]
     NotAStore { store: Store, at: u64 },
     /// The number, counted from 0, of the first entry that isn't one of the store or is refused by
-    /// the consumer.
+    /// the consumer, or of the selected slot, which encodes no offset.
     #[error("bad entry {index} in {store}")]
     BadEntry { store: Store, index: u64 },
 }

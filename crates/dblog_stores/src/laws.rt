@@ -7,9 +7,9 @@ ghost use Rattle.dbl_topic.specs.Held.{HoldsGroups};
 ghost use Rattle.dbl_offset_content.specs.declared.offset.Offset.{Offset};
 ghost use Rattle.dbl_offset.specs.Stores.{HoldsOffset, StoreOn, disk_of};
 ghost use Rattle.dblog_stores.specs.Stores.{ReadAsStores};
-ghost use Rattle.dblog_stores.specs.Laws.{ListingAnswersOnce, ListingAnswersStand, OffsetsAnswerOnce};
-ghost use Rattle.dblog_stores.specs.Laws.{OffsetsAnswersStand, StoresAreReadOnce, TopicsAnswerOnce};
-ghost use Rattle.dblog_stores.specs.Laws.{TopicsAnswersStand};
+ghost use Rattle.dblog_stores.specs.Laws.{ListingAnswersOnce, ListingAnswersStand};
+ghost use Rattle.dblog_stores.specs.Laws.{OffsetsAnswerOnce, OffsetsAnswersStand};
+ghost use Rattle.dblog_stores.specs.Laws.{StoresAreReadOnce, TopicsAnswerOnce, TopicsAnswersStand};
 
 use dbl_disk::Disk;
 

@@ -1,0 +1,6 @@
+//! Theorems about the logs of workloads.
+#![tactic(auto)]
+
+mod laws;
+
+pub use laws::rows_of_wals_are_readable;

@@ -33,9 +33,8 @@ pub(crate) fn block_end(from: usize, len: usize) -> usize
 /// Writes the bytes of a store without an offset on an empty disk, and syncs.
 pub(crate) fn start<D: Disk>(disk: &mut D, bytes: &[u8]) -> Result<(), Failed>
     requires { bytes.now ≡ empty_store }
-    ensures stored { D.seen disk.old ≡ Some [] → OnOk result ((new : List ℕ) ×
-        (D.seen disk.new ≡ Some new) × IsOnly new (D.may_leave disk.new) ×
-        HasSelectedEntry new 0 []) }
+    ensures stored { D.seen disk.old ≡ Some [] → OnOk result
+        ((D.seen disk.new ≡ Some empty_store) × IsOnly empty_store (D.may_leave disk.new)) }
     ensures crash { Follows (Torn 0 20) (D.may_leave disk.old) (D.may_leave disk.new) }
     ensures longest { (new : List ℕ) → D.seen disk.old ≡ Some [] → D.seen disk.new ≡ Some new →
         length new ≤ 20 }

@@ -1,13 +1,13 @@
-ghost use Rattle.std.specs.Prelude.{◌≡◌, ◌≢◌, ◌⊎◌, ◌↔◌, ℕ, ◌<◌, ◌≤◌, List, [], length, max};
+ghost use Rattle.std.specs.Prelude.{◌≡◌, ◌≢◌, ◌⊎◌, ◌↔◌, ℕ, ◌+◌, ◌<◌, ◌≤◌, List, [], length, max};
 ghost use Rattle.std.specs.Prelude.{option_map, Option, Some, None, Ok, Err, IfOk, IfErr};
 ghost use Rattle.std.specs.Prelude.{IfSome, OnOk, OnErr, MatchResult};
 ghost use Rattle.dbl_disk.specs.Calls.{Keeps, Makes};
 ghost use Rattle.dbl_disk.specs.Disks.{Follows, IsOnly};
 ghost use Rattle.dbl_offset_content.specs.declared.offset.Offset.{Offset};
-ghost use Rattle.dbl_offset_content.specs.Entries.{offset_bytes_form};
+ghost use Rattle.dbl_offset_content.specs.Entries.{offset_bytes_form, slot_content};
 ghost use Rattle.dbl_offset_content.specs.Measures.{capped, offset_limit};
-ghost use Rattle.dbl_offset_content.specs.Offsets.{IsOffset, IsOffsetEntry};
-ghost use Rattle.dbl_offset.specs.Slots.{HasSelectedEntry};
+ghost use Rattle.dbl_offset_content.specs.Offsets.{EncodesOffset, IsOffset, IsOffsetEntry};
+ghost use Rattle.dbl_offset.specs.Slots.{HasSelectedEntry, empty_store};
 ghost use Rattle.dbl_offset.specs.Stores.{BeginsTorn, ExtendsOffsets, HasBadOffset, HoldsOffset};
 ghost use Rattle.dbl_offset.specs.Stores.{IsLive, IsNoStoreAt, IsSlotEntry, IsStore, LeavesOffset};
 ghost use Rattle.dbl_offset.specs.Stores.{PutLeaves, disk_of, least_room, room_of};
@@ -98,12 +98,34 @@ fn read_store<D: Disk>(alloc: Global, disk: &mut D) -> Result<Stored, OffsetErro
     })
 }
 
+// The content of a slot with the offset.
+fn content_of(alloc: Global, offset: &Offset) -> Result<Vec<u8>, OffsetError>
+    requires { IsOffset offset.now }
+    ensures content { IfOk result
+        (λ content. (content.items ≡ slot_content (offset_bytes_form offset.now)) ×
+        EncodesOffset (offset_bytes_form offset.now) offset.now) }
+    ensures short { IfOk result (λ content. length content.items ≤ offset_limit + 4) }
+    ensures too_long { (len : ℕ) → (result ≡ Err (OffsetError.TooLong len)) ↔
+        ((offset_limit < length (offset_bytes_form offset.now))
+        × (len ≡ capped (length (offset_bytes_form offset.now)))) }
+    ensures kinds { IfErr result (λ error. (error ≡ OffsetError.Memory) ⊎
+        ((len : ℕ) × (error ≡ OffsetError.TooLong len))) }
+{
+    let count = measure(offset);
+    if count > OFFSET_LIMIT {
+        return Err(OffsetError::TooLong { len: count });
+    }
+    Ok(encode(alloc, count as usize, offset)?)
+}
+
 impl<D: Disk> OffsetStore<D> {
     /// Makes a store without an offset on an empty disk, by a write and a sync.
     pub fn make(mut disk: D) -> Result<OffsetStore<D>, Refused<D, OffsetError>>
         requires { (bytes : List ℕ) → D.seen disk ≡ Some bytes → bytes ≡ [] }
         ensures made { D.seen disk ≡ Some [] →
             IfOk result (λ store. HoldsOffset D.Disk store None) }
+        ensures bytes { D.seen disk ≡ Some [] →
+            IfOk result (λ store. D.seen (disk_of store) ≡ Some empty_store) }
         ensures live { IfOk result IsLive }
         ensures empty { IfOk result (λ store. store.offset ≡ None) }
         ensures refused { IfErr result (λ refused. refused.error ≡ OffsetError.Failed) }
@@ -196,18 +218,27 @@ impl<D: Disk> OffsetStore<D> {
         ensures a_store { (at : ℕ) → result ≢ Err (OffsetError.NotAStore at) }
         ensures no_bad_offset { (index : ℕ) → result ≢ Err (OffsetError.BadOffset index) }
     {
-        let count = measure(&offset);
-        if count > OFFSET_LIMIT {
-            return Err(OffsetError::TooLong { len: count });
-        }
-        let content = encode(alloc, count as usize, &offset)?;
+        let content = match content_of(alloc, &offset) {
+            Ok(content) => content,
+            Err(error) => {
+                drop(offset);
+                return Err(error);
+            }
+        };
         let other = 1 - self.slot;
         self.live = false;
-        write_slot(&mut self.disk, other, content.as_slice())?;
-        self.slot = other;
-        self.live = true;
-        self.offset = Some(offset);
-        Ok(())
+        match write_slot(&mut self.disk, other, content.as_slice()) {
+            Ok(()) => {
+                self.slot = other;
+                self.live = true;
+                drop(self.offset.replace(offset));
+                Ok(())
+            }
+            Err(Failed) => {
+                drop(offset);
+                Err(OffsetError::Failed)
+            }
+        }
     }
 
     /// The disk in its present state. Takes no memory and makes no call of the disk.

@@ -1,9 +1,9 @@
-use Rattle.std.proofs.Common.{◌≡◌, ◌∙◌, ℕ, List, [], length, ap, arith, refl, subst, sym}
+use Rattle.std.proofs.Common.{◌≡◌, ◌∙◌, ℕ, List, [], Some, length, ap, arith, refl, subst}
 use Rattle.std.proofs.lemmas.Result.{on_ok_weaker}
 use Rattle.dbl_disk.specs.Disks.{Torn, written}
 use Rattle.dbl_disk.proofs.Tears.{length-written}
-use Rattle.dbl_offset.specs.Slots.{HasSelectedEntry, empty_store}
-use Rattle.dbl_offset.proofs.Heads.{empty_selected, file_is, length-empty_store}
+use Rattle.dbl_offset.specs.Slots.{empty_store}
+use Rattle.dbl_offset.proofs.Heads.{file_is, length-empty_store}
 use Rattle.dbl_offset.proofs.slots.start.Goals as goal
 
 twenty : (bytes : List ℕ) → bytes ≡ empty_store → length bytes ≡ 20
@@ -25,10 +25,9 @@ returns-clause-crash g c crashed left =
 pub returns-clause-stored : goal.returns-clause-stored
 returns-clause-stored g c told =
     let bytes : List ℕ = c.args.bytes.now in
-    let file : List ℕ = written [] 0 bytes in
-    let now = c.in_ok-write_at.ensures.written [] told in
-    let has : HasSelectedEntry file 0 [] = subst (λ (l : List ℕ). HasSelectedEntry l 0 []) (sym (file_is bytes ∙ c.requires)) empty_selected in
-    on_ok_weaker c.sync.result (λ stable. (file, c.sync.ensures.seen ∙ now, stable, has)) (c.sync.ensures.stable file now)
+    let is : written [] 0 bytes ≡ empty_store = file_is bytes ∙ c.requires in
+    let now = c.in_ok-write_at.ensures.written [] told ∙ ap (λ (l : List ℕ). Some l) is in
+    on_ok_weaker c.sync.result (λ stable. (c.sync.ensures.seen ∙ now, stable)) (c.sync.ensures.stable empty_store now)
 
 pub returns-in_err-write_at-clause-longest : goal.returns-in_err-write_at-clause-longest
 returns-in_err-write_at-clause-longest g c new was told =

@@ -1,5 +1,6 @@
 use Rattle.std.proofs.Common.{[], refl}
-use Rattle.dbl_offset.specs.Slots.{store_magic}
+use Rattle.dbl_offset.specs.Slots.{empty_store, store_magic}
+use Rattle.dbl_offset.proofs.Heads.{empty_selected}
 use Rattle.dbl_offset.proofs.store.OffsetStore.make.Goals as goal
 
 pub start-requires : goal.start-requires
@@ -9,7 +10,10 @@ start-requires g c = refl
 pub returns-in-Ok-clause-made : goal.returns-in-Ok-clause-made
 returns-in-Ok-clause-made g c told =
     let made = c.in-Ok.ensures.stored told in
-    record { live = refl; bytes = made.0; told = made.1; only = made.2; entry = []; selected = made.3; is = refl; offset_is = refl }
+    record { live = refl; bytes = empty_store; told = made.0; only = made.1; entry = []; selected = empty_selected; is = refl; offset_is = refl }
+
+pub returns-in-Ok-clause-bytes : goal.returns-in-Ok-clause-bytes
+returns-in-Ok-clause-bytes g c told = (c.in-Ok.ensures.stored told).0
 
 pub returns-in-Ok-clause-makes : goal.returns-in-Ok-clause-makes
 returns-in-Ok-clause-makes g c = record {

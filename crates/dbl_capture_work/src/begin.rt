@@ -25,7 +25,7 @@ use dbl_base::{Lsn, Seq};
 use dbl_disk::Disk;
 use dbl_model_history::Cursor;
 use dbl_model_table::{Config, TableInfo, TableName};
-use dbl_offset::{Offset, OffsetStore};
+use dbl_offset::{Offset, OffsetStore, SharedInfos};
 use dbl_source::Source;
 use dbl_source_model::Started;
 use std::alloc::{AllocError, Global};
@@ -119,13 +119,14 @@ fn offset_at(
     ensures { IfOk result (IsFirstOffsetAtHead config.now infos.items head) }
 {
     let cursors = unread_cursors(alloc, infos.len())?;
+    let infos = SharedInfos::make(alloc, infos)?;
     Ok(Offset {
         identity: config.identity.copy(alloc)?,
         incarnation: 1,
         start: head,
         lsn: head,
         end_lsn: head,
-        infos: Seq::make(infos),
+        infos,
         cursors: Seq::make(cursors),
     })
 }

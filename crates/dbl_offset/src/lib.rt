@@ -8,7 +8,7 @@ mod laws;
 mod slots;
 mod store;
 
-pub use dbl_offset_content::{Offset, offsets_are_spelled_once};
+pub use dbl_offset_content::{Offset, SharedInfos, offsets_are_spelled_once};
 pub use error::OffsetError;
 pub use laws::{
     bytes_are_a_store_or_not, stores_are_read_once, stores_come_of_stores, stores_hold_one_offset,

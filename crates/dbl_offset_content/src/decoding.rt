@@ -10,6 +10,7 @@ ghost use Rattle.dbl_offset_content.specs.Reading.{table_cursor_at, identity_at,
 ghost use Rattle.dbl_offset_content.specs.Reading.{offset_at, tables_at, version_at, whole};
 
 use crate::cursors::read_entry;
+use crate::infos::SharedInfos;
 use crate::offset::Offset;
 use crate::reading::{NO_OFFSET, byte};
 use dbl_base::{Lsn, Seq};
@@ -49,6 +50,7 @@ fn read_identity(alloc: Global, bytes: &[u8]) -> Result<(Identity, &[u8]), Recor
         placeholder,
     };
     if !identity.is_good() {
+        drop(identity);
         return Err(NO_OFFSET);
     }
     Ok((identity, rest))
@@ -87,7 +89,7 @@ fn read_numbers(bytes: &[u8]) -> Result<(Numbers, &[u8]), RecordError>
 // The tables, each with its progress at the same index.
 #[derive(Drop)]
 struct Tables {
-    infos: Vec<TableInfo>,
+    infos: SharedInfos,
     cursors: Vec<Cursor>,
 }
 
@@ -96,9 +98,9 @@ fn read_each_table(
     count: usize,
     bytes: &[u8],
 ) -> Result<(Tables, &[u8]), RecordError>
-    ensures read { Gives (λ x. (zip x.0.infos.items x.0.cursors.items, x.1.now)) result
+    ensures read { Gives (λ x. (zip x.0.infos x.0.cursors.items, x.1.now)) result
         (many_at table_cursor_at count bytes.now) }
-    ensures long { IfOk result (λ x. length x.0.cursors.items ≡ length x.0.infos.items) }
+    ensures long { IfOk result (λ x. length x.0.cursors.items ≡ length x.0.infos) }
 {
     let mut infos = Vec::new(alloc);
     let mut cursors = Vec::new(alloc);
@@ -109,6 +111,7 @@ fn read_each_table(
         cursors.push(cursor)?;
         rest = after;
     }
+    let infos = SharedInfos::make(alloc, infos)?;
     Ok((Tables { infos, cursors }, rest))
 }
 
@@ -132,16 +135,16 @@ fn have_distinct_names(infos: &[TableInfo]) -> bool
 
 #[tactic(auto, unfolding(crate::specs::Reading::tables_at))]
 fn read_tables(alloc: Global, bytes: &[u8]) -> Result<(Tables, &[u8]), RecordError>
-    ensures read { Gives (λ x. (zip x.0.infos.items x.0.cursors.items, x.1.now)) result
+    ensures read { Gives (λ x. (zip x.0.infos x.0.cursors.items, x.1.now)) result
         (tables_at bytes.now) }
-    ensures long { IfOk result (λ x. length x.0.cursors.items ≡ length x.0.infos.items) }
+    ensures long { IfOk result (λ x. length x.0.cursors.items ≡ length x.0.infos) }
 {
     let (count, rest) = read_number32(0, bytes)?;
     if count == 0 || count > TABLES {
         return Err(NO_OFFSET);
     }
     let (tables, rest) = read_each_table(alloc, count as usize, rest)?;
-    if !have_distinct_names(tables.infos.as_slice()) {
+    if !have_distinct_names(tables.infos.items()) {
         return Err(NO_OFFSET);
     }
     Ok((tables, rest))
@@ -162,7 +165,7 @@ fn read_offset(alloc: Global, bytes: &[u8]) -> Result<(Offset, &[u8]), RecordErr
         start: Lsn(numbers.start),
         lsn: Lsn(numbers.lsn),
         end_lsn: Lsn(numbers.end_lsn),
-        infos: Seq::make(infos),
+        infos,
         cursors: Seq::make(cursors),
     };
     Ok((offset, rest))
@@ -174,6 +177,7 @@ fn read_whole(alloc: Global, bytes: &[u8]) -> Result<Offset, RecordError>
 {
     let (offset, rest) = read_offset(alloc, bytes)?;
     if !rest.is_empty() {
+        drop(offset);
         return Err(NO_OFFSET);
     }
     Ok(offset)

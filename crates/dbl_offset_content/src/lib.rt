@@ -3,6 +3,7 @@
 
 mod cursors;
 mod decoding;
+mod infos;
 mod laws;
 mod measuring;
 mod offset;
@@ -11,6 +12,7 @@ mod tables;
 mod writing;
 
 pub use decoding::decode;
+pub use infos::SharedInfos;
 pub use laws::offsets_are_spelled_once;
 pub use measuring::{OFFSET_LIMIT, measure};
 pub use offset::Offset;

@@ -1,8 +1,9 @@
 ghost use Rattle.std.specs.Prelude.{◌≡◌, IfOk};
 
+use crate::infos::SharedInfos;
 use dbl_base::{Lsn, Seq};
 use dbl_model_history::Cursor;
-use dbl_model_table::{Identity, TableInfo};
+use dbl_model_table::Identity;
 use std::alloc::{AllocError, Global};
 
 /// A connector's progress: the tables that it captures, and the position from which it continues
@@ -20,13 +21,13 @@ pub struct Offset {
     /// Where that commit ends, or the start.
     pub end_lsn: Lsn,
     /// The captured tables, 1 to 64, of distinct names.
-    pub infos: Seq<TableInfo>,
+    pub infos: SharedInfos,
     /// The progress of each table's snapshot.
     pub cursors: Seq<Cursor>,
 }
 
 impl Offset {
-    /// An equal offset.
+    /// An equal offset, which shares the tables.
     pub fn copy(&self, alloc: Global) -> Result<Offset, AllocError>
         ensures { IfOk result (λ offset. offset ≡ self.now) }
     {
@@ -34,7 +35,7 @@ impl Offset {
         self.with_cursors(alloc, cursors)
     }
 
-    /// An offset that is equal but for these cursors.
+    /// An offset that is equal but for these cursors, and shares the tables.
     pub fn with_cursors(&self, alloc: Global, cursors: Seq<Cursor>) -> Result<Offset, AllocError>
         ensures { IfOk result (λ offset. offset ≡ record self.now { cursors = cursors }) }
     {
@@ -44,7 +45,7 @@ impl Offset {
             start: self.start,
             lsn: self.lsn,
             end_lsn: self.end_lsn,
-            infos: self.infos.copy(alloc)?,
+            infos: self.infos.share()?,
             cursors,
         })
     }

@@ -24,4 +24,4 @@ loop-preserved c =
     }
 
 pub returns-clause-read : goal.returns-clause-read
-returns-clause-read c = is_done table_cursor_at (zip c.loop.infos.items c.loop.cursors.items) c.args.count c.loop.counter c.loop.rest.now (many_at table_cursor_at c.args.count c.args.bytes.now) c.loop-test.false c.loop.invariant.read
+returns-clause-read c = rw c.in_ok-infos.ensures (is_done table_cursor_at (zip c.loop.infos.items c.loop.cursors.items) c.args.count c.loop.counter c.loop.rest.now (many_at table_cursor_at c.args.count c.args.bytes.now) c.loop-test.false c.loop.invariant.read)

@@ -150,7 +150,10 @@ pub fn consume(alloc: Global, placeholder: Text, text: LongText) -> Result<Consu
         if !more {
             return Ok(held);
         }
-        number += 1;
+        number = match number.checked_add(1) {
+            Some(next) => next,
+            None => return Err(out_of_memory(number)),
+        };
         match take_line(alloc, &mut scratch, &mut held, line.as_slice()) {
             Ok(()) => {}
             Err(fault) => return Err(FaultAt { number, fault }),

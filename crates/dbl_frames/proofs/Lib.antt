@@ -1,4 +1,2 @@
-pub mod HeadLemmas
-pub mod FrameLemmas
 pub mod StreamLemmas
 pub mod StepLemmas

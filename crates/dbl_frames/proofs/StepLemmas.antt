@@ -5,15 +5,14 @@ use Rattle.std.proofs.lemmas.Bool.{cases_lt}
 use Rattle.std.proofs.lemmas.List.{append-nil, length-append}
 use Rattle.std.proofs.lemmas.List.Concat.{flat_map-append}
 use Rattle.std.proofs.lemmas.List.Elements.{All-nil, All-cons, All-append}
-use Rattle.dbl_frames.specs.declared.error.FrameError.{FrameError}
-use Rattle.dbl_frames.specs.declared.error.FrameError.TheVariants.{Memory}
-use Rattle.dbl_frames.specs.declared.frame.Frame.{Frame}
-use Rattle.dbl_frames.specs.Form.{FitsFrame, frame_form}
-use Rattle.dbl_frames.specs.Faults.{head_fault, wanted_size}
+use Rattle.dbl_frames_heads.specs.declared.error.FrameError.{FrameError}
+use Rattle.dbl_frames_heads.specs.declared.error.FrameError.TheVariants.{Memory}
+use Rattle.dbl_frames_heads.specs.declared.frame.Frame.{Frame}
+use Rattle.dbl_frames_heads.specs.Form.{FitsFrame, frame_form}
+use Rattle.dbl_frames_heads.specs.Faults.{head_fault, wanted_size}
 use Rattle.dbl_frames.specs.Stream.{BeginsWith, AreFramesOf, IsUnfinished, Reader, Faulty, WasFed, stream}
-use Rattle.dbl_frames.specs.Steps.{IsWithinFrame, ReadsFrames, StopsReading, frame_at}
-use Rattle.dbl_frames.proofs.HeadLemmas.{HasBytes, head_stays, wanted_least, wanted_short, wanted_stays}
-use Rattle.dbl_frames.proofs.FrameLemmas.{HasFields, fields_of, whole_form}
+use Rattle.dbl_frames.specs.Steps.{IsWithinFrame, ReadsFrames, StopsReading}
+use Rattle.dbl_frames_heads.proofs.HeadLemmas.{head_stays, wanted_least, wanted_short, wanted_stays}
 use Rattle.dbl_frames.proofs.StreamLemmas.{one_fault}
 
 stream-append : (xs ys : List Frame) → stream (xs ++ ys) ≡ stream xs ++ stream ys
@@ -37,27 +36,18 @@ filled at bytes front new un is within = λ none.
       | inr long ↦ omega (arith, within, same, wanted_stays bytes front long)
     ]
 
--- the bytes of a frame that is whole have at least its head
-pub whole_head : (at : ℕ) (bytes : List ℕ) → head_fault at bytes ≡ None → length bytes ≡ wanted_size bytes → 6 ≤ length bytes
-whole_head at bytes none size = omega (arith, size, wanted_least at bytes none)
-
-pub whole_fields : (at : ℕ) (bytes : List ℕ) → head_fault at bytes ≡ None → length bytes ≡ wanted_size bytes → HasFields bytes
-whole_fields at bytes none size = fields_of at bytes none (whole_head at bytes none size) size
-
 pub reads_none : (at : ℕ) (bytes piece : List ℕ) (out : List Frame) → IsUnfinished at bytes → ReadsFrames at bytes piece out at bytes piece out
 reads_none at bytes piece out un =
     record { frames = []; encoded = refl; each = All-nil FitsFrame; appended = sym (append-nil out); offset = omega arith; unfinished = un }
 
-pub reads_whole : (at next : ℕ) (bytes after : List ℕ) (out more : List Frame) (f : Frame) → HasBytes bytes → head_fault at bytes ≡ None
-    → length bytes ≡ wanted_size bytes → f ≡ frame_at bytes
+pub reads_whole : (at next : ℕ) (bytes after : List ℕ) (out more : List Frame) (f : Frame) → FitsFrame f → bytes ≡ frame_form f
     → next ≡ at + length bytes → after ≡ [] → more ≡ out ++ f ∷ [] → ReadsFrames at bytes [] out next after [] more
-reads_whole at next bytes after out more f are none size is next_is after_is more_is =
-    let form = whole_form at bytes are none (whole_head at bytes none size) size in
-    let encoded : bytes ≡ frame_form f ++ [] = form.encoded ∙ ap frame_form (sym is) ∙ sym (append-nil (frame_form f)) in
+reads_whole at next bytes after out more f fits is next_is after_is more_is =
+    let encoded : bytes ≡ frame_form f ++ [] = is ∙ sym (append-nil (frame_form f)) in
     record {
       frames = f ∷ [];
       encoded = append-nil bytes ∙ encoded ∙ sym (append-nil (frame_form f ++ [])) ∙ ap (λ (l : List ℕ). (frame_form f ++ []) ++ (l ++ [])) (sym after_is);
-      each = All-cons FitsFrame f [] (subst FitsFrame (sym is) form.fits) (All-nil FitsFrame);
+      each = All-cons FitsFrame f [] fits (All-nil FitsFrame);
       appended = more_is;
       offset = omega (arith, next_is, ap (λ (l : List ℕ). length l) encoded);
       unfinished = subst (λ (l : List ℕ). IsUnfinished next l) (sym after_is) (none_yet next);

@@ -5,14 +5,14 @@ use Rattle.std.proofs.lemmas.Bool.{cases_lt}
 use Rattle.std.proofs.lemmas.List.{length-append, length-drop, length-take-le, take-append-drop}
 use Rattle.std.proofs.lemmas.List.Elements.{All-nil, All-cons, All-head, All-tail}
 use Rattle.std.specs.List.{All}
-use Rattle.dbl_frames.specs.declared.error.FrameError.{FrameError}
-use Rattle.dbl_frames.specs.declared.frame.Frame.{Frame}
-use Rattle.dbl_frames.specs.Form.{AreBytes, FitsFrame, frame_form}
-use Rattle.dbl_frames.specs.Faults.{head_fault, wanted_size}
-use Rattle.dbl_frames.specs.Steps.{frame_at}
+use Rattle.dbl_frames_heads.specs.declared.error.FrameError.{FrameError}
+use Rattle.dbl_frames_heads.specs.declared.frame.Frame.{Frame}
+use Rattle.dbl_frames_heads.specs.Form.{AreBytes, FitsFrame, frame_form}
+use Rattle.dbl_frames_heads.specs.Faults.{head_fault, wanted_size}
+use Rattle.dbl_frames_heads.specs.Fields.{frame_at}
 use Rattle.dbl_frames.specs.Stream.{AreFramesOf, IsStreamRest, Rest, Unfinished, Faulty, stream}
-use Rattle.dbl_frames.proofs.HeadLemmas.{HasBytes, bytes_drop, bytes_take, front_sound, has_bytes, head_stays, wanted_least, wanted_stays}
-use Rattle.dbl_frames.proofs.FrameLemmas.{form_sound, form_size, one_form, whole_form}
+use Rattle.dbl_frames_heads.proofs.HeadLemmas.{HasBytes, bytes_drop, bytes_take, front_sound, has_bytes, head_stays, wanted_least, wanted_stays}
+use Rattle.dbl_frames_heads.proofs.FrameLemmas.{form_sound, form_size, one_form, whole_form}
 
 -- ---- one
 

@@ -1,4 +1,2 @@
-pub mod Form
-pub mod Faults
 pub mod Stream
 pub mod Steps

@@ -1,26 +1,12 @@
 -- The steps of reading a piece.
-use Rattle.std.specs.Prelude.{◌≡◌, ◌⊎◌, ℕ, ◌+◌, ◌==◌, ◌≤◌, List, ◌++◌, length, take, drop, slice_index, Some, None, if◌then◌else◌}
-use Rattle.std.specs.Str.{byte}
+use Rattle.std.specs.Prelude.{◌≡◌, ◌⊎◌, ℕ, ◌+◌, ◌≤◌, List, ◌++◌, length, Some, None}
 use Rattle.std.specs.List.{All}
-use Rattle.std.specs.Int.{w64, from_be_bytes, cast_signed}
-use Rattle.dbl_frames.specs.declared.error.FrameError.{FrameError}
-use Rattle.dbl_frames.specs.declared.error.FrameError.TheVariants.{Memory}
-use Rattle.dbl_frames.specs.declared.frame.Frame.{Frame}
-use Rattle.dbl_frames.specs.declared.frame.Frame.TheVariants.{Data, Keepalive}
-use Rattle.dbl_frames.specs.Form.{FitsFrame}
-use Rattle.dbl_frames.specs.Faults.{head_fault, wanted_size}
+use Rattle.dbl_frames_heads.specs.declared.error.FrameError.{FrameError}
+use Rattle.dbl_frames_heads.specs.declared.error.FrameError.TheVariants.{Memory}
+use Rattle.dbl_frames_heads.specs.declared.frame.Frame.{Frame}
+use Rattle.dbl_frames_heads.specs.Form.{FitsFrame}
+use Rattle.dbl_frames_heads.specs.Faults.{head_fault, wanted_size}
 use Rattle.dbl_frames.specs.Stream.{IsUnfinished, stream}
-
--- the number in the eight bytes at this offset
-abbrev pub int64_at : ℕ → List ℕ → ℕ
-int64_at at bytes = from_be_bytes w64 (take 8 (drop at bytes))
-
--- the frame that the bytes encode, if they are whole and have no fault
-unfoldable pub frame_at : List ℕ → Frame
-frame_at bytes =
-    if slice_index bytes 5 == byte "w" then Data (int64_at 6 bytes) (int64_at 14 bytes) (cast_signed w64 (int64_at 22 bytes))
-    (drop 30 bytes)
-    else Keepalive (int64_at 6 bytes) (cast_signed w64 (int64_at 14 bytes)) (slice_index bytes 22)
 
 -- the bytes are no longer than the frame at their front, unless it has a fault
 abbrev pub IsWithinFrame : ℕ → List ℕ → Type 0

@@ -1,10 +1,10 @@
 -- The frames of a stream, and a reader that is fed it in pieces.
 use Rattle.std.specs.Prelude.{◌≡◌, ℕ, ◌+◌, ◌<◌, List, ◌++◌, length, Option, Some, None}
 use Rattle.std.specs.List.{All, flat_map}
-use Rattle.dbl_frames.specs.declared.error.FrameError.{FrameError}
-use Rattle.dbl_frames.specs.declared.frame.Frame.{Frame}
-use Rattle.dbl_frames.specs.Form.{FitsFrame, frame_form}
-use Rattle.dbl_frames.specs.Faults.{head_fault, wanted_size}
+use Rattle.dbl_frames_heads.specs.declared.error.FrameError.{FrameError}
+use Rattle.dbl_frames_heads.specs.declared.frame.Frame.{Frame}
+use Rattle.dbl_frames_heads.specs.Form.{FitsFrame, frame_form}
+use Rattle.dbl_frames_heads.specs.Faults.{head_fault, wanted_size}
 
 -- how the frames of some bytes end: with the bytes of an unfinished frame, or with a fault
 pub data Rest : Type 0 where

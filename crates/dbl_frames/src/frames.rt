@@ -1,15 +1,14 @@
 ghost use Rattle.std.specs.Prelude.{◌≡◌, ◌≢◌, ◌⊎◌, ℕ, ◌+◌, ◌^◌, ◌<◌, ◌≤◌, List, [], ◌++◌, length};
 ghost use Rattle.std.specs.Prelude.{Some, None};
 ghost use Rattle.std.specs.Prelude.{IfOk, IfErr, OnOk, OnErr};
-ghost use Rattle.dbl_frames.specs.declared.error.FrameError.{FrameError};
-ghost use Rattle.dbl_frames.specs.declared.frame.Frame.{Frame};
-ghost use Rattle.dbl_frames.specs.Faults.{head_fault, wanted_size};
+ghost use Rattle.dbl_frames_heads.specs.declared.error.FrameError.{FrameError};
+ghost use Rattle.dbl_frames_heads.specs.declared.frame.Frame.{Frame};
+ghost use Rattle.dbl_frames_heads.specs.Faults.{wanted_size};
 ghost use Rattle.dbl_frames.specs.Stream.{AreFramesOf, BeginsWith, Faulty, IsUnfinished, WasFed};
 ghost use Rattle.dbl_frames.specs.Stream.{bytes_fed};
 ghost use Rattle.dbl_frames.specs.Steps.{IsWithinFrame, ReadsFrames, StopsReading};
 
-use crate::heads::{find_head_fault, measure_frame, read_frame};
-use crate::{Frame, FrameError};
+use dbl_frames_heads::{Frame, FrameError, append_frame, find_head_fault, measure_frame};
 use std::alloc::{AllocError, Global};
 use std::marker::Model;
 
@@ -167,7 +166,7 @@ fn fill_frame<'a>(bytes: &mut Vec<u8>, piece: &'a [u8]) -> Result<&'a [u8], Allo
     Ok(rest)
 }
 
-// Looks for a fault, and appends the frame if it is whole.
+// Looks for a fault; appends the frame if it is whole, and begins the next one.
 fn finish_frame(
     alloc: Global,
     partial: &mut Partial,
@@ -186,25 +185,7 @@ fn finish_frame(
     if partial.bytes.len() < measure_frame(&partial.bytes) {
         return Ok(());
     }
-    append_frame(alloc, partial, out)?;
-    Ok(())
-}
-
-// Appends a whole frame to those read, and begins the next one.
-fn append_frame(
-    alloc: Global,
-    partial: &mut Partial,
-    out: &mut Vec<Frame>,
-) -> Result<(), AllocError>
-    requires sound { head_fault partial.old.at partial.old.bytes.items ≡ None }
-    requires whole { length partial.old.bytes.items ≡ wanted_size partial.old.bytes.items }
-    requires room { partial.old.at + length partial.old.bytes.items < 2 ^ 64 }
-    ensures read { OnOk result (ReadsFrames partial.old.at partial.old.bytes.items []
-        out.old.items partial.new.at partial.new.bytes.items [] out.new.items) }
-    ensures same { OnErr result (out.new.items ≡ out.old.items) }
-{
-    let frame = read_frame(alloc, &partial.bytes)?;
-    out.push(frame)?;
+    append_frame(alloc, &partial.bytes, out)?;
     partial.at += partial.bytes.len() as u64;
     partial.bytes.clear();
     Ok(())

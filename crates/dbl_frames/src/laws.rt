@@ -1,9 +1,9 @@
 //! Theorems about the frames of a stream; the functions have empty bodies.
 
 ghost use Rattle.std.specs.Prelude.{◌≡◌, ◌++◌, ℕ, List};
-ghost use Rattle.dbl_frames.specs.declared.error.FrameError.{FrameError};
-ghost use Rattle.dbl_frames.specs.declared.frame.Frame.{Frame};
-ghost use Rattle.dbl_frames.specs.Form.{AreBytes};
+ghost use Rattle.dbl_frames_heads.specs.declared.error.FrameError.{FrameError};
+ghost use Rattle.dbl_frames_heads.specs.declared.frame.Frame.{Frame};
+ghost use Rattle.dbl_frames_heads.specs.Form.{AreBytes};
 ghost use Rattle.dbl_frames.specs.Stream.{AreFramesOf, Faulty, Rest};
 
 /// Bytes have exactly one list of frames before the first fault, and one rest.

@@ -1,16 +1,10 @@
-//! The frames of a recorded replication stream: CopyData messages that contain XLogData or
-//! keepalives ("Streaming Replication Protocol" of PostgreSQL).
+//! The frames of a recorded replication stream that is fed in pieces: CopyData messages that contain
+//! XLogData or keepalives ("Streaming Replication Protocol" of PostgreSQL).
 #![tactic(auto)]
 
-mod error;
-mod frame;
 mod frames;
-mod heads;
 mod laws;
-mod updates;
 
-pub use error::FrameError;
-pub use frame::Frame;
+pub use dbl_frames_heads::{Frame, FrameError, status};
 pub use frames::Frames;
 pub use laws::{faults_stay, frames_are_one};
-pub use updates::status;

@@ -1,6 +1,6 @@
 use Rattle.std.proofs.Common.{List, ℕ, length, ap, arith, length-append}
 use Rattle.std.proofs.lemmas.Result.{err_from_is_err_and}
-use Rattle.dbl_frames.proofs.StepLemmas.{filled, stops_rest}
+use Rattle.dbl_frames.proofs.StepLemmas.{filled, reads_rest, stops_rest}
 use Rattle.dbl_frames.proofs.frames.read_step.Goals as goal
 
 pub finish_frame-requires-clause-filled : goal.finish_frame-requires-clause-filled
@@ -22,3 +22,10 @@ pub returns-in_err-finish_frame-clause-stops : goal.returns-in_err-finish_frame-
 returns-in_err-finish_frame-clause-stops c =
     let p = err_from_is_err_and c.from_residual-in_err-finish_frame.result c.from_residual-in_err-finish_frame.ensures.1 in
     rw (p.1, p.2) (stops_rest _ _ _ c.fill_frame.new.bytes.items c.in_ok-rest.rest.now _ _ _ c.in_ok-rest.ensures.moved c.in_err-finish_frame.ensures.stops)
+
+pub returns-clause-read : goal.returns-clause-read
+returns-clause-read c =
+    reads_rest _ _ _ _ c.fill_frame.new.bytes.items c.in_ok-rest.rest.now _ _ _ c.in_ok-rest.ensures.moved c.in_ok-finish_frame.ensures.read
+
+pub returns-clause-less : goal.returns-clause-less
+returns-clause-less c = c.in_ok-rest.ensures.less

@@ -5,10 +5,10 @@ use Rattle.std.specs.Int.{w32, from_be_bytes, to_be_bytes}
 use Rattle.std.proofs.lemmas.Bool.{cases_lt, cases_Bool, le-ltb, lt-ltb, le-leb, leb-true, eqb-true, eq-eqb, and_parts, and_from, cond-true, cond-false}
 use Rattle.std.proofs.lemmas.List.{length-append, length-drop, length-take, take-append-le, drop-append-le, drop_more, get_or-drop, get_or-take, get_or_past}
 use Rattle.std.proofs.lemmas.Nat.{from_be_bytes-to_be_bytes_4}
-use Rattle.dbl_frames.specs.declared.error.FrameError.{FrameError}
-use Rattle.dbl_frames.specs.declared.error.FrameError.TheVariants.{BadKind, BadLength, BadInner, BadSize}
-use Rattle.dbl_frames.specs.Form.{AreBytes, copy_data}
-use Rattle.dbl_frames.specs.Faults.{content_fault, sized_fault, length_fault, head_fault, is_length, wanted_size}
+use Rattle.dbl_frames_heads.specs.declared.error.FrameError.{FrameError}
+use Rattle.dbl_frames_heads.specs.declared.error.FrameError.TheVariants.{BadKind, BadLength, BadInner, BadSize}
+use Rattle.dbl_frames_heads.specs.Form.{AreBytes, copy_data}
+use Rattle.dbl_frames_heads.specs.Faults.{content_fault, sized_fault, length_fault, head_fault, is_length, wanted_size}
 
 -- each number of the list is a byte, by its index
 abbrev pub HasBytes : List ℕ → Type 0

@@ -4,8 +4,8 @@ use Rattle.std.specs.Prelude.{ℕ, ◌+◌, ◌==◌, ◌&&◌, Bool, List, [], 
 use Rattle.std.specs.Prelude.{if◌then◌else◌}
 use Rattle.std.specs.Str.{byte}
 use Rattle.std.specs.Int.{w32, from_be_bytes}
-use Rattle.dbl_frames.specs.declared.error.FrameError.{FrameError}
-use Rattle.dbl_frames.specs.declared.error.FrameError.TheVariants.{BadKind, BadLength, BadInner, BadSize}
+use Rattle.dbl_frames_heads.specs.declared.error.FrameError.{FrameError}
+use Rattle.dbl_frames_heads.specs.declared.error.FrameError.TheVariants.{BadKind, BadLength, BadInner, BadSize}
 
 -- the fault of a content, in a frame of this length
 unfoldable pub content_fault : ℕ → ℕ → List ℕ → Option FrameError

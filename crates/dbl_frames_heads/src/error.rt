@@ -1,5 +1,5 @@
 ghost use Rattle.std.specs.Prelude.{◌≡◌};
-ghost use Rattle.dbl_frames.specs.declared.error.FrameError.TheVariants.{Memory};
+ghost use Rattle.dbl_frames_heads.specs.declared.error.FrameError.TheVariants.{Memory};
 
 use std::alloc::AllocError;
 use thiserror::Error;

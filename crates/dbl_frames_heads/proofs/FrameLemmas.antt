@@ -8,12 +8,12 @@ use Rattle.std.proofs.lemmas.Int.{to_z-of_z, of_z-to_z}
 use Rattle.std.proofs.lemmas.List.{length-drop, length-take, take-append-drop, drop-drop, drop_more, drop_all, take_at, drop_at}
 use Rattle.std.proofs.lemmas.Nat.{be_bytes_4, be_bytes_8, from_be_bytes-to_be_bytes_8}
 use Rattle.std.proofs.Math.Facts.{Fits-of_z, sfits_to_z}
-use Rattle.dbl_frames.specs.declared.frame.Frame.{Frame}
-use Rattle.dbl_frames.specs.declared.frame.Frame.TheVariants.{Data, Keepalive}
-use Rattle.dbl_frames.specs.Form.{FitsFrame, copy_data, frame_content, frame_form}
-use Rattle.dbl_frames.specs.Faults.{content_fault, head_fault, wanted_size}
-use Rattle.dbl_frames.specs.Steps.{frame_at, int64_at}
-use Rattle.dbl_frames.proofs.HeadLemmas.{HasBytes, HasHead, are_bytes, bytes_drop, bytes_take, content_sound, copied_fault, copied_size, has_head, wanted_long}
+use Rattle.dbl_frames_heads.specs.declared.frame.Frame.{Frame}
+use Rattle.dbl_frames_heads.specs.declared.frame.Frame.TheVariants.{Data, Keepalive}
+use Rattle.dbl_frames_heads.specs.Form.{FitsFrame, copy_data, frame_content, frame_form}
+use Rattle.dbl_frames_heads.specs.Faults.{content_fault, head_fault, wanted_size}
+use Rattle.dbl_frames_heads.specs.Fields.{frame_at, int64_at}
+use Rattle.dbl_frames_heads.proofs.HeadLemmas.{HasBytes, HasHead, are_bytes, bytes_drop, bytes_take, content_sound, copied_fault, copied_size, has_head, wanted_least, wanted_long}
 
 pub same_parts : (a b x y : List ℕ) → length a ≡ length b → a ++ x ≡ b ++ y → (a ≡ b) × (x ≡ y)
 same_parts a b x y long is = (
@@ -163,8 +163,13 @@ pub record HasFields (bytes : List ℕ) : Type 0 where
   pub keepalive : 23 ≤ length bytes
   pub payload : get_or bytes 5 0 ≡ 119 → 30 ≤ length bytes
 
-pub fields_of : (at : ℕ) (bytes : List ℕ) → head_fault at bytes ≡ None → 6 ≤ length bytes → length bytes ≡ wanted_size bytes → HasFields bytes
-fields_of at bytes none long size =
+-- whole bytes without a fault have at least a head
+pub whole_head : (at : ℕ) (bytes : List ℕ) → head_fault at bytes ≡ None → length bytes ≡ wanted_size bytes → 6 ≤ length bytes
+whole_head at bytes none size = omega (arith, size, wanted_least at bytes none)
+
+pub whole_fields : (at : ℕ) (bytes : List ℕ) → head_fault at bytes ≡ None → length bytes ≡ wanted_size bytes → HasFields bytes
+whole_fields at bytes none size =
+    let long : 6 ≤ length bytes = whole_head at bytes none size in
     let head = has_head at bytes long none in
     let n : ℕ = from_be_bytes w32 (take 4 (drop 1 bytes)) in
     let all : length bytes ≡ n + 1 = size ∙ wanted_long bytes long in

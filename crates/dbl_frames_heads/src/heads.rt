@@ -1,11 +1,14 @@
 //! The head of a frame: its kind, its length and the first byte of its content; and the fields of a
 //! whole frame.
 
-ghost use Rattle.std.specs.Prelude.{◌≡◌, ℕ, ◌+◌, ◌^◌, ◌<◌, ◌≤◌, length, take, slice_index, IfOk};
-ghost use Rattle.std.specs.Prelude.{OnOk};
+ghost use Rattle.std.specs.Prelude.{◌≡◌, ℕ, ◌+◌, ◌≤◌, [], ◌∷◌, ◌++◌, length, take, slice_index};
+ghost use Rattle.std.specs.Prelude.{None, IfOk, OnErr, OnOk};
 ghost use Rattle.std.specs.Int.{w32, from_be_bytes};
-ghost use Rattle.dbl_frames.specs.Faults.{content_fault, length_fault, head_fault, wanted_size};
-ghost use Rattle.dbl_frames.specs.Steps.{frame_at, int64_at};
+ghost use Rattle.dbl_frames_heads.specs.declared.frame.Frame.{Frame};
+ghost use Rattle.dbl_frames_heads.specs.Form.{FitsFrame, frame_form};
+ghost use Rattle.dbl_frames_heads.specs.Faults.{content_fault, head_fault, length_fault};
+ghost use Rattle.dbl_frames_heads.specs.Faults.{wanted_size};
+ghost use Rattle.dbl_frames_heads.specs.Fields.{frame_at, int64_at};
 
 use crate::{Frame, FrameError};
 use dbl_base::Bytes;
@@ -36,7 +39,8 @@ fn read_int64(bytes: &[u8], at: usize) -> u64
     requires { at + 8 ≤ length bytes.now }
     ensures { result ≡ int64_at at bytes.now }
 {
-    u64::from_be_bytes(*bytes[at..].first_chunk::<8>().unwrap())
+    let (_, rest) = bytes.split_at(at);
+    u64::from_be_bytes(*rest.first_chunk::<8>().unwrap())
 }
 
 #[tactic(auto, unfolding(crate::specs::Faults::content_fault))]
@@ -78,9 +82,10 @@ fn find_length_fault(at: u64, bytes: &[u8]) -> Option<FrameError>
     }
 }
 
-// The fault of the frame at the front of the bytes, as far as they show one.
+/// The fault of the frame at the front of the bytes, as far as they show one; `at` is the frame's
+/// offset in the stream.
 #[tactic(auto, unfolding(crate::specs::Faults::head_fault))]
-pub(crate) fn find_head_fault(at: u64, bytes: &[u8]) -> Option<FrameError>
+pub fn find_head_fault(at: u64, bytes: &[u8]) -> Option<FrameError>
     ensures { result ≡ head_fault at bytes.now }
 {
     match bytes {
@@ -90,9 +95,9 @@ pub(crate) fn find_head_fault(at: u64, bytes: &[u8]) -> Option<FrameError>
     }
 }
 
-// The number of bytes of the frame at the front, or of a head if that isn't there yet.
+/// The number of bytes of the frame at the front, or of a head if that isn't there yet.
 #[tactic(auto, unfolding(crate::specs::Faults::wanted_size))]
-pub(crate) fn measure_frame(bytes: &[u8]) -> usize
+pub fn measure_frame(bytes: &[u8]) -> usize
     ensures { result ≡ wanted_size bytes.now }
 {
     if bytes.len() < HEAD {
@@ -101,13 +106,25 @@ pub(crate) fn measure_frame(bytes: &[u8]) -> usize
     read_int32(bytes.split_at(1).1) as usize + 1
 }
 
+/// Appends the frame of these bytes, which are whole and have no fault. The payload is copied.
+pub fn append_frame(alloc: Global, bytes: &[u8], out: &mut Vec<Frame>) -> Result<(), AllocError>
+    requires sound { (at : ℕ) × (head_fault at bytes.now ≡ None) }
+    requires whole { length bytes.now ≡ wanted_size bytes.now }
+    ensures frame { OnOk result ((frame : Frame) × FitsFrame frame × (bytes.now ≡ frame_form frame)
+        × (out.new.items ≡ out.old.items ++ frame ∷ [])) }
+    ensures same { OnErr result (out.new.items ≡ out.old.items) }
+{
+    let frame = read_frame(alloc, bytes)?;
+    out.push(frame)?;
+    Ok(())
+}
+
 // Reads the fields of a whole frame without a fault, and copies its payload.
-#[tactic(auto, unfolding(crate::specs::Steps::frame_at))]
-pub(crate) fn read_frame(alloc: Global, bytes: &[u8]) -> Result<Frame, AllocError>
+#[tactic(auto, unfolding(crate::specs::Fields::frame_at))]
+fn read_frame(alloc: Global, bytes: &[u8]) -> Result<Frame, AllocError>
     requires keepalive { 23 ≤ length bytes.now }
     requires payload { slice_index bytes.now 5 ≡ 119 → 30 ≤ length bytes.now }
-    ensures frame { IfOk result (λ frame. frame ≡ frame_at bytes.now) }
-    ensures bytes { OnOk result ((i : ℕ) → slice_index bytes.now i < 2 ^ 8) }
+    ensures { IfOk result (λ frame. frame ≡ frame_at bytes.now) }
 {
     if bytes[5] == b'w' {
         Ok(Frame::Data {

@@ -1,5 +1,5 @@
 ghost use Rattle.std.specs.Prelude.{◌≡◌, IfOk};
-ghost use Rattle.dbl_frames.specs.Form.{status_form};
+ghost use Rattle.dbl_frames_heads.specs.Form.{status_form};
 
 use dbl_base::Bytes;
 use std::alloc::{AllocError, Global};
@@ -17,11 +17,14 @@ pub fn status(
 ) -> Result<Bytes, AllocError>
     ensures { IfOk result (λ bytes. bytes ≡ status_form written flushed applied time reply) }
 {
-    let mut bytes = b"d\0\0\0\x26r".to_vec(alloc)?;
-    bytes.extend_from_slice(&written.to_be_bytes())?;
-    bytes.extend_from_slice(&flushed.to_be_bytes())?;
-    bytes.extend_from_slice(&applied.to_be_bytes())?;
-    bytes.extend_from_slice(&time.cast_unsigned().to_be_bytes())?;
-    bytes.push(reply)?;
+    let parts: [&[u8]; 6] = [
+        b"d\0\0\0\x26r",
+        &written.to_be_bytes(),
+        &flushed.to_be_bytes(),
+        &applied.to_be_bytes(),
+        &time.cast_unsigned().to_be_bytes(),
+        &[reply],
+    ];
+    let bytes = parts.concat(alloc)?;
     Ok(Bytes::make(bytes))
 }

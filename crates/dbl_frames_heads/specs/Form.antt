@@ -3,8 +3,8 @@ use Rattle.std.specs.Prelude.{ℕ, ℤ, ◌+◌, ◌^◌, ◌<◌, ◌≤◌, Li
 use Rattle.std.specs.List.{AllByRecursion}
 use Rattle.std.specs.Str.{byte}
 use Rattle.std.specs.Int.{w32, w64, to_be_bytes, cast_unsigned}
-use Rattle.dbl_frames.specs.declared.frame.Frame.{Frame}
-use Rattle.dbl_frames.specs.declared.frame.Frame.TheVariants.{Data, Keepalive}
+use Rattle.dbl_frames_heads.specs.declared.frame.Frame.{Frame}
+use Rattle.dbl_frames_heads.specs.declared.frame.Frame.TheVariants.{Data, Keepalive}
 
 -- CopyData: the kind `d`, a length that counts its own four bytes and the content, and the content
 abbrev pub copy_data : List ℕ → List ℕ

@@ -3,10 +3,10 @@ use Rattle.std.proofs.Common.{◌≡◌, ◌≢◌, ◌+◌, ◌^◌, ◌<◌, �
 use Rattle.std.proofs.Common.{length-append, take, refl, sym, ap, subst, arith}
 use Rattle.std.specs.List.{All, AllByRecursion, cons_option}
 use Rattle.std.proofs.lemmas.List.Elements.{All-head, All-tail, filter_map-append}
-use Rattle.dbl_frames.specs.declared.error.FrameError.{FrameError}
-use Rattle.dbl_frames.specs.declared.frame.Frame.{Frame}
-use Rattle.dbl_frames.specs.declared.frame.Frame.TheVariants.{Data, Keepalive}
-use Rattle.dbl_frames.specs.Form.{FitsFrame}
+use Rattle.dbl_frames_heads.specs.declared.error.FrameError.{FrameError}
+use Rattle.dbl_frames_heads.specs.declared.frame.Frame.{Frame}
+use Rattle.dbl_frames_heads.specs.declared.frame.Frame.TheVariants.{Data, Keepalive}
+use Rattle.dbl_frames_heads.specs.Form.{FitsFrame}
 use Rattle.dbl_frames.specs.Stream.{AreFramesOf, Rest, Unfinished, Faulty, WasFed, bytes_fed}
 use Rattle.dbl_frames.proofs.StreamLemmas.{faulty_stays, some_reading}
 use Rattle.dbl_base.specs.Streams.{input_limit}

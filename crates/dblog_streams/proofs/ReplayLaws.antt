@@ -1,7 +1,7 @@
 -- An input has one answer of `replay`.
 use Rattle.std.proofs.Common.{◌≡◌, ◌∙◌, ℕ, ℤ, Bool, true, false, Option, Some, Result, Ok, Err, List, [], sym, ap, ap₂, subst, arith}
-use Rattle.dbl_frames.specs.declared.error.FrameError.{FrameError}
-use Rattle.dbl_frames.specs.declared.frame.Frame.{Frame}
+use Rattle.dbl_frames_heads.specs.declared.error.FrameError.{FrameError}
+use Rattle.dbl_frames_heads.specs.declared.frame.Frame.{Frame}
 use Rattle.dbl_frames.specs.Stream.{AreFramesOf, Unfinished}
 use Rattle.dbl_frames.proofs.StreamLemmas.{not_both, one_fault, one_reading}
 use Rattle.dbl_lines.specs.declared.run_error.RunError.TheVariants.{BadLine}

@@ -5,10 +5,10 @@ use Rattle.std.specs.Prelude.{length, codes, decimal}
 use Rattle.std.specs.List.{filter_map}
 use Rattle.dbl_base.specs.Lines.{lines_of}
 use Rattle.dbl_base.specs.Streams.{input_limit}
-use Rattle.dbl_frames.specs.declared.error.FrameError.{FrameError}
-use Rattle.dbl_frames.specs.declared.error.FrameError.TheVariants as error
-use Rattle.dbl_frames.specs.declared.frame.Frame.{Frame}
-use Rattle.dbl_frames.specs.declared.frame.Frame.TheVariants.{Data, Keepalive}
+use Rattle.dbl_frames_heads.specs.declared.error.FrameError.{FrameError}
+use Rattle.dbl_frames_heads.specs.declared.error.FrameError.TheVariants as error
+use Rattle.dbl_frames_heads.specs.declared.frame.Frame.{Frame}
+use Rattle.dbl_frames_heads.specs.declared.frame.Frame.TheVariants.{Data, Keepalive}
 use Rattle.dbl_frames.specs.Stream.{AreFramesOf, Unfinished, Faulty}
 use Rattle.dbl_lines.specs.declared.status.Status.TheVariants.{InvalidInput}
 use Rattle.dbl_lines.specs.declared.run_error.RunError.TheVariants as run

@@ -1,7 +1,7 @@
 -- For private clauses: errors of reading an input, and a replication stream that is read piece by piece.
 use Rattle.std.specs.Prelude.{◌≡◌, ◌⊎◌, ℕ, Bool, Some, None, Err, List, length}
-use Rattle.dbl_frames.specs.declared.error.FrameError.{FrameError}
-use Rattle.dbl_frames.specs.declared.frame.Frame.{Frame}
+use Rattle.dbl_frames_heads.specs.declared.error.FrameError.{FrameError}
+use Rattle.dbl_frames_heads.specs.declared.frame.Frame.{Frame}
 use Rattle.dbl_frames.specs.Stream.{AreFramesOf, Faulty, WasFed}
 use Rattle.dbl_lines.specs.declared.run_error.RunError.TheVariants as run
 use Rattle.dblog_streams.specs.Answers.{RunAnswer, fault}

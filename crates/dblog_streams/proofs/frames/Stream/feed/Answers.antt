@@ -1,6 +1,6 @@
 use Rattle.std.proofs.Common.{rules, ◌≡◌, ◌≢◌, true, false, None, is_some, refl}
 use Rattle.std.proofs.lemmas.Result.{on_ok_weaker}
-use Rattle.dbl_frames.specs.declared.error.FrameError.TheVariants.{Memory}
+use Rattle.dbl_frames_heads.specs.declared.error.FrameError.TheVariants.{Memory}
 use Rattle.dblog_streams.proofs.FrameInputLemmas.{read_past, read_more, read_fault, not_some, not_none}
 use Rattle.dblog_streams.proofs.frames.Stream.feed.Goals as goal
 

@@ -8,7 +8,7 @@ use Rattle.dbl_stream2.specs.declared.messages.StreamMessage.{StreamMessage}
 use Rattle.dbl_stream2.specs.declared.messages.StreamMessage.TheVariants.{Start, Stop, Commit, Abort, Plain, Carried}
 use Rattle.dbl_stream2.specs.Flat.{block_of, is_inside, is_end_of, is_abort_of, is_block_of, message_for, unless_aborted, kept_messages, flat_part}
 use Rattle.dbl_stream2.specs.Wire.{Encodes, AreEncoded}
-use Rattle.dbl_stream2.proofs.FlatLemmas.{Item}
+use Rattle.dbl_stream2_pending.specs.Buffers.{Item}
 
 abbrev pub AllFit : List Message → Type 0
 AllFit ms = AllByRecursion FitsFields ms
@@ -21,10 +21,10 @@ unless_fits : (b : Bool) (ms : List Message) → AllFit ms → AllFit (cond b []
 unless_fits true ms fits = tt
 unless_fits false ms fits = fits
 
-abbrev ItemFits : Option Item → Type 0
+abbrev ItemFits : Option (Item Message) → Type 0
 ItemFits o = IfSome o (λ item. FitsFields item.1)
 
-item_fits : (b : Bool) (item : Item) → FitsFields item.1 → ItemFits (cond b (Some item) None)
+item_fits : (b : Bool) (item : Item Message) → FitsFields item.1 → ItemFits (cond b (Some item) None)
 item_fits true item fits = fits
 item_fits false item fits = tt
 
@@ -36,7 +36,7 @@ message_fits x block inside bytes (Abort xid subxid) e = tt
 message_fits x block inside bytes (Plain m) e = item_fits (is_block_of x block) (x, m) e.0.fits.fields
 message_fits x block inside bytes (Carried y m) e = item_fits (is_block_of x block) (y, m) e.0.spells.fits.fields
 
-added_fits : (x : ℕ) (later : List StreamMessage) (o : Option Item) → ItemFits o → AllFit (unless_aborted x later o)
+added_fits : (x : ℕ) (later : List StreamMessage) (o : Option (Item Message)) → ItemFits o → AllFit (unless_aborted x later o)
 added_fits x later None fits = tt
 added_fits x later (Some item) fits = unless_fits (list_any (is_abort_of x item.0) later) (item.1 ∷ []) (fits, tt)
 

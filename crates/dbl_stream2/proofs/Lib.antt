@@ -1,5 +1,4 @@
 pub mod FlatLemmas
-pub mod MapLemmas
 pub mod Steps
 pub mod ReadingLaws
 pub mod Places

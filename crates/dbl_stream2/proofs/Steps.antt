@@ -1,5 +1,5 @@
 -- One more message.
-use Rattle.std.proofs.Common.{◌≡◌, ◌⊎◌, ℕ, ℤ, Bool, true, false, cond, eqb, ltb, List, [], ◌∷◌, ◌++◌, length, refl, sym, ◌∙◌, ap, subst, inl, inr}
+use Rattle.std.proofs.Common.{◌≡◌, ◌⊎◌, ℕ, ℤ, Bool, true, false, cond, eqb, ltb, List, [], ◌∷◌, ◌++◌, length, refl, sym, ◌∙◌, ap, append_assoc, subst, inl, inr}
 use Rattle.std.specs.Prelude.{Option, Some, None, is_some, option_to_list, option_map, ◌||◌, ◌&&◌}
 use Rattle.std.specs.Ordering.{nat_cmp}
 use Rattle.std.specs.BTreeMap.{get, is_at}
@@ -15,35 +15,37 @@ use Rattle.dbl_stream2.specs.declared.messages.StreamMessage.TheVariants.{Start,
 use Rattle.dbl_stream2.specs.declared.error.StreamError.{StreamError}
 use Rattle.dbl_stream2.specs.declared.error.StreamError.TheVariants as errors
 use Rattle.dbl_stream2.specs.declared.error.StreamError.TheVariants.{NestedStream, NotStreaming, UnknownStream, PlainInside}
-use Rattle.dbl_stream2.specs.declared.pending.Pending.{Pending}
+use Rattle.dbl_stream2_pending.specs.declared.pending.Pending.{Pending}
 use Rattle.dbl_stream2.specs.declared.unstream.Unstream.{Unstream}
 use Rattle.dbl_stream2.specs.Flat.{block_of, is_inside, is_begun, is_begun_after, bound_tag, has_block}
 use Rattle.dbl_stream2.specs.Flat.{is_block_of, kept_messages, error_if, flat, stream_fault}
 use Rattle.dbl_stream2.specs.Errors.{wrapped}
 use Rattle.dbl_stream2.specs.Wire.{Encodes, IsBytesFault}
-use Rattle.dbl_stream2.specs.State.{buffer_of, aborts_of, remaining, buffer_in, aborts_in, buffer_or_empty}
+use Rattle.dbl_stream2_pending.specs.Buffers.{Item, remaining, buffer_in, aborts_in, buffer_or_empty, remaining_in}
+use Rattle.dbl_stream2.specs.State.{buffer_of, aborts_of}
 use Rattle.dbl_stream2.specs.State.{HasReceived, HasProcessed, IsStreamRefusal, in_bytes, HasTaken}
-use Rattle.dbl_stream2.proofs.FlatLemmas.{Item, same_left, lost, kept_is, empty}
-use Rattle.dbl_stream2.proofs.MapLemmas.{is_at-number}
+use Rattle.dbl_stream2.proofs.FlatLemmas.{same_left, lost, kept_is, empty}
+use Rattle.dbl_stream2_pending.proofs.MapLemmas.{is_at-number}
 
-abbrev stored : Bool → List Item → Option (List Item)
+abbrev stored : Bool → List (Item Message) → Option (List (Item Message))
 stored has items = cond has (Some items) None
 
 -- ---- what is stored of a transaction, before and after
 
-keep_case : (h : Bool) (hs : List Item) → stored h hs ≡ stored h (hs ++ [])
+keep_case : (h : Bool) (hs : List (Item Message)) → stored h hs ≡ stored h (hs ++ [])
 keep_case h hs = ap (stored h) (sym (append-nil hs))
 
-start_case : (b h : Bool) (hs : List Item) → (h ≡ false → hs ≡ []) → cond b (Some (buffer_or_empty (stored h hs))) (stored h hs) ≡ stored (b || h) (hs ++ [])
+start_case : (b h : Bool) (hs : List (Item Message)) → (h ≡ false → hs ≡ [])
+    → cond b (Some (buffer_or_empty (stored h hs))) (stored h hs) ≡ stored (b || h) (hs ++ [])
 start_case true true hs none = keep_case true hs
-start_case true false hs none = ap (λ (l : List Item). Some (l ++ [])) (sym (none refl))
+start_case true false hs none = ap (λ (l : List (Item Message)). Some (l ++ [])) (sym (none refl))
 start_case false h hs none = keep_case h hs
 
-end_case : (b h : Bool) (hs : List Item) → cond b None (stored h hs) ≡ stored (cond b false h) (cond b [] (hs ++ []))
+end_case : (b h : Bool) (hs : List (Item Message)) → cond b None (stored h hs) ≡ stored (cond b false h) (cond b [] (hs ++ []))
 end_case true h hs = refl
 end_case false h hs = keep_case h hs
 
-whole_case : (b h : Bool) (hs : List Item) → cond b None (stored h hs) ≡ stored (cond (b && b) false h) (cond (b && b) [] (hs ++ []))
+whole_case : (b h : Bool) (hs : List (Item Message)) → cond b None (stored h hs) ≡ stored (cond (b && b) false h) (cond (b && b) [] (hs ++ []))
 whole_case true h hs = refl
 whole_case false h hs = keep_case h hs
 
@@ -51,7 +53,7 @@ whole_aborts : (b c : Bool) (n g : ℕ) → cond b 0 g ≡ cond (b && b) 0 (cond
 whole_aborts true c n g = refl
 whole_aborts false c n g = refl
 
-part_case : (b h : Bool) (hs : List Item) → b ≡ false → stored h hs ≡ stored (cond b false h) (cond b [] (hs ++ []))
+part_case : (b h : Bool) (hs : List (Item Message)) → b ≡ false → stored h hs ≡ stored (cond b false h) (cond b [] (hs ++ []))
 part_case true h hs un = absurd cc
 part_case false h hs un = keep_case h hs
 
@@ -59,32 +61,32 @@ part_aborts : (b : Bool) (g : ℕ) → b ≡ false → g ≡ cond b 0 g
 part_aborts true g un = absurd cc
 part_aborts false g un = refl
 
-push_case : (b h : Bool) (hs : List Item) (item : Item) → cond b (option_map (λ items. items ++ item ∷ []) (stored h hs)) (stored h hs) ≡ stored h
-    (hs ++ option_to_list (cond b (Some item) None))
+push_case : (b h : Bool) (hs : List (Item Message)) (item : Item Message) → cond b (option_map (λ items. items ++ item ∷ []) (stored h hs)) (stored h hs)
+    ≡ stored h (hs ++ option_to_list (cond b (Some item) None))
 push_case true true hs item = refl
 push_case true false hs item = refl
 push_case false h hs item = keep_case h hs
 
-buffer_all : (h : Bool) (hs : List Item) → (h ≡ false → hs ≡ []) → buffer_or_empty (stored h hs) ≡ hs
+buffer_all : (h : Bool) (hs : List (Item Message)) → (h ≡ false → hs ≡ []) → buffer_or_empty (stored h hs) ≡ hs
 buffer_all true hs none = refl
 buffer_all false hs none = sym (none refl)
 
-some_items : (a b : List Item) → Some a ≡ Some b → a ≡ b
+some_items : (a b : List (Item Message)) → Some a ≡ Some b → a ≡ b
 some_items a b e = cc
 
-some_buffer : (h : Bool) (hs items : List Item) → Some items ≡ stored h hs → (h ≡ true) × (items ≡ hs)
+some_buffer : (h : Bool) (hs items : List (Item Message)) → Some items ≡ stored h hs → (h ≡ true) × (items ≡ hs)
 some_buffer true hs items e = (refl, some_items items hs e)
 some_buffer false hs items e = absurd cc
 
-none_buffer : (h : Bool) (hs : List Item) → None ≡ stored h hs → h ≡ false
+none_buffer : (h : Bool) (hs : List (Item Message)) → None ≡ stored h hs → h ≡ false
 none_buffer true hs e = absurd cc
 none_buffer false hs e = refl
 
-removed_buffer : (b : Bool) (o : Option Pending) → buffer_in (cond b None o) ≡ cond b None (buffer_in o)
+removed_buffer : (b : Bool) (o : Option (Pending Message)) → buffer_in (cond b None o) ≡ cond b None (buffer_in o)
 removed_buffer true o = refl
 removed_buffer false o = refl
 
-removed_aborts : (b : Bool) (y : ℕ) (o : Option Pending) → aborts_in y (cond b None o) ≡ cond b 0 (aborts_in y o)
+removed_aborts : (b : Bool) (y : ℕ) (o : Option (Pending Message)) → aborts_in y (cond b None o) ≡ cond b 0 (aborts_in y o)
 removed_aborts true y o = refl
 removed_aborts false y o = refl
 
@@ -94,9 +96,10 @@ apart_at xid subxid x ne =
     false_from_ne_true (eqb xid x && eqb subxid x) (λ so. (let p = and_parts (eqb xid x) (eqb subxid x) so in ne (eqb-true xid x p.0
     ∙ sym (eqb-true subxid x p.1))))
 
-same_item : (block x : ℕ) (m : Message) → cond {A = Option Item} (eqb block x) (Some (block, m)) None ≡ cond {A = Option Item} (eqb block x) (Some (x, m)) None
+same_item : (block x : ℕ) (m : Message) → cond {A = Option (Item Message)} (eqb block x) (Some (block, m)) None
+    ≡ cond {A = Option (Item Message)} (eqb block x) (Some (x, m)) None
 same_item block x m =
-    let item : ℕ → Option Item = λ n. Some (n, m) in
+    let item : ℕ → Option (Item Message) = λ n. Some (n, m) in
     elim (cases_Bool (eqb block x)) [ inl is ↦ rw is (ap item (eqb-true block x is)) | inr un ↦ rw un refl ]
 
 begun_same : (m : Message) (b : Bool) → bound_tag m ≡ None → b ≡ is_begun_after m b
@@ -114,6 +117,17 @@ begun_same (plain.Logical flags lsn prefix content) b none = refl
 plain_clean : (b : Bool) (o : Option ℕ) → o ≡ None → cond b (option_map (λ tag. PlainInside tag) o) None ≡ None
 plain_clean true o none = ap (option_map (λ tag. PlainInside tag)) none
 plain_clean false o none = refl
+
+-- what is appended of a transaction that commits
+pub appended : (flags xid : ℕ) (lsn end_lsn : Lsn) (passed time : ℤ) (old begun left all : List Message) (rest : List Message) → passed ≡ time
+    → begun ≡ old ++ plain.Begin lsn passed xid ∷ [] → left ≡ begun ++ rest → all ≡ left ++ plain.Commit flags lsn end_lsn passed ∷ []
+    → all ≡ old ++ (plain.Begin lsn time xid ∷ [] ++ rest ++ plain.Commit flags lsn end_lsn time ∷ [])
+appended flags xid lsn end_lsn passed time old begun left all rest same first next last =
+    let begin : List Message = plain.Begin lsn passed xid ∷ [] in
+    let commit : List Message = plain.Commit flags lsn end_lsn passed ∷ [] in
+    subst (λ (t : ℤ). all ≡ old ++ (plain.Begin lsn t xid ∷ [] ++ rest ++ plain.Commit flags lsn end_lsn t ∷ [])) same
+    (last ∙ ap (λ (l : List Message). l ++ commit) (next ∙ ap (λ (l : List Message). l ++ rest) first)
+    ∙ append_assoc (old ++ begin) rest commit ∙ append_assoc old begin (rest ++ commit))
 
 -- ---- the steps
 
@@ -137,7 +151,7 @@ module _ (past : List StreamMessage) (u v : Unstream) (s : HasReceived past u) (
           clean = (s.clean, clean);
           block = block;
           begun = begun ∙ s.begun;
-          buffer = λ x. buffer x ∙ ap (λ (o : Option (List Item)). cond (eqb xid x) (Some (buffer_or_empty o)) o) (s.buffer x)
+          buffer = λ x. buffer x ∙ ap (λ (o : Option (List (Item Message))). cond (eqb xid x) (Some (buffer_or_empty o)) o) (s.buffer x)
               ∙ start_case (eqb xid x) (has_block x past) (buffer_of x past) (empty past s.clean x);
           aborts = λ x y. aborts x y ∙ s.aborts x y;
         };
@@ -160,13 +174,12 @@ module _ (past : List StreamMessage) (u v : Unstream) (s : HasReceived past u) (
       }
 
   -- what is left of a transaction that is stored so
-  pub left_is : (xid : ℕ) (p : Pending) → get nat_cmp u.pending xid ≡ Some p
-      → remaining (λ y i. ltb i (aborts_in y (Some p))) 0 p.buffer.items ≡ kept_messages xid [] past
+  pub left_is : (xid : ℕ) (p : Pending Message) → get nat_cmp u.pending xid ≡ Some p → remaining_in p ≡ kept_messages xid [] past
   left_is xid p found =
-      let items : p.buffer.items ≡ buffer_of xid past = (some_buffer (has_block xid past) (buffer_of xid past) p.buffer.items (ap buffer_in (sym found)
-      ∙ s.buffer xid)).1 in
+      let all : List (Item Message) = buffer_or_empty (buffer_in (Some p)) in
+      let items : all ≡ buffer_of xid past = (some_buffer (has_block xid past) (buffer_of xid past) all (ap buffer_in (sym found) ∙ s.buffer xid)).1 in
       let counts : (y : ℕ) → aborts_in y (Some p) ≡ aborts_of xid y past = λ y. ap (aborts_in y) (sym found) ∙ s.aborts xid y in
-      same_left (λ y i. ltb i (aborts_in y (Some p))) (lost xid [] past) 0 p.buffer.items (λ y k lt. ap (λ (g : ℕ). ltb k g) (counts y))
+      same_left (λ y i. ltb i (aborts_in y (Some p))) (lost xid [] past) 0 all (λ y k lt. ap (λ (g : ℕ). ltb k g) (counts y))
       ∙ ap (remaining (lost xid [] past) 0) items ∙ sym (kept_is xid [] past)
 
   -- a transaction is removed
@@ -187,12 +200,13 @@ module _ (past : List StreamMessage) (u v : Unstream) (s : HasReceived past u) (
         ∙ ap (λ (b : Bool). cond b 0 (aborts_in y (get nat_cmp u.pending x))) (is_at-number xid x) ∙ ap (cond (eqb xid x) 0) (s.aborts x y)
 
     -- a streamed transaction commits
-    committed_at : (flags : ℕ) (lsn end_lsn : Lsn) (time : ℤ) (p : Pending) → (is_inside past || is_begun past) ≡ false → get nat_cmp u.pending xid ≡ Some p
-        → out ≡ plain.Begin lsn time xid ∷ [] ++ remaining (λ y i. ltb i (aborts_in y (Some p))) 0 p.buffer.items ++ plain.Commit flags lsn end_lsn time ∷ []
+    committed_at : (flags : ℕ) (lsn end_lsn : Lsn) (time : ℤ) (p : Pending Message) → (is_inside past || is_begun past) ≡ false
+        → get nat_cmp u.pending xid ≡ Some p
+        → out ≡ plain.Begin lsn time xid ∷ [] ++ remaining_in p ++ plain.Commit flags lsn end_lsn time ∷ []
         → HasProcessed past (Commit xid flags lsn end_lsn time) out v
     committed_at flags lsn end_lsn time p closed found is =
-        let has : has_block xid past ≡ true = (some_buffer (has_block xid past) (buffer_of xid past) p.buffer.items (ap buffer_in (sym found)
-        ∙ s.buffer xid)).0 in
+        let all : List (Item Message) = buffer_or_empty (buffer_in (Some p)) in
+        let has : has_block xid past ≡ true = (some_buffer (has_block xid past) (buffer_of xid past) all (ap buffer_in (sym found) ∙ s.buffer xid)).0 in
         let clean : stream_fault past (Commit xid flags lsn end_lsn time) ≡ None =
         ap (λ (b : Bool). cond b (Some NotStreaming) (cond (has_block xid past) None (Some (UnknownStream xid)))) closed
         ∙ ap (λ (b : Bool). cond b None (Some (UnknownStream xid))) has in
@@ -208,9 +222,9 @@ module _ (past : List StreamMessage) (u v : Unstream) (s : HasReceived past u) (
           };
         }
 
-    pub committed : (flags : ℕ) (lsn end_lsn : Lsn) (passed time : ℤ) (p : Pending) → (is_inside past || is_begun past) ≡ false
+    pub committed : (flags : ℕ) (lsn end_lsn : Lsn) (passed time : ℤ) (p : Pending Message) → (is_inside past || is_begun past) ≡ false
         → get nat_cmp u.pending xid ≡ Some p → passed ≡ time
-        → out ≡ plain.Begin lsn passed xid ∷ [] ++ remaining (λ y i. ltb i (aborts_in y (Some p))) 0 p.buffer.items
+        → out ≡ plain.Begin lsn passed xid ∷ [] ++ remaining_in p
         ++ plain.Commit flags lsn end_lsn passed ∷ []
         → HasProcessed past (Commit xid flags lsn end_lsn time) out v
     committed flags lsn end_lsn passed time p closed found same is = subst (λ (t : ℤ). HasProcessed past (Commit xid flags lsn end_lsn t) out v) same
@@ -253,7 +267,8 @@ module _ (past : List StreamMessage) (u v : Unstream) (s : HasReceived past u) (
           block = block ∙ s.block;
           begun = begun ∙ s.begun;
           buffer = λ x. buffer x ∙ s.buffer x ∙ part_case (eqb xid x && eqb subxid x) (has_block x past) (buffer_of x past) (apart_at xid subxid x ne);
-          aborts = λ x y. aborts x y ∙ ap (λ (l : List Item). cond (eqb xid x && eqb subxid y) (length l) (aborts_in y (get nat_cmp u.pending x))) (all_of x)
+          aborts = λ x y. aborts x y
+              ∙ ap (λ (l : List (Item Message)). cond (eqb xid x && eqb subxid y) (length l) (aborts_in y (get nat_cmp u.pending x))) (all_of x)
               ∙ ap (cond (eqb xid x && eqb subxid y) (length (buffer_of x past))) (s.aborts x y)
               ∙ part_aborts (eqb xid x && eqb subxid x) (cond (eqb xid x && eqb subxid y) (length (buffer_of x past)) (aborts_of x y past))
               (apart_at xid subxid x ne);
@@ -261,7 +276,7 @@ module _ (past : List StreamMessage) (u v : Unstream) (s : HasReceived past u) (
       }
 
   -- an item is buffered in the open block
-  pub record Buffers (block : ℕ) (item : Item) : Type 0 where
+  pub record Buffers (block : ℕ) (item : Item Message) : Type 0 where
     pub was : u.block ≡ Some block
     pub block_stays : v.block ≡ u.block
     pub begun : v.begun ≡ u.begun
@@ -269,22 +284,22 @@ module _ (past : List StreamMessage) (u v : Unstream) (s : HasReceived past u) (
         (option_map (λ items. items ++ item ∷ []) (buffer_in (get nat_cmp u.pending x))) (buffer_in (get nat_cmp u.pending x))
     pub aborts : (x y : ℕ) → aborts_in y (get nat_cmp v.pending x) ≡ aborts_in y (get nat_cmp u.pending x)
 
-  module _ (block : ℕ) (item : Item) (b : Buffers block item) where
+  module _ (block : ℕ) (item : Item Message) (b : Buffers block item) where
     buffer_with : (x : ℕ) → buffer_in (get nat_cmp v.pending x) ≡ stored (has_block x past)
         (buffer_of x past ++ option_to_list (cond (eqb block x) (Some item) None))
     buffer_with x =
-        b.buffer x ∙ ap (λ (o : Option (List Item)). cond (eqb block x) (option_map (λ items. items ++ item ∷ []) o) o) (s.buffer x)
+        b.buffer x ∙ ap (λ (o : Option (List (Item Message))). cond (eqb block x) (option_map (λ items. items ++ item ∷ []) o) o) (s.buffer x)
         ∙ push_case (eqb block x) (has_block x past) (buffer_of x past) item
 
     open_is : block_of past ≡ Some block
     open_is = sym s.block ∙ b.was
 
     -- from the open block to what is looked back to
-    at_block : (x : ℕ) (made : Item) → cond (eqb block x) (Some item) None ≡ cond (eqb block x) (Some made) None
+    at_block : (x : ℕ) (made : Item Message) → cond (eqb block x) (Some item) None ≡ cond (eqb block x) (Some made) None
         → buffer_in (get nat_cmp v.pending x) ≡ stored (has_block x past)
         (buffer_of x past ++ option_to_list (cond (is_block_of x (block_of past)) (Some made) None))
     at_block x made same =
-        buffer_with x ∙ ap (λ (o : Option Item). stored (has_block x past) (buffer_of x past ++ option_to_list o)) same
+        buffer_with x ∙ ap (λ (o : Option (Item Message)). stored (has_block x past) (buffer_of x past ++ option_to_list o)) same
         ∙ ap (λ (o : Option ℕ). stored (has_block x past) (buffer_of x past ++ option_to_list (cond (is_block_of x o) (Some made) None))) (sym open_is)
 
   -- a message with an xid is buffered
@@ -319,7 +334,7 @@ module _ (past : List StreamMessage) (u v : Unstream) (s : HasReceived past u) (
       }
 
   -- a message outside blocks
-  buffer_outside : (x : ℕ) (item : Item) → u.block ≡ None → SamePending → buffer_in (get nat_cmp v.pending x) ≡ stored (has_block x past)
+  buffer_outside : (x : ℕ) (item : Item Message) → u.block ≡ None → SamePending → buffer_in (get nat_cmp v.pending x) ≡ stored (has_block x past)
       (buffer_of x past ++ option_to_list (cond (is_block_of x (block_of past)) (Some item) None))
   buffer_outside x item was same =
       same.buffer x ∙ s.buffer x ∙ keep_case (has_block x past) (buffer_of x past)

@@ -113,6 +113,6 @@ stream_fault past (Plain m) = if is_inside past then option_map (λ tag. PlainIn
 stream_fault past (Carried xid m) = None
 
 -- none of the messages has a fault after those before it
-abbrev pub IsFaultless : List StreamMessage → Type 0
-IsFaultless [] = Unit {0}
-IsFaultless (m ∷ past) = IsFaultless past × (stream_fault past m ≡ None)
+abbrev pub HasNoFault : List StreamMessage → Type 0
+HasNoFault [] = Unit {0}
+HasNoFault (m ∷ past) = HasNoFault past × (stream_fault past m ≡ None)

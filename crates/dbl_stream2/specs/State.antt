@@ -1,6 +1,6 @@
 -- The state of an `Unstream` after the messages that it has received, the newest first.
-use Rattle.std.specs.Prelude.{◌≡◌, ◌⊎◌, ◌++◌, ℕ, suc, Bool, if◌then◌else◌, List, [], ◌∷◌, length}
-use Rattle.std.specs.Prelude.{Option, Some, None, unwrap_or, option_to_list, Result, MatchResult}
+use Rattle.std.specs.Prelude.{◌≡◌, ◌⊎◌, ◌++◌, ℕ, if◌then◌else◌, List, [], ◌∷◌, length}
+use Rattle.std.specs.Prelude.{Some, None, option_to_list, Result, MatchResult}
 use Rattle.std.specs.Ordering.{nat_cmp}
 use Rattle.std.specs.BTreeMap.{get}
 use Rattle.dbl_pgmsg.specs.declared.error.MsgError.{MsgError}
@@ -8,16 +8,16 @@ use Rattle.dbl_pgmsg.specs.declared.messages.Message.{Message}
 use Rattle.dbl_stream2.specs.declared.messages.StreamMessage.{StreamMessage}
 use Rattle.dbl_stream2.specs.declared.error.StreamError.{StreamError}
 use Rattle.dbl_stream2.specs.declared.error.StreamError.TheVariants as errors
-use Rattle.dbl_stream2.specs.declared.pending.Pending.{Pending}
+use Rattle.dbl_stream2_pending.specs.Buffers.{Item, buffer_in, aborts_in}
 use Rattle.dbl_stream2.specs.declared.unstream.Unstream.{Unstream}
 use Rattle.dbl_stream2.specs.Flat.{block_of, is_inside, is_begun, is_end_of, is_abort_of, has_block}
-use Rattle.dbl_stream2.specs.Flat.{message_for, flat_part, flat, stream_fault, IsFaultless}
+use Rattle.dbl_stream2.specs.Flat.{message_for, flat_part, flat, stream_fault, HasNoFault}
 use Rattle.dbl_stream2.specs.Wire.{Encodes, IsBytesFault}
 
 -- ---- what is pending of a transaction, by looking back
 
 -- all messages of the transaction's blocks since its last end, each with its xid
-abbrev pub buffer_of : ℕ → List StreamMessage → List (ℕ × Message)
+abbrev pub buffer_of : ℕ → List StreamMessage → List (Item Message)
 buffer_of x [] = []
 buffer_of x (m ∷ past) = if is_end_of x m then [] else buffer_of x past ++ option_to_list (message_for x (block_of past) m)
 
@@ -26,31 +26,9 @@ abbrev pub aborts_of : ℕ → ℕ → List StreamMessage → ℕ
 aborts_of x y [] = 0
 aborts_of x y (m ∷ past) = if is_end_of x m then 0 else (if is_abort_of x y m then length (buffer_of x past) else aborts_of x y past)
 
--- the messages that aren't lost by this test of their xid and their index, counted from this index
-abbrev pub remaining : (ℕ → ℕ → Bool) → ℕ → List (ℕ × Message) → List Message
-remaining is_lost i [] = []
-remaining is_lost i (item ∷ items) = (if is_lost item.0 i then [] else item.1 ∷ []) ++ remaining is_lost (suc i) items
-
--- ---- for private clauses: the same, as stored
-
--- the messages that are stored of a transaction, if it is pending
-abbrev pub buffer_in : Option Pending → Option (List (ℕ × Message))
-buffer_in None = None
-buffer_in (Some p) = Some p.buffer.items
-
--- how many messages were stored at the last abort of the subtransaction y
-abbrev pub aborts_in : ℕ → Option Pending → ℕ
-aborts_in y None = 0
-aborts_in y (Some p) = unwrap_or (get nat_cmp p.aborts y) 0
-
--- the messages that are stored, or none
-abbrev pub buffer_or_empty : Option (List (ℕ × Message)) → List (ℕ × Message)
-buffer_or_empty None = []
-buffer_or_empty (Some items) = items
-
 -- the state after these messages, the newest first, none of which was refused
 pub record HasReceived (past : List StreamMessage) (u : Unstream) : Type 0 where
-  pub clean : IsFaultless past
+  pub clean : HasNoFault past
   pub block : u.block ≡ block_of past
   pub begun : u.begun ≡ is_begun past
   pub buffer : (x : ℕ) → buffer_in (get nat_cmp u.pending x) ≡ (if has_block x past then Some (buffer_of x past) else None)

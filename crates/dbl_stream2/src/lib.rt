@@ -6,7 +6,6 @@ mod decoding;
 mod error;
 mod laws;
 mod messages;
-mod pending;
 mod unstream;
 
 pub use error::StreamError;

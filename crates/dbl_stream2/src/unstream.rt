@@ -1,7 +1,10 @@
 //! Streamed transactions turned into whole ones.
 
-ghost use Rattle.std.specs.Prelude.{◌≡◌, ◌||◌, ◌⊎◌, ℕ, List, [], Some, None, IfOk, IfErr};
+ghost use Rattle.std.specs.Prelude.{◌≡◌, ◌||◌, ◌⊎◌, ◌++◌, ◌∷◌, ℕ, List, []};
+ghost use Rattle.std.specs.Prelude.{Some, None, OnOk, IfOk, IfErr};
 ghost use Rattle.std.specs.Vec.{vec_items};
+ghost use Rattle.dbl_pgmsg.specs.declared.messages.Message.TheVariants as plain;
+ghost use Rattle.dbl_stream2_pending.specs.Buffers.{remaining_in};
 ghost use Rattle.dbl_stream2.specs.declared.messages.StreamMessage.{StreamMessage};
 ghost use Rattle.dbl_stream2.specs.declared.messages.StreamMessage.TheVariants as kinds;
 ghost use Rattle.dbl_stream2.specs.declared.error.StreamError.TheVariants.{Memory};
@@ -9,11 +12,13 @@ ghost use Rattle.dbl_stream2.specs.Flat.{is_inside, is_begun, is_begun_after, bo
 ghost use Rattle.dbl_stream2.specs.State.{HasReceived, Processes, HasTaken, IsStreamRefusal};
 
 use crate::decoding::decode_message;
-use crate::pending::{Transactions, abort, buffer_message, make_room};
 use crate::{StreamError, StreamMessage};
 use dbl_base::Lsn;
 use dbl_pgmsg::Message;
-use std::alloc::Global;
+use dbl_stream2_pending::{
+    Pending, Transactions, abort_subtransaction, buffer_message, buffer_origin, make_room,
+};
+use std::alloc::{AllocError, Global};
 use std::collections::BTreeMap;
 
 /// Turns a stream of protocol version 2 into the messages of protocol version 1: it buffers the
@@ -22,7 +27,7 @@ use std::collections::BTreeMap;
 pub struct Unstream {
     block: Option<u32>,
     begun: bool,
-    pending: Transactions,
+    pending: Transactions<Message>,
 }
 
 impl Unstream {
@@ -92,14 +97,9 @@ impl Unstream {
         }
         match self.pending.remove(&xid) {
             Some(transaction) => {
-                let begin = Message::Begin { lsn, time, xid };
-                let commit = Message::Commit {
-                    flags,
-                    lsn,
-                    end_lsn,
-                    time,
-                };
-                Ok(transaction.into_messages(alloc, begin, commit)?)
+                let mut messages = Vec::new(alloc);
+                append_transaction(&mut messages, transaction, xid, flags, lsn, end_lsn, time)?;
+                Ok(messages)
             }
             None => Err(StreamError::UnknownStream { xid }),
         }
@@ -120,7 +120,7 @@ impl Unstream {
             self.pending.remove(&xid);
             return Ok(Vec::new(alloc));
         }
-        abort(&mut self.pending, xid, subxid)?;
+        abort_subtransaction(&mut self.pending, xid, subxid)?;
         Ok(Vec::new(alloc))
     }
 
@@ -135,9 +135,12 @@ impl Unstream {
             Processes vec_items (kinds.Plain message) self.old result self.new }
     {
         match bound_tag(&message) {
-            Some(tag) => Err(StreamError::PlainInside { tag }),
+            Some(tag) => {
+                drop(message);
+                Err(StreamError::PlainInside { tag })
+            }
             None => {
-                buffer_message(&mut self.pending, block, block, message)?;
+                buffer_origin(&mut self.pending, block, message)?;
                 Ok(Vec::new(alloc))
             }
         }
@@ -175,7 +178,10 @@ impl Unstream {
                 buffer_message(&mut self.pending, block, xid, message)?;
                 Ok(Vec::new(alloc))
             }
-            None => Ok(Vec::new(alloc)),
+            None => {
+                drop(message);
+                Ok(Vec::new(alloc))
+            }
         }
     }
 
@@ -218,6 +224,31 @@ impl Unstream {
         let message = decode_message(alloc, inside, bytes)?;
         self.process(alloc, message)
     }
+}
+
+// Appends a streamed transaction that commits: what isn't lost, between its Begin and its Commit.
+fn append_transaction(
+    messages: &mut Vec<Message>,
+    transaction: Pending<Message>,
+    xid: u32,
+    flags: u8,
+    lsn: Lsn,
+    end_lsn: Lsn,
+    time: i64,
+) -> Result<(), AllocError>
+    ensures { OnOk result (messages.new.items ≡ messages.old.items ++
+        (plain.Begin lsn time xid ∷ [] ++ remaining_in transaction ++
+        plain.Commit flags lsn end_lsn time ∷ [])) }
+{
+    messages.push(Message::Begin { lsn, time, xid })?;
+    transaction.append_remaining(messages)?;
+    messages.push(Message::Commit {
+        flags,
+        lsn,
+        end_lsn,
+        time,
+    })?;
+    Ok(())
 }
 
 fn is_begun_after(message: &Message, begun: bool) -> bool

@@ -13,11 +13,11 @@ returns-then-xid-subxid c = λ past s. aborted_whole past c.args.self.now _ s _ 
     (record { block = refl; begun = refl; removed = λ x. c.remove.ensures.updates.0 x }) c.args.subxid c.if-xid-subxid.true c.new.ensures.items
     (sym (c.is_open.ensures past s) ∙ c.if-is_open.false)
 
-pub returns-in_err-abort : goal.returns-in_err-abort
-returns-in_err-abort c = λ past s. (
+pub returns-in_err-abort_subtransaction : goal.returns-in_err-abort_subtransaction
+returns-in_err-abort_subtransaction c = λ past s. (
     let p = err_from_is_err_and c.from_residual.result c.from_residual.ensures.1 in
     rw (p.1, p.2) (inl refl))
 
 pub returns : goal.returns
 returns c = λ past s. aborted_part past c.args.self.now _ s _ c.args.xid c.args.subxid c.if-xid-subxid.false c.new-2.ensures.items
-    (sym (c.is_open.ensures past s) ∙ c.if-is_open.false) refl refl c.in_ok-abort.ensures.buffer c.in_ok-abort.ensures.aborts
+    (sym (c.is_open.ensures past s) ∙ c.if-is_open.false) refl refl c.in_ok-abort_subtransaction.ensures.buffer c.in_ok-abort_subtransaction.ensures.aborts

@@ -2,12 +2,12 @@ use Rattle.std.proofs.Common.{◌≡◌, Some, IsSome, refl, sym, subst}
 use Rattle.std.specs.Ordering.{nat_cmp}
 use Rattle.std.specs.BTreeMap.{get, Updates}
 use Rattle.std.proofs.lemmas.Result.{on_ok_weaker}
-use Rattle.dbl_stream2.specs.State.{buffer_in}
-use Rattle.dbl_stream2.proofs.MapLemmas.{on_ok, aborts_at, same_at, none_aborted}
-use Rattle.dbl_stream2.proofs.pending.abort.Goals as goal
+use Rattle.dbl_stream2_pending.specs.Buffers.{buffer_in}
+use Rattle.dbl_stream2_pending.proofs.MapLemmas.{on_ok, aborts_at, same_at, none_aborted}
+use Rattle.dbl_stream2_pending.proofs.pending.abort_subtransaction.Goals as goal
 
 pub returns-in-Some-clause-buffer : goal.returns-in-Some-clause-buffer
-returns-in-Some-clause-buffer c =
+returns-in-Some-clause-buffer g c =
     let old = c.args.pending.now in
     let found : Some c.in-Some.transaction.now ≡ get nat_cmp old c.args.xid = c.in-Some.ensures.value in
     let new = c.get_mut.follows.lender c.abort.new.self in
@@ -16,7 +16,7 @@ returns-in-Some-clause-buffer c =
     (sym found) updates.0 buffer_in c.abort.ensures.buffer x)
 
 pub returns-in-Some-clause-aborts : goal.returns-in-Some-clause-aborts
-returns-in-Some-clause-aborts c =
+returns-in-Some-clause-aborts g c =
     let old = c.args.pending.now in
     let found : Some c.in-Some.transaction.now ≡ get nat_cmp old c.args.xid = c.in-Some.ensures.value in
     let new = c.get_mut.follows.lender c.abort.new.self in
@@ -25,8 +25,8 @@ returns-in-Some-clause-aborts c =
     (sym found) updates.0 c.args.subxid) c.abort.ensures.aborts
 
 pub returns-in-None-clause-buffer : goal.returns-in-None-clause-buffer
-returns-in-None-clause-buffer c = rw c.get_mut.follows.holds-at-none (λ x. refl)
+returns-in-None-clause-buffer g c = rw c.get_mut.follows.holds-at-none (λ x. refl)
 
 pub returns-in-None-clause-aborts : goal.returns-in-None-clause-aborts
-returns-in-None-clause-aborts c = rw c.get_mut.follows.holds-at-none (none_aborted (get nat_cmp c.args.pending.now) c.args.xid
+returns-in-None-clause-aborts g c = rw c.get_mut.follows.holds-at-none (none_aborted (get nat_cmp c.args.pending.now) c.args.xid
     (sym c.in-None.ensures.value) c.args.subxid)

@@ -1,28 +1,28 @@
 //! What is pending of the streamed transactions.
 
-ghost use Rattle.std.specs.Prelude.{◌≡◌, ◌==◌, ◌&&◌, ◌++◌, ℕ, [], ◌∷◌, length, Some, None};
-ghost use Rattle.std.specs.Prelude.{OnOk, IfOk, if◌then◌else◌, option_map, unwrap_or, nat_lt};
+ghost use Rattle.std.specs.Prelude.{◌≡◌, ◌==◌, ◌&&◌, ◌++◌, ℕ, [], ◌∷◌, length, Some};
+ghost use Rattle.std.specs.Prelude.{OnOk, if◌then◌else◌, option_map, unwrap_or, nat_lt};
 ghost use Rattle.std.specs.Ordering.{nat_cmp};
 ghost use Rattle.std.specs.BTreeMap.{get};
-ghost use Rattle.dbl_stream2.specs.State.{buffer_in, aborts_in, buffer_or_empty, remaining};
+ghost use Rattle.dbl_stream2_pending.specs.Buffers.{buffer_in, aborts_in, buffer_or_empty};
+ghost use Rattle.dbl_stream2_pending.specs.Buffers.{item_left, remaining_in};
 
-use dbl_pgmsg::Message;
 use std::alloc::{AllocError, Global};
 use std::collections::BTreeMap;
 
 /// The messages of a transaction's blocks, each with its xid, and per subtransaction that was
 /// rolled back how many messages there were at its last abort, of which its own are lost.
 #[derive(Drop)]
-pub struct Pending {
-    buffer: Vec<(u32, Message)>,
+pub struct Pending<M> {
+    buffer: Vec<(u32, M)>,
     aborts: BTreeMap<u32, usize>,
 }
 
 /// Streamed transactions by their xid.
-pub type Transactions = BTreeMap<u32, Pending>;
+pub type Transactions<M> = BTreeMap<u32, Pending<M>>;
 
-impl Pending {
-    fn make(alloc: Global) -> Pending
+impl<M: Drop> Pending<M> {
+    fn make(alloc: Global) -> Pending<M>
         ensures buffer { buffer_in (Some result) ≡ Some [] }
         ensures aborts { (y : ℕ) → aborts_in y (Some result) ≡ 0 }
     {
@@ -32,7 +32,7 @@ impl Pending {
         }
     }
 
-    fn push(&mut self, xid: u32, message: Message) -> Result<(), AllocError>
+    fn push(&mut self, xid: u32, message: M) -> Result<(), AllocError>
         ensures buffer { OnOk result (buffer_in (Some self.new) ≡
             Some (self.old.buffer.items ++ (xid, message) ∷ [])) }
         ensures aborts { (y : ℕ) → aborts_in y (Some self.new) ≡ aborts_in y (Some self.old) }
@@ -51,34 +51,15 @@ impl Pending {
         Ok(())
     }
 
-    // Appends the messages that aren't lost, in order.
-    fn append_remaining(self, messages: &mut Vec<Message>) -> Result<(), AllocError>
-        ensures { OnOk result (messages.new.items ≡ messages.old.items ++
-            remaining (λ y i. nat_lt i (aborts_in y (Some self))) 0 self.buffer.items) }
+    /// Appends the messages that aren't lost, in order.
+    pub fn append_remaining(self, messages: &mut Vec<M>) -> Result<(), AllocError>
+        ensures { OnOk result (messages.new.items ≡ messages.old.items ++ remaining_in self) }
     {
         let Pending { buffer, aborts } = self;
         for (index, item) in buffer.into_iter().enumerate() {
             append_unless_lost(&aborts, index, item, messages)?;
         }
         Ok(())
-    }
-
-    /// The messages that aren't lost, in order, between these two.
-    pub fn into_messages(
-        self,
-        alloc: Global,
-        begin: Message,
-        commit: Message,
-    ) -> Result<Vec<Message>, AllocError>
-        ensures { IfOk result (λ out. out.items ≡ begin ∷ [] ++
-            remaining (λ y i. nat_lt i (aborts_in y (Some self))) 0 self.buffer.items ++
-            commit ∷ []) }
-    {
-        let mut messages = Vec::new(alloc);
-        messages.push(begin)?;
-        self.append_remaining(&mut messages)?;
-        messages.push(commit)?;
-        Ok(messages)
     }
 }
 
@@ -92,14 +73,14 @@ fn is_lost(aborts: &BTreeMap<u32, usize>, xid: u32, index: usize) -> bool
     }
 }
 
-fn append_unless_lost(
+fn append_unless_lost<M: Drop>(
     aborts: &BTreeMap<u32, usize>,
     index: usize,
-    item: (u32, Message),
-    messages: &mut Vec<Message>,
+    item: (u32, M),
+    messages: &mut Vec<M>,
 ) -> Result<(), AllocError>
     ensures { OnOk result (messages.new.items ≡ messages.old.items ++
-        (if nat_lt index (unwrap_or (get nat_cmp aborts.now item.0) 0) then [] else item.1 ∷ [])) }
+        item_left (nat_lt index (unwrap_or (get nat_cmp aborts.now item.0) 0)) item) }
 {
     let (xid, message) = item;
     if is_lost(aborts, xid, index) {
@@ -110,7 +91,11 @@ fn append_unless_lost(
 }
 
 /// Makes room for a transaction, if it isn't there.
-pub fn make_room(alloc: Global, pending: &mut Transactions, xid: u32) -> Result<(), AllocError>
+pub fn make_room<M: Drop>(
+    alloc: Global,
+    pending: &mut Transactions<M>,
+    xid: u32,
+) -> Result<(), AllocError>
     ensures buffer { OnOk result ((x : ℕ) → buffer_in (get nat_cmp pending.new x) ≡
         (if xid == x then Some (buffer_or_empty (buffer_in (get nat_cmp pending.old x))) else
         buffer_in (get nat_cmp pending.old x))) }
@@ -125,11 +110,11 @@ pub fn make_room(alloc: Global, pending: &mut Transactions, xid: u32) -> Result<
 }
 
 /// Buffers a message of an open block, with its own xid.
-pub fn buffer_message(
-    pending: &mut Transactions,
+pub fn buffer_message<M: Drop>(
+    pending: &mut Transactions<M>,
     block: u32,
     xid: u32,
-    message: Message,
+    message: M,
 ) -> Result<(), AllocError>
     ensures buffer { OnOk result ((x : ℕ) → buffer_in (get nat_cmp pending.new x) ≡
         (if block == x then option_map (λ items. items ++ (xid, message) ∷ [])
@@ -143,8 +128,27 @@ pub fn buffer_message(
     }
 }
 
+/// Buffers a message of an open block that has no xid, an Origin: it has the block's.
+pub fn buffer_origin<M: Drop>(
+    pending: &mut Transactions<M>,
+    block: u32,
+    message: M,
+) -> Result<(), AllocError>
+    ensures buffer { OnOk result ((x : ℕ) → buffer_in (get nat_cmp pending.new x) ≡
+        (if block == x then option_map (λ items. items ++ (block, message) ∷ [])
+        (buffer_in (get nat_cmp pending.old x)) else buffer_in (get nat_cmp pending.old x))) }
+    ensures aborts { OnOk result ((x y : ℕ) →
+        aborts_in y (get nat_cmp pending.new x) ≡ aborts_in y (get nat_cmp pending.old x)) }
+{
+    buffer_message(pending, block, block, message)
+}
+
 /// Rolls a subtransaction back, without a pass over the messages.
-pub fn abort(pending: &mut Transactions, xid: u32, subxid: u32) -> Result<(), AllocError>
+pub fn abort_subtransaction<M: Drop>(
+    pending: &mut Transactions<M>,
+    xid: u32,
+    subxid: u32,
+) -> Result<(), AllocError>
     ensures buffer { OnOk result ((x : ℕ) →
         buffer_in (get nat_cmp pending.new x) ≡ buffer_in (get nat_cmp pending.old x)) }
     ensures aborts { OnOk result ((x y : ℕ) → aborts_in y (get nat_cmp pending.new x) ≡

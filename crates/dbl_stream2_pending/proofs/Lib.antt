@@ -1,0 +1,2 @@
+pub mod RemainingLemmas
+pub mod MapLemmas

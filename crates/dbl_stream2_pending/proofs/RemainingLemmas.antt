@@ -1,0 +1,13 @@
+-- The messages that aren't lost, one by one.
+use Rattle.std.proofs.Common.{◌≡◌, ℕ, ◌+◌, Bool, List, ◌∷◌, ◌++◌, sym, ◌∙◌, ap, append_assoc, add-one}
+use Rattle.dbl_stream2_pending.specs.Buffers.{Item, item_left, remaining}
+
+-- the next item is appended, unless it is lost
+pub more_left : {M : Type 0} (is_lost : ℕ → ℕ → Bool) (out next : List M) (n k m : ℕ) (items rest : List (Item M)) (item : Item M) (whole : List M)
+    → items ≡ item ∷ rest → k ≡ n → m ≡ n + 1 → next ≡ out ++ item_left (is_lost item.0 k) item
+    → out ++ remaining is_lost n items ≡ whole → next ++ remaining is_lost m rest ≡ whole
+more_left {M} is_lost out next n k m items rest item whole is at one appended before =
+    ap (λ (l : List M). l ++ remaining is_lost m rest) (appended ∙ ap (λ (i : ℕ). out ++ item_left (is_lost item.0 i) item) at)
+    ∙ append_assoc out (item_left (is_lost item.0 n) item) (remaining is_lost m rest)
+    ∙ ap (λ (i : ℕ). out ++ (item_left (is_lost item.0 n) item ++ remaining is_lost i rest)) (one ∙ add-one n)
+    ∙ ap (λ (l : List (Item M)). out ++ remaining is_lost n l) (sym is) ∙ before

@@ -1,6 +1,6 @@
 -- Disks that are asked in turn, and stores that are made in turn: what each of them is when it ends.
-use Rattle.std.proofs.Common.{◌≡◌, ◌≢◌, ◌∙◌, ◌⊎◌, ℕ, ◌≤◌, ◌^◌, Some, Ok, Err, List, length, refl, sym, ap, subst, arith, inl, inr, true, false}
-use Rattle.std.specs.Prelude.{IfErr, OnOk, is_err, max}
+use Rattle.std.proofs.Common.{◌≡◌, ◌≢◌, ◌∙◌, ◌⊎◌, ℕ, ◌≤◌, ◌^◌, Some, Ok, Err, List, length, refl, sym, ap, subst, arith, inl, inr}
+use Rattle.std.specs.Prelude.{IfErr, OnOk, max}
 use Rattle.dbl_demo.specs.DemoWorkload.declared.error.DemoError.{DemoError}
 use Rattle.dbl_demo.specs.DemoWorkload.Refusals.{IsRefused}
 use Rattle.dbl_demo.specs.DemoWorkload.Refusals.IsRefused.{lines, table, row}
@@ -96,6 +96,10 @@ first_through wal_model topics_model offsets_model disks wal topics offsets (Err
 
 -- ---- making
 
+-- a store after the source's couldn't be made
+abbrev pub IsOtherEnd : InitError → Type 0
+IsOtherEnd e = (e ≡ Failed Topics) ⊎ (e ≡ Failed Offsets)
+
 module _ {D : Type 0} (model : DiskModel D) (store : Store) (Is : List ℕ → Type 0) (e : InitError) (other : e ≢ Failed store) where
   -- a store whose turn didn't come
   pub makes_none : (disk : D) → MakesOne model store Is (Err e) disk disk
@@ -127,18 +131,22 @@ module _ {D : Type 0} (model : DiskModel D) (store : Store) (Is : List ℕ → T
   }
 
 -- for every end of the one after it
-pub makes_through : {D : Type 0} (model : DiskModel D) (store : Store) (Is : List ℕ → Type 0) (other : Store) → other ≢ store → (EndsBeforeWriting store (Err (Failed other)) → ⊥) → (first end : InitEnd) → is_err first ≡ false
+pub makes_through : {D : Type 0} (model : DiskModel D) (store : Store) (Is : List ℕ → Type 0) (other : Store) → other ≢ store → (EndsBeforeWriting store (Err (Failed other)) → ⊥) → (first end : InitEnd) → first ≡ Ok tt
     → IfErr end (λ e. e ≡ Failed other) → (old new : D) → MakesOne model store Is first old new → MakesOne model store Is end old new
 makes_through model store Is other apart written (Err e) end well kind old new makes = absurd (let t = well in cc)
 makes_through model store Is other apart written (Ok done) (Ok last) well kind old new makes = makes
 makes_through model store Is other apart written (Ok done) (Err e) well kind old new makes =
     makes_before model store Is e (λ is. apart (let t = sym kind ∙ is in cc)) old new (λ unwritten. written (subst (λ (x : InitError). EndsBeforeWriting store (Err x)) kind unwritten)) makes
 
--- a store after one that couldn't be made
-pub makes_skipped : {D : Type 0} (model : DiskModel D) (store : Store) (Is : List ℕ → Type 0) (end : InitEnd) → is_err end ≡ true → IfErr end (λ e. e ≢ Failed store) → (disk : D)
-    → MakesOne model store Is end disk disk
-makes_skipped model store Is (Ok done) failed other disk = absurd (let t = failed in cc)
-makes_skipped model store Is (Err e) failed other disk = makes_none model store Is e other disk
+-- the source's, for every end of the others
+pub wal_through : {D : Type 0} (model : DiskModel D) (Is : List ℕ → Type 0) (first end : InitEnd) → first ≡ Ok tt → IfErr end IsOtherEnd → (old new : D) → MakesOne model Wal Is first old new
+    → MakesOne model Wal Is end old new
+wal_through model Is (Err e) end well kinds old new makes = absurd (let t = well in cc)
+wal_through model Is (Ok done) (Ok last) well kinds old new makes = makes
+wal_through model Is (Ok done) (Err e) well (inl kind) old new makes =
+    makes_through model Wal Is Topics (λ is. cc) (λ no. no) (Ok done) (Err e) well kind old new makes
+wal_through model Is (Ok done) (Err e) well (inr kind) old new makes =
+    makes_through model Wal Is Offsets (λ is. cc) (λ no. no) (Ok done) (Err e) well kind old new makes
 
 -- ---- why
 
@@ -151,9 +159,10 @@ wal_end bytes (Err e) (inl is) = inl is
 wal_end bytes (Err e) (inr (inl is)) = inr (inl (Wal, is))
 wal_end bytes (Err e) (inr (inr refused)) = inr (inr refused)
 
-pub other_end : (bytes : List ℕ) (store : Store) (end : InitEnd) → IfErr end (λ e. e ≡ Failed store) → IfErr end (IsMakeEnd bytes)
-other_end bytes store (Ok done) kind = tt
-other_end bytes store (Err e) kind = inr (inl (store, kind))
+pub others_end : (bytes : List ℕ) (end : InitEnd) → IfErr end IsOtherEnd → IfErr end (IsMakeEnd bytes)
+others_end bytes (Ok done) kinds = tt
+others_end bytes (Err e) (inl is) = inr (inl (Topics, is))
+others_end bytes (Err e) (inr is) = inr (inl (Offsets, is))
 
 -- a refused workload is no failed disk
 refused_failed : (bytes : List ℕ) (d : DemoError) (store : Store) → IsRefused bytes d → demo_error d ≡ Failed store → store ≡ Wal
@@ -168,21 +177,17 @@ wal_spares bytes store apart (Err e) (inl is) = λ failed. (let t = sym is ∙ f
 wal_spares bytes store apart (Err e) (inr (inl is)) = λ failed. apart (let t = sym is ∙ failed in cc)
 wal_spares bytes store apart (Err e) (inr (inr refused)) = λ failed. apart (sym (refused_failed bytes refused.0 store refused.1 (sym refused.2 ∙ failed)))
 
-pub other_spares : (other store : Store) → other ≢ store → (end : InitEnd) → IfErr end (λ e. e ≡ Failed other) → IfErr end (λ e. e ≢ Failed store)
-other_spares other store apart (Ok done) kind = tt
-other_spares other store apart (Err e) kind = λ failed. apart (let t = sym kind ∙ failed in cc)
-
-pub workload_end : (P : Type 0) (first end : InitEnd) → is_err first ≡ false → OnOk first P → OnOk end P
+pub workload_end : (P : Type 0) (first end : InitEnd) → first ≡ Ok tt → OnOk first P → OnOk end P
 workload_end P (Err e) end well p = absurd (let t = well in cc)
 workload_end P (Ok done) (Ok last) well p = p
 workload_end P (Ok done) (Err e) well p = tt
 
--- ---- the last store
+-- ---- one end
 
-pub spared : (end : InitEnd) (e : InitError) → IfErr end (λ x. x ≢ e) → end ≡ Err e → ⊥
-spared (Ok done) e spares is = let t = is in cc
-spared (Err f) e spares is = spares (let t = is in cc)
+pub ok_at : (end : InitEnd) (P : Type 0) → end ≡ Ok tt → OnOk end P → P
+ok_at (Ok done) P is p = p
+ok_at (Err e) P is p = absurd (let t = is in cc)
 
-pub err_with : (end : InitEnd) (e : InitError) (P : Type 0) → IfErr end (λ x. P) → end ≡ Err e → P
-err_with (Ok done) e P p is = absurd (let t = is in cc)
-err_with (Err f) e P p is = p
+pub err_at : (end : InitEnd) (e : InitError) (P : InitError → Type 0) → end ≡ Err e → IfErr end P → P e
+err_at (Ok done) e P is p = absurd (let t = is in cc)
+err_at (Err f) e P is p = subst P (let t = is in cc) p

@@ -79,6 +79,32 @@ fn make_offsets<D: Disk>(disk: D) -> (D, Result<(), InitError>)
     }
 }
 
+// Makes the topic log and the store of the offset.
+fn make_others<T: Disk, F: Disk>(
+    alloc: Global,
+    topics: T,
+    offsets: F,
+) -> (T, F, Result<(), InitError>)
+    requires topics_empty { (bytes : List ℕ) → T.seen topics ≡ Some bytes → bytes ≡ [] }
+    requires offsets_empty { (bytes : List ℕ) → F.seen offsets ≡ Some bytes → bytes ≡ [] }
+    ensures topics { MakesOne T.Disk Store.Topics IsEmptyLog result.2 topics result.0 }
+    ensures offsets { MakesOne F.Disk Store.Offsets IsEmptyStore result.2 offsets result.1 }
+    ensures kinds { IfErr result.2 (λ e.
+        (e ≡ InitError.Failed Store.Topics) ⊎ (e ≡ InitError.Failed Store.Offsets)) }
+    ensures torn { T.seen topics ≡ Some [] → result.2 ≡ Err (InitError.Failed Store.Offsets)
+        → HasStoredBytes T.Disk IsEmptyLog result.0
+        × Follows BeginsTorn (F.may_leave offsets) (F.may_leave result.1) }
+{
+    let (topics, end) = make_topics(alloc, topics);
+    match end {
+        Ok(()) => {
+            let (offsets, end) = make_offsets(offsets);
+            (topics, offsets, end)
+        }
+        Err(error) => (topics, offsets, Err(error)),
+    }
+}
+
 // Refuses the first disk that isn't empty. The later disks aren't called.
 fn check_all<W: Disk, T: Disk, F: Disk>(disks: &mut Disks<W, T, F>) -> Result<(), InitError>
     ensures wal { AsksOne W.Disk Store.Wal result disks.old.wal disks.new.wal }
@@ -126,35 +152,26 @@ fn make_all<W: Disk, T: Disk, F: Disk>(
         offsets,
     } = disks;
     let (wal, end) = make_wal(alloc, wal, workload);
-    if end.is_err() {
-        return Outcome {
+    match end {
+        Ok(()) => {
+            let (topics, offsets, end) = make_others(alloc, topics, offsets);
+            Outcome {
+                disks: Disks {
+                    wal,
+                    topics,
+                    offsets,
+                },
+                end,
+            }
+        }
+        Err(error) => Outcome {
             disks: Disks {
                 wal,
                 topics,
                 offsets,
             },
-            end,
-        };
-    }
-    let (topics, end) = make_topics(alloc, topics);
-    if end.is_err() {
-        return Outcome {
-            disks: Disks {
-                wal,
-                topics,
-                offsets,
-            },
-            end,
-        };
-    }
-    let (offsets, end) = make_offsets(offsets);
-    Outcome {
-        disks: Disks {
-            wal,
-            topics,
-            offsets,
+            end: Err(error),
         },
-        end,
     }
 }
 

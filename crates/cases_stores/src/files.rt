@@ -6,7 +6,7 @@ use crate::steps;
 use anyhow::{Result, bail};
 use cases_items::words;
 use dbl_base::{Output, StdInput, StdOutput, read_all};
-use dbl_disk::FileDisk;
+use dbl_disk::{Disk, FileDisk};
 use std::alloc::Global;
 use std::fs;
 use std::io::{Seek, SeekFrom};
@@ -34,12 +34,20 @@ pub fn answer<R: Files>(
     }
 }
 
+// The disk is dropped by name: that is one call, whereas a drop at the end of a scope is proved
+// part by part at each exit.
 fn take_steps<R: Files>(alloc: Global, shown: &mut String, files: &R, text: &str) -> Result<()> {
     let mut disk = FileDisk::make(files, PATH);
+    let taken = take_each(alloc, shown, &mut disk, text);
+    drop(disk);
+    taken
+}
+
+fn take_each<D: Disk>(alloc: Global, shown: &mut String, disk: &mut D, text: &str) -> Result<()> {
     for step in text.split("; ") {
         let (word, rest) = words::split(step, " ");
         steps::separate(shown)?;
-        steps::call(alloc, shown, &mut disk, word, rest)?;
+        steps::call(alloc, shown, disk, word, rest)?;
     }
     Ok(())
 }

@@ -45,8 +45,16 @@ fn store(alloc: Global, shown: &mut String, disk: &mut Device, bytes: &[u8]) -> 
     let mut other = steps::empty(alloc);
     steps::write_bytes(shown, &mut other, 0, bytes)?;
     words::add(shown, " ")?;
+    store_from(alloc, shown, disk, other)
+}
+
+fn store_from(alloc: Global, shown: &mut String, disk: &mut Device, other: Device) -> Result<()> {
     match OffsetStore::open(alloc, other) {
-        Ok(source) => store_of(alloc, shown, disk, &source),
+        Ok(source) => {
+            let stored = store_of(alloc, shown, disk, &source);
+            drop(source);
+            stored
+        }
         Err(refused) => words::said(shown, &refused.error),
     }
 }

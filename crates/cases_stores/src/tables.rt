@@ -29,6 +29,8 @@ fn two(alloc: Global, first: DemoTable, other: DemoTable) -> Result<Vec<DemoTabl
         (map (λ table. table.info.name) tables.items))) }
 {
     if first.info.name == other.info.name {
+        drop(first);
+        drop(other);
         bail!("no other table");
     }
     let mut list = Vec::new(alloc);

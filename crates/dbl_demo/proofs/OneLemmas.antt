@@ -1,9 +1,12 @@
 -- One step that was run: what it leaves of a source that is known by its parts.
-use Rattle.std.proofs.Common.{◌≡◌, ◌∙◌, ◌+◌, ◌<◌, ◌^◌, Bool, get_or, Option, None, Some, List, [], length, sym, ap, subst}
-use Rattle.std.specs.Prelude.{slice_get}
+use Rattle.std.proofs.Common.{◌≡◌, ◌∙◌, ◌+◌, ◌<◌, ◌^◌, ℕ, Bool, get_or, Option, None, Some, List, [], length, sym, ap, subst}
+use Rattle.std.specs.Prelude.{slice_get, Result, Ok, Err}
+use Rattle.dbl_base.specs.Streams.{FailsOnlyIfCounted}
 use Rattle.dbl_disk.specs.Model.{DiskModel}
 use Rattle.dbl_pgmsg.specs.declared.messages.Message.{Message}
 use Rattle.dbl_journal.specs.Stored.{count_of}
+use Rattle.dbl_source_log.specs.declared.error.SourceError.{SourceError}
+use Rattle.dbl_source_log.specs.declared.error.SourceError.TheVariants.{Failed}
 use Rattle.dbl_script.specs.declared.script.Step.{Step}
 use Rattle.dbl_tables.specs.declared.tables.Tables.{Tables}
 use Rattle.dbl_tables.specs.Stands.{Stands}
@@ -29,6 +32,26 @@ module _ {D : Type 0} (model : DiskModel D) {parts whole : Demo D} (is : parts �
   -- nothing was written
   pub one_alone : whole.done < length whole.steps → (wal : Wal) → IsRunning model wal whole → LeavesRun model wal (whole.done + 1) [] whole parts
   one_alone left wal running = left_alone model wal whole running left whole.store parts (whole.done + 1) (ap (λ (s : Demo D). s.journal) is)
+
+  -- it left the rest as it was
+  pub one_same : (new : Demo D) → IsRunOf parts new → IsRunOf whole new
+  one_same new same =
+      same ∙ ap (λ (s : Demo D). let d : Demo D = record s { journal = new.journal; store = new.store; done = new.done; commits = new.commits } in d) is
+
+  -- the disk's faults were counted
+  pub one_counted : (failed : Type 0) (faults : ℕ) → FailsOnlyIfCounted failed (model.faults parts.journal.disk) faults → FailsOnlyIfCounted failed (model.faults whole.journal.disk) faults
+  one_counted failed faults = subst (λ (s : Demo D). FailsOnlyIfCounted failed (model.faults s.journal.disk) faults) is
+
+  pub one_fails : {A B : Type 0} (one : Result A SourceError) (end : Result B SourceError) (e : SourceError) (faults : ℕ) → one ≡ Err e → end ≡ Err e
+      → FailsOnlyIfCounted (one ≡ Err Failed) (model.faults parts.journal.disk) faults → FailsOnlyIfCounted (end ≡ Err Failed) (model.faults whole.journal.disk) faults
+  one_fails one end e faults was now counted = one_counted (end ≡ Err Failed) faults (record {
+    later = counted.later;
+    cause = λ is. counted.cause (was ∙ ap Err (let both = sym now ∙ is in cc));
+  })
+
+  pub one_ends_well : {A : Type 0} (x : A) (failed : Type 0) (faults : ℕ) → FailsOnlyIfCounted failed (model.faults parts.journal.disk) faults
+      → FailsOnlyIfCounted (◌≡◌ {A = Result A SourceError} (Ok x) (Err Failed)) (model.faults whole.journal.disk) faults
+  one_ends_well x failed faults counted = record { later = (one_counted failed faults counted).later; cause = λ is. absurd (let t = is in cc) }
 
   -- whether it ends a group
   pub one_ends : whole.done < length whole.steps → (tick : Bool) (x step : Step) → x ≡ get_or parts.steps parts.done x → tick ≡ is_tick x → slice_get whole.steps whole.done ≡ Some step → tick ≡ is_tick step

@@ -3,3 +3,4 @@ pub mod Changes
 pub mod Plain
 pub mod Steps
 pub mod Accepted
+pub mod Sizes

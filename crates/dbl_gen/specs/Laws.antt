@@ -1,5 +1,5 @@
 -- Theorem about the generated workloads.
-use Rattle.std.specs.Prelude.{◌≡◌, ◌≤◌, ℕ, false, None, List, [], ◌∷◌, length, codes}
+use Rattle.std.specs.Prelude.{◌≡◌, ◌≤◌, ◌+◌, ◌*◌, ℕ, false, None, List, [], ◌∷◌, length, codes}
 use Rattle.dbl_base.specs.Lines.{lines_of}
 use Rattle.dbl_script.specs.declared.script.ScriptTable.{ScriptTable}
 use Rattle.dbl_script.specs.Scripts.{script_of, first_bad}
@@ -41,3 +41,8 @@ pub record IsRead (text : List ℕ) : Type 0 where
 -- each workload within the limits of rows and groups is accepted
 abbrev pub WorkloadsAreRead : Type 0
 WorkloadsAreRead = (number rows groups : ℕ) → rows ≤ 400000 → groups ≤ 90000 → IsRead (workload number rows groups)
+
+-- each workload within these limits has at most so many bytes, so that `init` can read it if these are at most 67,108,864
+abbrev pub WorkloadsAreShort : Type 0
+WorkloadsAreShort = (number rows groups : ℕ) → rows ≤ 400000 → groups ≤ 90000
+    → length (workload number rows groups) ≤ 126 * rows + 231 * groups + 160

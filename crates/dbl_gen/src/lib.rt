@@ -5,5 +5,5 @@ mod draws;
 mod laws;
 mod writing;
 
-pub use laws::workloads_are_read;
+pub use laws::{workloads_are_read, workloads_are_short};
 pub use writing::script;

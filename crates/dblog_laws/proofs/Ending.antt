@@ -36,7 +36,8 @@ use Rattle.dblog_run.specs.CaptureLaws.Nevers.{IsOwnCell, IsOwnClash, IsOwnClose
 use Rattle.dblog_run.specs.CaptureLaws.Stored.{session_identity}
 use Rattle.dbl_record.specs.Cuts.{joined}
 use Rattle.dblog_laws.specs.SessionLaws.{SaysWhy, SupportedSessionsEnd}
-use Rattle.dblog_laws.specs.Supported.{CanBegin, CanSend, HasMetSupported, IsClean, MayStillHalt, OffsetsAreShort, RowsAreReadable, WindowsAreSupported}
+use Rattle.dbl_demo_wal_laws.specs.Readable.{RowsAreReadable}
+use Rattle.dblog_laws.specs.Supported.{CanBegin, CanSend, HasMetSupported, IsClean, MayStillHalt, OffsetsAreShort, WindowsAreSupported}
 
 -- ---- it could begin
 

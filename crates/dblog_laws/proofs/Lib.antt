@@ -20,3 +20,5 @@ pub mod Growing
 pub mod AgainLaws
 pub mod MadeLaws
 pub mod SequenceLaws
+pub mod KeptLogLaws
+pub mod CellLaws

@@ -22,7 +22,9 @@ use Rattle.dblog_run.specs.CaptureWork.declared.report.Ending.TheVariants.{Compl
 use Rattle.dblog_run.specs.CaptureWork.declared.report.Report.{Report}
 use Rattle.dblog_run.specs.CaptureLaws.Halted.{IsTxnFault}
 use Rattle.dblog_laws.specs.Supported.{CanBegin}
-use Rattle.dblog_laws.proofs.Ending.{first_captures, not_absent, not_clash, not_exhausted, not_long, not_model, not_offset, not_unreadable}
+use Rattle.dbl_demo_wal.specs.Wals.{IsWal}
+use Rattle.dblog_laws.proofs.CellLaws.{not_cell}
+use Rattle.dblog_laws.proofs.Ending.{first_captures, not_absent, not_clash, not_exhausted, not_long, not_model, not_offset}
 use Rattle.dblog_run.specs.Promise.Restarts.{restart_at}
 use Rattle.dblog_run.specs.Init.declared.error.Store.TheVariants.{Wal, Topics, Offsets}
 use Rattle.dblog_run.specs.CaptureLaws.Reported.{BeginsAfter}
@@ -72,7 +74,7 @@ reads_from config history None (Some begun) infos after first begins = (
 )
 
 module _ (config : Config) (now : ℤ) (old left : Contents) (begins : CanBegin config (history_at old) old.offset) (supported : IsSupportedOver config now old left)
-    (kept : IsKept left) (stored : Option Offset) (left_is : left.offset ≡ stored) (report : Report)
+    (kept : IsKept left) (bytes : List ℕ) (wal : IsWal bytes left.wal) (stored : Option Offset) (left_is : left.offset ≡ stored) (report : Report)
     (first : IsFirstStored config (history_at old) old.offset stored) where
   -- the offset that it stored last is one to what it leaves
   of_left : (offset : Offset) → stored ≡ Some offset → IsOffsetOf (history_at left) (confirmed_at left) (records_of_contents left) offset
@@ -102,7 +104,7 @@ module _ (config : Config) (now : ℤ) (old left : Contents) (begins : CanBegin 
   never (halt.Txn number error) own kept cause = absurd (not_txn number error cause.0)
   never (halt.Chunk table row) own kept cause = absurd kept
   never (halt.Cell table column error) own kept cause =
-      absurd (not_unreadable kept.0 (history_at left) table column error (supported.cells kept.0 kept.1) kept.2)
+      absurd (not_cell config now old stored report left bytes table column error wal kept)
   never (halt.Clash table column) own kept cause =
       let clash = kept.5 in
       absurd (not_clash (restart_at config now (found_in old)) (standing_left left) (records_of_contents left) kept.3 report kept.0 (halt.Clash table column) clash (supported.commits clash.infos kept.0 clash.captured (may_have kept.0 kept.1))
@@ -162,7 +164,7 @@ module _ (asked : Asked) (now : ℤ) (wals logs stores : List ℕ → Type 0) (w
       let left_is : run.left.offset ≡ halted.stored = one_store may.f run.left.offset halted.stored may.read.store (halted.store may.f may.offsets) in
       let of_begun = subst (λ (c : Config). IsFirstStored c (history_at halted.begun.held) halted.begun.held.offset halted.stored) one halted.first in
       let first = subst (λ (c : Contents). IsFirstStored begun.config (history_at c) c.offset halted.stored) same of_begun in
-      absurd (never begun.config now begun.held run.left run.can run.supported run.kept halted.stored left_is halted.report first told.halt own found cause)
+      absurd (never begun.config now begun.held run.left run.can run.supported run.kept may.w may.read.source halted.stored left_is halted.report first told.halt own found cause)
 
   ended : (e : ConnectError) → IsConnectError e → IsKeptError asked now wals logs stores w t f e → EndsBefore asked now wals logs stores w t f e → IsExternalConnectError e
   ended e kind kept (inl outside) = outside

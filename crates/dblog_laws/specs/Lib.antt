@@ -7,3 +7,4 @@ pub mod Commands
 pub mod Budgets
 pub mod RunLaws
 pub mod Sequences
+pub mod KeptLogs

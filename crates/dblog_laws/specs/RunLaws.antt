@@ -1,23 +1,28 @@
 -- When a run must succeed. The premises are the clauses of the program's `run`.
-use Rattle.std.specs.Prelude.{◌≡◌, ◌⊎◌, ℕ, ℤ, ◌<◌, ◌≤◌, IfErr, Option, Some, Ok, List, [], length}
+use Rattle.std.specs.Prelude.{◌≡◌, ◌≢◌, ◌⊎◌, ℕ, ℤ, ◌<◌, ◌≤◌, IfErr, Option, Some, Ok, Err, List, [], length}
 use Rattle.dbl_lines.specs.declared.status.Status.{Status}
 use Rattle.dbl_lines.specs.declared.status.Status.TheVariants.{Done, BudgetSpent, OutOfMemory}
 use Rattle.dbl_base.specs.Streams.{FaultCounted, input_limit}
 use Rattle.dbl_disk.specs.Model.{DiskModel}
+use Rattle.dbl_value.specs.declared.error.ValueError.{ValueError}
+use Rattle.dbl_model_table.specs.declared.table.TableName.{TableName}
 use Rattle.dbl_demo_wal.specs.Workloads.{IsWorkload, Workload}
 use Rattle.dblog_run.specs.DemoLaws.Made.{IsFreshWal}
 use Rattle.dbl_cli.specs.declared.commands.Command.{Command}
 use Rattle.dbl_cli.specs.Commands.{Spells}
 use Rattle.dblog_run.specs.Init.declared.disks.Disks.{Disks}
 use Rattle.dblog_run.specs.Init.Fresh.{IsEmptyLog, IsEmptyStore}
+use Rattle.dblog_run.specs.CaptureWork.declared.halt.Halt.TheVariants as halt
 use Rattle.dblog_run.specs.CaptureWork.declared.report.Ending.TheVariants.{Budget, Complete}
 use Rattle.dblog_run.specs.Promise.Kept.{AreKept}
 use Rattle.dblog_run.specs.Connect.declared.asked.Asked.{Asked}
 use Rattle.dblog_run.specs.Connect.declared.summary.Summary.{Summary}
+use Rattle.dblog_run.specs.Connect.declared.error.ConnectError.TheVariants.{Halted}
 use Rattle.dblog_run.specs.Connect.Asked.{budget_of}
+use Rattle.dblog_run.specs.Connect.Disks.{AreKeptDisks}
 use Rattle.dblog_run.specs.Connect.Ends.{ConnectEnd}
 use Rattle.dblog_run.specs.Connect.Errors.{IsConnectError, IsExternalConnectError}
-use Rattle.dblog_run.specs.Capture.Runs.{AnswersCapture, AnswersKept, RunsSession}
+use Rattle.dblog_run.specs.Capture.Runs.{AnswersCapture, AnswersKept, RunsSession, RunsSessionOn}
 use Rattle.dblog_run.specs.Capture.Generated.{EndsGenerated, WasCaptured, plainly}
 use Rattle.dblog_run.specs.Streams.Answers.{RunAnswer, EndsAs}
 use Rattle.dblog_run.specs.Disks.{OfDisk}
@@ -44,6 +49,14 @@ SupportedRunsSucceed wals logs stores new_wals new_logs new_stores =
     → (w t f : List ℕ) → told_wal ≡ Some w → told_topics ≡ Some t → told_offsets ≡ Some f
     → IsSupportedRun asked now new_wals new_logs new_stores w t f → NoneFailed status
     → IsSessionDone status
+
+-- Over crash-consistent disks no session stops at a cell that parses as no value: by the clauses `session` and `kept` of `run`.
+abbrev pub NoCellStopsSessions : {W T F : Type 0} → DiskModel W → DiskModel T → DiskModel F → Type 0
+NoCellStopsSessions {W} {T} {F} wal_model topics_model offsets_model =
+    (asked : Asked) (now : ℤ) (old new : Disks W T F) (status : Status) (before after : Option (List ℕ))
+    → AreKeptDisks wal_model topics_model offsets_model old → AreKeptDisks wal_model topics_model offsets_model new
+    → (runs : RunsSessionOn wal_model topics_model offsets_model asked now old new status before after)
+    → (table : TableName) (column : List ℕ) (error : ValueError) → runs.end ≢ Err (Halted (halt.Cell table column error))
 
 -- A session that exits with 3 has read exactly as many messages as its budget allows, and one that exits with 0 fewer.
 pub record EndsBy (budget : ℕ) (status : Status) (end : ConnectEnd) : Type 0 where

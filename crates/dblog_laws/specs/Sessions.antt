@@ -12,7 +12,7 @@ use Rattle.dbl_model_commit.specs.Blocks.{AreWithoutFault}
 use Rattle.dbl_demo_wal.specs.Standings.{messages_sent}
 use Rattle.dbl_demo_wal.specs.Wals.{Wal}
 use Rattle.dbl_source_model.specs.Standings.{Reading}
-use Rattle.dblog_laws.specs.Supported.{CanBegin, CanSend, OffsetsAreShort, RowsAreReadable, WindowsAreSupported}
+use Rattle.dblog_laws.specs.Supported.{CanBegin, CanSend, OffsetsAreShort, WindowsAreSupported}
 use Rattle.dbl_model_history.specs.History.{History}
 use Rattle.dbl_offset_content.specs.declared.offset.Offset.{Offset}
 use Rattle.dblog_run.specs.CaptureLaws.Sessions.{Captures}
@@ -36,13 +36,12 @@ pub record MayHaveRead (old : Contents) (wal : Wal) (reading : Reading) : Type 0
   pub rest : List Message
   pub front : messages_sent wal reading.after ≡ reverse reading.messages ++ rest
 
--- The source's log, as a session leaves it, is supported for the captured tables: no transaction that may be read is invalid, no cell is
--- unreadable, no record has a value equal to the placeholder, and no record and no offset is too long.
+-- The source's log, as a session leaves it, is supported for the captured tables: no transaction that may be read is invalid, no record has
+-- a value equal to the placeholder, and no record and no offset is too long. No cell of such a log is unreadable (`RowsOfWalsAreReadable`).
 pub record IsSupportedOver (config : Config) (now : ℤ) (old left : Contents) : Type 0 where
   pub messages : (infos : List TableInfo) (reading : Reading) → Captures config (history_at old) old.offset infos
       → MayHaveRead old left.wal reading
       → AreWithoutFault infos reading.after reading.messages
-  pub cells : (infos : List TableInfo) → Captures config (history_at old) old.offset infos → RowsAreReadable infos (history_at left)
   pub commits : (infos : List TableInfo) (reading : Reading) → Captures config (history_at old) old.offset infos
       → MayHaveRead old left.wal reading
       → CanSend (restart_at config now (found_in old)) (history_at left) infos reading

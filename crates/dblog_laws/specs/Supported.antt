@@ -2,16 +2,11 @@
 -- connector manual, `unavailable.value.placeholder`.
 use Rattle.std.specs.Prelude.{◌≡◌, ℕ, ℤ, ◌<◌, ◌^◌, Option, Some, None, List, slice_get, ◌≤◌, length}
 use Rattle.std.specs.List.{AllByRecursion}
-use Rattle.dbl_value.specs.declared.value.Val.{Val}
-use Rattle.dbl_value.specs.declared.value.Val.TheVariants as val
-use Rattle.dbl_value.specs.Faults.{value_fault}
 use Rattle.dbl_record.specs.declared.record.Record.{Record}
 use Rattle.dbl_record.specs.Cuts.{joined}
 use Rattle.dbl_model_table.specs.declared.change.Commit.{Commit}
 use Rattle.dbl_model_table.specs.declared.config.Config.{Config}
 use Rattle.dbl_model_table.specs.declared.identity.Identity.{Identity}
-use Rattle.dbl_model_table.specs.declared.row.Key.{Key}
-use Rattle.dbl_model_table.specs.declared.table.Column.{Column}
 use Rattle.dbl_model_table.specs.declared.table.TableInfo.{TableInfo}
 use Rattle.dbl_model_history.specs.History.{History}
 use Rattle.dbl_model_history.specs.Typed.{typed}
@@ -20,12 +15,12 @@ use Rattle.dbl_model_event.specs.declared.closed.Closed.{Closed}
 use Rattle.dbl_model_event.specs.Clashes.{clash_of, snapshot_clash}
 use Rattle.dbl_model_event.specs.EventJson.{envelopes}
 use Rattle.dbl_model_event.specs.Snapshots.{snapshot}
-use Rattle.dbl_source_model.specs.Selected.{rows_up_to}
 use Rattle.dbl_source_model.specs.Standings.{Reading, SourceState}
 use Rattle.dbl_offset_content.specs.declared.offset.Offset.{Offset}
 use Rattle.dbl_offset.specs.Entries.{offset_bytes_form}
 use Rattle.dbl_offset.specs.Measures.{offset_limit}
 use Rattle.dbl_faithful.specs.Lag.{IsOffsetOf}
+use Rattle.dbl_demo_wal_laws.specs.Readable.{RowsAreReadable}
 use Rattle.dblog_run.specs.CaptureModel.Entries.{SessionStart}
 use Rattle.dblog_run.specs.CaptureWork.declared.halt.Halt.{Halt}
 use Rattle.dblog_run.specs.CaptureWork.declared.halt.Halt.TheVariants as halt
@@ -43,18 +38,6 @@ use Rattle.dblog_run.specs.CaptureLaws.Stored.{session_identity}
 abbrev pub CanBegin : Config → History → Option Offset → Type 0
 CanBegin config history None = AllByRecursion (CanBeCaptured history) config.tables
 CanBegin config history (Some offset) = offset.incarnation < 2 ^ 63
-
--- ---- cells
-
--- Each cell of the row encodes a value of its column's type; in a history, a cell that encodes none is its text.
-abbrev pub HasValidTexts : TableInfo → List Val → Type 0
-HasValidTexts info cells = (number : ℕ) (column : Column) (text : List ℕ)
-    → slice_get info.columns number ≡ Some column → slice_get cells number ≡ Some (val.Text text) → value_fault column.ty text ≡ None
-
--- Each row that a captured table had at some point in the history is readable.
-abbrev pub RowsAreReadable : List TableInfo → History → Type 0
-RowsAreReadable infos history = (place table : ℕ) (info : TableInfo) (key : Key) (cells : List Val)
-    → slice_get infos table ≡ Some info → rows_up_to infos history place table key ≡ Some cells → HasValidTexts info cells
 
 -- ---- records
 

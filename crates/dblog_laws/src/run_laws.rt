@@ -5,6 +5,8 @@ ghost use Rattle.dblog_laws.specs.Budgets.{FewMessagesAreSent, GeneratedBudgetsS
 ghost use Rattle.dblog_laws.specs.Budgets.{GenerousBudgetsSuffice};
 ghost use Rattle.dblog_laws.specs.Budgets.{GenerousBudgetsSufficeAgain, SentMessagesAreFew};
 ghost use Rattle.dblog_laws.specs.RunLaws.{GeneratedInitsSucceed, GeneratedStatusesTellBudgets};
+ghost use Rattle.dblog_laws.specs.KeptLogs.{KeptLogsAreTrue};
+ghost use Rattle.dblog_laws.specs.RunLaws.{NoCellStopsSessions};
 ghost use Rattle.dblog_laws.specs.RunLaws.{OtherRunsSucceed, PrintedWorkloadsSucceed};
 ghost use Rattle.dblog_laws.specs.RunLaws.{StatusesTellBudgets, SupportedGeneratedRunsSucceed};
 ghost use Rattle.dblog_laws.specs.RunLaws.{SupportedRunsSucceed, SupportedSessionsSucceed};
@@ -32,6 +34,17 @@ pub fn supported_runs_succeed<W: Disk, T: Disk, F: Disk>()
 /// run keeps the connector's guarantees.
 pub fn disks_stay_kept<W: Disk, T: Disk, F: Disk>()
     ensures { DisksStayKept W.Disk T.Disk F.Disk }
+{}
+
+/// Over crash-consistent disks the topic log is exact, and each cell that a consumer of it has is
+/// the source's at some point from the stored offset on.
+pub fn kept_logs_are_true<W: Disk, T: Disk, F: Disk>()
+    ensures { KeptLogsAreTrue W.Disk T.Disk F.Disk }
+{}
+
+/// Over crash-consistent disks no session stops at a cell that parses as no value.
+pub fn no_cell_stops_sessions<W: Disk, T: Disk, F: Disk>()
+    ensures { NoCellStopsSessions W.Disk T.Disk F.Disk }
 {}
 
 /// A session that exits with 3 has used up its message budget exactly, and one that exits with 0

@@ -5,7 +5,7 @@ use anyhow::{Result, bail};
 use cases_items::words;
 use dbl_base::{MemOutput, Text};
 use dbl_compact::{compact, kept_records_are_kept, kept_records_make_the_same_consumer};
-use dbl_consume::{Kind, kind};
+use dbl_consume::{Consumer, Kind, kind};
 use dbl_record::Record;
 use std::alloc::Global;
 use std::fmt::Write;
@@ -87,6 +87,12 @@ fn show_compacted(
 // The rows of a consumer of the records, as they are printed.
 fn rows(alloc: Global, records: &Vec<Record>) -> Result<String> {
     let mut consumer = consumers::consumer(alloc)?;
+    let rows = rows_of(alloc, records, &mut consumer);
+    drop(consumer);
+    rows
+}
+
+fn rows_of(alloc: Global, records: &Vec<Record>, consumer: &mut Consumer) -> Result<String> {
     for record in records {
         let key = text_or_null(alloc, &record.key)?;
         let value = text_or_null(alloc, &record.value)?;

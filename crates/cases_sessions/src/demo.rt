@@ -33,7 +33,11 @@ pub fn disk_of(alloc: Global, digits: &str) -> Result<MemDisk> {
 // Opens the source on a disk, and makes the calls.
 fn play(alloc: Global, disk: FuseDisk<MemDisk>, calls: &str, answers: &mut String) -> Result<()> {
     match DemoSource::open(alloc, disk) {
-        Ok(mut source) => calls::play(alloc, &mut source, calls, answers),
+        Ok(mut source) => {
+            let played = calls::play(alloc, &mut source, calls, answers);
+            drop(source);
+            played
+        }
         Err(refused) => bail!("{}", refused.error),
     }
 }
@@ -126,6 +130,8 @@ fn count_each(alloc: Global, disk: &MemDisk, calls: &str, answers: &mut String) 
 pub fn count_calls(alloc: Global, word: &str, calls: &str, answers: &mut String) -> Result<()> {
     let groups = word.parse::<u64>()?;
     let mut source = made(alloc, groups.saturating_add(GROUPS_LEFT))?;
-    run_groups(&mut source, groups)?;
-    count_each(alloc, &source.into_disk(), calls, answers)
+    let ran = run_groups(&mut source, groups);
+    let disk = source.into_disk();
+    ran?;
+    count_each(alloc, &disk, calls, answers)
 }

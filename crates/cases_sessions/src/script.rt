@@ -144,6 +144,8 @@ fn two(alloc: Global, first: RawTable, other: RawTable) -> Result<Vec<RawTable>>
         AllByRecursion (λ raw. raw.name.schema ≢ []) tables.items) }
 {
     if first.name == other.name {
+        drop(first);
+        drop(other);
         bail!("no other table");
     }
     let mut list = Vec::new(alloc);

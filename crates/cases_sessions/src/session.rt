@@ -151,10 +151,14 @@ fn show_offset(alloc: Global, answers: &mut String, offset: &Offset) -> Result<(
 // The offset that a crash leaves of the disk.
 fn show_stored(alloc: Global, disk: &MemDisk, answers: &mut String) -> Result<()> {
     match OffsetStore::open(alloc, disk.crash(Choice::New)?) {
-        Ok(store) => match store.load() {
-            Some(offset) => show_offset(alloc, answers, offset),
-            None => words::add(answers, "\n  no offset"),
-        },
+        Ok(store) => {
+            let shown = match store.load() {
+                Some(offset) => show_offset(alloc, answers, offset),
+                None => words::add(answers, "\n  no offset"),
+            };
+            drop(store);
+            shown
+        }
         Err(refused) => bail!("{}", refused.error),
     }
 }
@@ -187,7 +191,8 @@ fn run(
     session(alloc, config, now_ms, source, sink, store, report)
 }
 
-// Runs a session and adds how it ended.
+// Runs a session and adds how it ended. The configuration and the end are dropped by name: that is
+// one call each, whereas a drop at the end of a scope is proved variant by variant at each exit.
 fn show_run(
     alloc: Global,
     asked: &str,
@@ -205,7 +210,10 @@ fn show_run(
     let config = asked::config(alloc, asked, fields, store.load())?;
     let mut report = unset_report();
     let end = run(alloc, &config, now_ms, source, sink, store, &mut report);
-    show_end(source, &end, &report, answers)
+    drop(config);
+    let shown = show_end(source, &end, &report, answers);
+    drop(end);
+    shown
 }
 
 // Runs a session over its store, and adds the offset that is left there.
@@ -220,8 +228,10 @@ fn run_on_store(
     requires sink { IsTrue sink.old.live }
 {
     let mut store = store(alloc, asked)?;
-    show_run(alloc, asked, source, sink, &mut store, answers)?;
-    show_stored(alloc, &store.into_disk(), answers)
+    let shown = show_run(alloc, asked, source, sink, &mut store, answers);
+    let disk = store.into_disk();
+    shown?;
+    show_stored(alloc, &disk, answers)
 }
 
 // Runs a session, and adds the records that its sink has.

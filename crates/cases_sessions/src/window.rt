@@ -62,15 +62,28 @@ fn show(answers: &mut String, closed: &Closed) -> Result<()> {
     Ok(())
 }
 
-// Opens the window at its low mark, clears it, and closes it.
+// Opens the window at its low mark, clears it, and closes it. Each state is dropped by name: that
+// is one call, whereas a drop at the end of a scope is proved part by part at each exit.
 fn clear(alloc: Global, armed: Armed, answers: &mut String) -> Result<()> {
-    let low = armed.awaited_mark().copy(alloc)?;
+    let low = match armed.awaited_mark().copy(alloc) {
+        Ok(low) => low,
+        Err(error) => {
+            drop(armed);
+            bail!("{error}");
+        }
+    };
     match armed.see(&low) {
         Seen::Opened(mut opened) => {
             opened.clear();
-            show(answers, &opened.finish())
+            let closed = opened.finish();
+            let shown = show(answers, &closed);
+            drop(closed);
+            shown
         }
-        Seen::Waiting(_) => bail!("it waits"),
+        Seen::Waiting(armed) => {
+            drop(armed);
+            bail!("it waits")
+        }
     }
 }
 

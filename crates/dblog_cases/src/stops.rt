@@ -52,7 +52,9 @@ fn tell<W: Write>(told: &Trace, writer: &mut W) -> io::Result<()> {
     Ok(())
 }
 
-// Makes the run on a disk that passes so many calls, and ends the work. Answers its status.
+// Makes the run on a disk that passes so many calls, and ends the work. Answers its status. The
+// disks are dropped by name: that is one call, whereas a drop at the end of a scope is proved part
+// by part.
 fn stop(
     alloc: Global,
     run: &Run,
@@ -62,9 +64,22 @@ fn stop(
     told: &mut Trace,
 ) -> io::Result<Status> {
     let mut left = disks.crash(Choice::New)?;
-    let status = stopped(alloc, run, place, calls, &mut left)?;
+    let status = stop_on(alloc, run, place, calls, &mut left, told);
+    drop(left);
+    status
+}
+
+fn stop_on(
+    alloc: Global,
+    run: &Run,
+    place: Place,
+    calls: u64,
+    left: &mut MemDisks,
+    told: &mut Trace,
+) -> io::Result<Status> {
+    let status = stopped(alloc, run, place, calls, left)?;
     statuses::add(&mut told.statuses, status)?;
-    end_each(alloc, run, &left, told)?;
+    end_each(alloc, run, left, told)?;
     Ok(status)
 }
 
@@ -85,7 +100,10 @@ fn stopped(
 // Ends the work for each choice of what a crash leaves of the disks.
 fn end_each(alloc: Global, run: &Run, left: &MemDisks, told: &mut Trace) -> io::Result<()> {
     for choice in [Choice::Old, Choice::New, Choice::Fill(1)] {
-        end_one(alloc, run, &mut left.crash(choice)?, told)?;
+        let mut disks = left.crash(choice)?;
+        let ended = end_one(alloc, run, &mut disks, told);
+        drop(disks);
+        ended?;
     }
     Ok(())
 }

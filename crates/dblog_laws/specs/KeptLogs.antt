@@ -19,7 +19,8 @@ pub record IsTrueToSource (held : Contents) (offset : Offset) : Type 0 where
       (moment_at (captured_commits_at held offset) offset.start.0) (records_of_contents held)
       (moment_at (captured_commits_at held offset) offset.lsn.0)
 
--- In everything that a crash may leave of crash-consistent disks the topic log is true to the source's history, or empty if no offset is stored.
+-- In everything that a crash may leave of crash-consistent disks the topic log is true to the source's history, or empty if no offset is
+-- stored.
 abbrev pub KeptLogsAreTrue : {W T F : Type 0} → DiskModel W → DiskModel T → DiskModel F → Type 0
 KeptLogsAreTrue {W} {T} {F} wal_model topics_model offsets_model = (disks : Disks W T F)
     → AreKeptDisks wal_model topics_model offsets_model disks

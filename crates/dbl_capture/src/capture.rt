@@ -126,15 +126,14 @@ fn begin_session<S: Source, K: Sink, D: Disk>(
     requires store_live { IsLive store.old }
     requires config { IsGoodConfig config.now }
     ensures begun { (tell : Bool) (entry : SpecEntry) → entry.config ≡ config.now →
-        IsFound tell S.stands K.holds D.Disk entry src.old sink.now store.old → S.honest src.new →
+        IsFound tell S.Source K.Sink D.Disk entry src.old sink.now store.old → S.honest src.new →
         HadOwnTables entry →
-        IfOk result (λ offset. BeganAt tell S.stands K.holds D.Disk entry
-        offset src.new sink.now store.new) }
+        IfOk result
+        (λ offset. BeganAt tell S.Source K.Sink D.Disk entry offset src.new sink.now store.new) }
     ensures left { (tell : Bool) (entry : SpecEntry) → entry.config ≡ config.now →
-        IsFound tell S.stands K.holds D.Disk entry src.old sink.now store.old → S.honest src.new →
+        IsFound tell S.Source K.Sink D.Disk entry src.old sink.now store.old → S.honest src.new →
         HadOwnTables entry →
-        OnErr result (LeavesBy tell S.may_leave K.may_leave D.Disk entry
-        src.new sink.now store.new) }
+        OnErr result (LeavesBy tell S.Source K.Sink D.Disk entry src.new sink.now store.new) }
     ensures loads { IfOk result (λ offset. store.new.offset ≡ Some offset) }
     ensures held { CacheMatchesDisk D.Disk store.old store.new result }
     ensures offset { IfOk result IsOffset }
@@ -177,8 +176,8 @@ fn begin_session<S: Source, K: Sink, D: Disk>(
         IfErr result (IsLongBy config.now s.history) }
     ensures content { (entry : SpecEntry) (stored : Option SpecOffset) (report : SpecReport) →
         entry.config ≡ config.now →
-        IsFound true S.stands K.holds D.Disk entry src.old sink.now store.old →
-        S.honest src.new → WasFaithful entry →
+        IsFound true S.Source K.Sink D.Disk entry src.old sink.now store.old → S.honest src.new →
+        WasFaithful entry →
         IfErr result (IsFaithfulHalt entry stored report (S.stands src.new) (K.holds sink.now)) }
 {
     let offset = offset_of(alloc, config, src, store)?;
@@ -201,16 +200,14 @@ fn open_session<S: Source, K: Sink, D: Disk>(
     requires store_live { IsLive store.old }
     requires config { IsGoodConfig config.now }
     ensures opened { (tell : Bool) (entry : SpecEntry) → entry.config ≡ config.now →
-        entry.now ≡ now_ms →
-        IsFound tell S.stands K.holds D.Disk entry src.old sink.now store.old → S.honest src.new →
-        HadOwnTables entry →
-        IfOk result (λ work. InSession tell S.stands K.holds D.Disk entry
-        work src.new sink.now store.new) }
+        entry.now ≡ now_ms → IsFound tell S.Source K.Sink D.Disk entry src.old sink.now store.old →
+        S.honest src.new → HadOwnTables entry →
+        IfOk result
+        (λ work. InSession tell S.Source K.Sink D.Disk entry work src.new sink.now store.new) }
     ensures left { (tell : Bool) (entry : SpecEntry) → entry.config ≡ config.now →
-        IsFound tell S.stands K.holds D.Disk entry src.old sink.now store.old → S.honest src.new →
+        IsFound tell S.Source K.Sink D.Disk entry src.old sink.now store.old → S.honest src.new →
         HadOwnTables entry →
-        OnErr result (LeavesBy tell S.may_leave K.may_leave D.Disk entry
-        src.new sink.now store.new) }
+        OnErr result (LeavesBy tell S.Source K.Sink D.Disk entry src.new sink.now store.new) }
     ensures begun { IfOk result (λ work. (offset : SpecOffset) × (store.new.offset ≡ Some offset)
         × BeginsWithOffset offset now_ms config.now.chunk config.now.every work
         × IsOffsetFor config.now store.old.offset offset) }
@@ -249,26 +246,26 @@ fn open_session<S: Source, K: Sink, D: Disk>(
         (D.faults (disk_of store.old)) (D.faults (disk_of store.new)) }
 
     // The report, by the source's trace and its state.
-    ensures under_way { (at : Option SourceState) → ((s : SourceState) → at ≡ Some s →
-        S.stands src.old s) → (report.old.messages ≡ 0) × (report.old.commits ≡ 0)
-        × (report.old.chunks ≡ 0) →
-        IfOk result (λ work. (first : SpecOffset) × IsUnderWay S.stands at (S.told src.old)
+    ensures under_way { (at : Option SourceState) →
+        ((s : SourceState) → at ≡ Some s → S.stands src.old s) →
+        (report.old.messages ≡ 0) × (report.old.commits ≡ 0) × (report.old.chunks ≡ 0) →
+        IfOk result (λ work. (first : SpecOffset) × IsUnderWay S.Source at (S.told src.old)
         (beginning_at config.now now_ms store.old.offset first) store.new.offset work report.new
-        src.new (S.told src.new)) }
-    ensures halted { (at : Option SourceState) → ((s : SourceState) → at ≡ Some s →
-        S.stands src.old s) → (report.old.messages ≡ 0) × (report.old.commits ≡ 0)
-        × (report.old.chunks ≡ 0) →
-        IfErr result (Halts S.stands at (S.told src.old) config.now now_ms store.old.offset
-        store.new.offset report.new src.new (S.told src.new)) }
+        src.new) }
+    ensures halted { (at : Option SourceState) →
+        ((s : SourceState) → at ≡ Some s → S.stands src.old s) →
+        (report.old.messages ≡ 0) × (report.old.commits ≡ 0) × (report.old.chunks ≡ 0) →
+        IfErr result (Halts S.Source at (S.told src.old) config.now now_ms store.old.offset
+        store.new.offset report.new src.new) }
 
     // The sink's contents.
     ensures putting { (groups : List (List SpecRecord)) → K.holds sink.now groups →
         (at : Option SourceState) → ((s : SourceState) → at ≡ Some s → S.stands src.old s) →
         (report.old.messages ≡ 0) × (report.old.commits ≡ 0) × (report.old.chunks ≡ 0) ×
         (report.old.records ≡ 0) × (report.old.snapshot_rows ≡ 0) →
-        IfOk result (λ work. (first : SpecOffset) × IsPutting S.stands K.holds groups at
+        IfOk result (λ work. (first : SpecOffset) × IsPutting S.Source K.Sink groups at
         (S.told src.old) (beginning_at config.now now_ms store.old.offset first) store.new.offset
-        work report.new src.new (S.told src.new) sink.now) }
+        work report.new src.new sink.now) }
     ensures counts { (report.new.records ≡ report.old.records) ×
         (report.new.chunks ≡ report.old.chunks) ×
         (report.new.snapshot_rows ≡ report.old.snapshot_rows) }
@@ -281,10 +278,10 @@ fn open_session<S: Source, K: Sink, D: Disk>(
     ensures long { (s : SourceState) → S.stands src.old s → store.old.offset ≡ None →
         IfErr result (IsLongBy config.now s.history) }
     ensures content { (entry : SpecEntry) → entry.config ≡ config.now →
-        IsFound true S.stands K.holds D.Disk entry src.old sink.now store.old →
-        S.honest src.new → WasFaithful entry →
-        IfErr result (IsFaithfulHalt entry store.new.offset report.new (S.stands src.new)
-        (K.holds sink.now)) }
+        IsFound true S.Source K.Sink D.Disk entry src.old sink.now store.old → S.honest src.new →
+        WasFaithful entry →
+        IfErr result
+        (IsFaithfulHalt entry store.new.offset report.new (S.stands src.new) (K.holds sink.now)) }
 {
     let offset = begin_session(alloc, config, src, sink, store)?;
     report.position = offset.lsn.0;

@@ -60,19 +60,18 @@ pub(crate) fn read_and_deliver<S: Source, K: Sink, D: Disk>(
 
     // The session's invariant, and what may be left.
     ensures next { (tell : Bool) (entry : SpecEntry) →
-        InSession tell S.stands K.holds D.Disk entry work.old src.old sink.old store.now →
+        InSession tell S.Source K.Sink D.Disk entry work.old src.old sink.old store.now →
         S.honest src.new →
-        OnOk result (InSession tell S.stands K.holds D.Disk entry
-        work.new src.new sink.new store.now) }
+        OnOk result
+        (InSession tell S.Source K.Sink D.Disk entry work.new src.new sink.new store.now) }
     ensures left { (tell : Bool) (entry : SpecEntry) →
-        InSession tell S.stands K.holds D.Disk entry work.old src.old sink.old store.now →
+        InSession tell S.Source K.Sink D.Disk entry work.old src.old sink.old store.now →
         S.honest src.new →
-        OnErr result (LeavesBy tell S.may_leave K.may_leave D.Disk entry
-        src.new sink.new store.now) }
+        OnErr result (LeavesBy tell S.Source K.Sink D.Disk entry src.new sink.new store.now) }
     ensures whole { (tell : Bool) (entry : SpecEntry) →
-        InSession tell S.stands K.holds D.Disk entry work.old src.old sink.old store.now →
+        InSession tell S.Source K.Sink D.Disk entry work.old src.old sink.old store.now →
         S.honest src.new → result ≡ Ok None →
-        HasReadAllAt tell S.stands K.holds D.Disk entry work.new src.new sink.new store.now }
+        HasReadAllAt tell S.Source K.Sink D.Disk entry work.new src.new sink.new store.now }
 
     // The session's state.
     ensures ready { OnOk result (HasReadyWork work.new) }
@@ -97,57 +96,53 @@ pub(crate) fn read_and_deliver<S: Source, K: Sink, D: Disk>(
 
     // The report, by the source's trace and its state.
     ensures under_way { (at : Option SourceState) (found : Option Trace) (b : Beginning) →
-        IsUnderWay S.stands at found b store.now.offset work.old report.old src.old
-        (S.told src.old) →
-        IfOk result (GoesOn S.stands at found b store.now.offset work.new report.new src.new
-        (S.told src.new)) }
+        IsUnderWay S.Source at found b store.now.offset work.old report.old src.old →
+        IfOk result (GoesOn S.Source at found b store.now.offset work.new report.new src.new) }
     ensures halted { (at : Option SourceState) (found : Option Trace) (b : Beginning) →
-        IsUnderWay S.stands at found b store.now.offset work.old report.old src.old
-        (S.told src.old) →
-        IfErr result (Halts S.stands at found b.config b.now b.held store.now.offset report.new
-        src.new (S.told src.new)) }
+        IsUnderWay S.Source at found b store.now.offset work.old report.old src.old →
+        IfErr result
+        (Halts S.Source at found b.config b.now b.held store.now.offset report.new src.new) }
     ensures quiet { OnOk result (IsQuiet (S.told src.new)) }
 
     // The sink's contents, and what is left of them.
     ensures putting { (groups : List (List SpecRecord)) (at : Option SourceState)
         (found : Option Trace) (b : Beginning) →
-        IsPutting S.stands K.holds groups at found b store.now.offset work.old report.old src.old
-        (S.told src.old) sink.old →
-        IfOk result (PutsOn S.stands K.holds groups at found b store.now.offset work.new report.new
-        src.new (S.told src.new) sink.new) }
+        IsPutting S.Source K.Sink groups at found b store.now.offset work.old report.old src.old
+        sink.old →
+        IfOk result (PutsOn
+        S.Source K.Sink groups at found b store.now.offset work.new report.new src.new sink.new) }
     ensures put { (groups : List (List SpecRecord)) (at : Option SourceState) (found : Option Trace)
         (b : Beginning) →
-        IsPutting S.stands K.holds groups at found b store.now.offset work.old report.old src.old
-        (S.told src.old) sink.old →
-        IfErr result (HasHaltedPut S.stands K.holds K.may_leave groups at b.config b.now b.held
-        store.now.offset report.new src.new (S.told src.new) sink.new) }
+        IsPutting S.Source K.Sink groups at found b store.now.offset work.old report.old src.old
+        sink.old →
+        IfErr result (HasHaltedPut S.Source K.Sink groups at b.config b.now b.held store.now.offset
+        report.new src.new sink.new) }
     ensures own { (tell : Bool) (entry : SpecEntry) (at : Option SourceState) (found : Option Trace)
-        (b : Beginning) → InSession tell S.stands K.holds D.Disk entry
-        work.old src.old sink.old store.now →
-        IsUnderWay S.stands at found b store.now.offset work.old report.old src.old
-        (S.told src.old) → (s : SourceState) → at ≡ Some s → S.honest src.new →
+        (b : Beginning) →
+        InSession tell S.Source K.Sink D.Disk entry work.old src.old sink.old store.now →
+        IsUnderWay S.Source at found b store.now.offset work.old report.old src.old →
+        (s : SourceState) → at ≡ Some s → S.honest src.new →
         IfErr result (IsHonestHalt entry (S.stands src.new)) }
     ensures awaits { (at : Option SourceState) (found : Option Trace) (b : Beginning) →
-        IsUnderWay S.stands at found b store.now.offset work.old report.old src.old
-        (S.told src.old) → (s : SourceState) → at ≡ Some s → S.honest src.new →
-        Awaits S.stands work.old src.old → OnOk result (Awaits S.stands work.new src.new) }
+        IsUnderWay S.Source at found b store.now.offset work.old report.old src.old →
+        (s : SourceState) → at ≡ Some s → S.honest src.new → Awaits S.stands work.old src.old →
+        OnOk result (Awaits S.stands work.new src.new) }
     ensures waits { (at : Option SourceState) (found : Option Trace) (b : Beginning) →
-        IsUnderWay S.stands at found b store.now.offset work.old report.old src.old
-        (S.told src.old) → (s : SourceState) → at ≡ Some s → S.honest src.new →
-        Awaits S.stands work.old src.old → result ≡ Ok None →
-        work.new.follower.window ≡ windows.Absent }
+        IsUnderWay S.Source at found b store.now.offset work.old report.old src.old →
+        (s : SourceState) → at ≡ Some s → S.honest src.new → Awaits S.stands work.old src.old →
+        result ≡ Ok None → work.new.follower.window ≡ windows.Absent }
     ensures most { (tell : Bool) (entry : SpecEntry) →
-        InSession tell S.stands K.holds D.Disk entry
-        work.old src.old sink.old store.now → AreClosed work.old report.old.chunks →
+        InSession tell S.Source K.Sink D.Disk entry work.old src.old sink.old store.now →
+        AreClosed work.old report.old.chunks →
         OnErr result ((left : CrashState) → S.may_leave src.new left →
         AddsNoMore report.new.chunks entry.history left.history) }
     ensures content { (entry : SpecEntry) (at : Option SourceState) (found : Option Trace)
-        (b : Beginning) → InSession true S.stands K.holds D.Disk entry
-        work.old src.old sink.old store.now →
-        IsUnderWay S.stands at found b store.now.offset work.old report.old src.old
-        (S.told src.old) → WasFaithful entry → S.honest src.new →
-        IfErr result (IsFaithfulHalt entry store.now.offset report.new (S.stands src.new)
-        (K.holds sink.new)) }
+        (b : Beginning) →
+        InSession true S.Source K.Sink D.Disk entry work.old src.old sink.old store.now →
+        IsUnderWay S.Source at found b store.now.offset work.old report.old src.old →
+        WasFaithful entry → S.honest src.new →
+        IfErr result
+        (IsFaithfulHalt entry store.now.offset report.new (S.stands src.new) (K.holds sink.new)) }
 {
     match src.read()? {
         Some(bytes) => {

@@ -43,20 +43,19 @@ pub(crate) fn store_and_confirm<S: Source, K: Sink, D: Disk>(
 
     // The session's invariant, and what may be left.
     ensures settled { (tell : Bool) (entry : SpecEntry) →
-        InSession tell S.stands K.holds D.Disk entry work.old src.old sink.now store.old →
+        InSession tell S.Source K.Sink D.Disk entry work.old src.old sink.now store.old →
         S.honest src.new →
-        OnOk result (IsSettled tell S.stands K.holds D.Disk entry
-        work.new src.new sink.now store.new) }
+        OnOk result
+        (IsSettled tell S.Source K.Sink D.Disk entry work.new src.new sink.now store.new) }
     ensures whole { (tell : Bool) (entry : SpecEntry) →
-        HasReadAllAt tell S.stands K.holds D.Disk entry work.old src.old sink.now store.old →
+        HasReadAllAt tell S.Source K.Sink D.Disk entry work.old src.old sink.now store.old →
         S.honest src.new →
-        OnOk result (IsSettledWhole tell S.stands K.holds D.Disk entry
-        work.new src.new sink.now store.new) }
+        OnOk result
+        (IsSettledWhole tell S.Source K.Sink D.Disk entry work.new src.new sink.now store.new) }
     ensures left { (tell : Bool) (entry : SpecEntry) →
-        InSession tell S.stands K.holds D.Disk entry work.old src.old sink.now store.old →
+        InSession tell S.Source K.Sink D.Disk entry work.old src.old sink.now store.old →
         S.honest src.new →
-        OnErr result (LeavesBy tell S.may_leave K.may_leave D.Disk entry
-        src.new sink.now store.new) }
+        OnErr result (LeavesBy tell S.Source K.Sink D.Disk entry src.new sink.now store.new) }
 
     // The session's state.
     ensures same { OnOk result (work.new ≡ record work.old { since = 0 }) }
@@ -80,43 +79,42 @@ pub(crate) fn store_and_confirm<S: Source, K: Sink, D: Disk>(
 
     // The report, by the source's trace and its state.
     ensures all { (at : Option SourceState) (found : Option Trace) (b : Beginning) →
-        HasCommitted S.stands at found b store.old.offset work.old report.old src.old
-        (S.told src.old) →
-        OnOk result (HasSettledAll S.stands at found b store.new.offset work.new report.new src.new
-        (S.told src.new)) }
+        HasCommitted S.Source at found b store.old.offset work.old report.old src.old →
+        OnOk result
+        (HasSettledAll S.Source at found b store.new.offset work.new report.new src.new) }
     ensures halted { (at : Option SourceState) (found : Option Trace) (b : Beginning) →
-        HasCommitted S.stands at found b store.old.offset work.old report.old src.old
-        (S.told src.old) → IsQuiet (S.told src.old) →
-        IfErr result (Halts S.stands at found b.config b.now b.held store.new.offset report.new
-        src.new (S.told src.new)) }
+        HasCommitted S.Source at found b store.old.offset work.old report.old src.old →
+        IsQuiet (S.told src.old) →
+        IfErr result
+        (Halts S.Source at found b.config b.now b.held store.new.offset report.new src.new) }
     ensures quiet { OnOk result (IsQuiet (S.told src.new)) }
 
     // The sink's contents, and what is left of them.
     ensures putting { (groups : List (List SpecRecord)) (at : Option SourceState)
         (found : Option Trace) (b : Beginning) →
-        HasPutCommit S.stands K.holds groups at found b store.old.offset work.old report.old src.old
-        (S.told src.old) sink.now →
-        OnOk result (IsPutting S.stands K.holds groups at found b store.new.offset work.new
-        report.new src.new (S.told src.new) sink.now) }
+        HasPutCommit S.Source K.Sink groups at found b store.old.offset work.old report.old src.old
+        sink.now →
+        OnOk result (IsPutting
+        S.Source K.Sink groups at found b store.new.offset work.new report.new src.new sink.now) }
     ensures put { (groups : List (List SpecRecord)) (at : Option SourceState) (found : Option Trace)
         (b : Beginning) →
-        HasPutCommit S.stands K.holds groups at found b store.old.offset work.old report.old src.old
-        (S.told src.old) sink.now →
-        IfErr result (HasHaltedPut S.stands K.holds K.may_leave groups at b.config b.now b.held
-        store.new.offset report.new src.new (S.told src.new) sink.now) }
+        HasPutCommit S.Source K.Sink groups at found b store.old.offset work.old report.old src.old
+        sink.now →
+        IfErr result (HasHaltedPut S.Source K.Sink groups at b.config b.now b.held store.new.offset
+        report.new src.new sink.now) }
     ensures own { (entry : SpecEntry) → IfErr result (IsHonestHalt entry (S.stands src.new)) }
     ensures awaits { Awaits S.stands work.old src.old →
         OnOk result (Awaits S.stands work.new src.new) }
     ensures most { (tell : Bool) (entry : SpecEntry) →
-        InSession tell S.stands K.holds D.Disk entry
-        work.old src.old sink.now store.old → AreClosed work.old report.old.chunks →
+        InSession tell S.Source K.Sink D.Disk entry work.old src.old sink.now store.old →
+        AreClosed work.old report.old.chunks →
         OnErr result ((left : CrashState) → S.may_leave src.new left →
         AddsNoMore report.new.chunks entry.history left.history) }
     ensures content { (entry : SpecEntry) →
-        InSession true S.stands K.holds D.Disk entry
-        work.old src.old sink.now store.old → WasFaithful entry →
-        IfErr result (IsFaithfulHalt entry store.new.offset report.new (S.stands src.new)
-        (K.holds sink.now)) }
+        InSession true S.Source K.Sink D.Disk entry work.old src.old sink.now store.old →
+        WasFaithful entry →
+        IfErr result
+        (IsFaithfulHalt entry store.new.offset report.new (S.stands src.new) (K.holds sink.now)) }
 {
     let offset = work.next_offset()?;
     let lsn = offset.lsn;
@@ -140,15 +138,14 @@ pub(crate) fn finish_complete<S: Source, K: Sink, D: Disk>(
     requires store_live { IsLive store.old }
     requires ready { HasReadyWork work.old }
     ensures ended { (tell : Bool) (entry : SpecEntry) →
-        HasReadAllAt tell S.stands K.holds D.Disk entry work.old src.old sink.now store.old →
+        HasReadAllAt tell S.Source K.Sink D.Disk entry work.old src.old sink.now store.old →
         S.honest src.new →
-        OnOk result (IsSettledWhole tell S.stands K.holds D.Disk entry
-        work.new src.new sink.now store.new) }
+        OnOk result
+        (IsSettledWhole tell S.Source K.Sink D.Disk entry work.new src.new sink.now store.new) }
     ensures left { (tell : Bool) (entry : SpecEntry) →
-        InSession tell S.stands K.holds D.Disk entry work.old src.old sink.now store.old →
+        InSession tell S.Source K.Sink D.Disk entry work.old src.old sink.now store.old →
         S.honest src.new →
-        OnErr result (LeavesBy tell S.may_leave K.may_leave D.Disk entry
-        src.new sink.now store.new) }
+        OnErr result (LeavesBy tell S.Source K.Sink D.Disk entry src.new sink.now store.new) }
     ensures unmissed { work.old.follower.window ≡ windows.Absent →
         (value at : _) → result ≢ Err (Halt.WatermarkMissing value at) }
     ensures waited { OnOk result (work.old.follower.window ≡ windows.Absent) }
@@ -172,41 +169,40 @@ pub(crate) fn finish_complete<S: Source, K: Sink, D: Disk>(
 
     // The report, by the source's trace and its state.
     ensures all { (at : Option SourceState) (found : Option Trace) (b : Beginning) →
-        IsUnderWay S.stands at found b store.old.offset work.old report.old src.old
-        (S.told src.old) →
-        OnOk result (HasSettledAll S.stands at found b store.new.offset work.new report.new src.new
-        (S.told src.new)) }
+        IsUnderWay S.Source at found b store.old.offset work.old report.old src.old →
+        OnOk result
+        (HasSettledAll S.Source at found b store.new.offset work.new report.new src.new) }
     ensures halted { (at : Option SourceState) (found : Option Trace) (b : Beginning) →
-        IsUnderWay S.stands at found b store.old.offset work.old report.old src.old
-        (S.told src.old) → LastAnswerIs (S.told src.old) (Read None) →
-        IfErr result (Halts S.stands at found b.config b.now b.held store.new.offset report.new
-        src.new (S.told src.new)) }
+        IsUnderWay S.Source at found b store.old.offset work.old report.old src.old →
+        LastAnswerIs (S.told src.old) (Read None) →
+        IfErr result
+        (Halts S.Source at found b.config b.now b.held store.new.offset report.new src.new) }
     ensures quiet { OnOk result (IsQuiet (S.told src.new)) }
 
     // The sink's contents, and what is left of them.
     ensures putting { (groups : List (List SpecRecord)) (at : Option SourceState)
         (found : Option Trace) (b : Beginning) →
-        IsPutting S.stands K.holds groups at found b store.old.offset work.old report.old src.old
-        (S.told src.old) sink.now →
-        OnOk result (IsPutting S.stands K.holds groups at found b store.new.offset work.new
-        report.new src.new (S.told src.new) sink.now) }
+        IsPutting S.Source K.Sink groups at found b store.old.offset work.old report.old src.old
+        sink.now →
+        OnOk result (IsPutting
+        S.Source K.Sink groups at found b store.new.offset work.new report.new src.new sink.now) }
     ensures put { (groups : List (List SpecRecord)) (at : Option SourceState) (found : Option Trace)
         (b : Beginning) →
-        IsPutting S.stands K.holds groups at found b store.old.offset work.old report.old src.old
-        (S.told src.old) sink.now →
-        IfErr result (HasHaltedPut S.stands K.holds K.may_leave groups at b.config b.now b.held
-        store.new.offset report.new src.new (S.told src.new) sink.now) }
+        IsPutting S.Source K.Sink groups at found b store.old.offset work.old report.old src.old
+        sink.now →
+        IfErr result (HasHaltedPut S.Source K.Sink groups at b.config b.now b.held store.new.offset
+        report.new src.new sink.now) }
     ensures own { (entry : SpecEntry) → IfErr result (IsHonestHalt entry (S.stands src.new)) }
     ensures most { (tell : Bool) (entry : SpecEntry) →
-        InSession tell S.stands K.holds D.Disk entry
-        work.old src.old sink.now store.old → AreClosed work.old report.old.chunks →
+        InSession tell S.Source K.Sink D.Disk entry work.old src.old sink.now store.old →
+        AreClosed work.old report.old.chunks →
         OnErr result ((left : CrashState) → S.may_leave src.new left →
         AddsNoMore report.new.chunks entry.history left.history) }
     ensures content { (entry : SpecEntry) →
-        InSession true S.stands K.holds D.Disk entry
-        work.old src.old sink.now store.old → WasFaithful entry →
-        IfErr result (IsFaithfulHalt entry store.new.offset report.new (S.stands src.new)
-        (K.holds sink.now)) }
+        InSession true S.Source K.Sink D.Disk entry work.old src.old sink.now store.old →
+        WasFaithful entry →
+        IfErr result
+        (IsFaithfulHalt entry store.new.offset report.new (S.stands src.new) (K.holds sink.now)) }
 {
     match work.follower.waits_for() {
         Some(value) => Err(Halt::WatermarkMissing {

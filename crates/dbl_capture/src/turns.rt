@@ -61,15 +61,14 @@ fn open_next_window<S: Source, K: Sink, D: Disk>(
     requires ready { HasReadyWork work.old }
     requires number { work.old.number + 1 < 2 ^ 64 }
     ensures armed { (tell : Bool) (entry : SpecEntry) →
-        InSession tell S.stands K.holds D.Disk entry work.old src.old sink.now store.now →
+        InSession tell S.Source K.Sink D.Disk entry work.old src.old sink.now store.now →
         S.honest src.new →
-        OnOk result (InSession tell S.stands K.holds D.Disk entry
-        work.new src.new sink.now store.now) }
+        OnOk result
+        (InSession tell S.Source K.Sink D.Disk entry work.new src.new sink.now store.now) }
     ensures left { (tell : Bool) (entry : SpecEntry) →
-        InSession tell S.stands K.holds D.Disk entry work.old src.old sink.now store.now →
+        InSession tell S.Source K.Sink D.Disk entry work.old src.old sink.now store.now →
         S.honest src.new →
-        OnErr result (LeavesBy tell S.may_leave K.may_leave D.Disk entry
-        src.new sink.now store.now) }
+        OnErr result (LeavesBy tell S.Source K.Sink D.Disk entry src.new sink.now store.now) }
     ensures waits { OnOk result (IsArmedNext work.old work.new) }
     ensures reading { S.is_reading src.new ≡ S.is_reading src.old }
     ensures live { OnOk result (IsTrue (S.is_live src.new)) }
@@ -82,36 +81,34 @@ fn open_next_window<S: Source, K: Sink, D: Disk>(
     ensures reads { IfErr result IsNotGone }
     ensures under_way { (at : Option SourceState) (found : Option Trace) (b : Beginning)
         (report : SpecReport) →
-        IsUnderWay S.stands at found b store.now.offset work.old report src.old (S.told src.old) →
-        OnOk result (IsUnderWay S.stands at found b store.now.offset work.new report src.new
-        (S.told src.new)) }
+        IsUnderWay S.Source at found b store.now.offset work.old report src.old →
+        OnOk result (IsUnderWay S.Source at found b store.now.offset work.new report src.new) }
     ensures halted { (at : Option SourceState) (found : Option Trace) (b : Beginning)
         (report : SpecReport) →
-        IsUnderWay S.stands at found b store.now.offset work.old report src.old (S.told src.old) →
-        IfErr result (Halts S.stands at found b.config b.now b.held store.now.offset report
-        src.new (S.told src.new)) }
+        IsUnderWay S.Source at found b store.now.offset work.old report src.old →
+        IfErr result
+        (Halts S.Source at found b.config b.now b.held store.now.offset report src.new) }
     ensures quiet { IsQuiet (S.told src.old) → OnOk result (IsQuiet (S.told src.new)) }
     ensures putting { (groups : List (List SpecRecord)) (at : Option SourceState)
         (found : Option Trace) (b : Beginning) (report : SpecReport) →
-        IsPutting S.stands K.holds groups at found b store.now.offset work.old report src.old
-        (S.told src.old) sink.now →
-        OnOk result (IsPutting S.stands K.holds groups at found b store.now.offset work.new report
-        src.new (S.told src.new) sink.now) }
+        IsPutting S.Source K.Sink groups at found b store.now.offset work.old report src.old
+        sink.now →
+        OnOk result (IsPutting
+        S.Source K.Sink groups at found b store.now.offset work.new report src.new sink.now) }
     ensures put { (groups : List (List SpecRecord)) (at : Option SourceState) (found : Option Trace)
         (b : Beginning) (report : SpecReport) →
-        IsPutting S.stands K.holds groups at found b store.now.offset work.old report src.old
-        (S.told src.old) sink.now →
-        IfErr result (HasHaltedPut S.stands K.holds K.may_leave groups at b.config b.now b.held
-        store.now.offset report src.new (S.told src.new) sink.now) }
+        IsPutting S.Source K.Sink groups at found b store.now.offset work.old report src.old
+        sink.now →
+        IfErr result (HasHaltedPut
+        S.Source K.Sink groups at b.config b.now b.held store.now.offset report src.new sink.now) }
     ensures own { (tell : Bool) (entry : SpecEntry) →
-        InSession tell S.stands K.holds D.Disk entry work.old src.old sink.now store.now →
-        S.honest src.new →
-        IfErr result (IsHonestHalt entry (S.stands src.new)) }
+        InSession tell S.Source K.Sink D.Disk entry work.old src.old sink.now store.now →
+        S.honest src.new → IfErr result (IsHonestHalt entry (S.stands src.new)) }
     ensures awaits { Awaits S.stands work.old src.old →
         OnOk result (Awaits S.stands work.new src.new) }
     ensures most { (tell : Bool) (entry : SpecEntry) (chunks : ℕ) →
-        InSession tell S.stands K.holds D.Disk entry
-        work.old src.old sink.now store.now → AreClosed work.old chunks →
+        InSession tell S.Source K.Sink D.Disk entry work.old src.old sink.now store.now →
+        AreClosed work.old chunks →
         OnErr result ((left : CrashState) → S.may_leave src.new left →
         AddsNoMore chunks entry.history left.history) }
     ensures free { IfErr result IsContentFree }
@@ -143,19 +140,18 @@ fn process_message<S: Source, K: Sink, D: Disk>(
 
     // The session's invariant, and what may be left.
     ensures turned { (tell : Bool) (entry : SpecEntry) →
-        InSession tell S.stands K.holds D.Disk entry work.old src.old sink.old store.old →
+        InSession tell S.Source K.Sink D.Disk entry work.old src.old sink.old store.old →
         S.honest src.new →
-        OnOk result (InSession tell S.stands K.holds D.Disk entry
-        work.new src.new sink.new store.new) }
+        OnOk result
+        (InSession tell S.Source K.Sink D.Disk entry work.new src.new sink.new store.new) }
     ensures left { (tell : Bool) (entry : SpecEntry) →
-        InSession tell S.stands K.holds D.Disk entry work.old src.old sink.old store.old →
+        InSession tell S.Source K.Sink D.Disk entry work.old src.old sink.old store.old →
         S.honest src.new →
-        OnErr result (LeavesBy tell S.may_leave K.may_leave D.Disk entry
-        src.new sink.new store.new) }
+        OnErr result (LeavesBy tell S.Source K.Sink D.Disk entry src.new sink.new store.new) }
     ensures complete { (tell : Bool) (entry : SpecEntry) →
-        InSession tell S.stands K.holds D.Disk entry work.old src.old sink.old store.old →
+        InSession tell S.Source K.Sink D.Disk entry work.old src.old sink.old store.old →
         S.honest src.new → result ≡ Ok true →
-        IsSettledWhole tell S.stands K.holds D.Disk entry work.new src.new sink.new store.new }
+        IsSettledWhole tell S.Source K.Sink D.Disk entry work.new src.new sink.new store.new }
 
     // The session's state.
     ensures done { result ≡ Ok true → AreAllDone work.new.follower.cursors }
@@ -165,9 +161,8 @@ fn process_message<S: Source, K: Sink, D: Disk>(
     ensures missed { (value at : _) → result ≡ Err (Halt.WatermarkMissing value at) →
         IsTrue (S.has_ended src.new) }
     ensures unmissed { (at : Option SourceState) (found : Option Trace) (b : Beginning) →
-        IsUnderWay S.stands at found b store.old.offset work.old report.old src.old
-        (S.told src.old) → (s : SourceState) → at ≡ Some s → S.honest src.new →
-        Awaits S.stands work.old src.old →
+        IsUnderWay S.Source at found b store.old.offset work.old report.old src.old →
+        (s : SourceState) → at ≡ Some s → S.honest src.new → Awaits S.stands work.old src.old →
         (value position : _) → result ≢ Err (Halt.WatermarkMissing value position) }
     ensures reads { IfErr result IsNotGone }
     ensures loads { result ≡ Ok true → store.new.offset ≡ Some (next_offset_of work.new) }
@@ -205,59 +200,55 @@ fn process_message<S: Source, K: Sink, D: Disk>(
 
     // The report, by the source's trace and its state.
     ensures under_way { (at : Option SourceState) (found : Option Trace) (b : Beginning) →
-        IsUnderWay S.stands at found b store.old.offset work.old report.old src.old
-        (S.told src.old) →
-        OnOk result (IsUnderWay S.stands at found b store.new.offset work.new report.new src.new
-        (S.told src.new)) }
+        IsUnderWay S.Source at found b store.old.offset work.old report.old src.old →
+        OnOk result (IsUnderWay S.Source at found b store.new.offset work.new report.new src.new) }
     ensures all { (at : Option SourceState) (found : Option Trace) (b : Beginning) →
-        IsUnderWay S.stands at found b store.old.offset work.old report.old src.old
-        (S.told src.old) → result ≡ Ok true →
-        HasSettledAll S.stands at found b store.new.offset work.new report.new src.new
-        (S.told src.new) }
+        IsUnderWay S.Source at found b store.old.offset work.old report.old src.old →
+        result ≡ Ok true →
+        HasSettledAll S.Source at found b store.new.offset work.new report.new src.new }
     ensures halted { (at : Option SourceState) (found : Option Trace) (b : Beginning) →
-        IsUnderWay S.stands at found b store.old.offset work.old report.old src.old
-        (S.told src.old) →
-        IfErr result (Halts S.stands at found b.config b.now b.held store.new.offset report.new
-        src.new (S.told src.new)) }
+        IsUnderWay S.Source at found b store.old.offset work.old report.old src.old →
+        IfErr result
+        (Halts S.Source at found b.config b.now b.held store.new.offset report.new src.new) }
     ensures quiet { OnOk result (IsQuiet (S.told src.new)) }
 
     // The sink's contents, and what is left of them.
     ensures putting { (groups : List (List SpecRecord)) (at : Option SourceState)
         (found : Option Trace) (b : Beginning) →
-        IsPutting S.stands K.holds groups at found b store.old.offset work.old report.old src.old
-        (S.told src.old) sink.old →
-        OnOk result (IsPutting S.stands K.holds groups at found b store.new.offset work.new
-        report.new src.new (S.told src.new) sink.new) }
+        IsPutting S.Source K.Sink groups at found b store.old.offset work.old report.old src.old
+        sink.old →
+        OnOk result (IsPutting
+        S.Source K.Sink groups at found b store.new.offset work.new report.new src.new sink.new) }
     ensures put { (groups : List (List SpecRecord)) (at : Option SourceState) (found : Option Trace)
         (b : Beginning) →
-        IsPutting S.stands K.holds groups at found b store.old.offset work.old report.old src.old
-        (S.told src.old) sink.old →
-        IfErr result (HasHaltedPut S.stands K.holds K.may_leave groups at b.config b.now b.held
-        store.new.offset report.new src.new (S.told src.new) sink.new) }
+        IsPutting S.Source K.Sink groups at found b store.old.offset work.old report.old src.old
+        sink.old →
+        IfErr result (HasHaltedPut S.Source K.Sink groups at b.config b.now b.held store.new.offset
+        report.new src.new sink.new) }
     ensures own { (tell : Bool) (entry : SpecEntry) (at : Option SourceState) (found : Option Trace)
-        (b : Beginning) → InSession tell S.stands K.holds D.Disk entry
-        work.old src.old sink.old store.old →
-        IsUnderWay S.stands at found b store.old.offset work.old report.old src.old
-        (S.told src.old) → (s : SourceState) → at ≡ Some s → S.honest src.new →
+        (b : Beginning) →
+        InSession tell S.Source K.Sink D.Disk entry work.old src.old sink.old store.old →
+        IsUnderWay S.Source at found b store.old.offset work.old report.old src.old →
+        (s : SourceState) → at ≡ Some s → S.honest src.new →
         IfErr result (IsHonestHalt entry (S.stands src.new)) }
     ensures awaits { (at : Option SourceState) (found : Option Trace) (b : Beginning) →
-        IsUnderWay S.stands at found b store.old.offset work.old report.old src.old
-        (S.told src.old) → (s : SourceState) → at ≡ Some s → S.honest src.new →
-        Awaits S.stands work.old src.old → IfOk result (λ ended.
-        ended ≡ false → Awaits S.stands work.new src.new) }
+        IsUnderWay S.Source at found b store.old.offset work.old report.old src.old →
+        (s : SourceState) → at ≡ Some s → S.honest src.new → Awaits S.stands work.old src.old →
+        IfOk result (λ ended. ended ≡ false → Awaits S.stands work.new src.new) }
     ensures most { (tell : Bool) (entry : SpecEntry) (at : Option SourceState)
-        (found : Option Trace) (b : Beginning) → InSession tell S.stands K.holds D.Disk entry
-        work.old src.old sink.old store.old →
-        IsUnderWay S.stands at found b store.old.offset work.old report.old src.old
-        (S.told src.old) → S.honest src.new → OnErr result ((left : CrashState) →
-        S.may_leave src.new left → AddsNoMore report.new.chunks entry.history left.history) }
+        (found : Option Trace) (b : Beginning) →
+        InSession tell S.Source K.Sink D.Disk entry work.old src.old sink.old store.old →
+        IsUnderWay S.Source at found b store.old.offset work.old report.old src.old →
+        S.honest src.new →
+        OnErr result ((left : CrashState) → S.may_leave src.new left →
+        AddsNoMore report.new.chunks entry.history left.history) }
     ensures content { (entry : SpecEntry) (at : Option SourceState) (found : Option Trace)
-        (b : Beginning) → InSession true S.stands K.holds D.Disk entry
-        work.old src.old sink.old store.old →
-        IsUnderWay S.stands at found b store.old.offset work.old report.old src.old
-        (S.told src.old) → WasFaithful entry → S.honest src.new →
-        IfErr result (IsFaithfulHalt entry store.new.offset report.new (S.stands src.new)
-        (K.holds sink.new)) }
+        (b : Beginning) →
+        InSession true S.Source K.Sink D.Disk entry work.old src.old sink.old store.old →
+        IsUnderWay S.Source at found b store.old.offset work.old report.old src.old →
+        WasFaithful entry → S.honest src.new →
+        IfErr result
+        (IsFaithfulHalt entry store.new.offset report.new (S.stands src.new) (K.holds sink.new)) }
 {
     open_next_window(work, src, sink, store)?;
     match read_and_deliver(work, src, sink, store, report)? {
@@ -296,19 +287,18 @@ pub(crate) fn process_messages<S: Source, K: Sink, D: Disk>(
 
     // What the session leaves.
     ensures ran { (tell : Bool) (entry : SpecEntry) →
-        InSession tell S.stands K.holds D.Disk entry work.old src.old sink.old store.old →
+        InSession tell S.Source K.Sink D.Disk entry work.old src.old sink.old store.old →
         S.honest src.new →
-        OnOk result (InSession tell S.stands K.holds D.Disk entry
-        work.new src.new sink.new store.new) }
+        OnOk result
+        (InSession tell S.Source K.Sink D.Disk entry work.new src.new sink.new store.new) }
     ensures left { (tell : Bool) (entry : SpecEntry) →
-        InSession tell S.stands K.holds D.Disk entry work.old src.old sink.old store.old →
+        InSession tell S.Source K.Sink D.Disk entry work.old src.old sink.old store.old →
         S.honest src.new →
-        OnErr result (LeavesBy tell S.may_leave K.may_leave D.Disk entry
-        src.new sink.new store.new) }
+        OnErr result (LeavesBy tell S.Source K.Sink D.Disk entry src.new sink.new store.new) }
     ensures complete { (tell : Bool) (entry : SpecEntry) →
-        InSession tell S.stands K.holds D.Disk entry work.old src.old sink.old store.old →
+        InSession tell S.Source K.Sink D.Disk entry work.old src.old sink.old store.old →
         S.honest src.new → result ≡ Ok Ending.Complete →
-        IsSettledWhole tell S.stands K.holds D.Disk entry work.new src.new sink.new store.new }
+        IsSettledWhole tell S.Source K.Sink D.Disk entry work.new src.new sink.new store.new }
 
     // When the session ends normally, and what is counted.
     ensures done { result ≡ Ok Ending.Complete → AreAllDone work.new.follower.cursors
@@ -317,9 +307,8 @@ pub(crate) fn process_messages<S: Source, K: Sink, D: Disk>(
     ensures missed { (value at : _) → result ≡ Err (Halt.WatermarkMissing value at) →
         IsTrue (S.has_ended src.new) }
     ensures unmissed { (at : Option SourceState) (found : Option Trace) (b : Beginning) →
-        IsUnderWay S.stands at found b store.old.offset work.old report.old src.old
-        (S.told src.old) → (s : SourceState) → at ≡ Some s → S.honest src.new →
-        Awaits S.stands work.old src.old →
+        IsUnderWay S.Source at found b store.old.offset work.old report.old src.old →
+        (s : SourceState) → at ≡ Some s → S.honest src.new → Awaits S.stands work.old src.old →
         (value position : _) → result ≢ Err (Halt.WatermarkMissing value position) }
     ensures reads { IfErr result IsNotGone }
     ensures none { OnOk result (HasNoneNext work.new) }
@@ -348,49 +337,48 @@ pub(crate) fn process_messages<S: Source, K: Sink, D: Disk>(
 
     // The report, by the source's trace and its state.
     ensures all { (at : Option SourceState) (found : Option Trace) (b : Beginning) →
-        IsUnderWay S.stands at found b store.old.offset work.old report.old src.old
-        (S.told src.old) →
-        OnOk result (HasSettledAll S.stands at found b store.new.offset work.new report.new src.new
-        (S.told src.new)) }
+        IsUnderWay S.Source at found b store.old.offset work.old report.old src.old →
+        OnOk result
+        (HasSettledAll S.Source at found b store.new.offset work.new report.new src.new) }
     ensures halted { (at : Option SourceState) (found : Option Trace) (b : Beginning) →
-        IsUnderWay S.stands at found b store.old.offset work.old report.old src.old
-        (S.told src.old) →
-        IfErr result (Halts S.stands at found b.config b.now b.held store.new.offset report.new
-        src.new (S.told src.new)) }
+        IsUnderWay S.Source at found b store.old.offset work.old report.old src.old →
+        IfErr result
+        (Halts S.Source at found b.config b.now b.held store.new.offset report.new src.new) }
     ensures quiet { OnOk result (IsQuiet (S.told src.new)) }
 
     // The sink's contents, and what is left of them.
     ensures putting { (groups : List (List SpecRecord)) (at : Option SourceState)
         (found : Option Trace) (b : Beginning) →
-        IsPutting S.stands K.holds groups at found b store.old.offset work.old report.old src.old
-        (S.told src.old) sink.old →
-        OnOk result (IsPutting S.stands K.holds groups at found b store.new.offset work.new
-        report.new src.new (S.told src.new) sink.new) }
+        IsPutting S.Source K.Sink groups at found b store.old.offset work.old report.old src.old
+        sink.old →
+        OnOk result (IsPutting
+        S.Source K.Sink groups at found b store.new.offset work.new report.new src.new sink.new) }
     ensures put { (groups : List (List SpecRecord)) (at : Option SourceState) (found : Option Trace)
         (b : Beginning) →
-        IsPutting S.stands K.holds groups at found b store.old.offset work.old report.old src.old
-        (S.told src.old) sink.old →
-        IfErr result (HasHaltedPut S.stands K.holds K.may_leave groups at b.config b.now b.held
-        store.new.offset report.new src.new (S.told src.new) sink.new) }
+        IsPutting S.Source K.Sink groups at found b store.old.offset work.old report.old src.old
+        sink.old →
+        IfErr result (HasHaltedPut S.Source K.Sink groups at b.config b.now b.held store.new.offset
+        report.new src.new sink.new) }
     ensures own { (tell : Bool) (entry : SpecEntry) (at : Option SourceState) (found : Option Trace)
-        (b : Beginning) → InSession tell S.stands K.holds D.Disk entry
-        work.old src.old sink.old store.old →
-        IsUnderWay S.stands at found b store.old.offset work.old report.old src.old
-        (S.told src.old) → (s : SourceState) → at ≡ Some s → S.honest src.new →
+        (b : Beginning) →
+        InSession tell S.Source K.Sink D.Disk entry work.old src.old sink.old store.old →
+        IsUnderWay S.Source at found b store.old.offset work.old report.old src.old →
+        (s : SourceState) → at ≡ Some s → S.honest src.new →
         IfErr result (IsHonestHalt entry (S.stands src.new)) }
     ensures most { (tell : Bool) (entry : SpecEntry) (at : Option SourceState)
-        (found : Option Trace) (b : Beginning) → InSession tell S.stands K.holds D.Disk entry
-        work.old src.old sink.old store.old →
-        IsUnderWay S.stands at found b store.old.offset work.old report.old src.old
-        (S.told src.old) → S.honest src.new → OnErr result ((left : CrashState) →
-        S.may_leave src.new left → AddsNoMore report.new.chunks entry.history left.history) }
+        (found : Option Trace) (b : Beginning) →
+        InSession tell S.Source K.Sink D.Disk entry work.old src.old sink.old store.old →
+        IsUnderWay S.Source at found b store.old.offset work.old report.old src.old →
+        S.honest src.new →
+        OnErr result ((left : CrashState) → S.may_leave src.new left →
+        AddsNoMore report.new.chunks entry.history left.history) }
     ensures content { (entry : SpecEntry) (at : Option SourceState) (found : Option Trace)
-        (b : Beginning) → InSession true S.stands K.holds D.Disk entry
-        work.old src.old sink.old store.old →
-        IsUnderWay S.stands at found b store.old.offset work.old report.old src.old
-        (S.told src.old) → WasFaithful entry → S.honest src.new →
-        IfErr result (IsFaithfulHalt entry store.new.offset report.new (S.stands src.new)
-        (K.holds sink.new)) }
+        (b : Beginning) →
+        InSession true S.Source K.Sink D.Disk entry work.old src.old sink.old store.old →
+        IsUnderWay S.Source at found b store.old.offset work.old report.old src.old →
+        WasFaithful entry → S.honest src.new →
+        IfErr result
+        (IsFaithfulHalt entry store.new.offset report.new (S.stands src.new) (K.holds sink.new)) }
 {
     'turns: for _count in 0..budget {
         if process_message(work, src, sink, store, report)? {

@@ -40,15 +40,14 @@ pub(crate) fn arm<S: Source, K: Sink, D: Disk>(
     requires table { IsOpenTable work.old table }
     requires number { work.old.number + 1 < 2 ^ 64 }
     ensures armed { (tell : Bool) (entry : SpecEntry) →
-        InSession tell S.stands K.holds D.Disk entry work.old src.old sink.now store.now →
+        InSession tell S.Source K.Sink D.Disk entry work.old src.old sink.now store.now →
         S.honest src.new →
-        OnOk result (InSession tell S.stands K.holds D.Disk entry
-        work.new src.new sink.now store.now) }
+        OnOk result
+        (InSession tell S.Source K.Sink D.Disk entry work.new src.new sink.now store.now) }
     ensures left { (tell : Bool) (entry : SpecEntry) →
-        InSession tell S.stands K.holds D.Disk entry work.old src.old sink.now store.now →
+        InSession tell S.Source K.Sink D.Disk entry work.old src.old sink.now store.now →
         S.honest src.new →
-        OnErr result (LeavesBy tell S.may_leave K.may_leave D.Disk entry
-        src.new sink.now store.now) }
+        OnErr result (LeavesBy tell S.Source K.Sink D.Disk entry src.new sink.now store.now) }
     ensures same { OnOk result (IsArmedWork table work.old work.new) }
     ensures reading { S.is_reading src.new ≡ S.is_reading src.old }
     ensures live { OnOk result (IsTrue (S.is_live src.new)) }
@@ -61,36 +60,34 @@ pub(crate) fn arm<S: Source, K: Sink, D: Disk>(
     ensures reads { IfErr result IsNotGone }
     ensures under_way { (at : Option SourceState) (found : Option Trace) (b : Beginning)
         (report : SpecReport) →
-        IsUnderWay S.stands at found b store.now.offset work.old report src.old (S.told src.old) →
-        OnOk result (IsUnderWay S.stands at found b store.now.offset work.new report src.new
-        (S.told src.new)) }
+        IsUnderWay S.Source at found b store.now.offset work.old report src.old →
+        OnOk result (IsUnderWay S.Source at found b store.now.offset work.new report src.new) }
     ensures halted { (at : Option SourceState) (found : Option Trace) (b : Beginning)
         (report : SpecReport) →
-        IsUnderWay S.stands at found b store.now.offset work.old report src.old (S.told src.old) →
-        IfErr result (Halts S.stands at found b.config b.now b.held store.now.offset report
-        src.new (S.told src.new)) }
+        IsUnderWay S.Source at found b store.now.offset work.old report src.old →
+        IfErr result
+        (Halts S.Source at found b.config b.now b.held store.now.offset report src.new) }
     ensures quiet { OnOk result (IsQuiet (S.told src.new)) }
     ensures putting { (groups : List (List SpecRecord)) (at : Option SourceState)
         (found : Option Trace) (b : Beginning) (report : SpecReport) →
-        IsPutting S.stands K.holds groups at found b store.now.offset work.old report src.old
-        (S.told src.old) sink.now →
-        OnOk result (IsPutting S.stands K.holds groups at found b store.now.offset work.new report
-        src.new (S.told src.new) sink.now) }
+        IsPutting S.Source K.Sink groups at found b store.now.offset work.old report src.old
+        sink.now →
+        OnOk result (IsPutting
+        S.Source K.Sink groups at found b store.now.offset work.new report src.new sink.now) }
     ensures put { (groups : List (List SpecRecord)) (at : Option SourceState) (found : Option Trace)
         (b : Beginning) (report : SpecReport) →
-        IsPutting S.stands K.holds groups at found b store.now.offset work.old report src.old
-        (S.told src.old) sink.now →
-        IfErr result (HasHaltedPut S.stands K.holds K.may_leave groups at b.config b.now b.held
-        store.now.offset report src.new (S.told src.new) sink.now) }
+        IsPutting S.Source K.Sink groups at found b store.now.offset work.old report src.old
+        sink.now →
+        IfErr result (HasHaltedPut
+        S.Source K.Sink groups at b.config b.now b.held store.now.offset report src.new sink.now) }
     ensures own { (tell : Bool) (entry : SpecEntry) →
-        InSession tell S.stands K.holds D.Disk entry work.old src.old sink.now store.now →
-        S.honest src.new →
-        IfErr result (IsHonestHalt entry (S.stands src.new)) }
+        InSession tell S.Source K.Sink D.Disk entry work.old src.old sink.now store.now →
+        S.honest src.new → IfErr result (IsHonestHalt entry (S.stands src.new)) }
     ensures awaits { Awaits S.stands work.old src.old →
         OnOk result (Awaits S.stands work.new src.new) }
     ensures most { (tell : Bool) (entry : SpecEntry) (chunks : ℕ) →
-        InSession tell S.stands K.holds D.Disk entry
-        work.old src.old sink.now store.now → AreClosed work.old chunks →
+        InSession tell S.Source K.Sink D.Disk entry work.old src.old sink.now store.now →
+        AreClosed work.old chunks →
         OnErr result ((left : CrashState) → S.may_leave src.new left →
         AddsNoMore chunks entry.history left.history) }
     ensures free { IfErr result IsContentFree }

@@ -4,6 +4,8 @@ use Rattle.std.specs.Prelude.{not, slice_get}
 use Rattle.std.specs.List.{AllByRecursion, position}
 use Rattle.dbl_base.specs.declared.lsn.Lsn.{Lsn}
 use Rattle.dbl_record.specs.declared.record.Record.{Record}
+use Rattle.dbl_topic.specs.Model.{SinkModel}
+use Rattle.dbl_capture_work.specs.Source.Model.{SourceModel}
 use Rattle.dbl_model_table.specs.declared.table.TableInfo.{TableInfo}
 use Rattle.dbl_capture_work.specs.Disk.Model.{DiskModel}
 use Rattle.dbl_capture_work.specs.ModelHistory.declared.cursor.Cursor.{Cursor}
@@ -90,8 +92,8 @@ not_all cursors place cursor at unread all =
 
 -- ---- a session
 
-module _ {S K D : Type 0} {tell : Bool} {stands : S → SourceState → Type 0} {holds : K → List (List Record) → Type 0} {model : DiskModel D} {entry : SessionStart} {work : SessionState} {src : S} {sink : K} {store : StoreOn D}
-    (s : InSession tell stands holds model entry work src sink store) where
+module _ {S K D : Type 0} {tell : Bool} {source_model : SourceModel S} {sink_model : SinkModel K} {model : DiskModel D} {entry : SessionStart} {work : SessionState} {src : S} {sink : K} {store : StoreOn D}
+    (s : InSession tell source_model sink_model model entry work src sink store) where
   infos_are : work.offset.infos ≡ s.stage.first.infos
   infos_are = ap (λ (o : Offset). o.infos) s.work_is.offset_is
 
@@ -143,11 +145,11 @@ module _ {S K D : Type 0} {tell : Bool} {stands : S → SourceState → Type 0} 
         })
 
     -- where it ends on the way
-    pub arm_left : (may_source : S → CrashState → Type 0) (may_sink : K → List (List Record) → Type 0) (src2 : S) → work.follower.window ≡ Absent → ((left : CrashState) → may_source src2 left → MayHaveMarks (own_marks plan) (state_at_stage s.stage) left)
-        → ((left : CrashState) → may_source src2 left → IsFitHistory left.history) → (IsTrue tell → (groups : List (List Record)) → may_sink sink groups → groups ≡ s.stage.groups) → (left : CrashState) × may_source src2 left → (IsTrue tell → (groups : List (List Record)) × may_sink sink groups)
-        → LeavesBy tell may_source may_sink model entry src2 sink store
-    arm_left may_source may_sink src2 none may fit only some_source some_sink =
-        source_ends s may_source may_sink src2 (λ faithful left is. may_be left (may left is) (fit left is) faithful) only (λ left is. few_left none left (may left is)) some_source some_sink
+    pub arm_left : (src2 : S) → work.follower.window ≡ Absent → ((left : CrashState) → source_model.may_leave src2 left → MayHaveMarks (own_marks plan) (state_at_stage s.stage) left)
+        → ((left : CrashState) → source_model.may_leave src2 left → IsFitHistory left.history) → (IsTrue tell → (groups : List (List Record)) → sink_model.may_leave sink groups → groups ≡ s.stage.groups) → (left : CrashState) × source_model.may_leave src2 left → (IsTrue tell → (groups : List (List Record)) × sink_model.may_leave sink groups)
+        → LeavesBy tell source_model sink_model model entry src2 sink store
+    arm_left src2 none may fit only some_source some_sink =
+        source_ends s src2 (λ faithful left is. may_be left (may left is) (fit left is) faithful) only (λ left is. few_left none left (may left is)) some_source some_sink
 
   -- ---- the window is armed
 
@@ -197,10 +199,10 @@ module _ {S K D : Type 0} {tell : Bool} {stands : S → SourceState → Type 0} 
     stands_so : (t : SourceState) → t.confirmed ≡ s.stage.confirmed → t.reading ≡ Some (record { after = s.stage.first.lsn; messages = s.stage.messages }) → t ≡ state_at_stage (armed_at s.stage t.history chunk)
     stands_so t confirmed reading = ap₂ (λ (c : Lsn) (r : Option Reading). record { history = t.history; confirmed = c; reading = r }) confirmed reading
 
-    pub armed_on : (honest : Type 0) → honest → (src2 : S) (t : SourceState) → stands src2 t → WasWindowed honest chunk.plan chunk (state_at_stage s.stage) t → IsFitHistory t.history → InSession tell stands holds model entry armed_work src2 sink store
+    pub armed_on : (honest : Type 0) → honest → (src2 : S) (t : SourceState) → source_model.stands src2 t → WasWindowed honest chunk.plan chunk (state_at_stage s.stage) t → IsFitHistory t.history → InSession tell source_model sink_model model entry armed_work src2 sink store
     armed_on honest is_honest src2 t is w fit = record {
       stage = armed_at s.stage t.history chunk;
-      source_is = subst (stands src2) (stands_so t w.looked.confirmed w.looked.reading) is;
+      source_is = subst (source_model.stands src2) (stands_so t w.looked.confirmed w.looked.reading) is;
       sink_is = s.sink_is;
       store_is = s.store_is;
       work_is = record {
@@ -217,11 +219,11 @@ module _ {S K D : Type 0} {tell : Bool} {stands : S → SourceState → Type 0} 
     }
 
   -- so it is where the window was read
-  pub window_on : (table : ℕ) (work2 : SessionState) (honest : Type 0) → honest → (src2 : S) → HasReadWindow honest stands table work work2 (state_at_stage s.stage) src2 → IsOpenTable work table → work.number + 1 < 2 ^ 64 → work.follower.window ≡ Absent
-      → ((t : SourceState) → stands src2 t → IsFitHistory t.history) → InSession tell stands holds model entry work2 src2 sink store
-  window_on table work2 honest is_honest src2 w unread small none fit =
-      subst (λ (v : SessionState). InSession tell stands holds model entry v src2 sink store) (sym w.armed.is)
-      (armed_on table w.armed.chunk (plan_parts work table w.armed.chunk.plan w.armed.plan) w.armed.few unread small none honest is_honest src2 w.stood.standing w.stood.is w.stood.holds (fit w.stood.standing w.stood.is))
+  pub window_on : (table : ℕ) (work2 : SessionState) (src2 : S) → source_model.honest src2 → HasReadWindow source_model table work work2 (state_at_stage s.stage) src2 → IsOpenTable work table → work.number + 1 < 2 ^ 64 → work.follower.window ≡ Absent
+      → ((t : SourceState) → source_model.stands src2 t → IsFitHistory t.history) → InSession tell source_model sink_model model entry work2 src2 sink store
+  window_on table work2 src2 is_honest w unread small none fit =
+      subst (λ (v : SessionState). InSession tell source_model sink_model model entry v src2 sink store) (sym w.armed.is)
+      (armed_on table w.armed.chunk (plan_parts work table w.armed.chunk.plan w.armed.plan) w.armed.few unread small none (source_model.honest src2) is_honest src2 w.stood.standing w.stood.is w.stood.holds (fit w.stood.standing w.stood.is))
 
 -- ---- there is a plan
 

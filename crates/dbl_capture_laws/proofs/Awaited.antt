@@ -12,6 +12,7 @@ use Rattle.dbl_pgmsg.specs.declared.messages.Message.{Message}
 use Rattle.dbl_pgmsg.specs.declared.messages.Message.TheVariants as says
 use Rattle.dbl_pgmsg.specs.Grammar.{Spells}
 use Rattle.dbl_pgmsg.proofs.MessageLaws.{one_message}
+use Rattle.dbl_capture_work.specs.Source.Model.{SourceModel}
 use Rattle.dbl_model_table.specs.declared.config.Config.{Config}
 use Rattle.dbl_model_table.specs.declared.table.TableInfo.{TableInfo}
 use Rattle.dbl_model_table.specs.declared.change.Body.{Body}
@@ -229,9 +230,9 @@ first_within config infos head offset s t first at = subst (λ (l : Lsn). HasPos
 
 -- ---- at each call
 
-module _ {S : Type 0} (stands : S → SourceState → Type 0) where
+module _ {S : Type 0} (source_model : SourceModel S) where
   -- reading begins
-  pub awaits_first : (work : SessionState) (src : S) (after : Lsn) (s t : SourceState) → stands src t → IsBegun after s t → HasPositionInLog after s.history → work.follower.window ≡ Absent → Awaits stands work src
+  pub awaits_first : (work : SessionState) (src : S) (after : Lsn) (s t : SourceState) → source_model.stands src t → IsBegun after s t → HasPositionInLog after s.history → work.follower.window ≡ Absent → Awaits source_model.stands work src
   awaits_first work src after s t is begun within absent = record {
     standing = t;
     is = is;
@@ -244,8 +245,8 @@ module _ {S : Type 0} (stands : S → SourceState → Type 0) where
   }
 
   -- nothing is read
-  pub awaits_still : (old new : SessionState) (src src2 : S) (a : Awaits stands old src) (t : SourceState) → stands src2 t → Grows a.standing.history t.history → t.reading ≡ a.standing.reading
-      → new.offset.infos ≡ old.offset.infos → new.follower.window ≡ old.follower.window → Awaits stands new src2
+  pub awaits_still : (old new : SessionState) (src src2 : S) (a : Awaits source_model.stands old src) (t : SourceState) → source_model.stands src2 t → Grows a.standing.history t.history → t.reading ≡ a.standing.reading
+      → new.offset.infos ≡ old.offset.infos → new.follower.window ≡ old.follower.window → Awaits source_model.stands new src2
   awaits_still old new src src2 a t is grows reads infos window = record {
     standing = t;
     is = is;
@@ -260,7 +261,7 @@ module _ {S : Type 0} (stands : S → SourceState → Type 0) where
   }
 
   -- a window is
-  module _ (honest : Type 0) (table : ℕ) (old new : SessionState) (src src2 : S) (a : Awaits stands old src) (w : HasReadWindow honest stands table old new a.standing src2) where
+  module _ (table : ℕ) (old new : SessionState) (src src2 : S) (a : Awaits source_model.stands old src) (w : HasReadWindow source_model table old new a.standing src2) where
     abbrev plan : Plan
     plan = w.armed.chunk.plan
 
@@ -275,8 +276,8 @@ module _ {S : Type 0} (stands : S → SourceState → Type 0) where
         written a.reading.after (high_text plan) read_so_far (a.later ++ low_written.more) w.stood.holds.marked w.stood.standing.history
         (marks_on (high_text plan) w.stood.holds.marked w.stood.holds.looked.looked w.stood.standing.history w.stood.holds.looked.rows_are w.stood.holds.looked.high_is) low_written.within low_written.parted
 
-    pub awaits_armed : Awaits stands new src2
-    awaits_armed = subst (λ (x : SessionState). Awaits stands x src2) (sym w.armed.is) (record {
+    pub awaits_armed : Awaits source_model.stands new src2
+    awaits_armed = subst (λ (x : SessionState). Awaits source_model.stands x src2) (sym w.armed.is) (record {
       standing = w.stood.standing;
       is = w.stood.is;
       reading = a.reading;
@@ -290,15 +291,15 @@ module _ {S : Type 0} (stands : S → SourceState → Type 0) where
   -- ---- a message is
 
   -- it reads what the session has taken
-  pub work_at : (at : Option SourceState) (found : Option Trace) (b : Beginning) (stored : Option Offset) (work : SessionState) (report : Report) (src : S) (told : Option Trace) (u : IsUnderWay stands at found b stored work report src told)
-      → ((s t : SourceState) → stands src s → stands src t → s ≡ t) → (s : SourceState) → at ≡ Some s → (a : Awaits stands work src) → IsWork a.reading.after a.reading.messages work
-  work_at at found b stored work report src told u same s first a =
+  pub work_at : (at : Option SourceState) (found : Option Trace) (b : Beginning) (stored : Option Offset) (work : SessionState) (report : Report) (src : S) (u : IsUnderWay source_model at found b stored work report src)
+      → ((s t : SourceState) → source_model.stands src s → source_model.stands src t → s ≡ t) → (s : SourceState) → at ≡ Some s → (a : Awaits source_model.stands work src) → IsWork a.reading.after a.reading.messages work
+  work_at at found b stored work report src u same s first a =
       let was = u.stood s first in
       let one : record { after = b.first.lsn; messages = u.messages } ≡ a.reading =
       first_some (record { after = b.first.lsn; messages = u.messages }) a.reading (sym was.holds ∙ (ap (λ (x : SourceState). x.reading) (same was.standing a.standing was.is a.is) ∙ a.reading_is)) in
       subst (λ (r : Reading). IsWork r.after r.messages work) one u.is.is.is
 
-  module _ (old : SessionState) (src src2 : S) (a : Awaits stands old src) (bytes : List ℕ) (m : Message) (t : SourceState) (spells : Spells bytes m) (is : stands src2 t) (took : HasReadOneMore m a.standing t) where
+  module _ (old : SessionState) (src src2 : S) (a : Awaits source_model.stands old src) (bytes : List ℕ) (m : Message) (t : SourceState) (spells : Spells bytes m) (is : source_model.stands src2 t) (took : HasReadOneMore m a.standing t) where
     abbrev next_reading : Reading
     next_reading = record { after = a.reading.after; messages = m ∷ a.reading.messages }
 
@@ -322,8 +323,8 @@ module _ {S : Type 0} (stands : S → SourceState → Type 0) where
     stated_on ms = map_append mark_of (commits_of old.offset.infos ms) (list_of (ended_commit old.offset.infos m ms))
 
     -- which ends no commit
-    pub awaits_message : (next : SessionState) → WasTaken a.reading.after a.reading.messages bytes old next None → Awaits stands next src2
-    awaits_message next w = subst (λ (x : SessionState). Awaits stands x src2) (sym w.same) (record {
+    pub awaits_message : (next : SessionState) → WasTaken a.reading.after a.reading.messages bytes old next None → Awaits source_model.stands next src2
+    awaits_message next w = subst (λ (x : SessionState). Awaits source_model.stands x src2) (sym w.same) (record {
       standing = t;
       is = is;
       reading = next_reading;
@@ -344,7 +345,7 @@ module _ {S : Type 0} (stands : S → SourceState → Type 0) where
 
     -- or one that is followed
     pub awaits_commit : (next new : SessionState) (commit : Commit) → WasTaken a.reading.after a.reading.messages bytes old next (Some commit) → AreWithoutFault old.offset.infos a.reading.after a.reading.messages
-        → WasStepped commit next new → (t.reading ≡ Some next_reading → IsReadRight t.history next_reading) → Awaits stands new src2
+        → WasStepped commit next new → (t.reading ≡ Some next_reading → IsReadRight t.history next_reading) → Awaits source_model.stands new src2
     awaits_commit next new commit w accepted st right = record {
       standing = t;
       is = is;
@@ -404,7 +405,7 @@ module _ {S : Type 0} (stands : S → SourceState → Type 0) where
   all_read n k [] is le = refl
   all_read n k (x ∷ later) is le = absurd (omega (arith, is, le))
 
-  pub awaits_nothing : (work : SessionState) (src : S) (t : SourceState) (a : Awaits stands work src) → AreWithoutFault work.offset.infos a.reading.after a.reading.messages → Moved a.standing t → HasReadAll a.standing t
+  pub awaits_nothing : (work : SessionState) (src : S) (t : SourceState) (a : Awaits source_model.stands work src) → AreWithoutFault work.offset.infos a.reading.after a.reading.messages → Moved a.standing t → HasReadAll a.standing t
       → work.follower.window ≡ Absent
   awaits_nothing work src t a accepted moved all =
       none_awaited work.follower.window (subst (λ (l : MarkList). AreAwaited l work.follower.window)

@@ -4,6 +4,8 @@ use Rattle.std.specs.Prelude.{IfSome, slice_get}
 use Rattle.std.specs.List.{AllByRecursion, AllZip}
 use Rattle.dbl_base.specs.declared.lsn.Lsn.{Lsn}
 use Rattle.dbl_record.specs.declared.record.Record.{Record}
+use Rattle.dbl_topic.specs.Model.{SinkModel}
+use Rattle.dbl_capture_work.specs.Source.Model.{SourceModel}
 use Rattle.dbl_model_table.specs.declared.config.Config.{Config}
 use Rattle.dbl_model_table.specs.declared.table.TableInfo.{TableInfo}
 use Rattle.dbl_model_table.proofs.Lists.{slice_get-lt}
@@ -186,14 +188,14 @@ begins_first entry config first s t asked none history rise moved infos head is 
 pub few_unread : (entry : SessionStart) (left : CrashState) → Grows entry.history left.history → AddsFewOrNoMarks entry left
 few_unread entry left g = inl (no_mark_more entry.history left.history g)
 
-module _ {S K D : Type 0} (tell : Bool) (may_source : S → CrashState → Type 0) (may_sink : K → List (List Record) → Type 0) (model : DiskModel D) (entry : SessionStart) (src : S) (sink : K)
-    (fit_entry : IsFitHistory entry.history) (fit : (left : CrashState) → may_source src left → IsFitHistory left.history) (same : (left : CrashState) → may_source src left → left.confirmed ≡ entry.confirmed)
-    (only_sink : IsTrue tell → (groups : List (List Record)) → may_sink sink groups → groups ≡ entry.groups)
-    (some_source : (left : CrashState) × may_source src left) (some_sink : IsTrue tell → (groups : List (List Record)) × may_sink sink groups) where
+module _ {S K D : Type 0} (tell : Bool) (source_model : SourceModel S) (sink_model : SinkModel K) (model : DiskModel D) (entry : SessionStart) (src : S) (sink : K)
+    (fit_entry : IsFitHistory entry.history) (fit : (left : CrashState) → source_model.may_leave src left → IsFitHistory left.history) (same : (left : CrashState) → source_model.may_leave src left → left.confirmed ≡ entry.confirmed)
+    (only_sink : IsTrue tell → (groups : List (List Record)) → sink_model.may_leave sink groups → groups ≡ entry.groups)
+    (some_source : (left : CrashState) × source_model.may_leave src left) (some_sink : IsTrue tell → (groups : List (List Record)) × sink_model.may_leave sink groups) where
   -- before the first store
-  pub unread_left : (store : StoreOn D) → (IsTrue tell → HoldsOffset model store entry.offset) → ((left : CrashState) → may_source src left → Grows entry.history left.history) → LeavesBy tell may_source may_sink model entry src sink store
+  pub unread_left : (store : StoreOn D) → (IsTrue tell → HoldsOffset model store entry.offset) → ((left : CrashState) → source_model.may_leave src left → Grows entry.history left.history) → LeavesBy tell source_model sink_model model entry src sink store
   unread_left store held grows = record {
-    follows = λ tells faithful. left_weaker model (disk_of store) (λ offset. offset ≡ entry.offset) (λ offset. (left : CrashState) (groups : List (List Record)) → may_source src left → may_sink sink groups → FollowsSession entry left groups offset)
+    follows = λ tells faithful. left_weaker model (disk_of store) (λ offset. offset ≡ entry.offset) (λ offset. (left : CrashState) (groups : List (List Record)) → source_model.may_leave src left → sink_model.may_leave sink groups → FollowsSession entry left groups offset)
         (held_left model store entry.offset (held tells))
         (λ offset is left groups is_left is_groups.
         subst (λ (o : Option Offset). FollowsSession entry left groups o) (sym is) (subst (λ (g : List (List Record)). FollowsSession entry left g entry.offset) (sym (only_sink tells groups is_groups))
@@ -204,8 +206,8 @@ module _ {S K D : Type 0} (tell : Bool) (may_source : S → CrashState → Type 
   }
 
   -- after it, or in it
-  module _ (history : History) (first : Offset) (infos : AreInfosOf history first.infos) (began : BeganWith entry history first) (before : Grows entry.history history) (since : (left : CrashState) → may_source src left → Grows history left.history) where
-    either_follows : (faithful : WasFaithful entry) (left : CrashState) → may_source src left → (offset : Option Offset) → (offset ≡ entry.offset) ⊎ (offset ≡ Some first) → FollowsSession entry left entry.groups offset
+  module _ (history : History) (first : Offset) (infos : AreInfosOf history first.infos) (began : BeganWith entry history first) (before : Grows entry.history history) (since : (left : CrashState) → source_model.may_leave src left → Grows history left.history) where
+    either_follows : (faithful : WasFaithful entry) (left : CrashState) → source_model.may_leave src left → (offset : Option Offset) → (offset ≡ entry.offset) ⊎ (offset ≡ Some first) → FollowsSession entry left entry.groups offset
     either_follows faithful left is offset (inl old) =
         subst (λ (o : Option Offset). FollowsSession entry left entry.groups o) (sym old)
         (unread_sessions_follow entry left faithful fit_entry (fit left is) (grows_on entry.history history left.history before (since left is)) (same left is))
@@ -213,9 +215,9 @@ module _ {S K D : Type 0} (tell : Bool) (may_source : S → CrashState → Type 
         subst (λ (o : Option Offset). FollowsSession entry left entry.groups o) (sym new)
         (first_offsets_follow entry history left first faithful fit_entry (fit left is) before (since left is) infos began (same left is))
 
-    pub first_left : (store : StoreOn D) → (IsTrue tell → LeavesOffset model (disk_of store) (λ offset. (offset ≡ entry.offset) ⊎ (offset ≡ Some first))) → LeavesBy tell may_source may_sink model entry src sink store
+    pub first_left : (store : StoreOn D) → (IsTrue tell → LeavesOffset model (disk_of store) (λ offset. (offset ≡ entry.offset) ⊎ (offset ≡ Some first))) → LeavesBy tell source_model sink_model model entry src sink store
     first_left store leaves = record {
-      follows = λ tells faithful. left_weaker model (disk_of store) (λ offset. (offset ≡ entry.offset) ⊎ (offset ≡ Some first)) (λ offset. (left : CrashState) (groups : List (List Record)) → may_source src left → may_sink sink groups → FollowsSession entry left groups offset) (leaves tells)
+      follows = λ tells faithful. left_weaker model (disk_of store) (λ offset. (offset ≡ entry.offset) ⊎ (offset ≡ Some first)) (λ offset. (left : CrashState) (groups : List (List Record)) → source_model.may_leave src left → sink_model.may_leave sink groups → FollowsSession entry left groups offset) (leaves tells)
           (λ offset is left groups is_left is_groups. subst (λ (g : List (List Record)). FollowsSession entry left g offset) (sym (only_sink tells groups is_groups)) (either_follows faithful left is_left offset is));
       few = λ left is_left. few_unread entry left (grows_on entry.history history left.history before (since left is_left));
       some_source = some_source;
@@ -224,11 +226,11 @@ module _ {S K D : Type 0} (tell : Bool) (may_source : S → CrashState → Type 
 
 -- ---- it reads
 
-module _ {S K D : Type 0} {tell : Bool} {stands : S → SourceState → Type 0} {holds : K → List (List Record) → Type 0} {model : DiskModel D} {entry : SessionStart} {first : Offset} {src : S} {sink : K} {store : StoreOn D}
-    (b : BeganAt tell stands holds model entry first src sink store) where
+module _ {S K D : Type 0} {tell : Bool} {source_model : SourceModel S} {sink_model : SinkModel K} {model : DiskModel D} {entry : SessionStart} {first : Offset} {src : S} {sink : K} {store : StoreOn D}
+    (b : BeganAt tell source_model sink_model model entry first src sink store) where
   -- reading has begun after the first offset's LSN
-  pub begun_session : (fit_entry : IsFitHistory entry.history) (src2 : S) (t : SourceState) (work : SessionState) → stands src2 t → IsBegun first.lsn b.standing t → IsFitHistory t.history → 1 ≤ entry.config.every → first.incarnation < 2 ^ 64
-      → works.BeginsWithOffset first entry.now entry.config.chunk entry.config.every work → InSession tell stands holds model entry work src2 sink store
+  pub begun_session : (fit_entry : IsFitHistory entry.history) (src2 : S) (t : SourceState) (work : SessionState) → source_model.stands src2 t → IsBegun first.lsn b.standing t → IsFitHistory t.history → 1 ≤ entry.config.every → first.incarnation < 2 ^ 64
+      → works.BeginsWithOffset first entry.now entry.config.chunk entry.config.every work → InSession tell source_model sink_model model entry work src2 sink store
   begun_session fit_entry src2 t work is begun fit some small made =
       let grown : Grows entry.history t.history = grows_on entry.history b.standing.history t.history b.grown begun.grows in
       let longer_is : t.history ≡ longer b.standing.history begun.grows.others = is_longer b.standing.history t.history begun.grows.others (record { tables = begun.grows.tables; commits = begun.grows.commits }) in
@@ -236,7 +238,7 @@ module _ {S K D : Type 0} {tell : Bool} {stands : S → SourceState → Type 0} 
       let infos : AreInfosOf t.history first.infos = captured_stays b.standing.history t.history first.infos begun.grows.tables b.infos in
       record {
         stage = begun_at entry t.history first (following_of first);
-        source_is = subst (stands src2) (ap₂ (λ (c : Lsn) (r : Option Reading). record { history = t.history; confirmed = c; reading = r }) (begun.confirmed ∙ b.confirmed) begun.reading) is;
+        source_is = subst (source_model.stands src2) (ap₂ (λ (c : Lsn) (r : Option Reading). record { history = t.history; confirmed = c; reading = r }) (begun.confirmed ∙ b.confirmed) begun.reading) is;
         sink_is = b.sink_is;
         store_is = b.store_is;
         work_is = record {

@@ -5,6 +5,8 @@ use Rattle.std.specs.List.{AllByRecursion, position, prefix_len}
 use Rattle.std.proofs.lemmas.Bool.Decides.{nat_tests}
 use Rattle.dbl_base.specs.declared.lsn.Lsn.{Lsn}
 use Rattle.dbl_record.specs.declared.record.Record.{Record}
+use Rattle.dbl_topic.specs.Model.{SinkModel}
+use Rattle.dbl_capture_work.specs.Source.Model.{SourceModel}
 use Rattle.dbl_model_table.specs.declared.config.Config.{Config}
 use Rattle.dbl_model_table.specs.declared.table.TableInfo.{TableInfo}
 use Rattle.dbl_capture_work.specs.Disk.Model.{DiskModel}
@@ -70,28 +72,28 @@ done_at armed work new none same absent settled =
 
 -- ---- complete
 
-module _ {S K D : Type 0} {tell : Bool} {stands : S → SourceState → Type 0} {holds : K → List (List Record) → Type 0} {model : DiskModel D} {entry : SessionStart} {work : SessionState} {src : S} {sink : K} {store : StoreOn D}
-    (w : IsSettledWhole tell stands holds model entry work src sink store) where
-  abbrev s : InSession tell stands holds model entry work src sink store
+module _ {S K D : Type 0} {tell : Bool} {source_model : SourceModel S} {sink_model : SinkModel K} {model : DiskModel D} {entry : SessionStart} {work : SessionState} {src : S} {sink : K} {store : StoreOn D}
+    (w : IsSettledWhole tell source_model sink_model model entry work src sink store) where
+  abbrev s : InSession tell source_model sink_model model entry work src sink store
   s = w.settled.is
 
   done_so : AreAllDone work.follower.cursors → AllByRecursion (λ cursor. cursor.done ≡ true) s.stage.following.cursors
   done_so done = subst (λ (f : Following). AllByRecursion (λ (cursor : Cursor). cursor.done ≡ true) f.cursors) s.work_is.follower_is done
 
-  pub complete_left : IsTrue tell → (may_source : S → CrashState → Type 0) (may_sink : K → List (List Record) → Type 0) (honest : Type 0) → ((t : SourceState) (l : CrashState) → stands src t → may_source src l → l ≡ left_of t)
-      → ((groups left : List (List Record)) → holds sink groups → may_sink sink left → left ≡ groups) → honest → (honest → (l : CrashState) → may_source src l → IsFitHistory l.history) → AreAllDone work.follower.cursors
-      → LeavesComplete may_source may_sink model entry src sink store
-  complete_left tells may_source may_sink honest only only_sink is_honest fit done faithful =
-      left_weaker model (disk_of store) (λ offset. offset ≡ Some s.stage.stored) (λ offset. (left : CrashState) (groups : List (List Record)) → may_source src left → may_sink sink groups → IsCompleteWith entry left groups offset)
+  pub complete_left : IsTrue tell → (honest : Type 0) → ((t : SourceState) (l : CrashState) → source_model.stands src t → source_model.may_leave src l → l ≡ left_of t)
+      → ((groups left : List (List Record)) → sink_model.holds sink groups → sink_model.may_leave sink left → left ≡ groups) → honest → (honest → (l : CrashState) → source_model.may_leave src l → IsFitHistory l.history) → AreAllDone work.follower.cursors
+      → LeavesComplete source_model.may_leave sink_model.may_leave model entry src sink store
+  complete_left tells honest only only_sink is_honest fit done faithful =
+      left_weaker model (disk_of store) (λ offset. offset ≡ Some s.stage.stored) (λ offset. (left : CrashState) (groups : List (List Record)) → source_model.may_leave src left → sink_model.may_leave sink groups → IsCompleteWith entry left groups offset)
       (held_left model store (Some s.stage.stored) (s.store_is tells))
       (λ offset same left groups is_left is_groups.
       subst (λ (o : Option Offset). IsCompleteWith entry left groups o) (sym same)
       (subst (λ (g : List (List Record)). IsComplete entry left g s.stage.stored) (sym (only_sink s.stage.groups groups (s.sink_is tells) is_groups))
       (subst (λ (o : Offset). IsComplete entry left s.stage.groups o) (sym w.settled.stored_is) (complete_now left is_left))))
     where
-      complete_now : (left : CrashState) → may_source src left → IsComplete entry left s.stage.groups (next_offset s.stage)
+      complete_now : (left : CrashState) → source_model.may_leave src left → IsComplete entry left s.stage.groups (next_offset s.stage)
       complete_now left is =
-          read_sessions_are_complete entry s.stage left w.more faithful w.all (done_so done) (rests_left s may_source honest only is_honest fit faithful left is)
+          read_sessions_are_complete entry s.stage left w.more faithful w.all (done_so done) (rests_left s honest only is_honest fit faithful left is)
           (subst (λ (l : CrashState). s.stage.lsn.0 ≤ l.confirmed.0) (sym (only (state_at_stage s.stage) left s.source_is is)) w.settled.confirmed) s.going
 
 -- ---- what is stored

@@ -4,6 +4,7 @@ use Rattle.std.specs.Prelude.{Contains}
 use Rattle.dbl_base.specs.declared.lsn.Lsn.{Lsn}
 use Rattle.dbl_pgmsg.specs.declared.messages.Message.{Message}
 use Rattle.dbl_pgmsg.specs.Grammar.{Spells}
+use Rattle.dbl_capture_work.specs.Source.Model.{SourceModel}
 use Rattle.dbl_model_table.specs.declared.change.Commit.{Commit}
 use Rattle.dbl_model_table.specs.declared.config.Config.{Config}
 use Rattle.dbl_model_table.specs.declared.table.RawTable.{RawTable}
@@ -186,37 +187,37 @@ took_on b ms m s t stands took =
     let same : took.before ≡ record { after = b.first.lsn; messages = ms } = first_some took.before (record { after = b.first.lsn; messages = ms }) (sym took.was ∙ stands) in
     took.is ∙ ap (λ (r : Reading). Some (record { after = r.after; messages = m ∷ r.messages })) same
 
-module _ {S : Type 0} (stands : S → SourceState → Type 0) (at : Option SourceState) (found : Option Trace) (b : Beginning) (stored : Option Offset) (work : SessionState) (src src2 : S) (told : Option Trace) where
-  pub messages_stood : (before : Report) (bytes : List ℕ) (h : Halt) (u : IsUnderWay stands at found b stored work before src told)
-      → ((s : SourceState) → stands src s → (m : Message) × Spells bytes m × HasState stands src2 (HasReadOneMore m s))
+module _ {S : Type 0} (source_model : SourceModel S) (at : Option SourceState) (found : Option Trace) (b : Beginning) (stored : Option Offset) (work : SessionState) (src src2 : S) where
+  pub messages_stood : (before : Report) (bytes : List ℕ) (h : Halt) (u : IsUnderWay source_model at found b stored work before src)
+      → ((s : SourceState) → source_model.stands src s → (m : Message) × Spells bytes m × HasState source_model.stands src2 (HasReadOneMore m s))
       → (h ≡ halt.Memory) ⊎ (IsMessageHalt (before.messages + 1) bytes h ⊎ IsTxnHalt (before.messages + 1) b.first.lsn u.messages bytes work h)
-      → (s : SourceState) → at ≡ Some s → IsHaltStanding b.config b.now b.held stored (record before { messages = before.messages + 1 }) (stands src2) h
+      → (s : SourceState) → at ≡ Some s → IsHaltStanding b.config b.now b.held stored (record before { messages = before.messages + 1 }) (source_model.stands src2) h
   messages_stood before bytes h u took cause s first =
       let was = u.stood s first in
       let read = took was.standing was.is in
-      stands_so b.config b.now b.held stored (record before { messages = before.messages + 1 }) (stands src2) read.2.standing read.2.is h
+      stands_so b.config b.now b.held stored (record before { messages = before.messages + 1 }) (source_model.stands src2) read.2.standing read.2.is h
       (message_stood b u.messages stored work read.2.standing before read.0 bytes h u.is (took_on b u.messages read.0 was.standing read.2.standing was.holds read.2.holds) read.1 cause)
 
-  pub commits_stood : (before report : Report) (bytes : List ℕ) (after : SessionState) (commit : Commit) (h : Halt) (u : IsUnderWay stands at found b stored work before src told)
-      → ((s : SourceState) → stands src s → (m : Message) × Spells bytes m × HasState stands src2 (HasReadOneMore m s))
+  pub commits_stood : (before report : Report) (bytes : List ℕ) (after : SessionState) (commit : Commit) (h : Halt) (u : IsUnderWay source_model at found b stored work before src)
+      → ((s : SourceState) → source_model.stands src s → (m : Message) × Spells bytes m × HasState source_model.stands src2 (HasReadOneMore m s))
       → WasTaken b.first.lsn u.messages bytes work after (Some commit) → report.messages ≡ before.messages + 1 → report.chunks ≡ before.chunks
       → (h ≡ halt.Memory) ⊎ ((h ≡ halt.Sink) ⊎ (IsClashIn (clash_by after.follower commit) h ⊎ ((clash_by after.follower commit ≡ None) × IsLongRecord (records_by after.follower commit after.now_ms) h)))
-      → (s : SourceState) → at ≡ Some s → IsHaltStanding b.config b.now b.held stored report (stands src2) h
+      → (s : SourceState) → at ≡ Some s → IsHaltStanding b.config b.now b.held stored report (source_model.stands src2) h
   commits_stood before report bytes after commit h u took w counted windows cause s first =
       let was = u.stood s first in
       let read = took was.standing was.is in
-      stands_so b.config b.now b.held stored report (stands src2) read.2.standing read.2.is h
+      stands_so b.config b.now b.held stored report (source_model.stands src2) read.2.standing read.2.is h
       (commit_stood b u.messages stored work read.2.standing before report read.0 bytes after commit h u.is (took_on b u.messages read.0 was.standing read.2.standing was.holds read.2.holds) read.1 w counted windows cause)
 
-  pub marks_stood : (report : Report) (value : List ℕ) (u : IsUnderWay stands at found b stored work report src told) → awaited work.follower.window ≡ Some value
-      → (s : SourceState) → at ≡ Some s → IsHaltStanding b.config b.now b.held stored report (stands src) (halt.WatermarkMissing value work.offset.lsn)
+  pub marks_stood : (report : Report) (value : List ℕ) (u : IsUnderWay source_model at found b stored work report src) → awaited work.follower.window ≡ Some value
+      → (s : SourceState) → at ≡ Some s → IsHaltStanding b.config b.now b.held stored report (source_model.stands src) (halt.WatermarkMissing value work.offset.lsn)
   marks_stood report value u waits s first =
       let was = u.stood s first in
       (was.standing, was.is, missed_stood b u.messages stored work was.standing report value u.is was.holds waits)
 
-  pub offsets_stood : (report : Report) (h : Halt) (u : HasCommitted stands at found b stored work report src told)
+  pub offsets_stood : (report : Report) (h : Halt) (u : HasCommitted source_model at found b stored work report src)
       → IsOffset (next_offset_of work) → (h ≡ halt.Memory) ⊎ ((h ≡ halt.Offsets) ⊎ IsTooLong (next_offset_of work) h)
-      → (s : SourceState) → at ≡ Some s → IsHaltStanding b.config b.now b.held stored report (stands src) h
+      → (s : SourceState) → at ≡ Some s → IsHaltStanding b.config b.now b.held stored report (source_model.stands src) h
   offsets_stood report h u asked cause s first =
       let was = u.stood s first in
-      stands_so b.config b.now b.held stored report (stands src) was.standing was.is h (offset_stood b u.messages stored work was.standing report h u.is was.holds asked cause)
+      stands_so b.config b.now b.held stored report (source_model.stands src) was.standing was.is h (offset_stood b u.messages stored work was.standing report h u.is was.holds asked cause)

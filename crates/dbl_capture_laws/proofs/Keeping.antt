@@ -4,6 +4,8 @@ use Rattle.std.specs.Prelude.{IfOk, OnErr, OnOk}
 use Rattle.dbl_base.specs.declared.lsn.Lsn.{Lsn}
 use Rattle.dbl_pgmsg.specs.declared.messages.Message.{Message}
 use Rattle.dbl_record.specs.declared.record.Record.{Record}
+use Rattle.dbl_topic.specs.Model.{SinkModel}
+use Rattle.dbl_capture_work.specs.Source.Model.{SourceModel}
 use Rattle.dbl_capture_work.specs.Disk.Model.{DiskModel}
 use Rattle.dbl_capture_work.specs.ModelHistory.Fit.{IsFitHistory}
 use Rattle.dbl_capture_work.specs.ModelHistory.History.{RawCommit}
@@ -137,13 +139,13 @@ settled_since work new same r = subst (λ (w : SessionState). w.since < w.every)
 
 -- ---- a session goes on
 
-module _ {S K D : Type 0} {tell : Bool} {stands : S → SourceState → Type 0} {holds : K → List (List Record) → Type 0} {model : DiskModel D} {entry : SessionStart} {work : SessionState} {src : S} {sink : K} {store : StoreOn D}
-    (s : InSession tell stands holds model entry work src sink store) where
+module _ {S K D : Type 0} {tell : Bool} {source_model : SourceModel S} {sink_model : SinkModel K} {model : DiskModel D} {entry : SessionStart} {work : SessionState} {src : S} {sink : K} {store : StoreOn D}
+    (s : InSession tell source_model sink_model model entry work src sink store) where
   -- others have committed
-  abbrev pub moved_on : (src2 : S) (t : SourceState) → stands src2 t → Moved (state_at_stage s.stage) t → IsFitHistory t.history → InSession tell stands holds model entry work src2 sink store
+  abbrev pub moved_on : (src2 : S) (t : SourceState) → source_model.stands src2 t → Moved (state_at_stage s.stage) t → IsFitHistory t.history → InSession tell source_model sink_model model entry work src2 sink store
   moved_on src2 t is moved fit = record {
     stage = record s.stage { history = t.history };
-    source_is = subst (stands src2) (ap₂ (λ (c : Lsn) (r : Option Reading). record { history = t.history; confirmed = c; reading = r }) moved.confirmed moved.reading) is;
+    source_is = subst (source_model.stands src2) (ap₂ (λ (c : Lsn) (r : Option Reading). record { history = t.history; confirmed = c; reading = r }) moved.confirmed moved.reading) is;
     sink_is = s.sink_is;
     store_is = s.store_is;
     work_is = record {
@@ -162,10 +164,10 @@ module _ {S K D : Type 0} {tell : Bool} {stands : S → SourceState → Type 0} 
   -- ---- it ends
 
   -- by its source
-  pub source_ends : (may_source : S → CrashState → Type 0) (may_sink : K → List (List Record) → Type 0) (src2 : S) → (WasFaithful entry → (left : CrashState) → may_source src2 left → MayBeLeft s.stage left) → (IsTrue tell → (groups : List (List Record)) → may_sink sink groups → groups ≡ s.stage.groups)
-      → ((left : CrashState) → may_source src2 left → AddsFewOrNoMarks entry left) → (left : CrashState) × may_source src2 left → (IsTrue tell → (groups : List (List Record)) × may_sink sink groups) → LeavesBy tell may_source may_sink model entry src2 sink store
-  source_ends may_source may_sink src2 may only few some_source some_sink = record {
-    follows = λ t faithful. left_weaker model (disk_of store) (λ offset. offset ≡ Some s.stage.stored) (λ offset. (left : CrashState) (groups : List (List Record)) → may_source src2 left → may_sink sink groups → FollowsSession entry left groups offset)
+  pub source_ends : (src2 : S) → (WasFaithful entry → (left : CrashState) → source_model.may_leave src2 left → MayBeLeft s.stage left) → (IsTrue tell → (groups : List (List Record)) → sink_model.may_leave sink groups → groups ≡ s.stage.groups)
+      → ((left : CrashState) → source_model.may_leave src2 left → AddsFewOrNoMarks entry left) → (left : CrashState) × source_model.may_leave src2 left → (IsTrue tell → (groups : List (List Record)) × sink_model.may_leave sink groups) → LeavesBy tell source_model sink_model model entry src2 sink store
+  source_ends src2 may only few some_source some_sink = record {
+    follows = λ t faithful. left_weaker model (disk_of store) (λ offset. offset ≡ Some s.stage.stored) (λ offset. (left : CrashState) (groups : List (List Record)) → source_model.may_leave src2 left → sink_model.may_leave sink groups → FollowsSession entry left groups offset)
         (held_left model store (Some s.stage.stored) (s.store_is t))
         (λ offset same left groups is_left is_groups.
         subst (λ (o : Option Offset). FollowsSession entry left groups o) (sym same) (subst (λ (g : List (List Record)). FollowsSession entry left g (Some s.stage.stored)) (sym (only t groups is_groups)) (sources_may_end entry s.stage left faithful (may faithful left is_left) s.going)));
@@ -175,12 +177,12 @@ module _ {S K D : Type 0} {tell : Bool} {stands : S → SourceState → Type 0} 
   }
 
   -- by its store
-  pub store_ends : (may_source : S → CrashState → Type 0) (may_sink : K → List (List Record) → Type 0) (store2 : StoreOn D) → (IsTrue tell → LeavesOffset model (disk_of store2) (λ offset. (offset ≡ Some s.stage.stored) ⊎ (offset ≡ Some (next_offset s.stage))))
-      → (WasFaithful entry → (left : CrashState) → may_source src left → MayBeLeft s.stage left) → (IsTrue tell → (groups : List (List Record)) → may_sink sink groups → groups ≡ s.stage.groups)
-      → ((left : CrashState) → may_source src left → AddsFewOrNoMarks entry left) → (left : CrashState) × may_source src left → (IsTrue tell → (groups : List (List Record)) × may_sink sink groups)
-      → LeavesBy tell may_source may_sink model entry src sink store2
-  store_ends may_source may_sink store2 leaves may only few some_source some_sink = record {
-    follows = λ t faithful. left_weaker model (disk_of store2) (λ offset. (offset ≡ Some s.stage.stored) ⊎ (offset ≡ Some (next_offset s.stage))) (λ offset. (left : CrashState) (groups : List (List Record)) → may_source src left → may_sink sink groups → FollowsSession entry left groups offset) (leaves t)
+  pub store_ends : (store2 : StoreOn D) → (IsTrue tell → LeavesOffset model (disk_of store2) (λ offset. (offset ≡ Some s.stage.stored) ⊎ (offset ≡ Some (next_offset s.stage))))
+      → (WasFaithful entry → (left : CrashState) → source_model.may_leave src left → MayBeLeft s.stage left) → (IsTrue tell → (groups : List (List Record)) → sink_model.may_leave sink groups → groups ≡ s.stage.groups)
+      → ((left : CrashState) → source_model.may_leave src left → AddsFewOrNoMarks entry left) → (left : CrashState) × source_model.may_leave src left → (IsTrue tell → (groups : List (List Record)) × sink_model.may_leave sink groups)
+      → LeavesBy tell source_model sink_model model entry src sink store2
+  store_ends store2 leaves may only few some_source some_sink = record {
+    follows = λ t faithful. left_weaker model (disk_of store2) (λ offset. (offset ≡ Some s.stage.stored) ⊎ (offset ≡ Some (next_offset s.stage))) (λ offset. (left : CrashState) (groups : List (List Record)) → source_model.may_leave src left → sink_model.may_leave sink groups → FollowsSession entry left groups offset) (leaves t)
         (λ offset either left groups is_left is_groups.
         subst (λ (g : List (List Record)). FollowsSession entry left g offset) (sym (only t groups is_groups)) (elim either [
           | inl same ↦ subst (λ (o : Option Offset). FollowsSession entry left s.stage.groups o) (sym same) (sources_may_end entry s.stage left faithful (may faithful left is_left) s.going)
@@ -192,9 +194,9 @@ module _ {S K D : Type 0} {tell : Bool} {stands : S → SourceState → Type 0} 
   }
 
   -- the offset was stored
-  pub stored_on : (work2 : SessionState) (store2 : StoreOn D) → work2 ≡ record work { since = 0 } → (IsTrue tell → HoldsOffset model store2 (Some (next_offset s.stage))) → InSession tell stands holds model entry work2 src sink store2
+  pub stored_on : (work2 : SessionState) (store2 : StoreOn D) → work2 ≡ record work { since = 0 } → (IsTrue tell → HoldsOffset model store2 (Some (next_offset s.stage))) → InSession tell source_model sink_model model entry work2 src sink store2
   stored_on work2 store2 same held =
-      subst (λ (w : SessionState). InSession tell stands holds model entry w src sink store2) (sym same)
+      subst (λ (w : SessionState). InSession tell source_model sink_model model entry w src sink store2) (sym same)
       (record {
         stage = stored_at s.stage;
         source_is = s.source_is;
@@ -214,10 +216,10 @@ module _ {S K D : Type 0} {tell : Bool} {stands : S → SourceState → Type 0} 
       })
 
   -- a position was confirmed
-  pub confirmed_on : (src2 : S) (t : SourceState) (upto : Lsn) → stands src2 t → IsConfirmed upto (state_at_stage s.stage) t → IsFitHistory t.history → upto.0 ≤ s.stage.stored.lsn.0 → InSession tell stands holds model entry work src2 sink store
+  pub confirmed_on : (src2 : S) (t : SourceState) (upto : Lsn) → source_model.stands src2 t → IsConfirmed upto (state_at_stage s.stage) t → IsFitHistory t.history → upto.0 ≤ s.stage.stored.lsn.0 → InSession tell source_model sink_model model entry work src2 sink store
   confirmed_on src2 t upto is confirmed fit le = record {
     stage = record s.stage { history = t.history; confirmed = t.confirmed };
-    source_is = subst (stands src2) (ap (λ (r : Option Reading). record { history = t.history; confirmed = t.confirmed; reading = r }) confirmed.reading) is;
+    source_is = subst (source_model.stands src2) (ap (λ (r : Option Reading). record { history = t.history; confirmed = t.confirmed; reading = r }) confirmed.reading) is;
     sink_is = s.sink_is;
     store_is = s.store_is;
     work_is = record {
@@ -239,9 +241,9 @@ module _ {S K D : Type 0} {tell : Bool} {stands : S → SourceState → Type 0} 
   confirmed_low faithful = (s.going.kept (stood_of entry faithful) faithful).stored_is.confirmed_to
 
   -- what represents the source is what may be left of it
-  pub rests_left : (may_source : S → CrashState → Type 0) (honest : Type 0) → ((t : SourceState) (l : CrashState) → stands src t → may_source src l → l ≡ left_of t) → honest → (honest → (l : CrashState) → may_source src l → IsFitHistory l.history)
-      → WasFaithful entry → (left : CrashState) → may_source src left → MayBeLeft s.stage left
-  rests_left may_source honest only is_honest fit faithful left is =
+  pub rests_left : (honest : Type 0) → ((t : SourceState) (l : CrashState) → source_model.stands src t → source_model.may_leave src l → l ≡ left_of t) → honest → (honest → (l : CrashState) → source_model.may_leave src l → IsFitHistory l.history)
+      → WasFaithful entry → (left : CrashState) → source_model.may_leave src left → MayBeLeft s.stage left
+  rests_left honest only is_honest fit faithful left is =
       let same : left ≡ left_of (state_at_stage s.stage) = only (state_at_stage s.stage) left s.source_is is in
       record {
         more = [];
@@ -273,11 +275,11 @@ module _ {S K D : Type 0} {tell : Bool} {stands : S → SourceState → Type 0} 
   few_rest left same some = few_at left [] some (record { tables = ap (λ (l : CrashState). l.history.tables) same; commits = ap (λ (l : CrashState). l.history.commits) same ∙ sym (append-nil s.stage.history.commits) }) refl
 
   -- it ends with nothing more done
-  pub rests : (may_source : S → CrashState → Type 0) (may_sink : K → List (List Record) → Type 0) (honest : Type 0) → ((t : SourceState) (l : CrashState) → stands src t → may_source src l → l ≡ left_of t) → ((t : SourceState) → stands src t → may_source src (left_of t))
-      → ((groups left : List (List Record)) → holds sink groups → may_sink sink left → left ≡ groups) → ((groups : List (List Record)) → holds sink groups → may_sink sink groups) → honest → (honest → (l : CrashState) → may_source src l → IsFitHistory l.history) → 1 ≤ entry.config.chunk
-      → LeavesBy tell may_source may_sink model entry src sink store
-  rests may_source may_sink honest only may only_sink may_hold is_honest fit some =
-      source_ends may_source may_sink src (rests_left may_source honest only is_honest fit) (λ t groups is. only_sink s.stage.groups groups (s.sink_is t) is)
+  pub rests : (honest : Type 0) → ((t : SourceState) (l : CrashState) → source_model.stands src t → source_model.may_leave src l → l ≡ left_of t) → ((t : SourceState) → source_model.stands src t → source_model.may_leave src (left_of t))
+      → ((groups left : List (List Record)) → sink_model.holds sink groups → sink_model.may_leave sink left → left ≡ groups) → ((groups : List (List Record)) → sink_model.holds sink groups → sink_model.may_leave sink groups) → honest → (honest → (l : CrashState) → source_model.may_leave src l → IsFitHistory l.history) → 1 ≤ entry.config.chunk
+      → LeavesBy tell source_model sink_model model entry src sink store
+  rests honest only may only_sink may_hold is_honest fit some =
+      source_ends src (rests_left honest only is_honest fit) (λ t groups is. only_sink s.stage.groups groups (s.sink_is t) is)
       (λ left is. few_rest left (only (state_at_stage s.stage) left s.source_is is) some)
       (left_of (state_at_stage s.stage), may (state_at_stage s.stage) s.source_is) (λ t. (s.stage.groups, may_hold s.stage.groups (s.sink_is t)))
 

@@ -3,6 +3,8 @@ use Rattle.std.proofs.Common.{◌≡◌, ◌∙◌, ◌+◌, ℕ, Bool, Option, 
 use Rattle.std.specs.Prelude.{IfOk, OnOk, not}
 use Rattle.std.specs.List.{position}
 use Rattle.dbl_record.specs.declared.record.Record.{Record}
+use Rattle.dbl_topic.specs.Model.{SinkModel}
+use Rattle.dbl_capture_work.specs.Source.Model.{SourceModel}
 use Rattle.dbl_capture_work.specs.Disk.Model.{DiskModel}
 use Rattle.dbl_capture_work.specs.ModelHistory.declared.cursor.Cursor.{Cursor}
 use Rattle.dbl_capture_work.specs.SourceModel.Standings.{CrashState, SourceState, left_of}
@@ -46,8 +48,8 @@ exactly_by (Err h) A B N W P a b n w budget complete = tt
 
 -- ---- watermarks
 
-module _ {S K D : Type 0} {tell : Bool} {stands : S → SourceState → Type 0} {holds : K → List (List Record) → Type 0} {model : DiskModel D} {entry : SessionStart} {work : SessionState} {src : S} {sink : K} {store : StoreOn D}
-    (t : InSession tell stands holds model entry work src sink store) where
+module _ {S K D : Type 0} {tell : Bool} {source_model : SourceModel S} {sink_model : SinkModel K} {model : DiskModel D} {entry : SessionStart} {work : SessionState} {src : S} {sink : K} {store : StoreOn D}
+    (t : InSession tell source_model sink_model model entry work src sink store) where
   counted : (chunks : ℕ) → AreClosed work chunks → t.stage.number ≡ chunks + waiting t.stage.following.window
   counted chunks closed = sym t.work_is.number_is ∙ (closed ∙ ap (λ (f : Following). chunks + waiting f.window) t.work_is.follower_is)
 

@@ -7,6 +7,7 @@ use Rattle.dbl_pgmsg.proofs.MessageLaws.{one_message}
 use Rattle.dbl_record.specs.declared.record.Record.{Record}
 use Rattle.dbl_capture_work.specs.SourceLog.declared.error.SourceError.{SourceError}
 use Rattle.dbl_capture_work.specs.SourceLog.declared.error.SourceError.TheVariants as source
+use Rattle.dbl_capture_work.specs.Source.Model.{SourceModel}
 use Rattle.dbl_model_table.specs.declared.config.Config.{Config}
 use Rattle.dbl_model_table.specs.declared.table.RawTable.{RawTable}
 use Rattle.dbl_model_table.specs.declared.table.TableInfo.{TableInfo}
@@ -127,10 +128,10 @@ abbrev pub reading_at : Lsn → List Message → Reading
 reading_at after ms = record { after = after; messages = ms }
 
 -- a source that is after these messages has read as many as are counted
-module _ {S : Type 0} (stands : S → SourceState → Type 0) (one : (src : S) (s t : SourceState) → stands src s → stands src t → s ≡ t) where
-  pub many_at : (at : Option SourceState) (found : Option Trace) (b : Beginning) (stored : Option Offset) (work : SessionState) (report : Report) (src : S) (told : Option Trace) (s : SourceState) (after : Lsn) (ms : List Message)
-      → IsUnderWay stands at found b stored work report src told → at ≡ Some s → (t : SourceState) → stands src t → t.reading ≡ Some (record { after = after; messages = ms }) → length ms ≡ report.messages
-  many_at at found b stored work report src told s after ms u first t is reading =
+module _ {S : Type 0} (source_model : SourceModel S) (one : (src : S) (s t : SourceState) → source_model.stands src s → source_model.stands src t → s ≡ t) where
+  pub many_at : (at : Option SourceState) (found : Option Trace) (b : Beginning) (stored : Option Offset) (work : SessionState) (report : Report) (src : S) (s : SourceState) (after : Lsn) (ms : List Message)
+      → IsUnderWay source_model at found b stored work report src → at ≡ Some s → (t : SourceState) → source_model.stands src t → t.reading ≡ Some (record { after = after; messages = ms }) → length ms ≡ report.messages
+  many_at at found b stored work report src s after ms u first t is reading =
       let was = u.stood s first in
       let same : t ≡ was.standing = one src t was.standing is was.is in
       let both : Some (reading_at after ms) ≡ Some (reading_at b.first.lsn u.messages) = sym reading ∙ (ap (λ (x : SourceState). x.reading) same ∙ was.holds) in

@@ -8,6 +8,8 @@ use Rattle.dbl_pgmsg.specs.Grammar.{Spells}
 use Rattle.dbl_pgmsg.proofs.MessageLaws.{one_message}
 use Rattle.dbl_record.specs.declared.record.Record.{Record}
 use Rattle.dbl_record.specs.Cuts.{cut}
+use Rattle.dbl_topic.specs.Model.{SinkModel}
+use Rattle.dbl_capture_work.specs.Source.Model.{SourceModel}
 use Rattle.dbl_model_table.specs.declared.table.TableInfo.{TableInfo}
 use Rattle.dbl_model_table.specs.declared.change.Commit.{Commit}
 use Rattle.dbl_capture_work.specs.Disk.Model.{DiskModel}
@@ -88,8 +90,8 @@ le_same a b c is le = omega (arith, is, le)
 
 -- ---- a message is taken
 
-module _ {S K D : Type 0} {tell : Bool} {stands : S → SourceState → Type 0} {holds : K → List (List Record) → Type 0} {model : DiskModel D} {entry : SessionStart} {work : SessionState} {src : S} {sink : K} {store : StoreOn D}
-    (s : InSession tell stands holds model entry work src sink store) where
+module _ {S K D : Type 0} {tell : Bool} {source_model : SourceModel S} {sink_model : SinkModel K} {model : DiskModel D} {entry : SessionStart} {work : SessionState} {src : S} {sink : K} {store : StoreOn D}
+    (s : InSession tell source_model sink_model model entry work src sink store) where
   infos_are : work.offset.infos ≡ s.stage.first.infos
   infos_are = ap (λ (o : Offset). o.infos) s.work_is.offset_is
 
@@ -129,10 +131,10 @@ module _ {S K D : Type 0} {tell : Bool} {stands : S → SourceState → Type 0} 
         -- ---- it ends no commit
 
         module _ (none : ended_commit work.offset.infos m s.stage.messages ≡ None) where
-          pub message_on : (src2 : S) → stands src2 t → InSession tell stands holds model entry taken_work src2 sink store
+          pub message_on : (src2 : S) → source_model.stands src2 t → InSession tell source_model sink_model model entry taken_work src2 sink store
           message_on src2 is = record {
             stage = record s.stage { history = t.history; messages = m ∷ s.stage.messages };
-            source_is = subst (stands src2) taken_standing is;
+            source_is = subst (source_model.stands src2) taken_standing is;
             sink_is = s.sink_is;
             store_is = s.store_is;
             work_is = record {
@@ -178,11 +180,11 @@ module _ {S K D : Type 0} {tell : Bool} {stands : S → SourceState → Type 0} 
             abbrev pub new_work : SessionState
             new_work = followed_work s.stage.first.lsn s.stage.messages work s.work_is.is m spells.fits.fields a clean stands_on commit ends new steps no_clash short listed
 
-            pub commit_on : (src2 : S) (sink2 : K) → stands src2 t → (IsTrue tell → holds sink2 (s.stage.groups ++ cut (records_by work.follower commit work.now_ms))) → InSession tell stands holds model entry new_work src2 sink2 store
+            pub commit_on : (src2 : S) (sink2 : K) → source_model.stands src2 t → (IsTrue tell → sink_model.holds sink2 (s.stage.groups ++ cut (records_by work.follower commit work.now_ms))) → InSession tell source_model sink_model model entry new_work src2 sink2 store
             commit_on src2 sink2 is held = record {
               stage = followed_at moved_stage entry.now m commit new;
-              source_is = subst (stands src2) taken_standing is;
-              sink_is = λ tells. subst (λ (l : List Record). holds sink2 (s.stage.groups ++ cut l)) records_same (held tells);
+              source_is = subst (source_model.stands src2) taken_standing is;
+              sink_is = λ tells. subst (λ (l : List Record). sink_model.holds sink2 (s.stage.groups ++ cut l)) records_same (held tells);
               store_is = s.store_is;
               work_is = record {
                 is = followed_is s.stage.first.lsn s.stage.messages work s.work_is.is m spells.fits.fields a clean stands_on commit ends new steps no_clash short listed;
@@ -199,13 +201,13 @@ module _ {S K D : Type 0} {tell : Bool} {stands : S → SourceState → Type 0} 
 
           -- ---- its sink fails
 
-          module _ (may_source : S → CrashState → Type 0) (may_sink : K → List (List Record) → Type 0) (src2 : S) (sink2 : K) (only : (left : CrashState) → may_source src2 left → left ≡ left_of t)
-              (may : (left : CrashState) → may_source src2 left → MayFollow (state_at_stage s.stage) left) (fit_left : (left : CrashState) → may_source src2 left → IsFitHistory left.history)
-              (stepped : IsTrue tell → (groups : List (List Record)) → may_sink sink2 groups → IsLeftByStep commit taken_work s.stage.groups groups) where
-            left_is : (left : CrashState) → may_source src2 left → left ≡ record { history = t.history; confirmed = s.stage.confirmed }
+          module _ (src2 : S) (sink2 : K) (only : (left : CrashState) → source_model.may_leave src2 left → left ≡ left_of t)
+              (may : (left : CrashState) → source_model.may_leave src2 left → MayFollow (state_at_stage s.stage) left) (fit_left : (left : CrashState) → source_model.may_leave src2 left → IsFitHistory left.history)
+              (stepped : IsTrue tell → (groups : List (List Record)) → sink_model.may_leave sink2 groups → IsLeftByStep commit taken_work s.stage.groups groups) where
+            left_is : (left : CrashState) → source_model.may_leave src2 left → left ≡ record { history = t.history; confirmed = s.stage.confirmed }
             left_is left is = only left is ∙ ap (λ (c : Lsn). record { history = t.history; confirmed = c }) took.confirmed
 
-            follows : (faithful : WasFaithful entry) (left : CrashState) (groups : List (List Record)) → may_source src2 left → IsLeftByStep commit taken_work s.stage.groups groups → FollowsSession entry left groups (Some s.stage.stored)
+            follows : (faithful : WasFaithful entry) (left : CrashState) (groups : List (List Record)) → source_model.may_leave src2 left → IsLeftByStep commit taken_work s.stage.groups groups → FollowsSession entry left groups (Some s.stage.stored)
             follows faithful left groups is (inl same) =
                 subst (λ (g : List (List Record)). FollowsSession entry left g (Some s.stage.stored)) (sym same)
                 (sources_may_end entry s.stage left faithful (left_others s.stage left (may left is) (fit_left left is) (confirmed_low s faithful)) s.going)
@@ -215,9 +217,9 @@ module _ {S K D : Type 0} {tell : Bool} {stands : S → SourceState → Type 0} 
                 (sym (step.cut_is.1 ∙ ap (λ (l : List Record). s.stage.groups ++ cut (take step.cut_is.0 l)) records_same))
                 (sinks_may_end entry moved_stage m commit step.following step.cut_is.0 faithful in_time not_due (was_followed step.following step.steps step.no_clash step.listed) moved_going))
 
-            pub sink_fails : (left : CrashState) × may_source src2 left → (IsTrue tell → (groups : List (List Record)) × may_sink sink2 groups) → LeavesBy tell may_source may_sink model entry src2 sink2 store
+            pub sink_fails : (left : CrashState) × source_model.may_leave src2 left → (IsTrue tell → (groups : List (List Record)) × sink_model.may_leave sink2 groups) → LeavesBy tell source_model sink_model model entry src2 sink2 store
             sink_fails some_source some_sink = record {
-              follows = λ tells faithful. left_weaker model (disk_of store) (λ offset. offset ≡ Some s.stage.stored) (λ offset. (left : CrashState) (groups : List (List Record)) → may_source src2 left → may_sink sink2 groups → FollowsSession entry left groups offset)
+              follows = λ tells faithful. left_weaker model (disk_of store) (λ offset. offset ≡ Some s.stage.stored) (λ offset. (left : CrashState) (groups : List (List Record)) → source_model.may_leave src2 left → sink_model.may_leave sink2 groups → FollowsSession entry left groups offset)
                   (held_left model store (Some s.stage.stored) (s.store_is tells))
                   (λ offset same left groups is_left is_groups. subst (λ (o : Option Offset). FollowsSession entry left groups o) (sym same) (follows faithful left groups is_left (stepped tells groups is_groups)));
               few = λ left is. few_followed s left (may left is).grows;
@@ -242,29 +244,29 @@ module _ {S K D : Type 0} {tell : Bool} {stands : S → SourceState → Type 0} 
     own_end : ended_commit work.offset.infos m s.stage.messages ≡ commit
     own_end = subst (λ (x : Message). ended_commit work.offset.infos x s.stage.messages ≡ commit) own_message (sym w.commit_is)
 
-    pub taken_on : commit ≡ None → (src2 : S) → stands src2 t → InSession tell stands holds model entry work2 src2 sink store
+    pub taken_on : commit ≡ None → (src2 : S) → source_model.stands src2 t → InSession tell source_model sink_model model entry work2 src2 sink store
     taken_on none src2 is =
-        subst (λ (v : SessionState). InSession tell stands holds model entry v src2 sink store) (sym w.same)
+        subst (λ (v : SessionState). InSession tell source_model sink_model model entry v src2 sink store) (sym w.same)
         (message_on m t took fit right bytes spells work2.assembler own_clean own_stands (own_end ∙ none) src2 is)
 
     module _ (one : Commit) (some : commit ≡ Some one) (in_range : IsMomentInRange work.now_ms) (since : work.since < work.every) where
-      pub stepped_on : (work3 : SessionState) → WasStepped one work2 work3 → AreShort (records_by work2.follower one work2.now_ms) → (src2 : S) (sink2 : K) → stands src2 t
-          → (IsTrue tell → holds sink2 (s.stage.groups ++ cut (records_by work2.follower one work2.now_ms))) → InSession tell stands holds model entry work3 src2 sink2 store
+      pub stepped_on : (work3 : SessionState) → WasStepped one work2 work3 → AreShort (records_by work2.follower one work2.now_ms) → (src2 : S) (sink2 : K) → source_model.stands src2 t
+          → (IsTrue tell → sink_model.holds sink2 (s.stage.groups ++ cut (records_by work2.follower one work2.now_ms))) → InSession tell source_model sink_model model entry work3 src2 sink2 store
       stepped_on work3 stepped short src2 sink2 is held =
           by (subst (λ (v : SessionState). WasStepped one v work3) w.same stepped) (subst (λ (v : SessionState). AreShort (records_by v.follower one v.now_ms)) w.same short)
-          (λ t. subst (λ (v : SessionState). holds sink2 (s.stage.groups ++ cut (records_by v.follower one v.now_ms))) w.same (held t))
+          (λ t. subst (λ (v : SessionState). sink_model.holds sink2 (s.stage.groups ++ cut (records_by v.follower one v.now_ms))) w.same (held t))
         where
-          by : WasStepped one (record work { assembler = work2.assembler }) work3 → AreShort (records_by work.follower one work.now_ms) → (IsTrue tell → holds sink2 (s.stage.groups ++ cut (records_by work.follower one work.now_ms)))
-              → InSession tell stands holds model entry work3 src2 sink2 store
+          by : WasStepped one (record work { assembler = work2.assembler }) work3 → AreShort (records_by work.follower one work.now_ms) → (IsTrue tell → sink_model.holds sink2 (s.stage.groups ++ cut (records_by work.follower one work.now_ms)))
+              → InSession tell source_model sink_model model entry work3 src2 sink2 store
           by st few held2 =
-              subst (λ (v : SessionState). InSession tell stands holds model entry v src2 sink2 store) (sym st.same)
+              subst (λ (v : SessionState). InSession tell source_model sink_model model entry v src2 sink2 store) (sym st.same)
               (commit_on m t took fit right bytes spells work2.assembler own_clean own_stands one (own_end ∙ some) in_range since work3.follower st.steps st.no_clash few st.listed src2 sink2 is held2)
 
-      pub step_fails : (may_source : S → CrashState → Type 0) (may_sink : K → List (List Record) → Type 0) (src2 : S) (sink2 : K) → ((left : CrashState) → may_source src2 left → left ≡ left_of t) → ((left : CrashState) → may_source src2 left → MayFollow (state_at_stage s.stage) left)
-          → ((left : CrashState) → may_source src2 left → IsFitHistory left.history) → (IsTrue tell → (groups : List (List Record)) → may_sink sink2 groups → IsLeftByStep one work2 s.stage.groups groups)
-          → (left : CrashState) × may_source src2 left → (IsTrue tell → (groups : List (List Record)) × may_sink sink2 groups) → LeavesBy tell may_source may_sink model entry src2 sink2 store
-      step_fails may_source may_sink src2 sink2 only may fit_left stepped some_source some_sink =
-          sink_fails m t took fit right bytes spells work2.assembler own_clean own_stands one (own_end ∙ some) in_range since may_source may_sink src2 sink2 only may fit_left
+      pub step_fails : (src2 : S) (sink2 : K) → ((left : CrashState) → source_model.may_leave src2 left → left ≡ left_of t) → ((left : CrashState) → source_model.may_leave src2 left → MayFollow (state_at_stage s.stage) left)
+          → ((left : CrashState) → source_model.may_leave src2 left → IsFitHistory left.history) → (IsTrue tell → (groups : List (List Record)) → sink_model.may_leave sink2 groups → IsLeftByStep one work2 s.stage.groups groups)
+          → (left : CrashState) × source_model.may_leave src2 left → (IsTrue tell → (groups : List (List Record)) × sink_model.may_leave sink2 groups) → LeavesBy tell source_model sink_model model entry src2 sink2 store
+      step_fails src2 sink2 only may fit_left stepped some_source some_sink =
+          sink_fails m t took fit right bytes spells work2.assembler own_clean own_stands one (own_end ∙ some) in_range since src2 sink2 only may fit_left
           (λ t groups is. subst (λ (v : SessionState). IsLeftByStep one v s.stage.groups groups) w.same (stepped t groups is)) some_source some_sink
 
   -- ---- everything was read
@@ -294,7 +296,7 @@ module _ {S K D : Type 0} {tell : Bool} {stands : S → SourceState → Type 0} 
     entry_state : to_state s.stage.first.infos s.stage.first.lsn s.stage.history ≡ to_state s.stage.first.infos s.stage.first.lsn entry.history ++ map (typed_commit s.stage.first.infos) (commits_after s.stage.first.lsn s.going.reading.more)
     entry_state = grown_state s.stage.first.infos s.stage.first.lsn entry.history s.stage.history s.going.reading.more (is_longer entry.history s.stage.history s.going.reading.more s.going.reading.grown)
 
-    pub read_whole : (fit : IsFitHistory t.history) (src2 : S) → stands src2 t → HasReadAllAt tell stands holds model entry work src2 sink store
+    pub read_whole : (fit : IsFitHistory t.history) (src2 : S) → source_model.stands src2 t → HasReadAllAt tell source_model sink_model model entry work src2 sink store
     read_whole fit src2 is = record {
       is = moved_on s src2 t is moved fit;
       more = map (typed_commit s.stage.first.infos) (commits_after s.stage.first.lsn s.going.reading.more) ++ all_read.0;

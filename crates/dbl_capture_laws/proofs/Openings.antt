@@ -1,6 +1,8 @@
 -- A session that begins: what may be left where it ends before it reads, by what it found.
 use Rattle.std.proofs.Common.{◌≡◌, ◌∙◌, ◌⊎◌, inl, inr, ℤ, Bool, IsTrue, true, false, Some, List, refl, sym, ap, subst}
 use Rattle.dbl_record.specs.declared.record.Record.{Record}
+use Rattle.dbl_topic.specs.Model.{SinkModel}
+use Rattle.dbl_capture_work.specs.Source.Model.{SourceModel}
 use Rattle.dbl_model_table.specs.declared.config.Config.{Config}
 use Rattle.dbl_capture_work.specs.Disk.Model.{DiskModel}
 use Rattle.dbl_capture_work.specs.ModelHistory.Fit.{IsFitHistory}
@@ -28,32 +30,32 @@ rest_confirmed : (s : SourceState) (l : CrashState) → MayRest s l → l.confir
 rest_confirmed s l (inl same) = ap (λ (x : CrashState). x.confirmed) same
 rest_confirmed s l (inr may) = may.confirmed
 
-module _ {S K D : Type 0} {tell : Bool} {stands : S → SourceState → Type 0} {holds : K → List (List Record) → Type 0} {model : DiskModel D} {entry : SessionStart} {src : S} {sink : K} {store : StoreOn D}
-    (f : IsFound tell stands holds model entry src sink store) where
-  module _ (may_source : S → CrashState → Type 0) (may_sink : K → List (List Record) → Type 0) (only_sink : (groups left : List (List Record)) → holds sink groups → may_sink sink left → left ≡ groups)
-      (may_hold : (groups : List (List Record)) → holds sink groups → may_sink sink groups) (fit_entry : IsFitHistory entry.history) (src2 : S) (fit : (left : CrashState) → may_source src2 left → IsFitHistory left.history) where
-    own_groups : IsTrue tell → (groups : List (List Record)) → may_sink sink groups → groups ≡ entry.groups
+module _ {S K D : Type 0} {tell : Bool} {source_model : SourceModel S} {sink_model : SinkModel K} {model : DiskModel D} {entry : SessionStart} {src : S} {sink : K} {store : StoreOn D}
+    (f : IsFound tell source_model sink_model model entry src sink store) where
+  module _ (only_sink : (groups left : List (List Record)) → sink_model.holds sink groups → sink_model.may_leave sink left → left ≡ groups)
+      (may_hold : (groups : List (List Record)) → sink_model.holds sink groups → sink_model.may_leave sink groups) (fit_entry : IsFitHistory entry.history) (src2 : S) (fit : (left : CrashState) → source_model.may_leave src2 left → IsFitHistory left.history) where
+    own_groups : IsTrue tell → (groups : List (List Record)) → sink_model.may_leave sink groups → groups ≡ entry.groups
     own_groups t groups is = only_sink entry.groups groups (f.sink_is t) is
 
-    some_groups : IsTrue tell → (groups : List (List Record)) × may_sink sink groups
+    some_groups : IsTrue tell → (groups : List (List Record)) × sink_model.may_leave sink groups
     some_groups t = (entry.groups, may_hold entry.groups (f.sink_is t))
 
     -- before the first store
-    pub rest_left : IsRising f.standing.history → ((left : CrashState) → may_source src2 left → MayRest f.standing left) → (left : CrashState) × may_source src2 left → LeavesBy tell may_source may_sink model entry src2 sink store
+    pub rest_left : IsRising f.standing.history → ((left : CrashState) → source_model.may_leave src2 left → MayRest f.standing left) → (left : CrashState) × source_model.may_leave src2 left → LeavesBy tell source_model sink_model model entry src2 sink store
     rest_left rise may some_source =
-        unread_left tell may_source may_sink model entry src2 sink fit_entry fit (λ left is. rest_confirmed f.standing left (may left is) ∙ f.confirmed) own_groups some_source some_groups store f.store_is
+        unread_left tell source_model sink_model model entry src2 sink fit_entry fit (λ left is. rest_confirmed f.standing left (may left is) ∙ f.confirmed) own_groups some_source some_groups store f.store_is
         (λ left is. subst (λ (h : History). Grows h left.history) f.history (rest_grows f.standing left rise (may left is)))
 
     -- in it
-    pub store_left : (t : SourceState) (first : Offset) (store2 : StoreOn D) → stands src2 t → IsRising t.history → ((left : CrashState) → may_source src2 left → left ≡ left_of t) → may_source src2 (left_of t) → BeginsAt entry first f.standing t
-        → (IsTrue tell → LeavesOffset model (disk_of store2) (λ offset. (offset ≡ entry.offset) ⊎ (offset ≡ Some first))) → LeavesBy tell may_source may_sink model entry src2 sink store2
+    pub store_left : (t : SourceState) (first : Offset) (store2 : StoreOn D) → source_model.stands src2 t → IsRising t.history → ((left : CrashState) → source_model.may_leave src2 left → left ≡ left_of t) → source_model.may_leave src2 (left_of t) → BeginsAt entry first f.standing t
+        → (IsTrue tell → LeavesOffset model (disk_of store2) (λ offset. (offset ≡ entry.offset) ⊎ (offset ≡ Some first))) → LeavesBy tell source_model sink_model model entry src2 sink store2
     store_left t first store2 is rise only may b leaves =
-        first_left tell may_source may_sink model entry src2 sink fit_entry fit (λ left is_left. ap (λ (l : CrashState). l.confirmed) (only left is_left) ∙ (b.moved.confirmed ∙ f.confirmed)) own_groups (left_of t, may) some_groups
+        first_left tell source_model sink_model model entry src2 sink fit_entry fit (λ left is_left. ap (λ (l : CrashState). l.confirmed) (only left is_left) ∙ (b.moved.confirmed ∙ f.confirmed)) own_groups (left_of t, may) some_groups
         t.history first b.infos b.began (subst (λ (h : History). Grows h t.history) f.history b.moved.grows)
         (λ left is_left. subst (λ (l : CrashState). Grows t.history l.history) (sym (only left is_left)) (grows_none t.history rise)) store2 leaves
 
   -- after it
-  pub began_at : (src2 : S) (store2 : StoreOn D) (t : SourceState) (first : Offset) → stands src2 t → BeginsAt entry first f.standing t → (IsTrue tell → HoldsOffset model store2 (Some first)) → BeganAt tell stands holds model entry first src2 sink store2
+  pub began_at : (src2 : S) (store2 : StoreOn D) (t : SourceState) (first : Offset) → source_model.stands src2 t → BeginsAt entry first f.standing t → (IsTrue tell → HoldsOffset model store2 (Some first)) → BeganAt tell source_model sink_model model entry first src2 sink store2
   began_at src2 store2 t first is b held = record {
     standing = t;
     source_is = is;
@@ -65,21 +67,21 @@ module _ {S K D : Type 0} {tell : Bool} {stands : S → SourceState → Type 0} 
     store_is = held;
   }
 
-module _ {S K D : Type 0} {tell : Bool} {stands : S → SourceState → Type 0} {holds : K → List (List Record) → Type 0} {model : DiskModel D} {entry : SessionStart} {first : Offset} {src : S} {sink : K} {store : StoreOn D}
-    (b : BeganAt tell stands holds model entry first src sink store) where
+module _ {S K D : Type 0} {tell : Bool} {source_model : SourceModel S} {sink_model : SinkModel K} {model : DiskModel D} {entry : SessionStart} {first : Offset} {src : S} {sink : K} {store : StoreOn D}
+    (b : BeganAt tell source_model sink_model model entry first src sink store) where
   -- where reading is to begin
-  pub start_left : (may_source : S → CrashState → Type 0) (may_sink : K → List (List Record) → Type 0) → ((groups left : List (List Record)) → holds sink groups → may_sink sink left → left ≡ groups) → ((groups : List (List Record)) → holds sink groups → may_sink sink groups)
-      → IsFitHistory entry.history → (src2 : S) → ((left : CrashState) → may_source src2 left → IsFitHistory left.history) → ((left : CrashState) → may_source src2 left → MayFollow b.standing left) → (left : CrashState) × may_source src2 left → LeavesBy tell may_source may_sink model entry src2 sink store
-  start_left may_source may_sink only_sink may_hold fit_entry src2 fit may some_source =
-      first_left tell may_source may_sink model entry src2 sink fit_entry fit (λ left is. (may left is).confirmed ∙ b.confirmed) (λ t groups is. only_sink entry.groups groups (b.sink_is t) is) some_source (λ t. (entry.groups, may_hold entry.groups (b.sink_is t)))
+  pub start_left : ((groups left : List (List Record)) → sink_model.holds sink groups → sink_model.may_leave sink left → left ≡ groups) → ((groups : List (List Record)) → sink_model.holds sink groups → sink_model.may_leave sink groups)
+      → IsFitHistory entry.history → (src2 : S) → ((left : CrashState) → source_model.may_leave src2 left → IsFitHistory left.history) → ((left : CrashState) → source_model.may_leave src2 left → MayFollow b.standing left) → (left : CrashState) × source_model.may_leave src2 left → LeavesBy tell source_model sink_model model entry src2 sink store
+  start_left only_sink may_hold fit_entry src2 fit may some_source =
+      first_left tell source_model sink_model model entry src2 sink fit_entry fit (λ left is. (may left is).confirmed ∙ b.confirmed) (λ t groups is. only_sink entry.groups groups (b.sink_is t) is) some_source (λ t. (entry.groups, may_hold entry.groups (b.sink_is t)))
       b.standing.history first b.infos b.began b.grown (λ left is. (may left is).grows) store
       (λ t. left_weaker model (disk_of store) (λ offset. offset ≡ Some first) (λ offset. (offset ≡ entry.offset) ⊎ (offset ≡ Some first)) (held_left model store (Some first) (b.store_is t)) (λ offset is. inr is))
 
 -- ---- what it found
 
-module _ {S K D : Type 0} {stands : S → SourceState → Type 0} {holds : K → List (List Record) → Type 0} {model : DiskModel D} {entry : SessionStart} {src : S} {sink : K} {store : StoreOn D} where
+module _ {S K D : Type 0} {source_model : SourceModel S} {sink_model : SinkModel K} {model : DiskModel D} {entry : SessionStart} {src : S} {sink : K} {store : StoreOn D} where
   -- where the three tell
-  pub told_found : Found stands holds model entry src sink store → IsFound true stands holds model entry src sink store
+  pub told_found : Found source_model.stands sink_model.holds model entry src sink store → IsFound true source_model sink_model model entry src sink store
   told_found f = record {
     standing = f.standing;
     source_is = f.source_is;
@@ -91,14 +93,14 @@ module _ {S K D : Type 0} {stands : S → SourceState → Type 0} {holds : K →
   }
 
 -- what they may leave
-pub going_left : {S K D : Type 0} {may_source : S → CrashState → Type 0} {may_sink : K → List (List Record) → Type 0} {model : DiskModel D} {entry : SessionStart} {src : S} {sink : K} {store : StoreOn D}
-    → LeavesBy true may_source may_sink model entry src sink store → LeavesGoing may_source may_sink model entry src sink store
+pub going_left : {S K D : Type 0} {source_model : SourceModel S} {sink_model : SinkModel K} {model : DiskModel D} {entry : SessionStart} {src : S} {sink : K} {store : StoreOn D}
+    → LeavesBy true source_model sink_model model entry src sink store → LeavesGoing source_model.may_leave sink_model.may_leave model entry src sink store
 going_left l = record { follows = l.follows refl; some_source = l.some_source; some_sink = l.some_sink refl }
 
 -- where the source alone tells
-pub source_found : {S K D : Type 0} (stands : S → SourceState → Type 0) (holds : K → List (List Record) → Type 0) (model : DiskModel D) (config : Config) (now : ℤ) (s : SourceState) (src : S) (sink : K) (store : StoreOn D)
-    → stands src s → IsFound false stands holds model (session_start_at config now s store.offset) src sink store
-source_found stands holds model config now s src sink store is = record {
+pub source_found : {S K D : Type 0} (source_model : SourceModel S) (sink_model : SinkModel K) (model : DiskModel D) (config : Config) (now : ℤ) (s : SourceState) (src : S) (sink : K) (store : StoreOn D)
+    → source_model.stands src s → IsFound false source_model sink_model model (session_start_at config now s store.offset) src sink store
+source_found source_model sink_model model config now s src sink store is = record {
   standing = s;
   source_is = is;
   history = refl;

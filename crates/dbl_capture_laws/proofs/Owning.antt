@@ -7,6 +7,8 @@ use Rattle.dbl_pgmsg.specs.Grammar.{Spells}
 use Rattle.dbl_pgmsg.proofs.MessageLaws.{one_message}
 use Rattle.dbl_record.specs.declared.record.Record.{Record}
 use Rattle.dbl_record.specs.Cuts.{joined}
+use Rattle.dbl_topic.specs.Model.{SinkModel}
+use Rattle.dbl_capture_work.specs.Source.Model.{SourceModel}
 use Rattle.dbl_model_table.specs.declared.change.Commit.{Commit}
 use Rattle.dbl_model_table.specs.declared.config.Config.{Config}
 use Rattle.dbl_model_table.specs.declared.table.RawTable.{RawTable}
@@ -127,12 +129,12 @@ module _ (entry : SessionStart) (stored : Option Offset) (report : Report) (stan
       stores_own first h (λ long. long_own t entry.groups is held first h long (first_long_offsets_are_own entry s t first h faithful history_is confirmed_is fit_entry fit begins)) cause
 
 -- the next one
-module _ {S K D : Type 0} {stands : S → SourceState → Type 0} {holds : K → List (List Record) → Type 0} {model : DiskModel D} {entry : SessionStart} {work : SessionState} {src : S} {sink : K} {store : StoreOn D}
-    (s : InSession true stands holds model entry work src sink store) (faithful : WasFaithful entry) where
-  pub store_own : (stored : Option Offset) (report : Report) (h : Halt) → (h ≡ halt.Memory) ⊎ ((h ≡ halt.Offsets) ⊎ IsTooLong (next_offset_of work) h) → IsFaithfulHalt entry stored report (stands src) (holds sink) h
+module _ {S K D : Type 0} {source_model : SourceModel S} {sink_model : SinkModel K} {model : DiskModel D} {entry : SessionStart} {work : SessionState} {src : S} {sink : K} {store : StoreOn D}
+    (s : InSession true source_model sink_model model entry work src sink store) (faithful : WasFaithful entry) where
+  pub store_own : (stored : Option Offset) (report : Report) (h : Halt) → (h ≡ halt.Memory) ⊎ ((h ≡ halt.Offsets) ⊎ IsTooLong (next_offset_of work) h) → IsFaithfulHalt entry stored report (source_model.stands src) (sink_model.holds sink) h
   store_own stored report h cause =
-      stores_own entry stored report (stands src) (holds sink) (next_offset_of work) h
-      (λ long. long_own entry stored report (stands src) (holds sink) (state_at_stage s.stage) s.stage.groups s.source_is (s.sink_is refl) (next_offset_of work) h long (long_offsets_are_own entry s.stage work h faithful s.going s.work_is)) cause
+      stores_own entry stored report (source_model.stands src) (sink_model.holds sink) (next_offset_of work) h
+      (λ long. long_own entry stored report (source_model.stands src) (sink_model.holds sink) (state_at_stage s.stage) s.stage.groups s.source_is (s.sink_is refl) (next_offset_of work) h long (long_offsets_are_own entry s.stage work h faithful s.going s.work_is)) cause
 
   -- ---- the records of the newest commit
 
@@ -173,9 +175,9 @@ module _ {S K D : Type 0} {stands : S → SourceState → Type 0} {holds : K →
       rests = rests;
     }
 
-    module _ (b : Beginning) (ms : List Message) (stored : Option Offset) (report later : Report) (rests : IsResting b ms stored work report) (chunks : later.chunks ≡ report.chunks) (src2 : S) (sink2 : K) (is : stands src2 t) where
+    module _ (b : Beginning) (ms : List Message) (stored : Option Offset) (report later : Report) (rests : IsResting b ms stored work report) (chunks : later.chunks ≡ report.chunks) (src2 : S) (sink2 : K) (is : source_model.stands src2 t) where
       abbrev Here : Halt → Type 0
-      Here h = IsFaithfulHalt entry stored later (stands src2) (holds sink2) h
+      Here h = IsFaithfulHalt entry stored later (source_model.stands src2) (sink_model.holds sink2) h
 
       clash_at : (x : Option Clash) (h : Halt) → IsClashIn x h → clash_by work.follower commit ≡ x → Here h
       clash_at None h found same_clash = absurd found

@@ -2,6 +2,8 @@
 use Rattle.std.proofs.Common.{◌≡◌, ◌∙◌, ◌⊎◌, inl, inr, ◌≤◌, ℕ, max, Option, Some, List, [], ◌∷◌, ◌++◌, length, refl, sym, ap, ap₂, subst, arith, IsTrue, Bool}
 use Rattle.dbl_base.specs.declared.lsn.Lsn.{Lsn}
 use Rattle.dbl_record.specs.declared.record.Record.{Record}
+use Rattle.dbl_topic.specs.Model.{SinkModel}
+use Rattle.dbl_capture_work.specs.Source.Model.{SourceModel}
 use Rattle.dbl_capture_work.specs.Disk.Model.{DiskModel}
 use Rattle.dbl_capture_work.specs.ModelHistory.Fit.{IsFitHistory}
 use Rattle.dbl_capture_work.specs.ModelHistory.History.{RawBody, RawCommit}
@@ -35,8 +37,8 @@ others_none (c ∷ commits) others = by c.body others.0 (others_none commits oth
     by (Changes changes) has rest = rest
     by (Mark value) has rest = absurd has
 
-module _ {S K D : Type 0} {tell : Bool} {stands : S → SourceState → Type 0} {holds : K → List (List Record) → Type 0} {model : DiskModel D} {entry : SessionStart} {work : SessionState} {src : S} {sink : K} {store : StoreOn D}
-    (s : InSession tell stands holds model entry work src sink store) where
+module _ {S K D : Type 0} {tell : Bool} {source_model : SourceModel S} {sink_model : SinkModel K} {model : DiskModel D} {entry : SessionStart} {work : SessionState} {src : S} {sink : K} {store : StoreOn D}
+    (s : InSession tell source_model sink_model model entry work src sink store) where
   -- the offset that the session would store is the next one of its stage
   pub next_is : next_offset_of work ≡ next_offset s.stage
   next_is = ap₂ (λ (o : Offset) (f : Following). record o { cursors = f.cursors }) s.work_is.offset_is s.work_is.follower_is
@@ -48,18 +50,18 @@ module _ {S K D : Type 0} {tell : Bool} {stands : S → SourceState → Type 0} 
   -- ---- a call of the source fails
 
   -- of one that may have let others commit, and nothing else
-  pub follow_fails : (may_source : S → CrashState → Type 0) (may_sink : K → List (List Record) → Type 0) (src2 : S) → ((left : CrashState) → may_source src2 left → MayFollow (state_at_stage s.stage) left) → ((left : CrashState) → may_source src2 left → IsFitHistory left.history)
-      → (IsTrue tell → (groups : List (List Record)) → may_sink sink groups → groups ≡ s.stage.groups) → (left : CrashState) × may_source src2 left → (IsTrue tell → (groups : List (List Record)) × may_sink sink groups) → LeavesBy tell may_source may_sink model entry src2 sink store
-  follow_fails may_source may_sink src2 may fit only some_source some_sink =
-      source_ends s may_source may_sink src2 (λ faithful left is. left_others s.stage left (may left is) (fit left is) (confirmed_low s faithful)) only
+  pub follow_fails : (src2 : S) → ((left : CrashState) → source_model.may_leave src2 left → MayFollow (state_at_stage s.stage) left) → ((left : CrashState) → source_model.may_leave src2 left → IsFitHistory left.history)
+      → (IsTrue tell → (groups : List (List Record)) → sink_model.may_leave sink groups → groups ≡ s.stage.groups) → (left : CrashState) × source_model.may_leave src2 left → (IsTrue tell → (groups : List (List Record)) × sink_model.may_leave sink groups) → LeavesBy tell source_model sink_model model entry src2 sink store
+  follow_fails src2 may fit only some_source some_sink =
+      source_ends s src2 (λ faithful left is. left_others s.stage left (may left is) (fit left is) (confirmed_low s faithful)) only
       (λ left is. few_followed left (may left is).grows) some_source some_sink
 
   -- of a confirm, of a position that isn't after the stored offset
-  pub confirm_fails : (may_source : S → CrashState → Type 0) (may_sink : K → List (List Record) → Type 0) (src2 : S) (upto : Lsn) → upto.0 ≤ s.stage.stored.lsn.0 → ((left : CrashState) → may_source src2 left → MayFollowConfirm upto (state_at_stage s.stage) left)
-      → ((left : CrashState) → may_source src2 left → IsFitHistory left.history) → (IsTrue tell → (groups : List (List Record)) → may_sink sink groups → groups ≡ s.stage.groups) → (left : CrashState) × may_source src2 left → (IsTrue tell → (groups : List (List Record)) × may_sink sink groups)
-      → LeavesBy tell may_source may_sink model entry src2 sink store
-  confirm_fails may_source may_sink src2 upto le may fit only some_source some_sink =
-      source_ends s may_source may_sink src2 (λ faithful left is. left_confirm s.stage left upto (may left is) (fit left is) (confirmed_low s faithful) le) only
+  pub confirm_fails : (src2 : S) (upto : Lsn) → upto.0 ≤ s.stage.stored.lsn.0 → ((left : CrashState) → source_model.may_leave src2 left → MayFollowConfirm upto (state_at_stage s.stage) left)
+      → ((left : CrashState) → source_model.may_leave src2 left → IsFitHistory left.history) → (IsTrue tell → (groups : List (List Record)) → sink_model.may_leave sink groups → groups ≡ s.stage.groups) → (left : CrashState) × source_model.may_leave src2 left → (IsTrue tell → (groups : List (List Record)) × sink_model.may_leave sink groups)
+      → LeavesBy tell source_model sink_model model entry src2 sink store
+  confirm_fails src2 upto le may fit only some_source some_sink =
+      source_ends s src2 (λ faithful left is. left_confirm s.stage left upto (may left is) (fit left is) (confirmed_low s faithful) le) only
       (λ left is. few_followed left (may left is).grows) some_source some_sink
 
   -- ---- a store fails
@@ -68,14 +70,14 @@ module _ {S K D : Type 0} {tell : Bool} {stands : S → SourceState → Type 0} 
   either_next left (inl same) = inl same
   either_next left (inr same) = inr (same ∙ ap (λ (o : Offset). Some o) next_is)
 
-  pub store_fails : (may_source : S → CrashState → Type 0) (may_sink : K → List (List Record) → Type 0) (store2 : StoreOn D) (honest : Type 0)
+  pub store_fails : (store2 : StoreOn D) (honest : Type 0)
       → (IsTrue tell → LeavesOffset model (disk_of store2) (λ left. (left ≡ Some s.stage.stored) ⊎ (left ≡ Some (next_offset_of work))))
-      → ((t : SourceState) (l : CrashState) → stands src t → may_source src l → l ≡ left_of t) → ((t : SourceState) → stands src t → may_source src (left_of t)) → honest → (honest → (l : CrashState) → may_source src l → IsFitHistory l.history)
-      → (IsTrue tell → (groups : List (List Record)) → may_sink sink groups → groups ≡ s.stage.groups) → (IsTrue tell → (groups : List (List Record)) × may_sink sink groups) → LeavesBy tell may_source may_sink model entry src sink store2
-  store_fails may_source may_sink store2 honest leaves only may is_honest fit only_sink some_sink =
-      store_ends s may_source may_sink store2
+      → ((t : SourceState) (l : CrashState) → source_model.stands src t → source_model.may_leave src l → l ≡ left_of t) → ((t : SourceState) → source_model.stands src t → source_model.may_leave src (left_of t)) → honest → (honest → (l : CrashState) → source_model.may_leave src l → IsFitHistory l.history)
+      → (IsTrue tell → (groups : List (List Record)) → sink_model.may_leave sink groups → groups ≡ s.stage.groups) → (IsTrue tell → (groups : List (List Record)) × sink_model.may_leave sink groups) → LeavesBy tell source_model sink_model model entry src sink store2
+  store_fails store2 honest leaves only may is_honest fit only_sink some_sink =
+      store_ends s store2
       (λ t. left_weaker model (disk_of store2) (λ left. (left ≡ Some s.stage.stored) ⊎ (left ≡ Some (next_offset_of work))) (λ left. (left ≡ Some s.stage.stored) ⊎ (left ≡ Some (next_offset s.stage))) (leaves t) either_next)
-      (rests_left s may_source honest only is_honest fit) only_sink
+      (rests_left s honest only is_honest fit) only_sink
       (λ left is. few_rest s left (only (state_at_stage s.stage) left s.source_is is) (some_chunk s))
       (left_of (state_at_stage s.stage), may (state_at_stage s.stage) s.source_is) some_sink
 
@@ -94,24 +96,24 @@ low_on a b c one two = omega (arith, one, two)
 up_to : (a b c l : ℕ) → a ≡ max b c → c ≡ l → l ≤ a
 up_to a b c l is same = omega (arith, is, same)
 
-module _ {S K D : Type 0} {tell : Bool} {stands : S → SourceState → Type 0} {holds : K → List (List Record) → Type 0} {model : DiskModel D} {entry : SessionStart} {work : SessionState} {src : S} {sink : K} {store : StoreOn D}
-    (s : InSession tell stands holds model entry work src sink store) where
+module _ {S K D : Type 0} {tell : Bool} {source_model : SourceModel S} {sink_model : SinkModel K} {model : DiskModel D} {entry : SessionStart} {work : SessionState} {src : S} {sink : K} {store : StoreOn D}
+    (s : InSession tell source_model sink_model model entry work src sink store) where
   abbrev pub rested_work : SessionState
   rested_work = record work { since = 0 }
 
   pub held_next : (store2 : StoreOn D) → (IsTrue tell → HoldsOffset model store2 (Some (next_offset_of work))) → IsTrue tell → HoldsOffset model store2 (Some (next_offset s.stage))
   held_next store2 held t = subst (λ (o : Offset). HoldsOffset model store2 (Some o)) (next_is s) (held t)
 
-  pub stored_session : (store2 : StoreOn D) → (IsTrue tell → HoldsOffset model store2 (Some (next_offset_of work))) → InSession tell stands holds model entry rested_work src sink store2
+  pub stored_session : (store2 : StoreOn D) → (IsTrue tell → HoldsOffset model store2 (Some (next_offset_of work))) → InSession tell source_model sink_model model entry rested_work src sink store2
   stored_session store2 held = stored_on s rested_work store2 refl (held_next store2 held)
 
   -- the confirm after the store fails
-  pub settle_fails : (may_source : S → CrashState → Type 0) (may_sink : K → List (List Record) → Type 0) (src2 : S) (store2 : StoreOn D) → (IsTrue tell → HoldsOffset model store2 (Some (next_offset_of work)))
-      → ((left : CrashState) → may_source src2 left → MayFollowConfirm (next_offset_of work).lsn (state_at_stage s.stage) left) → ((left : CrashState) → may_source src2 left → IsFitHistory left.history)
-      → (IsTrue tell → (groups : List (List Record)) → may_sink sink groups → groups ≡ s.stage.groups) → (left : CrashState) × may_source src2 left → (IsTrue tell → (groups : List (List Record)) × may_sink sink groups)
-      → LeavesBy tell may_source may_sink model entry src2 sink store2
-  settle_fails may_source may_sink src2 store2 held may fit only some_source some_sink = record {
-    follows = λ t faithful. left_weaker model (disk_of store2) (λ offset. offset ≡ Some (next_offset s.stage)) (λ offset. (left : CrashState) (groups : List (List Record)) → may_source src2 left → may_sink sink groups → FollowsSession entry left groups offset)
+  pub settle_fails : (src2 : S) (store2 : StoreOn D) → (IsTrue tell → HoldsOffset model store2 (Some (next_offset_of work)))
+      → ((left : CrashState) → source_model.may_leave src2 left → MayFollowConfirm (next_offset_of work).lsn (state_at_stage s.stage) left) → ((left : CrashState) → source_model.may_leave src2 left → IsFitHistory left.history)
+      → (IsTrue tell → (groups : List (List Record)) → sink_model.may_leave sink groups → groups ≡ s.stage.groups) → (left : CrashState) × source_model.may_leave src2 left → (IsTrue tell → (groups : List (List Record)) × sink_model.may_leave sink groups)
+      → LeavesBy tell source_model sink_model model entry src2 sink store2
+  settle_fails src2 store2 held may fit only some_source some_sink = record {
+    follows = λ t faithful. left_weaker model (disk_of store2) (λ offset. offset ≡ Some (next_offset s.stage)) (λ offset. (left : CrashState) (groups : List (List Record)) → source_model.may_leave src2 left → sink_model.may_leave sink groups → FollowsSession entry left groups offset)
         (held_left model store2 (Some (next_offset s.stage)) (held_next store2 held t))
         (λ offset same left groups is_left is_groups.
         subst (λ (o : Option Offset). FollowsSession entry left groups o) (sym same) (subst (λ (g : List (List Record)). FollowsSession entry left g (Some (next_offset s.stage))) (sym (only t groups is_groups)) (follows_stored faithful left is_left)));
@@ -120,16 +122,16 @@ module _ {S K D : Type 0} {tell : Bool} {stands : S → SourceState → Type 0} 
     some_sink = some_sink;
   }
     where
-      follows_stored : (faithful : WasFaithful entry) (left : CrashState) → may_source src2 left → FollowsSession entry left s.stage.groups (Some (next_offset s.stage))
+      follows_stored : (faithful : WasFaithful entry) (left : CrashState) → source_model.may_leave src2 left → FollowsSession entry left s.stage.groups (Some (next_offset s.stage))
       follows_stored faithful left is =
           let k = s.going.kept (stood_of entry faithful) faithful in
           sources_may_end entry (stored_at s.stage) left faithful
           (left_confirm (stored_at s.stage) left (next_offset_of work).lsn (may left is) (fit left is) (low_on s.stage.confirmed.0 s.stage.stored.lsn.0 s.stage.lsn.0 k.stored_is.confirmed_to k.to) (same_le (next_offset_of work).lsn.0 s.stage.lsn.0 (stored_lsn work s.stage s.work_is.offset_is)))
           (stores_keep_going entry s.stage s.going)
 
-  module _ (src2 : S) (store2 : StoreOn D) (t : SourceState) (held : IsTrue tell → HoldsOffset model store2 (Some (next_offset_of work))) (is : stands src2 t) (confirmed : IsConfirmed (next_offset_of work).lsn (state_at_stage s.stage) t) (fit : IsFitHistory t.history) where
-    pub settled_source : stands src2 (state_at_stage (record (stored_at s.stage) { history = t.history; confirmed = t.confirmed }))
-    settled_source = subst (stands src2) (ap (λ (r : Option Reading). record { history = t.history; confirmed = t.confirmed; reading = r }) confirmed.reading) is
+  module _ (src2 : S) (store2 : StoreOn D) (t : SourceState) (held : IsTrue tell → HoldsOffset model store2 (Some (next_offset_of work))) (is : source_model.stands src2 t) (confirmed : IsConfirmed (next_offset_of work).lsn (state_at_stage s.stage) t) (fit : IsFitHistory t.history) where
+    pub settled_source : source_model.stands src2 (state_at_stage (record (stored_at s.stage) { history = t.history; confirmed = t.confirmed }))
+    settled_source = subst (source_model.stands src2) (ap (λ (r : Option Reading). record { history = t.history; confirmed = t.confirmed; reading = r }) confirmed.reading) is
 
     pub settled_going : IsGoing entry (record (stored_at s.stage) { history = t.history; confirmed = t.confirmed })
     settled_going =
@@ -140,7 +142,7 @@ module _ {S K D : Type 0} {tell : Bool} {stands : S → SourceState → Type 0} 
     settled_far = up_to t.confirmed.0 s.stage.confirmed.0 (next_offset_of work).lsn.0 s.stage.lsn.0 confirmed.confirmed (stored_lsn work s.stage s.work_is.offset_is)
 
     -- it has stored the next offset, and confirmed it
-    abbrev pub settled_on : IsSettled tell stands holds model entry (record work { since = 0 }) src2 sink store2
+    abbrev pub settled_on : IsSettled tell source_model sink_model model entry (record work { since = 0 }) src2 sink store2
     settled_on = record {
       is = record {
         stage = record (stored_at s.stage) { history = t.history; confirmed = t.confirmed };
@@ -164,7 +166,7 @@ module _ {S K D : Type 0} {tell : Bool} {stands : S → SourceState → Type 0} 
     }
 
 -- so it is where everything was read
-pub settled_whole : {S K D : Type 0} {tell : Bool} {stands : S → SourceState → Type 0} {holds : K → List (List Record) → Type 0} {model : DiskModel D} {entry : SessionStart} {work : SessionState} {src : S} {sink : K} {store : StoreOn D}
-    (h : HasReadAllAt tell stands holds model entry work src sink store) (src2 : S) (store2 : StoreOn D) (t : SourceState) → (IsTrue tell → HoldsOffset model store2 (Some (next_offset_of work))) → stands src2 t → IsConfirmed (next_offset_of work).lsn (state_at_stage h.is.stage) t → IsFitHistory t.history
-    → IsSettledWhole tell stands holds model entry (record work { since = 0 }) src2 sink store2
+pub settled_whole : {S K D : Type 0} {tell : Bool} {source_model : SourceModel S} {sink_model : SinkModel K} {model : DiskModel D} {entry : SessionStart} {work : SessionState} {src : S} {sink : K} {store : StoreOn D}
+    (h : HasReadAllAt tell source_model sink_model model entry work src sink store) (src2 : S) (store2 : StoreOn D) (t : SourceState) → (IsTrue tell → HoldsOffset model store2 (Some (next_offset_of work))) → source_model.stands src2 t → IsConfirmed (next_offset_of work).lsn (state_at_stage h.is.stage) t → IsFitHistory t.history
+    → IsSettledWhole tell source_model sink_model model entry (record work { since = 0 }) src2 sink store2
 settled_whole h src2 store2 t held is confirmed fit = record { settled = settled_on h.is src2 store2 t held is confirmed fit; more = h.more; all = h.all }

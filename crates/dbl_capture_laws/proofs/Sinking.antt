@@ -5,6 +5,8 @@ use Rattle.dbl_pgmsg.specs.declared.messages.Message.{Message}
 use Rattle.dbl_pgmsg.specs.Grammar.{Spells}
 use Rattle.dbl_record.specs.declared.record.Record.{Record}
 use Rattle.dbl_record.specs.Cuts.{cut}
+use Rattle.dbl_topic.specs.Model.{SinkModel}
+use Rattle.dbl_capture_work.specs.Source.Model.{SourceModel}
 use Rattle.dbl_model_table.specs.declared.config.Config.{Config}
 use Rattle.dbl_model_table.specs.declared.change.Commit.{Commit}
 use Rattle.dbl_capture_work.specs.ModelEvent.Clashes.{Clash}
@@ -58,22 +60,22 @@ either_of (Err h) A B C a b f g = g h b
 
 -- ---- it goes on
 
-module _ {S K : Type 0} (stands : S → SourceState → Type 0) (holds : K → List (List Record) → Type 0) (groups : List (List Record)) (at : Option SourceState) (found : Option Trace) (b : Beginning) (stored : Option Offset) (work : SessionState) (report : Report)
-    (src : S) (told : Option Trace) (sink : K) where
+module _ {S K : Type 0} (source_model : SourceModel S) (sink_model : SinkModel K) (groups : List (List Record)) (at : Option SourceState) (found : Option Trace) (b : Beginning) (stored : Option Offset) (work : SessionState) (report : Report)
+    (src : S) (sink : K) where
   abbrev Goes : Option Bool → Type 0
-  Goes o = PutsOn stands holds groups at found b stored work report src told sink o
+  Goes o = PutsOn source_model sink_model groups at found b stored work report src sink o
 
-  pub puts_due : (due : Bool) → (due ≡ true → HasPutCommit stands holds groups at found b stored work report src told sink) → (due ≡ false → IsPutting stands holds groups at found b stored work report src told sink) → Goes (Some due)
+  pub puts_due : (due : Bool) → (due ≡ true → HasPutCommit source_model sink_model groups at found b stored work report src sink) → (due ≡ false → IsPutting source_model sink_model groups at found b stored work report src sink) → Goes (Some due)
   puts_due true committed rests = committed refl
   puts_due false committed rests = rests refl
 
-  pub puts_true : (o : Option Bool) (due : Bool) → o ≡ Some due → due ≡ true → Goes o → HasPutCommit stands holds groups at found b stored work report src told sink
+  pub puts_true : (o : Option Bool) (due : Bool) → o ≡ Some due → due ≡ true → Goes o → HasPutCommit source_model sink_model groups at found b stored work report src sink
   puts_true o due is yes_is puts = subst Goes (is ∙ ap (λ (d : Bool). Some d) yes_is) puts
 
-  pub puts_false : (o : Option Bool) (due : Bool) → o ≡ Some due → due ≡ false → Goes o → IsPutting stands holds groups at found b stored work report src told sink
+  pub puts_false : (o : Option Bool) (due : Bool) → o ≡ Some due → due ≡ false → Goes o → IsPutting source_model sink_model groups at found b stored work report src sink
   puts_false o due is no_is puts = subst Goes (is ∙ ap (λ (d : Bool). Some d) no_is) puts
 
-  pub puts_none : (o : Option Bool) → o ≡ None → Goes o → IsPutting stands holds groups at found b stored work report src told sink
+  pub puts_none : (o : Option Bool) → o ≡ None → Goes o → IsPutting source_model sink_model groups at found b stored work report src sink
   puts_none o is puts = subst Goes is puts
 
 -- so many messages were taken
@@ -82,27 +84,27 @@ few_taken n m is lt = omega (arith, is, lt)
 
 -- ---- in the middle of a commit
 
-module _ {S K : Type 0} (stands : S → SourceState → Type 0) (holds may_leave : K → List (List Record) → Type 0) (groups : List (List Record)) (at : Option SourceState) (found : Option Trace) (b : Beginning) (stored : Option Offset)
-    (src src2 : S) (told told2 : Option Trace) (sink sink2 : K) (old next : SessionState) (before report : Report) (u : IsPutting stands holds groups at found b stored old before src told sink)
+module _ {S K : Type 0} (source_model : SourceModel S) (sink_model : SinkModel K) (groups : List (List Record)) (at : Option SourceState) (found : Option Trace) (b : Beginning) (stored : Option Offset)
+    (src src2 : S) (sink sink2 : K) (old next : SessionState) (before report : Report) (u : IsPutting source_model sink_model groups at found b stored old before src sink)
     (bytes : List ℕ) (commit : Commit) (w : WasTaken b.first.lsn u.way.messages bytes old next (Some commit)) (many : length u.way.messages < 2 ^ 30) (moment : IsMomentInRange old.now_ms) (h : Halt)
-    (leaves : (left : List (List Record)) → may_leave sink2 left → IsLeftByStep commit next (groups ++ cut u.put.records) left) (may : (held : List (List Record)) → holds sink2 held → may_leave sink2 held)
-    (kept : (h ≡ halt.Sink → ⊥) → HoldsPut holds (groups ++ cut u.put.records) (is_some (mark_of commit)) (records_by next.follower commit next.now_ms) (record before { messages = before.messages + 1 }) report sink2)
-    (torn : h ≡ halt.Sink → WasTorn may_leave (groups ++ cut u.put.records) (is_some (mark_of commit)) (records_by next.follower commit next.now_ms) (record before { messages = before.messages + 1 }) report sink2)
-    (some : (left : List (List Record)) × may_leave sink2 left) (counts : IsTornCount before report) (clear : h ≡ halt.Sink → clash_by next.follower commit ≡ None)
-    (one : IsTakenBy (bytes ∷ []) told told2) (took : (s : SourceState) → stands src s → (m : Message) × Spells bytes m × HasState stands src2 (HasReadOneMore m s)) (same : (s t : SourceState) → stands src2 s → stands src2 t → s ≡ t)
+    (leaves : (left : List (List Record)) → sink_model.may_leave sink2 left → IsLeftByStep commit next (groups ++ cut u.put.records) left) (may : (held : List (List Record)) → sink_model.holds sink2 held → sink_model.may_leave sink2 held)
+    (kept : (h ≡ halt.Sink → ⊥) → HoldsPut sink_model.holds (groups ++ cut u.put.records) (is_some (mark_of commit)) (records_by next.follower commit next.now_ms) (record before { messages = before.messages + 1 }) report sink2)
+    (torn : h ≡ halt.Sink → WasTorn sink_model.may_leave (groups ++ cut u.put.records) (is_some (mark_of commit)) (records_by next.follower commit next.now_ms) (record before { messages = before.messages + 1 }) report sink2)
+    (some : (left : List (List Record)) × sink_model.may_leave sink2 left) (counts : IsTornCount before report) (clear : h ≡ halt.Sink → clash_by next.follower commit ≡ None)
+    (one : IsTakenBy (bytes ∷ []) (source_model.told src) (source_model.told src2)) (took : (s : SourceState) → source_model.stands src s → (m : Message) × Spells bytes m × HasState source_model.stands src2 (HasReadOneMore m s)) (same : (s t : SourceState) → source_model.stands src2 s → source_model.stands src2 t → s ≡ t)
     (cause : (h ≡ halt.Memory) ⊎ ((h ≡ halt.Sink) ⊎ (IsClashIn (clash_by next.follower commit) h ⊎ ((clash_by next.follower commit ≡ None) × IsLongRecord (records_by next.follower commit next.now_ms) h)))) where
-  other_halts : (h ≡ halt.Sink → ⊥) → HasHaltedPut stands holds may_leave groups at b.config b.now b.held stored report src2 told2 sink2 h
+  other_halts : (h ≡ halt.Sink → ⊥) → HasHaltedPut source_model sink_model groups at b.config b.now b.held stored report src2 sink2 h
   other_halts other =
-      commits_halt stands holds may_leave groups at found b stored src src2 told told2 sink sink2 old next before report u bytes commit w many moment h leaves may other (kept other)
+      commits_halt source_model sink_model groups at found b stored src src2 sink sink2 old next before report u bytes commit w many moment h leaves may other (kept other)
       (cause_left report.messages b.first.lsn u.way.messages bytes old h (follow_cause report.messages b.first.lsn u.way.messages bytes old next commit h w clear cause)) counts.messages counts.commits one took same
 
-  pub follow_puts : HasHaltedPut stands holds may_leave groups at b.config b.now b.held stored report src2 told2 sink2 h
+  pub follow_puts : HasHaltedPut source_model sink_model groups at b.config b.now b.held stored report src2 sink2 h
   follow_puts = by cause
     where
       by : (h ≡ halt.Memory) ⊎ ((h ≡ halt.Sink) ⊎ (IsClashIn (clash_by next.follower commit) h ⊎ ((clash_by next.follower commit ≡ None) × IsLongRecord (records_by next.follower commit next.now_ms) h)))
-          → HasHaltedPut stands holds may_leave groups at b.config b.now b.held stored report src2 told2 sink2 h
+          → HasHaltedPut source_model sink_model groups at b.config b.now b.held stored report src2 sink2 h
       by (inl memory) = other_halts (memory_other h memory)
-      by (inr (inl failed)) = puts_fail stands holds may_leave groups at found b stored src src2 told told2 sink sink2 old next before report u bytes commit w many moment h leaves failed (torn failed) some
+      by (inr (inl failed)) = puts_fail source_model sink_model groups at found b stored src src2 sink sink2 old next before report u bytes commit w many moment h leaves failed (torn failed) some
       by (inr (inr (inl is))) = other_halts (clash_other (clash_by next.follower commit) h is)
       by (inr (inr (inr long))) = other_halts (long_other (records_by next.follower commit next.now_ms) h long.1)
 

@@ -5,6 +5,7 @@ use Rattle.dbl_pgmsg.specs.declared.messages.Message.{Message}
 use Rattle.dbl_pgmsg.specs.Grammar.{Spells}
 use Rattle.dbl_record.specs.declared.record.Record.{Record}
 use Rattle.dbl_record.specs.Cuts.{cut}
+use Rattle.dbl_capture_work.specs.Source.Model.{SourceModel}
 use Rattle.dbl_model_table.specs.declared.change.Commit.{Commit}
 use Rattle.dbl_capture_work.specs.ModelHistory.Ranges.{IsMomentInRange}
 use Rattle.dbl_capture_work.specs.Follow.declared.window.Window.TheVariants.{Absent}
@@ -13,6 +14,7 @@ use Rattle.dbl_capture_work.specs.SourceModel.Calls.{IsConfirmed, HasReadOneMore
 use Rattle.dbl_capture_work.specs.SourceModel.Standings.{SourceState, HasState}
 use Rattle.dbl_capture_work.specs.SourceModel.Trace.{Trace, IsTakenAnew, IsTakenBy}
 use Rattle.dbl_capture_work.specs.Offset.declared.offset.Offset.{Offset}
+use Rattle.dbl_topic.specs.Model.{SinkModel}
 use Rattle.dbl_topic.specs.Sinks.{IsLeftByPut}
 use Rattle.dbl_capture_work.specs.declared.halt.Halt.{Halt}
 use Rattle.dbl_capture_work.specs.declared.halt.Halt.TheVariants as halt
@@ -43,23 +45,23 @@ same_counts more before report c one two three = record { records = one ∙ c.re
 too_many : (n m k : ℕ) → n ≡ k → k ≡ n + m + 1 → ⊥
 too_many n m k one two = omega (arith, one, two)
 
-module _ {S K : Type 0} (stands : S → SourceState → Type 0) (holds may_leave : K → List (List Record) → Type 0) (groups : List (List Record)) (at : Option SourceState) (found : Option Trace) where
+module _ {S K : Type 0} (source_model : SourceModel S) (sink_model : SinkModel K) (groups : List (List Record)) (at : Option SourceState) (found : Option Trace) where
   abbrev Reads : S → S → Type 0
-  Reads src src2 = (s : SourceState) → stands src s → HasState stands src2 (λ t. t.reading ≡ s.reading)
+  Reads src src2 = (s : SourceState) → source_model.stands src s → HasState source_model.stands src2 (λ t. t.reading ≡ s.reading)
 
   abbrev TookOne : S → S → List ℕ → Type 0
-  TookOne src src2 bytes = (s : SourceState) → stands src s → (m : Message) × Spells bytes m × HasState stands src2 (HasReadOneMore m s)
+  TookOne src src2 bytes = (s : SourceState) → source_model.stands src s → (m : Message) × Spells bytes m × HasState source_model.stands src2 (HasReadOneMore m s)
 
   -- ---- it begins
 
-  pub puts_begin : (b : Beginning) (every : ℕ) (work : SessionState) (report : Report) (src : S) (told : Option Trace) (sink : K) → IsOffsetFor b.config b.held b.first → BeginsWithOffset b.first b.now b.config.chunk every work
-      → report.messages ≡ 0 → report.commits ≡ 0 → report.chunks ≡ 0 → report.records ≡ 0 → report.snapshot_rows ≡ 0 → holds sink groups
-      → IsTakenAnew found told → ((s : SourceState) → at ≡ Some s → HasState stands src (StandsAt b [])) → IsPutting stands holds groups at found b (Some b.first) work report src told sink
-  puts_begin b every work report src told sink for begun messages commits chunks records rows held anew stood = record {
-    way = begins stands at found b every work report src told for begun messages commits chunks anew stood;
+  pub puts_begin : (b : Beginning) (every : ℕ) (work : SessionState) (report : Report) (src : S) (sink : K) → IsOffsetFor b.config b.held b.first → BeginsWithOffset b.first b.now b.config.chunk every work
+      → report.messages ≡ 0 → report.commits ≡ 0 → report.chunks ≡ 0 → report.records ≡ 0 → report.snapshot_rows ≡ 0 → sink_model.holds sink groups
+      → IsTakenAnew found (source_model.told src) → ((s : SourceState) → at ≡ Some s → HasState source_model.stands src (StandsAt b [])) → IsPutting source_model sink_model groups at found b (Some b.first) work report src sink
+  puts_begin b every work report src sink for begun messages commits chunks records rows held anew stood = record {
+    way = begins source_model at found b every work report src for begun messages commits chunks anew stood;
     put = record {
       records = [];
-      held = subst (holds sink) (sym (append-nil groups)) held;
+      held = subst (sink_model.holds sink) (sym (append-nil groups)) held;
       is = (gains_begin b.first b.now b.config.chunk every work report begun records chunks rows).0;
       counts = (gains_begin b.first b.now b.config.chunk every work report begun records chunks rows).1;
     };
@@ -67,17 +69,17 @@ module _ {S K : Type 0} (stands : S → SourceState → Type 0) (holds may_leave
 
   -- ---- it goes on
 
-  module _ (b : Beginning) (stored : Option Offset) (src src2 : S) (told told2 : Option Trace) (sink : K) where
+  module _ (b : Beginning) (stored : Option Offset) (src src2 : S) (sink : K) where
     -- nothing is
-    pub rests_putting : (work : SessionState) (report : Report) → IsPutting stands holds groups at found b stored work report src told sink → IsTakenBy [] told told2 → Reads src src2
-        → IsPutting stands holds groups at found b stored work report src2 told2 sink
-    rests_putting work report u none reads = record { way = rests_on stands at found b stored src src2 told told2 work report u.way none reads; put = u.put }
+    pub rests_putting : (work : SessionState) (report : Report) → IsPutting source_model sink_model groups at found b stored work report src sink → IsTakenBy [] (source_model.told src) (source_model.told src2) → Reads src src2
+        → IsPutting source_model sink_model groups at found b stored work report src2 sink
+    rests_putting work report u none reads = record { way = rests_on source_model at found b stored src src2 work report u.way none reads; put = u.put }
 
     -- a window is read
-    pub windows_put_nothing : (old new : SessionState) (table : ℕ) (report : Report) → IsPutting stands holds groups at found b stored old report src told sink → old.follower.window ≡ Absent → IsOpenTable old table → IsArmedWork table old new
-        → IsTakenBy [] told told2 → Reads src src2 → IsPutting stands holds groups at found b stored new report src2 told2 sink
+    pub windows_put_nothing : (old new : SessionState) (table : ℕ) (report : Report) → IsPutting source_model sink_model groups at found b stored old report src sink → old.follower.window ≡ Absent → IsOpenTable old table → IsArmedWork table old new
+        → IsTakenBy [] (source_model.told src) (source_model.told src2) → Reads src src2 → IsPutting source_model sink_model groups at found b stored new report src2 sink
     windows_put_nothing old new table report u absent unread armed none reads = record {
-      way = arms_on stands at found b stored src src2 told told2 old new table report u.way absent unread armed none reads;
+      way = arms_on source_model at found b stored src src2 old new table report u.way absent unread armed none reads;
       put = record {
         records = u.put.records;
         held = u.put.held;
@@ -87,10 +89,10 @@ module _ {S K : Type 0} (stands : S → SourceState → Type 0) (holds may_leave
     }
 
     -- a message is taken
-    pub messages_put_nothing : (old next : SessionState) (before report : Report) (u : IsPutting stands holds groups at found b stored old before src told sink) (bytes : List ℕ) → WasTaken b.first.lsn u.way.messages bytes old next None
-        → report ≡ record before { messages = before.messages + 1 } → IsTakenBy (bytes ∷ []) told told2 → TookOne src src2 bytes → IsPutting stands holds groups at found b stored next report src2 told2 sink
+    pub messages_put_nothing : (old next : SessionState) (before report : Report) (u : IsPutting source_model sink_model groups at found b stored old before src sink) (bytes : List ℕ) → WasTaken b.first.lsn u.way.messages bytes old next None
+        → report ≡ record before { messages = before.messages + 1 } → IsTakenBy (bytes ∷ []) (source_model.told src) (source_model.told src2) → TookOne src src2 bytes → IsPutting source_model sink_model groups at found b stored next report src2 sink
     messages_put_nothing old next before report u bytes w counted one took = record {
-      way = takes_on stands at found b stored src src2 told told2 old next before report u.way bytes w counted one took;
+      way = takes_on source_model at found b stored src src2 old next before report u.way bytes w counted one took;
       put = record {
         records = u.put.records;
         held = u.put.held;
@@ -100,38 +102,38 @@ module _ {S K : Type 0} (stands : S → SourceState → Type 0) (holds may_leave
     }
 
     -- and the commit that it ends is followed
-    module _ (sink2 : K) (old next new : SessionState) (before report : Report) (u : IsPutting stands holds groups at found b stored old before src told sink) (bytes : List ℕ) (commit : Commit) (w : WasTaken b.first.lsn u.way.messages bytes old next (Some commit))
+    module _ (sink2 : K) (old next new : SessionState) (before report : Report) (u : IsPutting source_model sink_model groups at found b stored old before src sink) (bytes : List ℕ) (commit : Commit) (w : WasTaken b.first.lsn u.way.messages bytes old next (Some commit))
         (st : WasStepped commit next new) (short : AreShort (records_by next.follower commit next.now_ms)) (small : old.number < 2 ^ 64) (many : length u.way.messages < 2 ^ 30) (moment : IsMomentInRange old.now_ms)
-        (reports : ReportsStep commit next (record before { messages = before.messages + 1 }) report true) (held : holds sink2 ((groups ++ cut u.put.records) ++ cut (records_by next.follower commit next.now_ms)))
-        (one : IsTakenBy (bytes ∷ []) told told2) (took : TookOne src src2 bytes) where
-      put_on : HasPut holds groups b.first.lsn (w.message ∷ u.way.messages) new report sink2
+        (reports : ReportsStep commit next (record before { messages = before.messages + 1 }) report true) (held : sink_model.holds sink2 ((groups ++ cut u.put.records) ++ cut (records_by next.follower commit next.now_ms)))
+        (one : IsTakenBy (bytes ∷ []) (source_model.told src) (source_model.told src2)) (took : TookOne src src2 bytes) where
+      put_on : HasPut sink_model.holds groups b.first.lsn (w.message ∷ u.way.messages) new report sink2
       put_on =
           let gains = commits_gain b.first.lsn u.way.messages bytes commit old next new (record before { messages = before.messages + 1 }) report u.put.records u.way.is.is.is w st many moment reports u.put.is
           (same_counts (cut u.put.records) before (record before { messages = before.messages + 1 }) u.put.counts refl refl refl) in
           record {
             records = u.put.records ++ records_by next.follower commit next.now_ms;
-            held = subst (holds sink2) (gains.2 groups) held;
+            held = subst (sink_model.holds sink2) (gains.2 groups) held;
             is = gains.0;
             counts = gains.1;
           }
 
-      pub commits_put : HasPutCommit stands holds groups at found b stored new report src2 told2 sink2
+      pub commits_put : HasPutCommit source_model sink_model groups at found b stored new report src2 sink2
       commits_put = record {
-        way = follows_on stands at found b stored src src2 told told2 old next new before report u.way bytes commit w st short small reports one took;
+        way = follows_on source_model at found b stored src src2 old next new before report u.way bytes commit w st short small reports one took;
         put = put_on;
       }
 
-      pub commits_put_at_rest : closes next commit ≡ false → IsPutting stands holds groups at found b stored new report src2 told2 sink2
+      pub commits_put_at_rest : closes next commit ≡ false → IsPutting source_model sink_model groups at found b stored new report src2 sink2
       commits_put_at_rest closed = record {
-        way = follows_at_rest stands at found b stored src src2 told told2 old next new before report u.way bytes commit w st short small reports one took closed;
+        way = follows_at_rest source_model at found b stored src src2 old next new before report u.way bytes commit w st short small reports one took closed;
         put = put_on;
       }
 
     -- an offset is stored
-    pub stores_put_nothing : (later : Option Offset) (old new : SessionState) (before report : Report) → HasPutCommit stands holds groups at found b stored old before src told sink → later ≡ Some (next_offset_of old) → new ≡ record old { since = 0 } → report ≡ record before { position = report.position }
-        → IsTakenBy [] told told2 → ((s : SourceState) → stands src s → HasState stands src2 (IsConfirmed old.offset.lsn s)) → IsPutting stands holds groups at found b later new report src2 told2 sink
+    pub stores_put_nothing : (later : Option Offset) (old new : SessionState) (before report : Report) → HasPutCommit source_model sink_model groups at found b stored old before src sink → later ≡ Some (next_offset_of old) → new ≡ record old { since = 0 } → report ≡ record before { position = report.position }
+        → IsTakenBy [] (source_model.told src) (source_model.told src2) → ((s : SourceState) → source_model.stands src s → HasState source_model.stands src2 (IsConfirmed old.offset.lsn s)) → IsPutting source_model sink_model groups at found b later new report src2 sink
     stores_put_nothing later old new before report c later_is same counted none confirms = record {
-      way = settled_rests stands at found b later new report src2 told2 (settles_on stands at found b stored later old new before report src src2 told told2 c.way later_is same counted none confirms);
+      way = settled_rests source_model at found b later new report src2 (settles_on source_model at found b stored later old new before report src src2 c.way later_is same counted none confirms);
       put = record {
         records = c.put.records;
         held = c.put.held;
@@ -140,15 +142,15 @@ module _ {S K : Type 0} (stands : S → SourceState → Type 0) (holds may_leave
       };
     }
 
-  pub rests_put : (b : Beginning) (stored : Option Offset) (work : SessionState) (report : Report) (src : S) (told : Option Trace) (sink : K) → IsPutting stands holds groups at found b stored work report src told sink
-      → HasPutCommit stands holds groups at found b stored work report src told sink
-  rests_put b stored work report src told sink u = record { way = at_rest stands at found b stored work report src told u.way; put = u.put }
+  pub rests_put : (b : Beginning) (stored : Option Offset) (work : SessionState) (report : Report) (src : S) (sink : K) → IsPutting source_model sink_model groups at found b stored work report src sink
+      → HasPutCommit source_model sink_model groups at found b stored work report src sink
+  rests_put b stored work report src sink u = record { way = at_rest source_model at found b stored work report src u.way; put = u.put }
 
   -- ---- what is left
 
   -- of the sink, where nothing more was put
-  module _ (b : Beginning) (stored : Option Offset) (src : S) (told : Option Trace) (sink : K) (work : SessionState) (report : Report) (c : HasPutCommit stands holds groups at found b stored work report src told sink) (only : (held left : List (List Record)) → holds sink held → may_leave sink left → left ≡ held) where
-    gains_so : (later : Option Offset) → (later ≡ stored) ⊎ (later ≡ Some (next_offset_of work)) → (left : List (List Record)) → may_leave sink left → Gains b.config b.now b.held later groups left
+  module _ (b : Beginning) (stored : Option Offset) (src : S) (sink : K) (work : SessionState) (report : Report) (c : HasPutCommit source_model sink_model groups at found b stored work report src sink) (only : (held left : List (List Record)) → sink_model.holds sink held → sink_model.may_leave sink left → left ≡ held) where
+    gains_so : (later : Option Offset) → (later ≡ stored) ⊎ (later ≡ Some (next_offset_of work)) → (left : List (List Record)) → sink_model.may_leave sink left → Gains b.config b.now b.held later groups left
     gains_so later kept left may = by kept
       where
         here : (o : Offset) → IsOfFirst b.config b.now b.held b.first o work → Gains b.config b.now b.held (Some o) groups left
@@ -158,59 +160,59 @@ module _ {S K : Type 0} (stands : S → SourceState → Type 0) (holds may_leave
         by (inl same) = subst (λ (x : Option Offset). Gains b.config b.now b.held x groups left) (sym (same ∙ c.way.is.stored_is)) (here c.way.is.offset c.way.is.of)
         by (inr next) = subst (λ (x : Option Offset). Gains b.config b.now b.held x groups left) (sym next) (here (next_offset_of work) (of_next b c.way.is.offset work c.way.is.of))
 
-    pub left_gains : (left : List (List Record)) → may_leave sink left → Gains b.config b.now b.held stored groups left
+    pub left_gains : (left : List (List Record)) → sink_model.may_leave sink left → Gains b.config b.now b.held stored groups left
     left_gains left may = gains_so stored (inl refl) left may
 
     -- and what a report of the same counts tells
-    pub still_counted : (after : Report) → after.records ≡ report.records → after.chunks ≡ report.chunks → after.snapshot_rows ≡ report.snapshot_rows → HasCountedGroups holds groups sink after
+    pub still_counted : (after : Report) → after.records ≡ report.records → after.chunks ≡ report.chunks → after.snapshot_rows ≡ report.snapshot_rows → HasCountedGroups sink_model.holds groups sink after
     still_counted after one two three = record { more = cut c.put.records; held = c.put.held; are = same_counts (cut c.put.records) report after c.put.counts one two three }
 
-  reported_so : (h : Halt) (sink : K) (report : Report) → (h ≡ halt.Sink → ⊥) → HasCountedGroups holds groups sink report → ReportsGroups {A = Ending} holds may_leave groups (Err h) sink report
+  reported_so : (h : Halt) (sink : K) (report : Report) → (h ≡ halt.Sink → ⊥) → HasCountedGroups sink_model.holds groups sink report → ReportsGroups {A = Ending} sink_model.holds sink_model.may_leave groups (Err h) sink report
   reported_so halt.Sink sink report other is = absurd (other refl)
   reported_so h sink report other is = is
 
-  reported_sink : (h : Halt) (sink : K) (report : Report) → h ≡ halt.Sink → HasCountedBefore may_leave groups sink report → ReportsGroups {A = Ending} holds may_leave groups (Err h) sink report
-  reported_sink h sink report same is = subst (λ (x : Halt). ReportsGroups {A = Ending} holds may_leave groups (Err x) sink report) (sym same) is
+  reported_sink : (h : Halt) (sink : K) (report : Report) → h ≡ halt.Sink → HasCountedBefore sink_model.may_leave groups sink report → ReportsGroups {A = Ending} sink_model.holds sink_model.may_leave groups (Err h) sink report
+  reported_sink h sink report same is = subst (λ (x : Halt). ReportsGroups {A = Ending} sink_model.holds sink_model.may_leave groups (Err x) sink report) (sym same) is
 
-  pub halts_put_nothing : (b : Beginning) (stored later : Option Offset) (work : SessionState) (before report : Report) (src src2 : S) (told told2 : Option Trace) (sink : K) (h : Halt)
-      → HasPutCommit stands holds groups at found b stored work before src told sink
-      → ((held left : List (List Record)) → holds sink held → may_leave sink left → left ≡ held) → (h ≡ halt.Sink → ⊥) → report.records ≡ before.records → report.chunks ≡ before.chunks → report.snapshot_rows ≡ before.snapshot_rows
-      → (later ≡ stored) ⊎ (later ≡ Some (next_offset_of work)) → IsLeftOut h 0 → report.messages ≡ before.messages → report.commits ≡ before.commits → IsTakenBy [] told told2
-      → ((s t : SourceState) → stands src s → stands src2 t → t.reading ≡ s.reading) → HasHaltedPut stands holds may_leave groups at b.config b.now b.held later report src2 told2 sink h
-  halts_put_nothing b stored later work before report src src2 told told2 sink h c only other one two three kept few messages commits none reads = record {
-    grouped = λ left may. gains_so b stored src told sink work before c only later kept left may;
-    counted = reported_so h sink report other (still_counted b stored src told sink work before c only report one two three);
-    tallied = λ same. between_tallied stands holds groups at found b stored later work before report src src2 told told2 sink c (Err h) few messages commits kept none;
-    tallied_stood = λ same. between_stood stands holds groups at found b stored later work before report src src2 told told2 sink c (Err h) few messages commits kept reads;
+  pub halts_put_nothing : (b : Beginning) (stored later : Option Offset) (work : SessionState) (before report : Report) (src src2 : S) (sink : K) (h : Halt)
+      → HasPutCommit source_model sink_model groups at found b stored work before src sink
+      → ((held left : List (List Record)) → sink_model.holds sink held → sink_model.may_leave sink left → left ≡ held) → (h ≡ halt.Sink → ⊥) → report.records ≡ before.records → report.chunks ≡ before.chunks → report.snapshot_rows ≡ before.snapshot_rows
+      → (later ≡ stored) ⊎ (later ≡ Some (next_offset_of work)) → IsLeftOut h 0 → report.messages ≡ before.messages → report.commits ≡ before.commits → IsTakenBy [] (source_model.told src) (source_model.told src2)
+      → ((s t : SourceState) → source_model.stands src s → source_model.stands src2 t → t.reading ≡ s.reading) → HasHaltedPut source_model sink_model groups at b.config b.now b.held later report src2 sink h
+  halts_put_nothing b stored later work before report src src2 sink h c only other one two three kept few messages commits none reads = record {
+    grouped = λ left may. gains_so b stored src sink work before c only later kept left may;
+    counted = reported_so h sink report other (still_counted b stored src sink work before c only report one two three);
+    tallied = λ same. between_tallied source_model sink_model groups at found b stored later work before report src src2 sink c (Err h) few messages commits kept none;
+    tallied_stood = λ same. between_stood source_model sink_model groups at found b stored later work before report src src2 sink c (Err h) few messages commits kept reads;
   }
 
   -- ---- at a message that isn't taken
 
-  pub halts_untaken : (b : Beginning) (stored : Option Offset) (work : SessionState) (before report : Report) (src src2 : S) (told told2 : Option Trace) (sink : K) (bytes : List ℕ) (h : Halt)
-      → (u : IsPutting stands holds groups at found b stored work before src told sink)
-      → ((held left : List (List Record)) → holds sink held → may_leave sink left → left ≡ held) → (h ≡ halt.Sink → ⊥) → report ≡ record before { messages = before.messages + 1 }
-      → IsNewestCause report.messages b.first.lsn u.way.messages bytes work h → IsTakenBy (bytes ∷ []) told told2 → TookOne src src2 bytes → ((s t : SourceState) → stands src2 s → stands src2 t → s ≡ t)
-      → HasHaltedPut stands holds may_leave groups at b.config b.now b.held stored report src2 told2 sink h
-  halts_untaken b stored work before report src src2 told told2 sink bytes h u only other counted cause one took same = record {
-    grouped = λ left may. gains_so b stored src told sink work before rests only stored (inl refl) left may;
-    counted = reported_so h sink report other (still_counted b stored src told sink work before rests only report (ap (λ (r : Report). r.records) counted) (ap (λ (r : Report). r.chunks) counted) (ap (λ (r : Report). r.snapshot_rows) counted));
-    tallied = λ x. newest_told stands holds groups at found b stored work before report src src2 told told2 sink sink u bytes h few (ap (λ (r : Report). r.messages) counted) (ap (λ (r : Report). r.commits) counted) [] (inl refl) held one;
-    tallied_stood = λ x. newest_stood stands holds groups at found b stored work before report src src2 told told2 sink sink u bytes h few (ap (λ (r : Report). r.messages) counted) (ap (λ (r : Report). r.commits) counted) [] (inl refl) held took same;
+  pub halts_untaken : (b : Beginning) (stored : Option Offset) (work : SessionState) (before report : Report) (src src2 : S) (sink : K) (bytes : List ℕ) (h : Halt)
+      → (u : IsPutting source_model sink_model groups at found b stored work before src sink)
+      → ((held left : List (List Record)) → sink_model.holds sink held → sink_model.may_leave sink left → left ≡ held) → (h ≡ halt.Sink → ⊥) → report ≡ record before { messages = before.messages + 1 }
+      → IsNewestCause report.messages b.first.lsn u.way.messages bytes work h → IsTakenBy (bytes ∷ []) (source_model.told src) (source_model.told src2) → TookOne src src2 bytes → ((s t : SourceState) → source_model.stands src2 s → source_model.stands src2 t → s ≡ t)
+      → HasHaltedPut source_model sink_model groups at b.config b.now b.held stored report src2 sink h
+  halts_untaken b stored work before report src src2 sink bytes h u only other counted cause one took same = record {
+    grouped = λ left may. gains_so b stored src sink work before rests only stored (inl refl) left may;
+    counted = reported_so h sink report other (still_counted b stored src sink work before rests only report (ap (λ (r : Report). r.records) counted) (ap (λ (r : Report). r.chunks) counted) (ap (λ (r : Report). r.snapshot_rows) counted));
+    tallied = λ x. newest_told source_model sink_model groups at found b stored work before report src src2 sink sink u bytes h few (ap (λ (r : Report). r.messages) counted) (ap (λ (r : Report). r.commits) counted) [] (inl refl) held one;
+    tallied_stood = λ x. newest_stood source_model sink_model groups at found b stored work before report src src2 sink sink u bytes h few (ap (λ (r : Report). r.messages) counted) (ap (λ (r : Report). r.commits) counted) [] (inl refl) held took same;
   }
     where
-      rests : HasPutCommit stands holds groups at found b stored work before src told sink
-      rests = rests_put b stored work before src told sink u
+      rests : HasPutCommit source_model sink_model groups at found b stored work before src sink
+      rests = rests_put b stored work before src sink u
 
       few : IsLeftOut h 1
       few = cause_left report.messages b.first.lsn u.way.messages bytes work h cause
 
-      held : holds sink ((groups ++ cut u.put.records) ++ [])
-      held = subst (holds sink) (sym (append-nil (groups ++ cut u.put.records))) u.put.held
+      held : sink_model.holds sink ((groups ++ cut u.put.records) ++ [])
+      held = subst (sink_model.holds sink) (sym (append-nil (groups ++ cut u.put.records))) u.put.held
 
   -- ---- in the middle of a commit
 
-  module _ (b : Beginning) (stored : Option Offset) (src src2 : S) (told told2 : Option Trace) (sink sink2 : K) (old next : SessionState) (before report : Report) (u : IsPutting stands holds groups at found b stored old before src told sink) (bytes : List ℕ) (commit : Commit) (w : WasTaken b.first.lsn u.way.messages bytes old next (Some commit))
-      (many : length u.way.messages < 2 ^ 30) (moment : IsMomentInRange old.now_ms) (h : Halt) (leaves : (left : List (List Record)) → may_leave sink2 left → IsLeftByStep commit next (groups ++ cut u.put.records) left) where
+  module _ (b : Beginning) (stored : Option Offset) (src src2 : S) (sink sink2 : K) (old next : SessionState) (before report : Report) (u : IsPutting source_model sink_model groups at found b stored old before src sink) (bytes : List ℕ) (commit : Commit) (w : WasTaken b.first.lsn u.way.messages bytes old next (Some commit))
+      (many : length u.way.messages < 2 ^ 30) (moment : IsMomentInRange old.now_ms) (h : Halt) (leaves : (left : List (List Record)) → sink_model.may_leave sink2 left → IsLeftByStep commit next (groups ++ cut u.put.records) left) where
     abbrev had : List (List Record)
     had = groups ++ cut u.put.records
 
@@ -226,30 +228,30 @@ module _ {S K : Type 0} (stands : S → SourceState → Type 0) (holds may_leave
         (same_counts (cut u.put.records) before counting u.put.counts refl refl refl) is
 
     -- the sink holds what was put
-    kept_counted : ((held : List (List Record)) → holds sink2 held → may_leave sink2 held) → HoldsPut holds had (is_some (mark_of commit)) items counting report sink2 → HasCountedGroups holds groups sink2 report
+    kept_counted : ((held : List (List Record)) → sink_model.holds sink2 held → sink_model.may_leave sink2 held) → HoldsPut sink_model.holds had (is_some (mark_of commit)) items counting report sink2 → HasCountedGroups sink_model.holds groups sink2 report
     kept_counted may kept = record {
       more = cut u.put.records ++ cut (take kept.count items);
-      held = subst (holds sink2) (append_assoc groups (cut u.put.records) (cut (take kept.count items))) kept.held;
+      held = subst (sink_model.holds sink2) (append_assoc groups (cut u.put.records) (cut (take kept.count items))) kept.held;
       are = counts_at kept.count (leaves (had ++ cut (take kept.count items)) (may (had ++ cut (take kept.count items)) kept.held)) kept.report;
     }
 
-    gained_left : (left : List (List Record)) → may_leave sink2 left → Gains b.config b.now b.held stored groups left
+    gained_left : (left : List (List Record)) → sink_model.may_leave sink2 left → Gains b.config b.now b.held stored groups left
     gained_left left may =
         subst (λ (x : Option Offset). Gains b.config b.now b.held x groups left) (sym u.way.is.is.stored_is)
         (steps_leave_gains b.config b.now b.held b.first u.way.is.is.offset old next u.way.messages bytes commit u.put.records groups left u.way.is.is.of u.way.is.is.is w u.put.is (leaves left may))
 
-    pub commits_halt : ((held : List (List Record)) → holds sink2 held → may_leave sink2 held) → (h ≡ halt.Sink → ⊥) → HoldsPut holds had (is_some (mark_of commit)) items counting report sink2
-        → IsLeftOut h 1 → report.messages ≡ before.messages + 1 → report.commits ≡ before.commits → IsTakenBy (bytes ∷ []) told told2 → TookOne src src2 bytes → ((s t : SourceState) → stands src2 s → stands src2 t → s ≡ t)
-        → HasHaltedPut stands holds may_leave groups at b.config b.now b.held stored report src2 told2 sink2 h
+    pub commits_halt : ((held : List (List Record)) → sink_model.holds sink2 held → sink_model.may_leave sink2 held) → (h ≡ halt.Sink → ⊥) → HoldsPut sink_model.holds had (is_some (mark_of commit)) items counting report sink2
+        → IsLeftOut h 1 → report.messages ≡ before.messages + 1 → report.commits ≡ before.commits → IsTakenBy (bytes ∷ []) (source_model.told src) (source_model.told src2) → TookOne src src2 bytes → ((s t : SourceState) → source_model.stands src2 s → source_model.stands src2 t → s ≡ t)
+        → HasHaltedPut source_model sink_model groups at b.config b.now b.held stored report src2 sink2 h
     commits_halt may other kept few messages commits one took same = record {
       grouped = gained_left;
       counted = reported_so h sink2 report other (kept_counted may kept);
-      tallied = λ x. newest_told stands holds groups at found b stored old before report src src2 told told2 sink sink2 u bytes h few messages commits (take kept.count items) part kept.held one;
-      tallied_stood = λ x. newest_stood stands holds groups at found b stored old before report src src2 told told2 sink sink2 u bytes h few messages commits (take kept.count items) part kept.held took same;
+      tallied = λ x. newest_told source_model sink_model groups at found b stored old before report src src2 sink sink2 u bytes h few messages commits (take kept.count items) part kept.held one;
+      tallied_stood = λ x. newest_stood source_model sink_model groups at found b stored old before report src src2 sink sink2 u bytes h few messages commits (take kept.count items) part kept.held took same;
     }
       where
         part : (take kept.count items ≡ []) ⊎ IsFirstPart (making_at old) u.way.messages (Spells bytes) (take kept.count items)
-        part = part_so holds may_leave had sink2 b.first.lsn u.way.messages bytes commit old next counting report u.way.is.is.is w leaves may kept
+        part = part_so sink_model had sink2 b.first.lsn u.way.messages bytes commit old next counting report u.way.is.is.is w leaves may kept
 
     -- a put failed: some records of its group may be there
     none_torn : (rest : List (List Record)) (group : List Record) (left : List (List Record)) → left ≡ had → IsLeftByPut (had ++ rest) group left → had ++ rest ≡ had
@@ -258,14 +260,14 @@ module _ {S K : Type 0} (stands : S → SourceState → Type 0) (holds may_leave
         absurd (too_many (length had) (length rest) (length ((had ++ rest) ++ take some.0 group ∷ [])) (ap (λ (l : List (List Record)). length l) (sym same ∙ some.3))
         (length-append (had ++ rest) (take some.0 group ∷ []) ∙ ap (λ (n : ℕ). n + 1) (length-append had rest)))
 
-    torn_left : (t : WasTorn may_leave had (is_some (mark_of commit)) items counting report sink2) → (left : List (List Record)) → may_leave sink2 left → IsLeftByStep commit next had (had ++ cut (take t.count items))
+    torn_left : (t : WasTorn sink_model.may_leave had (is_some (mark_of commit)) items counting report sink2) → (left : List (List Record)) → sink_model.may_leave sink2 left → IsLeftByStep commit next had (had ++ cut (take t.count items))
     torn_left t left may = by (leaves left may)
       where
         by : IsLeftByStep commit next had left → IsLeftByStep commit next had (had ++ cut (take t.count items))
         by (inl same) = inl (none_torn (cut (take t.count items)) t.group left same (t.left left may))
         by (inr some) = inr (record { following = some.following; steps = some.steps; no_clash = some.no_clash; listed = some.listed; cut_is = (t.count, refl) })
 
-    pub puts_fail : h ≡ halt.Sink → WasTorn may_leave had (is_some (mark_of commit)) items counting report sink2 → (left : List (List Record)) × may_leave sink2 left → HasHaltedPut stands holds may_leave groups at b.config b.now b.held stored report src2 told2 sink2 h
+    pub puts_fail : h ≡ halt.Sink → WasTorn sink_model.may_leave had (is_some (mark_of commit)) items counting report sink2 → (left : List (List Record)) × sink_model.may_leave sink2 left → HasHaltedPut source_model sink_model groups at b.config b.now b.held stored report src2 sink2 h
     puts_fail same t left = record {
       grouped = gained_left;
       counted = reported_sink h sink2 report same (record {

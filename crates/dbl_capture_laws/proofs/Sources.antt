@@ -5,6 +5,7 @@ use Rattle.dbl_base.specs.declared.lsn.Lsn.{Lsn}
 use Rattle.dbl_pgmsg.specs.declared.messages.Message.{Message}
 use Rattle.dbl_pgmsg.specs.Grammar.{Spells}
 use Rattle.dbl_pgmsg.proofs.MessageLaws.{one_message}
+use Rattle.dbl_capture_work.specs.Source.Model.{SourceModel}
 use Rattle.dbl_model_table.specs.declared.config.Config.{Config}
 use Rattle.dbl_model_table.specs.declared.change.Commit.{Commit}
 use Rattle.dbl_capture_work.specs.SourceModel.Calls.{IsConfirmed, HasReadOneMore}
@@ -65,53 +66,53 @@ took_on b ms m s t stands took =
     let same : took.before ≡ reading_of b.first.lsn ms = first_some took.before (reading_of b.first.lsn ms) (sym took.was ∙ stands) in
     took.is ∙ ap (λ (r : Reading). Some (reading_of r.after (m ∷ r.messages))) same
 
-module _ {S : Type 0} (stands : S → SourceState → Type 0) (at : Option SourceState) (found : Option Trace) where
+module _ {S : Type 0} (source_model : SourceModel S) (at : Option SourceState) (found : Option Trace) where
   abbrev Reads : S → S → Type 0
-  Reads src src2 = (s : SourceState) → stands src s → HasState stands src2 (λ t. t.reading ≡ s.reading)
+  Reads src src2 = (s : SourceState) → source_model.stands src s → HasState source_model.stands src2 (λ t. t.reading ≡ s.reading)
 
-  pub still_stood : (b : Beginning) (ms : List Message) (src src2 : S) → Reads src src2 → HasState stands src (StandsAt b ms) → HasState stands src2 (StandsAt b ms)
+  pub still_stood : (b : Beginning) (ms : List Message) (src src2 : S) → Reads src src2 → HasState source_model.stands src (StandsAt b ms) → HasState source_model.stands src2 (StandsAt b ms)
   still_stood b ms src src2 reads was =
       let now = reads was.standing was.is in
       record { standing = now.standing; is = now.is; holds = now.holds ∙ was.holds }
 
   -- ---- it begins
 
-  abbrev pub begins : (b : Beginning) (every : ℕ) (work : SessionState) (report : Report) (src : S) (told : Option Trace) → IsOffsetFor b.config b.held b.first → BeginsWithOffset b.first b.now b.config.chunk every work
-      → report.messages ≡ 0 → report.commits ≡ 0 → report.chunks ≡ 0 → IsTakenAnew found told → ((s : SourceState) → at ≡ Some s → HasState stands src (StandsAt b []))
-      → IsUnderWay stands at found b (Some b.first) work report src told
-  begins b every work report src told for begun messages commits chunks anew stood = record {
+  abbrev pub begins : (b : Beginning) (every : ℕ) (work : SessionState) (report : Report) (src : S) → IsOffsetFor b.config b.held b.first → BeginsWithOffset b.first b.now b.config.chunk every work
+      → report.messages ≡ 0 → report.commits ≡ 0 → report.chunks ≡ 0 → IsTakenAnew found (source_model.told src) → ((s : SourceState) → at ≡ Some s → HasState source_model.stands src (StandsAt b []))
+      → IsUnderWay source_model at found b (Some b.first) work report src
+  begins b every work report src for begun messages commits chunks anew stood = record {
     messages = [];
     is = sessions_begin_at_rest b every work report for begun messages commits chunks;
-    tells = record { begun = told; begun_unread = anew; read = []; taken = begun_told told; spelled = tt };
+    tells = record { begun = source_model.told src; begun_unread = anew; read = []; taken = begun_told (source_model.told src); spelled = tt };
     stood = stood;
   }
 
   -- ---- it goes on
 
-  module _ (b : Beginning) (stored : Option Offset) (src src2 : S) (told told2 : Option Trace) where
+  module _ (b : Beginning) (stored : Option Offset) (src src2 : S) where
     -- nothing is read
-    abbrev pub rests_on : (work : SessionState) (report : Report) → IsUnderWay stands at found b stored work report src told → IsTakenBy [] told told2 → Reads src src2 → IsUnderWay stands at found b stored work report src2 told2
+    abbrev pub rests_on : (work : SessionState) (report : Report) → IsUnderWay source_model at found b stored work report src → IsTakenBy [] (source_model.told src) (source_model.told src2) → Reads src src2 → IsUnderWay source_model at found b stored work report src2
     rests_on work report u none reads = record {
       messages = u.messages;
       is = u.is;
-      tells = told_still found told told2 u.messages u.tells none;
+      tells = told_still found (source_model.told src) (source_model.told src2) u.messages u.tells none;
       stood = λ s first. still_stood b u.messages src src2 reads (u.stood s first);
     }
 
     -- a window is
-    abbrev pub arms_on : (old new : SessionState) (table : ℕ) (report : Report) → IsUnderWay stands at found b stored old report src told → old.follower.window ≡ Absent → IsOpenTable old table → IsArmedWork table old new
-        → IsTakenBy [] told told2 → Reads src src2 → IsUnderWay stands at found b stored new report src2 told2
+    abbrev pub arms_on : (old new : SessionState) (table : ℕ) (report : Report) → IsUnderWay source_model at found b stored old report src → old.follower.window ≡ Absent → IsOpenTable old table → IsArmedWork table old new
+        → IsTakenBy [] (source_model.told src) (source_model.told src2) → Reads src src2 → IsUnderWay source_model at found b stored new report src2
     arms_on old new table report u absent unread armed none reads = record {
       messages = u.messages;
       is = windows_let_it_rest b u.messages stored old new table report u.is absent unread armed;
-      tells = told_still found told told2 u.messages u.tells none;
+      tells = told_still found (source_model.told src) (source_model.told src2) u.messages u.tells none;
       stood = λ s first. still_stood b u.messages src src2 reads (u.stood s first);
     }
 
     -- a message is taken
-    module _ (old next : SessionState) (before : Report) (u : IsUnderWay stands at found b stored old before src told) (bytes : List ℕ) (commit : Option Commit) (w : WasTaken b.first.lsn u.messages bytes old next commit)
-        (one : IsTakenBy (bytes ∷ []) told told2) (took : (s : SourceState) → stands src s → (m : Message) × Spells bytes m × HasState stands src2 (HasReadOneMore m s)) where
-      pub stood_on : (s : SourceState) → at ≡ Some s → HasState stands src2 (StandsAt b (w.message ∷ u.messages))
+    module _ (old next : SessionState) (before : Report) (u : IsUnderWay source_model at found b stored old before src) (bytes : List ℕ) (commit : Option Commit) (w : WasTaken b.first.lsn u.messages bytes old next commit)
+        (one : IsTakenBy (bytes ∷ []) (source_model.told src) (source_model.told src2)) (took : (s : SourceState) → source_model.stands src s → (m : Message) × Spells bytes m × HasState source_model.stands src2 (HasReadOneMore m s)) where
+      pub stood_on : (s : SourceState) → at ≡ Some s → HasState source_model.stands src2 (StandsAt b (w.message ∷ u.messages))
       stood_on s first =
           let was = u.stood s first in
           let read = took was.standing was.is in
@@ -122,57 +123,57 @@ module _ {S : Type 0} (stands : S → SourceState → Type 0) (at : Option Sourc
                 (took_on b u.messages read.0 was.standing read.2.standing was.holds read.2.holds);
           }
 
-    abbrev pub takes_on : (old next : SessionState) (before report : Report) (u : IsUnderWay stands at found b stored old before src told) (bytes : List ℕ) → WasTaken b.first.lsn u.messages bytes old next None
-        → report ≡ record before { messages = before.messages + 1 } → IsTakenBy (bytes ∷ []) told told2 → ((s : SourceState) → stands src s → (m : Message) × Spells bytes m × HasState stands src2 (HasReadOneMore m s))
-        → IsUnderWay stands at found b stored next report src2 told2
+    abbrev pub takes_on : (old next : SessionState) (before report : Report) (u : IsUnderWay source_model at found b stored old before src) (bytes : List ℕ) → WasTaken b.first.lsn u.messages bytes old next None
+        → report ≡ record before { messages = before.messages + 1 } → IsTakenBy (bytes ∷ []) (source_model.told src) (source_model.told src2) → ((s : SourceState) → source_model.stands src s → (m : Message) × Spells bytes m × HasState source_model.stands src2 (HasReadOneMore m s))
+        → IsUnderWay source_model at found b stored next report src2
     takes_on old next before report u bytes w counted one took = record {
       messages = w.message ∷ u.messages;
       is = messages_let_it_rest b u.messages stored old next before report bytes u.is w counted;
-      tells = told_on found told told2 u.messages bytes w.message u.tells one w.spells;
+      tells = told_on found (source_model.told src) (source_model.told src2) u.messages bytes w.message u.tells one w.spells;
       stood = stood_on old next before u bytes None w one took;
     }
 
     -- and the commit that it ends is followed
-    module _ (old next new : SessionState) (before report : Report) (u : IsUnderWay stands at found b stored old before src told) (bytes : List ℕ) (commit : Commit) (w : WasTaken b.first.lsn u.messages bytes old next (Some commit))
+    module _ (old next new : SessionState) (before report : Report) (u : IsUnderWay source_model at found b stored old before src) (bytes : List ℕ) (commit : Commit) (w : WasTaken b.first.lsn u.messages bytes old next (Some commit))
         (st : WasStepped commit next new) (short : AreShort (records_by next.follower commit next.now_ms)) (small : old.number < 2 ^ 64) (reports : ReportsStep commit next (record before { messages = before.messages + 1 }) report true)
-        (one : IsTakenBy (bytes ∷ []) told told2) (took : (s : SourceState) → stands src s → (m : Message) × Spells bytes m × HasState stands src2 (HasReadOneMore m s)) where
-      abbrev pub follows_on : HasCommitted stands at found b stored new report src2 told2
+        (one : IsTakenBy (bytes ∷ []) (source_model.told src) (source_model.told src2)) (took : (s : SourceState) → source_model.stands src s → (m : Message) × Spells bytes m × HasState source_model.stands src2 (HasReadOneMore m s)) where
+      abbrev pub follows_on : HasCommitted source_model at found b stored new report src2
       follows_on = record {
         messages = w.message ∷ u.messages;
         is = (commits_leave_it_read b u.messages stored old next new before report bytes commit u.is w st short small reports).0;
-        tells = told_on found told told2 u.messages bytes w.message u.tells one w.spells;
+        tells = told_on found (source_model.told src) (source_model.told src2) u.messages bytes w.message u.tells one w.spells;
         stood = stood_on old next before u bytes (Some commit) w one took;
       }
 
-      abbrev pub follows_at_rest : closes next commit ≡ false → IsUnderWay stands at found b stored new report src2 told2
+      abbrev pub follows_at_rest : closes next commit ≡ false → IsUnderWay source_model at found b stored new report src2
       follows_at_rest closed = record {
         messages = w.message ∷ u.messages;
         is = (commits_leave_it_read b u.messages stored old next new before report bytes commit u.is w st short small reports).1 closed;
-        tells = told_on found told told2 u.messages bytes w.message u.tells one w.spells;
+        tells = told_on found (source_model.told src) (source_model.told src2) u.messages bytes w.message u.tells one w.spells;
         stood = stood_on old next before u bytes (Some commit) w one took;
       }
 
   -- between two turns it is so, too
-  abbrev pub at_rest : (b : Beginning) (stored : Option Offset) (work : SessionState) (report : Report) (src : S) (told : Option Trace) → IsUnderWay stands at found b stored work report src told → HasCommitted stands at found b stored work report src told
-  at_rest b stored work report src told u = record { messages = u.messages; is = u.is.is; tells = u.tells; stood = u.stood }
+  abbrev pub at_rest : (b : Beginning) (stored : Option Offset) (work : SessionState) (report : Report) (src : S) → IsUnderWay source_model at found b stored work report src → HasCommitted source_model at found b stored work report src
+  at_rest b stored work report src u = record { messages = u.messages; is = u.is.is; tells = u.tells; stood = u.stood }
 
   -- ---- it settles
 
   pub far : (n m k : ℕ) → n ≡ max m k → k ≤ n
   far n m k is = omega (arith, is)
 
-  abbrev pub settles_on : (b : Beginning) (stored later : Option Offset) (old new : SessionState) (before report : Report) (src src2 : S) (told told2 : Option Trace) → HasCommitted stands at found b stored old before src told
-      → later ≡ Some (next_offset_of old) → new ≡ record old { since = 0 } → report ≡ record before { position = report.position } → IsTakenBy [] told told2
-      → ((s : SourceState) → stands src s → HasState stands src2 (IsConfirmed old.offset.lsn s)) → HasSettledAll stands at found b later new report src2 told2
-  settles_on b stored later old new before report src src2 told told2 c later_is same counted none confirms = record {
+  abbrev pub settles_on : (b : Beginning) (stored later : Option Offset) (old new : SessionState) (before report : Report) (src src2 : S) → HasCommitted source_model at found b stored old before src
+      → later ≡ Some (next_offset_of old) → new ≡ record old { since = 0 } → report ≡ record before { position = report.position } → IsTakenBy [] (source_model.told src) (source_model.told src2)
+      → ((s : SourceState) → source_model.stands src s → HasState source_model.stands src2 (IsConfirmed old.offset.lsn s)) → HasSettledAll source_model at found b later new report src2
+  settles_on b stored later old new before report src src2 c later_is same counted none confirms = record {
     messages = c.messages;
     stored_is = later_is ∙ sym (ap (λ (w : SessionState). Some (next_offset_of w)) same);
     is = subst (λ (x : Option Offset). IsResting b c.messages x new report) (sym later_is) (stores_let_it_rest b c.messages stored old new before report c.is same counted);
-    tells = told_still found told told2 c.messages c.tells none;
+    tells = told_still found (source_model.told src) (source_model.told src2) c.messages c.tells none;
     stood = λ s first. confirmed (c.stood s first);
   }
     where
-      confirmed : HasState stands src (StandsAt b c.messages) → HasState stands src2 (λ t. StandsAt b c.messages t × (new.offset.lsn.0 ≤ t.confirmed.0))
+      confirmed : HasState source_model.stands src (StandsAt b c.messages) → HasState source_model.stands src2 (λ t. StandsAt b c.messages t × (new.offset.lsn.0 ≤ t.confirmed.0))
       confirmed was =
           let now = confirms was.standing was.is in
           record {
@@ -184,9 +185,9 @@ module _ {S : Type 0} (stands : S → SourceState → Type 0) (at : Option Sourc
             );
           }
 
-  abbrev pub settled_rests : (b : Beginning) (stored : Option Offset) (work : SessionState) (report : Report) (src : S) (told : Option Trace) → HasSettledAll stands at found b stored work report src told
-      → IsUnderWay stands at found b stored work report src told
-  settled_rests b stored work report src told c = record {
+  abbrev pub settled_rests : (b : Beginning) (stored : Option Offset) (work : SessionState) (report : Report) (src : S) → HasSettledAll source_model at found b stored work report src
+      → IsUnderWay source_model at found b stored work report src
+  settled_rests b stored work report src c = record {
     messages = c.messages;
     is = c.is;
     tells = c.tells;
@@ -197,22 +198,22 @@ module _ {S : Type 0} (stands : S → SourceState → Type 0) (at : Option Sourc
 
   -- ---- it stops with an error
 
-  pub halts_between : (b : Beginning) (stored later : Option Offset) (work : SessionState) (before report : Report) (src src2 : S) (told told2 : Option Trace) (h : Halt) → HasCommitted stands at found b stored work before src told
-      → IsTakenBy [] told told2 → ((s t : SourceState) → stands src s → stands src2 t → t.reading ≡ s.reading) → IsLeftOut h 0 → report.messages ≡ before.messages → report.commits ≡ before.commits
-      → (later ≡ stored) ⊎ (later ≡ Some (next_offset_of work)) → HasHalted stands at found b.config b.now b.held later report src2 told2 h
-  halts_between b stored later work before report src src2 told told2 h c none reads left messages commits kept = record {
-    tells = halts_between_are_told b c.messages stored later work before report found told told2 h c.is c.tells none left messages commits kept;
+  pub halts_between : (b : Beginning) (stored later : Option Offset) (work : SessionState) (before report : Report) (src src2 : S) (h : Halt) → HasCommitted source_model at found b stored work before src
+      → IsTakenBy [] (source_model.told src) (source_model.told src2) → ((s t : SourceState) → source_model.stands src s → source_model.stands src2 t → t.reading ≡ s.reading) → IsLeftOut h 0 → report.messages ≡ before.messages → report.commits ≡ before.commits
+      → (later ≡ stored) ⊎ (later ≡ Some (next_offset_of work)) → HasHalted source_model at found b.config b.now b.held later report src2 h
+  halts_between b stored later work before report src src2 h c none reads left messages commits kept = record {
+    tells = halts_between_are_told b c.messages stored later work before report found (source_model.told src) (source_model.told src2) h c.is c.tells none left messages commits kept;
     stood = λ s t first stands_now.
         let was = c.stood s first in
         halts_between_are_stood b c.messages stored later work before report s t h c.is (reads was.standing t was.is stands_now ∙ was.holds) left messages commits kept;
   }
 
-  pub halts_at : (b : Beginning) (stored : Option Offset) (work : SessionState) (before report : Report) (src src2 : S) (told told2 : Option Trace) (bytes : List ℕ) (h : Halt) (u : IsUnderWay stands at found b stored work before src told)
-      → IsTakenBy (bytes ∷ []) told told2 → ((s : SourceState) → stands src s → (m : Message) × Spells bytes m × HasState stands src2 (HasReadOneMore m s)) → ((s t : SourceState) → stands src2 s → stands src2 t → s ≡ t)
+  pub halts_at : (b : Beginning) (stored : Option Offset) (work : SessionState) (before report : Report) (src src2 : S) (bytes : List ℕ) (h : Halt) (u : IsUnderWay source_model at found b stored work before src)
+      → IsTakenBy (bytes ∷ []) (source_model.told src) (source_model.told src2) → ((s : SourceState) → source_model.stands src s → (m : Message) × Spells bytes m × HasState source_model.stands src2 (HasReadOneMore m s)) → ((s t : SourceState) → source_model.stands src2 s → source_model.stands src2 t → s ≡ t)
       → IsNewestCause report.messages b.first.lsn u.messages bytes work h → report.messages ≡ before.messages + 1 → report.commits ≡ before.commits
-      → HasHalted stands at found b.config b.now b.held stored report src2 told2 h
-  halts_at b stored work before report src src2 told told2 bytes h u one took same cause messages commits = record {
-    tells = halts_at_messages_are_told b u.messages stored work before report found told told2 bytes h u.is.is u.tells one cause messages commits;
+      → HasHalted source_model at found b.config b.now b.held stored report src2 h
+  halts_at b stored work before report src src2 bytes h u one took same cause messages commits = record {
+    tells = halts_at_messages_are_told b u.messages stored work before report found (source_model.told src) (source_model.told src2) bytes h u.is.is u.tells one cause messages commits;
     stood = λ s t first stands_now.
         let was = u.stood s first in
         let read = took was.standing was.is in
@@ -221,26 +222,26 @@ module _ {S : Type 0} (stands : S → SourceState → Type 0) (at : Option Sourc
         cause messages commits;
   }
 
-  pub halts_unread : (config : Config) (now : ℤ) (held stored : Option Offset) (report : Report) (src src2 : S) (told : Option Trace) (h : Halt) → ((s : SourceState) → at ≡ Some s → stands src s)
-      → IsOpenHalt config held stored told h → report.messages ≡ 0 → report.commits ≡ 0 → IsTakenBy [] found told ⊎ IsTakenAnew found told
-      → ((s t : SourceState) → stands src s → stands src2 t → (t.reading ≡ s.reading) ⊎ IfSome t.reading (λ r. r.messages ≡ [])) → HasHalted stands at found config now held stored report src2 told h
-  halts_unread config now held stored report src src2 told h stood is messages commits taken reads = record {
-    tells = halts_unread_are_told config now held stored found told report h is messages commits taken;
-    stood = λ s t first stands_now. halts_unread_are_stood config now held stored told report s t h is messages commits (reads s t (stood s first) stands_now);
+  pub halts_unread : (config : Config) (now : ℤ) (held stored : Option Offset) (report : Report) (src src2 : S) (h : Halt) → ((s : SourceState) → at ≡ Some s → source_model.stands src s)
+      → IsOpenHalt config held stored (source_model.told src2) h → report.messages ≡ 0 → report.commits ≡ 0 → IsTakenBy [] found (source_model.told src2) ⊎ IsTakenAnew found (source_model.told src2)
+      → ((s t : SourceState) → source_model.stands src s → source_model.stands src2 t → (t.reading ≡ s.reading) ⊎ IfSome t.reading (λ r. r.messages ≡ [])) → HasHalted source_model at found config now held stored report src2 h
+  halts_unread config now held stored report src src2 h stood is messages commits taken reads = record {
+    tells = halts_unread_are_told config now held stored found (source_model.told src2) report h is messages commits taken;
+    stood = λ s t first stands_now. halts_unread_are_stood config now held stored (source_model.told src2) report s t h is messages commits (reads s t (stood s first) stands_now);
   }
 
   -- ---- it ends
 
-  module _ (b : Beginning) (stored : Option Offset) (work : SessionState) (report : Report) (src : S) (told : Option Trace) (ending : Ending) (c : HasSettledAll stands at found b stored work report src told) where
+  module _ (b : Beginning) (stored : Option Offset) (work : SessionState) (report : Report) (src : S) (ending : Ending) (c : HasSettledAll source_model at found b stored work report src) where
     behind_next : IsReadUpTo b c.messages (Some (next_offset_of work)) work report
     behind_next = subst (λ (x : Option Offset). IsReadUpTo b c.messages x work report) c.stored_is c.is.is
 
-    pub ended_told : StoodAtLast b.config b.now b.held stored report told × TellsSoMany report.messages told × ((t : Trace) → told ≡ Some t → MustHaltTold b.config b.now b.held stored report t (Ok ending))
+    pub ended_told : StoodAtLast b.config b.now b.held stored report (source_model.told src) × TellsSoMany report.messages (source_model.told src) × ((t : Trace) → source_model.told src ≡ Some t → MustHaltTold b.config b.now b.held stored report t (Ok ending))
     ended_told =
-        subst (λ (x : Option Offset). StoodAtLast b.config b.now b.held x report told × TellsSoMany report.messages told × ((t : Trace) → told ≡ Some t → MustHaltTold b.config b.now b.held x report t (Ok ending)))
-        (sym c.stored_is) (ends_are_told b c.messages work report found told ending behind_next c.tells)
+        subst (λ (x : Option Offset). StoodAtLast b.config b.now b.held x report (source_model.told src) × TellsSoMany report.messages (source_model.told src) × ((t : Trace) → source_model.told src ≡ Some t → MustHaltTold b.config b.now b.held x report t (Ok ending)))
+        (sym c.stored_is) (ends_are_told b c.messages work report found (source_model.told src) ending behind_next c.tells)
 
-    pub ended_stood : (s : SourceState) → at ≡ Some s → HasState stands src (λ t. HasSettled b.config b.now b.held stored report t × MustHaltStood b.config b.now b.held stored report t (Ok ending))
+    pub ended_stood : (s : SourceState) → at ≡ Some s → HasState source_model.stands src (λ t. HasSettled b.config b.now b.held stored report t × MustHaltStood b.config b.now b.held stored report t (Ok ending))
     ended_stood s first =
         let was = c.stood s first in
         record {

@@ -8,6 +8,8 @@ use Rattle.dbl_pgmsg.specs.Grammar.{Spells}
 use Rattle.dbl_pgmsg.proofs.MessageLaws.{one_message}
 use Rattle.dbl_record.specs.declared.record.Record.{Record}
 use Rattle.dbl_record.specs.Cuts.{cut}
+use Rattle.dbl_topic.specs.Model.{SinkModel}
+use Rattle.dbl_capture_work.specs.Source.Model.{SourceModel}
 use Rattle.dbl_model_table.specs.declared.change.Commit.{Commit}
 use Rattle.dbl_capture_work.specs.ModelCommit.Past.{last_lsn}
 use Rattle.dbl_capture_work.specs.ModelCommit.Stated.{commits_of}
@@ -115,22 +117,22 @@ module _ (b : Beginning) (ms : List Message) (stored later : Option Offset) (wor
 
 -- ---- between two messages
 
-module _ {S K : Type 0} (stands : S → SourceState → Type 0) (holds : K → List (List Record) → Type 0) (groups : List (List Record)) (at : Option SourceState) (found : Option Trace) (b : Beginning)
-    (stored later : Option Offset) (work : SessionState) (before report : Report) (src src2 : S) (told told2 : Option Trace) (sink : K) (c : HasPutCommit stands holds groups at found b stored work before src told sink)
+module _ {S K : Type 0} (source_model : SourceModel S) (sink_model : SinkModel K) (groups : List (List Record)) (at : Option SourceState) (found : Option Trace) (b : Beginning)
+    (stored later : Option Offset) (work : SessionState) (before report : Report) (src src2 : S) (sink : K) (c : HasPutCommit source_model sink_model groups at found b stored work before src sink)
     (result : Result Ending Halt) (few : IsLeftOutBy result 0) (messages : report.messages ≡ before.messages) (commits : report.commits ≡ before.commits) (kept : (later ≡ stored) ⊎ (later ≡ Some (next_offset_of work))) where
-  pub between_tallied : IsTakenBy [] told told2 → IsTallied holds groups b.config b.now b.held later report told2 sink result
-  between_tallied none = at_stored b c.way.messages stored later work before c.way.is (λ (x : Option Offset). IsTallied holds groups b.config b.now b.held x report told2 sink result)
-      (λ o of upto. told_tallied holds groups sink result b o work of report told2 c.way.tells.read
+  pub between_tallied : IsTakenBy [] (source_model.told src) (source_model.told src2) → IsTallied sink_model.holds groups b.config b.now b.held later report (source_model.told src2) sink result
+  between_tallied none = at_stored b c.way.messages stored later work before c.way.is (λ (x : Option Offset). IsTallied sink_model.holds groups b.config b.now b.held x report (source_model.told src2) sink result)
+      (λ o of upto. told_tallied sink_model.holds groups sink result b o work of report (source_model.told src2) c.way.tells.read
       (sym (same_many c.way.tells.read c.way.messages c.way.tells.spelled) ∙ (c.way.is.many ∙ sym messages))
-      (λ t is. read_is c.way.tells.read found c.way.tells.begun told2 t is c.way.tells.begun_unread (taken_more [] c.way.tells.read c.way.tells.begun told told2 c.way.tells.taken none c.way.tells.read refl))
-      (all_tallied holds groups sink Spells result b.first.lsn c.way.messages work c.put.records c.put.is c.way.tells.read c.way.tells.spelled report.commits (commits ∙ c.way.is.followed) o.lsn upto few c.put.held)) kept
+      (λ t is. read_is c.way.tells.read found c.way.tells.begun (source_model.told src2) t is c.way.tells.begun_unread (taken_more [] c.way.tells.read c.way.tells.begun (source_model.told src) (source_model.told src2) c.way.tells.taken none c.way.tells.read refl))
+      (all_tallied sink_model.holds groups sink Spells result b.first.lsn c.way.messages work c.put.records c.put.is c.way.tells.read c.way.tells.spelled report.commits (commits ∙ c.way.is.followed) o.lsn upto few c.put.held)) kept
 
-  pub between_stood : ((s t : SourceState) → stands src s → stands src2 t → t.reading ≡ s.reading) → (s t : SourceState) → at ≡ Some s → stands src2 t → IsTalliedAfter holds groups b.config b.now b.held later report t sink result
+  pub between_stood : ((s t : SourceState) → source_model.stands src s → source_model.stands src2 t → t.reading ≡ s.reading) → (s t : SourceState) → at ≡ Some s → source_model.stands src2 t → IsTalliedAfter sink_model.holds groups b.config b.now b.held later report t sink result
   between_stood reads s t first now =
       let was = c.way.stood s first in
-      at_stored b c.way.messages stored later work before c.way.is (λ (x : Option Offset). IsTalliedAfter holds groups b.config b.now b.held x report t sink result)
-      (λ o of upto. stood_tallied holds groups sink result b o work of report t c.way.messages (reads was.standing t was.is now ∙ was.holds) (c.way.is.many ∙ sym messages)
-      (all_tallied holds groups sink (λ (m n : Message). m ≡ n) result b.first.lsn c.way.messages work c.put.records c.put.is c.way.messages (same_all c.way.messages) report.commits (commits ∙ c.way.is.followed) o.lsn upto few c.put.held)) kept
+      at_stored b c.way.messages stored later work before c.way.is (λ (x : Option Offset). IsTalliedAfter sink_model.holds groups b.config b.now b.held x report t sink result)
+      (λ o of upto. stood_tallied sink_model.holds groups sink result b o work of report t c.way.messages (reads was.standing t was.is now ∙ was.holds) (c.way.is.many ∙ sym messages)
+      (all_tallied sink_model.holds groups sink (λ (m n : Message). m ≡ n) result b.first.lsn c.way.messages work c.put.records c.put.is c.way.messages (same_all c.way.messages) report.commits (commits ∙ c.way.is.followed) o.lsn upto few c.put.held)) kept
 
 -- ---- at the newest one
 
@@ -152,27 +154,27 @@ front_of by ms bytes m part spells (inr f) = inr (record {
   part_is = f.part_is;
 })
 
-module _ {S K : Type 0} (stands : S → SourceState → Type 0) (holds : K → List (List Record) → Type 0) (groups : List (List Record)) (at : Option SourceState) (found : Option Trace) (b : Beginning)
-    (stored : Option Offset) (work : SessionState) (before report : Report) (src src2 : S) (told told2 : Option Trace) (sink sink2 : K) (u : IsPutting stands holds groups at found b stored work before src told sink)
+module _ {S K : Type 0} (source_model : SourceModel S) (sink_model : SinkModel K) (groups : List (List Record)) (at : Option SourceState) (found : Option Trace) (b : Beginning)
+    (stored : Option Offset) (work : SessionState) (before report : Report) (src src2 : S) (sink sink2 : K) (u : IsPutting source_model sink_model groups at found b stored work before src sink)
     (bytes : List ℕ) (h : Halt) (few : IsLeftOut h 1) (messages : report.messages ≡ before.messages + 1) (commits : report.commits ≡ before.commits)
-    (part : List Record) (part_is : (part ≡ []) ⊎ IsFirstPart (making_at work) u.way.messages (Spells bytes) part) (held : holds sink2 ((groups ++ cut u.put.records) ++ cut part)) where
-  pub newest_told : IsTakenBy (bytes ∷ []) told told2 → IsTallied holds groups b.config b.now b.held stored report told2 sink2 (Err h)
-  newest_told one = at_stored b u.way.messages stored stored work before u.way.is.is (λ (x : Option Offset). IsTallied holds groups b.config b.now b.held x report told2 sink2 (Err h))
-      (λ o of upto. told_tallied holds groups sink2 (Err h) b o work of report told2 (bytes ∷ u.way.tells.read)
+    (part : List Record) (part_is : (part ≡ []) ⊎ IsFirstPart (making_at work) u.way.messages (Spells bytes) part) (held : sink_model.holds sink2 ((groups ++ cut u.put.records) ++ cut part)) where
+  pub newest_told : IsTakenBy (bytes ∷ []) (source_model.told src) (source_model.told src2) → IsTallied sink_model.holds groups b.config b.now b.held stored report (source_model.told src2) sink2 (Err h)
+  newest_told one = at_stored b u.way.messages stored stored work before u.way.is.is (λ (x : Option Offset). IsTallied sink_model.holds groups b.config b.now b.held x report (source_model.told src2) sink2 (Err h))
+      (λ o of upto. told_tallied sink_model.holds groups sink2 (Err h) b o work of report (source_model.told src2) (bytes ∷ u.way.tells.read)
       (one_more report.messages before.messages (length u.way.tells.read) messages (sym (same_many u.way.tells.read u.way.messages u.way.tells.spelled) ∙ u.way.is.is.many))
-      (λ t is. read_is (bytes ∷ u.way.tells.read) found u.way.tells.begun told2 t is u.way.tells.begun_unread (taken_more (bytes ∷ []) u.way.tells.read u.way.tells.begun told told2 u.way.tells.taken one (bytes ∷ u.way.tells.read) refl))
-      (newest_tallied holds groups sink2 Spells (Err h) b.first.lsn u.way.messages work u.put.records u.put.is u.way.tells.read u.way.tells.spelled report.commits (commits ∙ u.way.is.is.followed) o.lsn upto bytes part few part_is held)) (inl refl)
+      (λ t is. read_is (bytes ∷ u.way.tells.read) found u.way.tells.begun (source_model.told src2) t is u.way.tells.begun_unread (taken_more (bytes ∷ []) u.way.tells.read u.way.tells.begun (source_model.told src) (source_model.told src2) u.way.tells.taken one (bytes ∷ u.way.tells.read) refl))
+      (newest_tallied sink_model.holds groups sink2 Spells (Err h) b.first.lsn u.way.messages work u.put.records u.put.is u.way.tells.read u.way.tells.spelled report.commits (commits ∙ u.way.is.is.followed) o.lsn upto bytes part few part_is held)) (inl refl)
 
-  pub newest_stood : ((s : SourceState) → stands src s → (m : Message) × Spells bytes m × HasState stands src2 (HasReadOneMore m s)) → ((s t : SourceState) → stands src2 s → stands src2 t → s ≡ t)
-      → (s t : SourceState) → at ≡ Some s → stands src2 t → IsTalliedAfter holds groups b.config b.now b.held stored report t sink2 (Err h)
+  pub newest_stood : ((s : SourceState) → source_model.stands src s → (m : Message) × Spells bytes m × HasState source_model.stands src2 (HasReadOneMore m s)) → ((s t : SourceState) → source_model.stands src2 s → source_model.stands src2 t → s ≡ t)
+      → (s t : SourceState) → at ≡ Some s → source_model.stands src2 t → IsTalliedAfter sink_model.holds groups b.config b.now b.held stored report t sink2 (Err h)
   newest_stood took same s t first now =
       let was = u.way.stood s first in
       let read = took was.standing was.is in
-      at_stored b u.way.messages stored stored work before u.way.is.is (λ (x : Option Offset). IsTalliedAfter holds groups b.config b.now b.held x report t sink2 (Err h))
-      (λ o of upto. stood_tallied holds groups sink2 (Err h) b o work of report t (read.0 ∷ u.way.messages)
+      at_stored b u.way.messages stored stored work before u.way.is.is (λ (x : Option Offset). IsTalliedAfter sink_model.holds groups b.config b.now b.held x report t sink2 (Err h))
+      (λ o of upto. stood_tallied sink_model.holds groups sink2 (Err h) b o work of report t (read.0 ∷ u.way.messages)
       (subst (StandsAt b (read.0 ∷ u.way.messages)) (same read.2.standing t read.2.is now) (took_on b u.way.messages read.0 was.standing read.2.standing was.holds read.2.holds))
       (one_more report.messages before.messages (length u.way.messages) messages u.way.is.is.many)
-      (newest_tallied holds groups sink2 (λ (m n : Message). m ≡ n) (Err h) b.first.lsn u.way.messages work u.put.records u.put.is u.way.messages (same_all u.way.messages) report.commits (commits ∙ u.way.is.is.followed) o.lsn upto read.0 part few
+      (newest_tallied sink_model.holds groups sink2 (λ (m n : Message). m ≡ n) (Err h) b.first.lsn u.way.messages work u.put.records u.put.is u.way.messages (same_all u.way.messages) report.commits (commits ∙ u.way.is.is.followed) o.lsn upto read.0 part few
       (front_of (making_at work) u.way.messages bytes read.0 part read.1 part_is) held)) (inl refl)
 
 -- ---- in the middle of its commit
@@ -180,9 +182,9 @@ module _ {S K : Type 0} (stands : S → SourceState → Type 0) (holds : K → L
 none_first : (count : ℕ) (items : List Record) → count ≡ 0 → take count items ≡ []
 none_first count items is = ap (λ (n : ℕ). take n items) is
 
-module _ {K : Type 0} (holds may_leave : K → List (List Record) → Type 0) (found : List (List Record)) (sink : K) (after : Lsn) (ms : List Message) (bytes : List ℕ) (commit : Commit) (old next : SessionState) (before report : Report)
-    (is : IsWork after ms old) (w : WasTaken after ms bytes old next (Some commit)) (leaves : (left : List (List Record)) → may_leave sink left → IsLeftByStep commit next found left)
-    (may : (held : List (List Record)) → holds sink held → may_leave sink held) (put : HoldsPut holds found (is_some (mark_of commit)) (records_by next.follower commit next.now_ms) before report sink) where
+module _ {K : Type 0} (sink_model : SinkModel K) (found : List (List Record)) (sink : K) (after : Lsn) (ms : List Message) (bytes : List ℕ) (commit : Commit) (old next : SessionState) (before report : Report)
+    (is : IsWork after ms old) (w : WasTaken after ms bytes old next (Some commit)) (leaves : (left : List (List Record)) → sink_model.may_leave sink left → IsLeftByStep commit next found left)
+    (may : (held : List (List Record)) → sink_model.holds sink held → sink_model.may_leave sink held) (put : HoldsPut sink_model.holds found (is_some (mark_of commit)) (records_by next.follower commit next.now_ms) before report sink) where
   abbrev pub part_put : List Record
   part_put = take put.count (records_by next.follower commit next.now_ms)
 

@@ -3,6 +3,7 @@ use Rattle.std.proofs.Common.{◌≡◌, ◌∙◌, ◌⊎◌, inl, inr, ◌+◌
 use Rattle.std.specs.Prelude.{Contains, IfErr, IfSome, IsErrAnd, OnOk}
 use Rattle.dbl_base.specs.declared.lsn.Lsn.{Lsn}
 use Rattle.dbl_pgmsg.specs.declared.messages.Message.{Message}
+use Rattle.dbl_capture_work.specs.Source.Model.{SourceModel}
 use Rattle.dbl_model_table.specs.declared.config.Config.{Config}
 use Rattle.dbl_model_table.specs.declared.change.Commit.{Commit}
 use Rattle.dbl_model_table.specs.declared.table.TableName.{TableName}
@@ -123,20 +124,20 @@ torn_counts commit work before after noted =
 
 -- ---- it goes on
 
-module _ {S : Type 0} (stands : S → SourceState → Type 0) (at : Option SourceState) (found : Option Trace) (b : Beginning) (stored : Option Offset) (work : SessionState) (report : Report) (src : S) (told : Option Trace) where
+module _ {S : Type 0} (source_model : SourceModel S) (at : Option SourceState) (found : Option Trace) (b : Beginning) (stored : Option Offset) (work : SessionState) (report : Report) (src : S) where
   -- where the offset is due, or isn't
-  pub goes_due : (due : Bool) → (due ≡ true → HasCommitted stands at found b stored work report src told) → (due ≡ false → IsUnderWay stands at found b stored work report src told) → GoesOn stands at found b stored work report src told (Some due)
+  pub goes_due : (due : Bool) → (due ≡ true → HasCommitted source_model at found b stored work report src) → (due ≡ false → IsUnderWay source_model at found b stored work report src) → GoesOn source_model at found b stored work report src (Some due)
   goes_due true committed rests = committed refl
   goes_due false committed rests = rests refl
 
-  pub goes_true : (o : Option Bool) (due : Bool) → o ≡ Some due → due ≡ true → GoesOn stands at found b stored work report src told o → HasCommitted stands at found b stored work report src told
-  goes_true o due is yes_is goes = subst (λ (x : Option Bool). GoesOn stands at found b stored work report src told x) (is ∙ ap (λ (d : Bool). Some d) yes_is) goes
+  pub goes_true : (o : Option Bool) (due : Bool) → o ≡ Some due → due ≡ true → GoesOn source_model at found b stored work report src o → HasCommitted source_model at found b stored work report src
+  goes_true o due is yes_is goes = subst (λ (x : Option Bool). GoesOn source_model at found b stored work report src x) (is ∙ ap (λ (d : Bool). Some d) yes_is) goes
 
-  pub goes_false : (o : Option Bool) (due : Bool) → o ≡ Some due → due ≡ false → GoesOn stands at found b stored work report src told o → IsUnderWay stands at found b stored work report src told
-  goes_false o due is no_is goes = subst (λ (x : Option Bool). GoesOn stands at found b stored work report src told x) (is ∙ ap (λ (d : Bool). Some d) no_is) goes
+  pub goes_false : (o : Option Bool) (due : Bool) → o ≡ Some due → due ≡ false → GoesOn source_model at found b stored work report src o → IsUnderWay source_model at found b stored work report src
+  goes_false o due is no_is goes = subst (λ (x : Option Bool). GoesOn source_model at found b stored work report src x) (is ∙ ap (λ (d : Bool). Some d) no_is) goes
 
-  pub goes_none : (o : Option Bool) → o ≡ None → GoesOn stands at found b stored work report src told o → IsUnderWay stands at found b stored work report src told
-  goes_none o is goes = subst (λ (x : Option Bool). GoesOn stands at found b stored work report src told x) is goes
+  pub goes_none : (o : Option Bool) → o ≡ None → GoesOn source_model at found b stored work report src o → IsUnderWay source_model at found b stored work report src
+  goes_none o is goes = subst (λ (x : Option Bool). GoesOn source_model at found b stored work report src x) is goes
 
 -- ---- before it reads
 

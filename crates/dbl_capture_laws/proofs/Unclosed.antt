@@ -3,6 +3,8 @@ use Rattle.std.proofs.Common.{◌≡◌, ◌≢◌, ◌∙◌, ◌+◌, ◌≤�
 use Rattle.std.specs.Prelude.{slice_get}
 use Rattle.std.specs.List.{AllByRecursion}
 use Rattle.dbl_record.specs.declared.record.Record.{Record}
+use Rattle.dbl_topic.specs.Model.{SinkModel}
+use Rattle.dbl_capture_work.specs.Source.Model.{SourceModel}
 use Rattle.dbl_model_table.specs.declared.change.Body.TheVariants.{Mark}
 use Rattle.dbl_model_table.specs.declared.change.Commit.{Commit}
 use Rattle.dbl_model_table.specs.declared.table.TableInfo.{TableInfo}
@@ -119,8 +121,8 @@ module _ (entry : SessionStart) (stage : Stage) (faithful : WasFaithful entry) (
 
 -- ---- where a session stands
 
-module _ {S K D : Type 0} {tell : Bool} {stands : S → SourceState → Type 0} {holds : K → List (List Record) → Type 0} {model : DiskModel D} {entry : SessionStart} {work : SessionState} {src : S} {sink : K} {store : StoreOn D}
-    (s : InSession tell stands holds model entry work src sink store) where
+module _ {S K D : Type 0} {tell : Bool} {source_model : SourceModel S} {sink_model : SinkModel K} {model : DiskModel D} {entry : SessionStart} {work : SessionState} {src : S} {sink : K} {store : StoreOn D}
+    (s : InSession tell source_model sink_model model entry work src sink store) where
   infos_are : (next_offset_of work).infos ≡ s.stage.first.infos
   infos_are = ap (λ (o : Offset). o.infos) s.work_is.offset_is
 

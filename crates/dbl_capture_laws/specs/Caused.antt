@@ -3,6 +3,7 @@ use Rattle.std.specs.Prelude.{◌≡◌, ℤ, Option, Some, Err, List}
 use Rattle.dbl_base.specs.declared.lsn.Lsn.{Lsn}
 use Rattle.dbl_model_table.specs.declared.config.Config.{Config}
 use Rattle.dbl_model_table.specs.declared.table.RawRow.{RawRow}
+use Rattle.dbl_capture_work.specs.Source.Model.{SourceModel}
 use Rattle.dbl_capture_work.specs.SourceModel.declared.started.Started.TheVariants.{Gone}
 use Rattle.dbl_capture_work.specs.SourceModel.Standings.{SourceState}
 use Rattle.dbl_capture_work.specs.SourceModel.Trace.{Trace, Began, Selected}
@@ -31,9 +32,9 @@ AsksUnread config old new told h = (report : Report) (t : Trace) → report.mess
     → MustHalt config old new report t (Err h)
 
 -- The session stopped with this error, whose cause is defined by the source's trace and state, and which its last answer allows.
-pub record Halts {S : Type 0} (stands : S → SourceState → Type 0) (at : Option SourceState) (found : Option Trace)
-    (config : Config) (now : ℤ) (held stored : Option Offset) (report : Report) (src : S) (told : Option Trace) (h : Halt) : Type 0 where
-  pub halted : HasHalted stands at found config now held stored report src told h
-  pub cause : IsHalt config now held stored report told h
-  pub must : (t : Trace) → told ≡ Some t → MustHalt config held stored report t (Err h)
-  pub stood : (s : SourceState) → at ≡ Some s → IsHaltStanding config now held stored report (stands src) h
+pub record Halts {S : Type 0} (source_model : SourceModel S) (at : Option SourceState) (found : Option Trace)
+    (config : Config) (now : ℤ) (held stored : Option Offset) (report : Report) (src : S) (h : Halt) : Type 0 where
+  pub halted : HasHalted source_model at found config now held stored report src h
+  pub cause : IsHalt config now held stored report (source_model.told src) h
+  pub must : (t : Trace) → source_model.told src ≡ Some t → MustHalt config held stored report t (Err h)
+  pub stood : (s : SourceState) → at ≡ Some s → IsHaltStanding config now held stored report (source_model.stands src) h

@@ -2,6 +2,8 @@
 use Rattle.std.specs.Prelude.{◌≡◌, ℕ, ℤ, ◌==◌, ◌+◌, if◌then◌else◌, Option, Some, None, Bool, IsTrue, List, [], map}
 use Rattle.dbl_record.specs.declared.record.Record.{Record}
 use Rattle.dbl_model_table.specs.declared.config.Config.{Config}
+use Rattle.dbl_topic.specs.Model.{SinkModel}
+use Rattle.dbl_capture_work.specs.Source.Model.{SourceModel}
 use Rattle.dbl_capture_work.specs.Disk.Model.{DiskModel}
 use Rattle.dbl_capture_work.specs.ModelHistory.Fit.{AreInfosOf}
 use Rattle.dbl_capture_work.specs.ModelHistory.History.{History}
@@ -50,14 +52,14 @@ pub record Found {S K D : Type 0} (stands : S → SourceState → Type 0) (holds
   pub store_is : HoldsOffset model store entry.offset
 
 -- The source has the contents with which the session starts, and so have sink and store if theirs are known.
-pub record IsFound {S K D : Type 0} (tell : Bool) (stands : S → SourceState → Type 0) (holds : K → List (List Record) → Type 0)
+pub record IsFound {S K D : Type 0} (tell : Bool) (source_model : SourceModel S) (sink_model : SinkModel K)
     (model : DiskModel D) (entry : SessionStart) (src : S) (sink : K) (store : StoreOn D) : Type 0 where
   pub standing : SourceState
-  pub source_is : stands src standing
+  pub source_is : source_model.stands src standing
   pub history : standing.history ≡ entry.history
   pub confirmed : standing.confirmed ≡ entry.confirmed
   pub offset_is : entry.offset ≡ store.offset
-  pub sink_is : IsTrue tell → holds sink entry.groups
+  pub sink_is : IsTrue tell → sink_model.holds sink entry.groups
   pub store_is : IsTrue tell → HoldsOffset model store entry.offset
 
 -- The session may begin with this offset, while only others have committed.
@@ -67,15 +69,15 @@ pub record BeginsAt (entry : SessionStart) (first : Offset) (s t : SourceState) 
   pub began : BeganWith entry t.history first
 
 -- The session has stored its first offset, while only others have committed.
-pub record BeganAt {S K D : Type 0} (tell : Bool) (stands : S → SourceState → Type 0) (holds : K → List (List Record) → Type 0)
+pub record BeganAt {S K D : Type 0} (tell : Bool) (source_model : SourceModel S) (sink_model : SinkModel K)
     (model : DiskModel D) (entry : SessionStart) (first : Offset) (src : S) (sink : K) (store : StoreOn D) : Type 0 where
   pub standing : SourceState
-  pub source_is : stands src standing
+  pub source_is : source_model.stands src standing
   pub grown : Grows entry.history standing.history
   pub confirmed : standing.confirmed ≡ entry.confirmed
   pub infos : AreInfosOf standing.history first.infos
   pub began : BeganWith entry standing.history first
-  pub sink_is : IsTrue tell → holds sink entry.groups
+  pub sink_is : IsTrue tell → sink_model.holds sink entry.groups
   pub store_is : IsTrue tell → HoldsOffset model store (Some first)
 
 -- ---- what its report says

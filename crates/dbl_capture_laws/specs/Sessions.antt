@@ -3,6 +3,8 @@ use Rattle.std.specs.Prelude.{◌≡◌, ◌⊎◌, Bool, IsTrue, Option, Some, 
 use Rattle.dbl_model_table.specs.declared.config.Config.{Config}
 use Rattle.dbl_model_table.specs.declared.table.TableInfo.{TableInfo}
 use Rattle.dbl_record.specs.declared.record.Record.{Record}
+use Rattle.dbl_topic.specs.Model.{SinkModel}
+use Rattle.dbl_capture_work.specs.Source.Model.{SourceModel}
 use Rattle.dbl_capture_work.specs.Disk.Model.{DiskModel}
 use Rattle.dbl_capture_work.specs.ModelHistory.Fit.{AreInfosOf}
 use Rattle.dbl_capture_work.specs.ModelHistory.History.{History}
@@ -37,11 +39,11 @@ pub record IsWorkOf (entry : SessionStart) (stage : Stage) (work : SessionState)
   pub number_is : work.number ≡ stage.number
 
 -- The invariant of a session: its stage agrees with the source's state, and with the contents of sink and store if these are known.
-pub record InSession {S K D : Type 0} (tell : Bool) (stands : S → SourceState → Type 0) (holds : K → List (List Record) → Type 0)
+pub record InSession {S K D : Type 0} (tell : Bool) (source_model : SourceModel S) (sink_model : SinkModel K)
     (model : DiskModel D) (entry : SessionStart) (work : SessionState) (src : S) (sink : K) (store : StoreOn D) : Type 0 where
   pub stage : Stage
-  pub source_is : stands src (state_at_stage stage)
-  pub sink_is : IsTrue tell → holds sink stage.groups
+  pub source_is : source_model.stands src (state_at_stage stage)
+  pub sink_is : IsTrue tell → sink_model.holds sink stage.groups
   pub store_is : IsTrue tell → HoldsOffset model store (Some stage.stored)
   pub work_is : IsWorkOf entry stage work
   pub going : IsGoing entry stage
@@ -71,14 +73,14 @@ AddsFewOrNoMarks entry left = (marks_in left.history.commits ≡ marks_in entry.
 
 -- What the source may leave has few watermarks added; and if sink and store are known and were faithful, what the three may leave keeps the
 -- session's guarantees. At least one outcome exists.
-pub record LeavesBy {S K D : Type 0} (tell : Bool) (may_source : S → CrashState → Type 0) (may_sink : K → List (List Record) → Type 0)
+pub record LeavesBy {S K D : Type 0} (tell : Bool) (source_model : SourceModel S) (sink_model : SinkModel K)
     (model : DiskModel D) (entry : SessionStart) (src : S) (sink : K) (store : StoreOn D) : Type 0 where
   pub follows : IsTrue tell → WasFaithful entry → LeavesOffset model (disk_of store) (λ offset.
-      (left : CrashState) (groups : List (List Record)) → may_source src left → may_sink sink groups
+      (left : CrashState) (groups : List (List Record)) → source_model.may_leave src left → sink_model.may_leave sink groups
       → FollowsSession entry left groups offset)
-  pub few : (left : CrashState) → may_source src left → AddsFewOrNoMarks entry left
-  pub some_source : (left : CrashState) × may_source src left
-  pub some_sink : IsTrue tell → (groups : List (List Record)) × may_sink sink groups
+  pub few : (left : CrashState) → source_model.may_leave src left → AddsFewOrNoMarks entry left
+  pub some_source : (left : CrashState) × source_model.may_leave src left
+  pub some_sink : IsTrue tell → (groups : List (List Record)) × sink_model.may_leave sink groups
 
 -- What the three may leave keeps the session's guarantees, if the stores were faithful; at least one outcome exists.
 pub record LeavesGoing {S K D : Type 0} (may_source : S → CrashState → Type 0) (may_sink : K → List (List Record) → Type 0)

@@ -1,7 +1,9 @@
 -- A session in progress over a source and a sink, by the source's trace and state and the sink's contents.
 use Rattle.std.specs.Prelude.{◌≡◌, ℤ, Option, Some, Err, List}
 use Rattle.dbl_record.specs.declared.record.Record.{Record}
+use Rattle.dbl_topic.specs.Model.{SinkModel}
 use Rattle.dbl_model_table.specs.declared.config.Config.{Config}
+use Rattle.dbl_capture_work.specs.Source.Model.{SourceModel}
 use Rattle.dbl_capture_work.specs.SourceModel.Standings.{SourceState}
 use Rattle.dbl_capture_work.specs.SourceModel.Trace.{Trace}
 use Rattle.dbl_capture_work.specs.Offset.declared.offset.Offset.{Offset}
@@ -17,25 +19,25 @@ use Rattle.dbl_capture_laws.specs.Sources.{HasCommitted, IsUnderWay}
 use Rattle.dbl_capture_laws.specs.Puts.{HasPut}
 
 -- The invariant between two messages: the sink has gained the records of the commits that the messages read so far state.
-pub record IsPutting {S K : Type 0} (stands : S → SourceState → Type 0) (holds : K → List (List Record) → Type 0)
-    (groups : List (List Record)) (at : Option SourceState) (found : Option Trace) (b : Beginning) (stored : Option Offset)
-    (work : SessionState) (report : Report) (src : S) (told : Option Trace) (sink : K) : Type 0 where
-  pub way : IsUnderWay stands at found b stored work report src told
-  pub put : HasPut holds groups b.first.lsn way.messages work report sink
+pub record IsPutting {S K : Type 0} (source_model : SourceModel S) (sink_model : SinkModel K) (groups : List (List Record))
+    (at : Option SourceState) (found : Option Trace) (b : Beginning) (stored : Option Offset)
+    (work : SessionState) (report : Report) (src : S) (sink : K) : Type 0 where
+  pub way : IsUnderWay source_model at found b stored work report src
+  pub put : HasPut sink_model.holds groups b.first.lsn way.messages work report sink
 
 -- The invariant after a commit: the sink has gained the records of all commits that were followed.
-pub record HasPutCommit {S K : Type 0} (stands : S → SourceState → Type 0) (holds : K → List (List Record) → Type 0)
-    (groups : List (List Record)) (at : Option SourceState) (found : Option Trace) (b : Beginning) (stored : Option Offset)
-    (work : SessionState) (report : Report) (src : S) (told : Option Trace) (sink : K) : Type 0 where
-  pub way : HasCommitted stands at found b stored work report src told
-  pub put : HasPut holds groups b.first.lsn way.messages work report sink
+pub record HasPutCommit {S K : Type 0} (source_model : SourceModel S) (sink_model : SinkModel K) (groups : List (List Record))
+    (at : Option SourceState) (found : Option Trace) (b : Beginning) (stored : Option Offset)
+    (work : SessionState) (report : Report) (src : S) (sink : K) : Type 0 where
+  pub way : HasCommitted source_model at found b stored work report src
+  pub put : HasPut sink_model.holds groups b.first.lsn way.messages work report sink
 
 -- The session stopped: what is left of the sink, and what the report counts of it, with the commits unless an append failed.
-pub record HasHaltedPut {S K : Type 0} (stands : S → SourceState → Type 0) (holds may_leave : K → List (List Record) → Type 0)
+pub record HasHaltedPut {S K : Type 0} (source_model : SourceModel S) (sink_model : SinkModel K)
     (groups : List (List Record)) (at : Option SourceState) (config : Config) (now : ℤ) (held stored : Option Offset)
-    (report : Report) (src : S) (told : Option Trace) (sink : K) (h : Halt) : Type 0 where
-  pub grouped : (left : List (List Record)) → may_leave sink left → Gains config now held stored groups left
-  pub counted : ReportsGroups {A = Ending} holds may_leave groups (Err h) sink report
-  pub tallied : (h ≡ halt.Sink → ⊥) → IsTallied holds groups config now held stored report told sink (Err h)
-  pub tallied_stood : (h ≡ halt.Sink → ⊥) → (s t : SourceState) → at ≡ Some s → stands src t
-      → IsTalliedAfter holds groups config now held stored report t sink (Err h)
+    (report : Report) (src : S) (sink : K) (h : Halt) : Type 0 where
+  pub grouped : (left : List (List Record)) → sink_model.may_leave sink left → Gains config now held stored groups left
+  pub counted : ReportsGroups {A = Ending} sink_model.holds sink_model.may_leave groups (Err h) sink report
+  pub tallied : (h ≡ halt.Sink → ⊥) → IsTallied sink_model.holds groups config now held stored report (source_model.told src) sink (Err h)
+  pub tallied_stood : (h ≡ halt.Sink → ⊥) → (s t : SourceState) → at ≡ Some s → source_model.stands src t
+      → IsTalliedAfter sink_model.holds groups config now held stored report t sink (Err h)

@@ -2,6 +2,8 @@
 use Rattle.std.specs.Prelude.{◌≡◌, ◌⊎◌, ◌+◌, ◌<◌, ◌≤◌, Bool, true, false, Option, Some, None, Result, Ok, Err, List, ◌++◌}
 use Rattle.dbl_record.specs.declared.record.Record.{Record}
 use Rattle.dbl_model_table.specs.declared.change.Commit.{Commit}
+use Rattle.dbl_topic.specs.Model.{SinkModel}
+use Rattle.dbl_capture_work.specs.Source.Model.{SourceModel}
 use Rattle.dbl_capture_work.specs.Disk.Model.{DiskModel}
 use Rattle.dbl_capture_work.specs.SourceModel.Stated.{to_state}
 use Rattle.dbl_capture_work.specs.SourceModel.Standings.{SourceState}
@@ -40,24 +42,24 @@ IsDue old new (Some due) =
 -- ---- the end
 
 -- All commits that existed when the session began were read, and perhaps others.
-pub record HasReadAllAt {S K D : Type 0} (tell : Bool) (stands : S → SourceState → Type 0) (holds : K → List (List Record) → Type 0)
+pub record HasReadAllAt {S K D : Type 0} (tell : Bool) (source_model : SourceModel S) (sink_model : SinkModel K)
     (model : DiskModel D) (entry : SessionStart) (work : SessionState) (src : S) (sink : K) (store : StoreOn D) : Type 0 where
-  pub is : InSession tell stands holds model entry work src sink store
+  pub is : InSession tell source_model sink_model model entry work src sink store
   pub more : List Commit
   pub all : read_at is.stage ≡ to_state is.stage.first.infos is.stage.first.lsn entry.history ++ more
 
 -- ---- stored and confirmed
 
 -- The session has stored the next offset, and confirmed it.
-pub record IsSettled {S K D : Type 0} (tell : Bool) (stands : S → SourceState → Type 0) (holds : K → List (List Record) → Type 0)
+pub record IsSettled {S K D : Type 0} (tell : Bool) (source_model : SourceModel S) (sink_model : SinkModel K)
     (model : DiskModel D) (entry : SessionStart) (work : SessionState) (src : S) (sink : K) (store : StoreOn D) : Type 0 where
-  pub is : InSession tell stands holds model entry work src sink store
+  pub is : InSession tell source_model sink_model model entry work src sink store
   pub stored_is : is.stage.stored ≡ next_offset is.stage
   pub confirmed : is.stage.lsn.0 ≤ is.stage.confirmed.0
 
 -- The session has stored and confirmed the next offset, and read all commits that existed when it began.
-pub record IsSettledWhole {S K D : Type 0} (tell : Bool) (stands : S → SourceState → Type 0) (holds : K → List (List Record) → Type 0)
+pub record IsSettledWhole {S K D : Type 0} (tell : Bool) (source_model : SourceModel S) (sink_model : SinkModel K)
     (model : DiskModel D) (entry : SessionStart) (work : SessionState) (src : S) (sink : K) (store : StoreOn D) : Type 0 where
-  pub settled : IsSettled tell stands holds model entry work src sink store
+  pub settled : IsSettled tell source_model sink_model model entry work src sink store
   pub more : List Commit
   pub all : read_at settled.is.stage ≡ to_state settled.is.stage.first.infos settled.is.stage.first.lsn entry.history ++ more

@@ -1,6 +1,7 @@
 pub use Rattle.dbl_capture_model.specs as CaptureModel
 pub use Rattle.dbl_follow.specs as Follow
 pub use Rattle.dbl_window.specs as Window
+pub use Rattle.dbl_source.specs as Source
 pub use Rattle.dbl_source.specs.SourceLog
 pub use Rattle.dbl_source_model.specs as SourceModel
 pub use Rattle.dbl_txn.specs as Txn

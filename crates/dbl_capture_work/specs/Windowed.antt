@@ -5,6 +5,7 @@ use Rattle.dbl_model_history.specs.History.{RawCommit, History}
 use Rattle.dbl_source_model.specs.Growth.{Grows, Marks, marks_in}
 use Rattle.dbl_source_model.specs.Standings.{SourceState, CrashState, HasState}
 use Rattle.dbl_capture_model.specs.Faithful.Kept.{HasGrown}
+use Rattle.dbl_source.specs.Model.{SourceModel}
 use Rattle.dbl_window.specs.Plans.{Plan, Chunk, low_text, high_text}
 use Rattle.dbl_window.specs.Selected.{IsCaptured, IsSelected}
 use Rattle.dbl_capture_work.specs.declared.work.SessionState.{SessionState}
@@ -27,10 +28,10 @@ pub record WasWindowed (honest : Type 0) (plan : Plan) (chunk : Chunk) (s t : So
   pub looked : WasLooked honest plan chunk (record s { history = marked }) t
 
 -- The session waits for a window that was read from the source between its watermarks.
-pub record HasReadWindow {S : Type 0} (honest : Type 0) (stands : S → SourceState → Type 0) (table : ℕ) (old new : SessionState)
-    (s : SourceState) (src : S) : Type 0 where
+pub record HasReadWindow {S : Type 0} (source_model : SourceModel S) (table : ℕ) (old new : SessionState) (s : SourceState) (src : S)
+    : Type 0 where
   pub armed : IsArmedWork table old new
-  pub stood : HasState stands src (λ t. WasWindowed honest armed.chunk.plan armed.chunk s t)
+  pub stood : HasState source_model.stands src (λ t. WasWindowed (source_model.honest src) armed.chunk.plan armed.chunk s t)
 
 -- ---- what may be left of the source
 

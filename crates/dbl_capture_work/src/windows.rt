@@ -149,7 +149,7 @@ pub fn read_window<S: Source>(work: &mut SessionState, table: u32, src: &mut S) 
     ensures same { OnOk result (IsArmedWork table work.old work.new) }
     ensures kept { OnErr result (work.new ≡ work.old) }
     ensures windowed { (s : SourceState) → S.stands src.old s →
-        OnOk result (HasReadWindow (S.honest src.new) S.stands table work.old work.new s src.new) }
+        OnOk result (HasReadWindow S.Source table work.old work.new s src.new) }
 
     // Why it stops with an error.
     ensures halt { IfErr result (IsChunkHalt work.old table (S.told src.new)) }

@@ -2,18 +2,21 @@
 use Rattle.std.proofs.Common.{◌≡◌, ◌∙◌, ℤ, Option, Some, None, List, ◌++◌, ℕ, Result, Ok, Err, refl, sym, subst}
 use Rattle.std.specs.Prelude.{IfErr, IfSome}
 use Rattle.dbl_base.specs.declared.lsn.Lsn.{Lsn}
+use Rattle.dbl_disk.specs.Model.{DiskModel}
 use Rattle.dbl_record.specs.declared.record.Record.{Record}
 use Rattle.dbl_record.specs.Cuts.{joined}
+use Rattle.dbl_topic.specs.Model.{SinkModel}
 use Rattle.dbl_model_table.specs.declared.config.Config.{Config}
 use Rattle.dbl_model_table.specs.declared.table.TableInfo.{TableInfo}
 use Rattle.dbl_model_history.specs.Fit.{AreInfosOf}
-use Rattle.dbl_source_model.specs.Standings.{CrashState, SourceState, left_of}
+use Rattle.dbl_source_model.specs.Standings.{SourceState, left_of}
 use Rattle.dbl_source_model.specs.Trace.{Trace}
 use Rattle.dbl_offset_content.specs.declared.offset.Offset.{Offset}
 use Rattle.dbl_offset.specs.Stores.{HoldsOffset, StoreOn, disk_of}
 use Rattle.dbl_offset.proofs.StoreLaws.{one_store, store_of}
 use Rattle.dbl_faithful.specs.Lag.{IsOffsetOf}
 use Rattle.dbl_faithful.specs.Faithful.{IsFaithful}
+use Rattle.dbl_source.specs.Model.{SourceModel}
 use Rattle.dblog_run.specs.CaptureModel.Entries.{SessionStart, HadOwnTables, IsKeptAfter, WasFaithful}
 use Rattle.dblog_run.specs.CaptureWork.declared.halt.Halt.{Halt}
 use Rattle.dblog_run.specs.CaptureWork.declared.halt.Halt.TheVariants as halt
@@ -34,7 +37,6 @@ use Rattle.dblog_run.proofs.CaptureLawsAwaited.{stood_offsets_are_within}
 use Rattle.dblog_laws.specs.SessionLaws.{FaithfulSessionsEnd, SaysWhy, TellsHalts}
 use Rattle.dblog_laws.specs.Supported.{CanBegin, HasMetSupported, IsOffsetOfThese, MayStillHalt}
 use Rattle.dblog_laws.proofs.Ending.{outside}
-use Rattle.dbl_disk.specs.Model.{DiskModel}
 
 -- an entry says of these halts what another one says that captures the same
 honest_as : (first second : SessionStart) (stands : SourceState → Type 0) (h : Halt) → ((infos : List TableInfo) → IsCapturing first infos → IsCapturing second infos) → IsHonestHalt first stands h → IsHonestHalt second stands h
@@ -134,14 +136,13 @@ counted_of holds may_sink groups sink report (halt.Exhausted incarnation) none c
 not_offsets : (h : Halt) → (MayStillHalt h → ⊥) → (r : Result Ending Halt) → r ≡ Err h → r ≡ Err halt.Offsets → ⊥
 not_offsets h none r is failed = none (subst (λ (x : Result Ending Halt). IfErr x MayStillHalt) is (subst (λ (x : Result Ending Halt). IfErr x MayStillHalt) (sym failed) tt))
 
-module _ {S K D : Type 0} (stands : S → SourceState → Type 0) (honest : S → Type 0) (may_source : S → CrashState → Type 0) (told : S → Option Trace)
-    (holds may_sink : K → List (List Record) → Type 0) (model : DiskModel D)
-    (rising : (source : S) (s : SourceState) → stands source s → IsRising s.history) (may : (source : S) (s : SourceState) → stands source s → may_source source (left_of s))
-    (may_groups : (sink : K) (groups : List (List Record)) → holds sink groups → may_sink sink groups)
+module _ {S K D : Type 0} (source_model : SourceModel S) (sink_model : SinkModel K) (model : DiskModel D)
+    (rising : (source : S) (s : SourceState) → source_model.stands source s → IsRising s.history) (may : (source : S) (s : SourceState) → source_model.stands source s → source_model.may_leave source (left_of s))
+    (may_groups : (sink : K) (groups : List (List Record)) → sink_model.holds sink groups → sink_model.may_leave sink groups)
     (seen_may : (disk : D) (bytes : List ℕ) → model.seen disk ≡ Some bytes → model.may_leave disk bytes) where
   -- what is left follows from what was found, by the offset that the store answers
-  stored_is : (entry : SessionStart) (new_src : S) (new_sink : K) (new_store : StoreOn D) → LeavesGoing may_source may_sink model entry new_src new_sink new_store → WasFaithful entry
-      → HoldsOffset model new_store new_store.offset → (groups : List (List Record)) → holds new_sink groups → (offset : Offset) (t : SourceState) → new_store.offset ≡ Some offset → stands new_src t
+  stored_is : (entry : SessionStart) (new_src : S) (new_sink : K) (new_store : StoreOn D) → LeavesGoing source_model.may_leave sink_model.may_leave model entry new_src new_sink new_store → WasFaithful entry
+      → HoldsOffset model new_store new_store.offset → (groups : List (List Record)) → sink_model.holds new_sink groups → (offset : Offset) (t : SourceState) → new_store.offset ≡ Some offset → source_model.stands new_src t
       → IsOffsetOf t.history t.confirmed (joined groups) offset
   stored_is entry new_src new_sink new_store leaves faithful held groups has offset t stored there =
       let stores = store_of model new_store new_store.offset held in
@@ -155,22 +156,22 @@ module _ {S K D : Type 0} (stands : S → SourceState → Type 0) (honest : S �
       faithful_is.lags.offset_is
 
   module _ (config : Config) (now : ℤ) (src new_src : S) (sink new_sink : K) (store new_store : StoreOn D) (report : Report)
-      (entry : SessionStart) (asked : IsEntryOf config now entry) (found : Found stands holds model entry src sink store) (kept_honest : honest new_src) (faithful : WasFaithful entry) where
-    offset_told : (result : Result Ending Halt) → TellsHalts stands honest may_source told holds may_sink model config now src new_src sink new_sink store new_store report result
-        → IfErr result (λ h. (MayStillHalt h → ⊥) → IsOffsetOfThese new_store.offset (stands new_src) (holds new_sink))
+      (entry : SessionStart) (asked : IsEntryOf config now entry) (found : Found source_model.stands sink_model.holds model entry src sink store) (kept_honest : source_model.honest new_src) (faithful : WasFaithful entry) where
+    offset_told : (result : Result Ending Halt) → TellsHalts source_model sink_model model config now src new_src sink new_sink store new_store report result
+        → IfErr result (λ h. (MayStillHalt h → ⊥) → IsOffsetOfThese new_store.offset (source_model.stands new_src) (sink_model.holds new_sink))
     offset_told (Ok ending) tells = tt
     offset_told (Err h) tells = λ none offset t stored there.
-        let counted = counted_of holds may_sink entry.groups new_sink report h none (tells.counted entry.groups found.sink_is) in
+        let counted = counted_of sink_model.holds sink_model.may_leave entry.groups new_sink report h none (tells.counted entry.groups found.sink_is) in
         let before : HoldsOffset model store store.offset = subst (HoldsOffset model store) (sym found.store_is.offset_is) found.store_is in
         let held = tells.held before (not_offsets h none (Err h) refl) in
         let leaves = tells.faithful entry asked found kept_honest (own_so entry.history entry.confirmed (joined entry.groups) entry.offset faithful) in
         (entry.groups ++ counted.more, counted.held, stored_is entry new_src new_sink new_store leaves faithful held (entry.groups ++ counted.more) counted.held offset t stored there)
 
-  pub faithful_sessions_end : FaithfulSessionsEnd stands honest may_source told holds may_sink model
+  pub faithful_sessions_end : FaithfulSessionsEnd source_model sink_model model
   faithful_sessions_end config now src new_src sink new_sink store new_store report result tells entry asked found kept_honest faithful =
       let s = found.standing in
       let offset_is : entry.offset ≡ store.offset = sym found.store_is.offset_is in
-      ends entry config now s store.offset asked.config_is asked.now_is found.history found.confirmed offset_is new_store.offset report (told new_src) (stands new_src) (holds new_sink) faithful result
+      ends entry config now s store.offset asked.config_is asked.now_is found.history found.confirmed offset_is new_store.offset report (source_model.told new_src) (source_model.stands new_src) (sink_model.holds new_sink) faithful result
       tells.halts (tells.absent s found.source_is) (tells.own s found.source_is kept_honest) (tells.content entry asked found kept_honest faithful) (tells.gone s found.source_is)
       (tells.missing s found.source_is kept_honest (within_so entry s store.offset found.history offset_is (rising src s found.source_is) faithful))
       (offset_told config now src new_src sink new_sink store new_store report entry asked found kept_honest faithful result tells)

@@ -15,6 +15,5 @@ pub fn supported_sessions_end<S: Source, K: Sink>()
 /// A session over a conforming source and faithful stores, by the clauses of its contract, ends
 /// normally, unless a device failed or memory ran out.
 pub fn faithful_sessions_end<S: Source, K: Sink, D: Disk>()
-    ensures { FaithfulSessionsEnd S.stands S.honest S.may_leave S.told
-        K.holds K.may_leave D.Disk }
+    ensures { FaithfulSessionsEnd S.Source K.Sink D.Disk }
 {}

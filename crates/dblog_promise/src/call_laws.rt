@@ -10,5 +10,5 @@ use dbl_topic::Sink;
 /// Any number of session calls over conforming sources, whose leftovers meet the session's clause
 /// `faithful`, keep the session's guarantees.
 pub fn calls_keep_promises<S: Source, K: Sink, D: Disk>()
-    ensures { CallsKeepPromises S.honest S.may_leave K.may_leave D.Disk }
+    ensures { CallsKeepPromises S.Source K.Sink D.Disk }
 {}

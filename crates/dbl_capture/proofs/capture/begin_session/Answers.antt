@@ -32,7 +32,7 @@ use Rattle.dbl_capture.proofs.capture.begin_session.Goals as goal
 pub returns-in_err-offset-clause-left : goal.returns-in_err-offset-clause-left
 returns-in_err-offset-clause-left g c tell entry asked f honest had =
     on_err _ _
-    (rest_left f _ _ (g.met.K.Sink.only _) (g.met.K.Sink.may _)
+    (rest_left f (g.met.K.Sink.only _) (g.met.K.Sink.may _)
     (subst IsFitHistory f.history (g.met.S.Source.fit _ (left_of f.standing) (g.met.S.Source.may _ f.standing f.source_is) (c.offset_of.ensures.honest honest)))
     c.offset_of.new.src (λ left is. g.met.S.Source.fit _ left is honest) (g.met.S.Source.rising _ f.standing f.source_is)
     (λ left is. c.offset_of.ensures.left f.standing left f.source_is is) (c.offset_of.ensures.some f.standing f.source_is))
@@ -40,7 +40,7 @@ returns-in_err-offset-clause-left g c tell entry asked f honest had =
 pub returns-in_err-stored-clause-left : goal.returns-in_err-stored-clause-left
 returns-in_err-stored-clause-left g c tell entry asked f honest had =
     on_err _ _
-    (rest_left f _ _ (g.met.K.Sink.only _) (g.met.K.Sink.may _)
+    (rest_left f (g.met.K.Sink.only _) (g.met.K.Sink.may _)
     (subst IsFitHistory f.history (g.met.S.Source.fit _ (left_of f.standing) (g.met.S.Source.may _ f.standing f.source_is) (c.offset_of.ensures.honest honest)))
     c.offset_of.new.src (λ left is. g.met.S.Source.fit _ left is honest) (g.met.S.Source.rising _ f.standing f.source_is)
     (λ left is. c.offset_of.ensures.left f.standing left f.source_is is) (c.offset_of.ensures.some f.standing f.source_is))
@@ -50,7 +50,7 @@ pub returns-in_err-put_offset-clause-left : goal.returns-in_err-put_offset-claus
 returns-in_err-put_offset-clause-left g c tell entry asked f honest had =
     let stood = c.in_ok-offset.ensures.begins entry asked f.offset_is had f.standing f.source_is f.history in
     on_err _ _
-    (store_left f _ _ (g.met.K.Sink.only _) (g.met.K.Sink.may _)
+    (store_left f (g.met.K.Sink.only _) (g.met.K.Sink.may _)
     (subst IsFitHistory f.history (g.met.S.Source.fit _ (left_of f.standing) (g.met.S.Source.may _ f.standing f.source_is) (c.offset_of.ensures.honest honest)))
     c.offset_of.new.src (λ left is. g.met.S.Source.fit _ left is honest) stood.standing c.in_ok-offset.offset c.put_offset.new.store stood.is (g.met.S.Source.rising _ stood.standing stood.is)
     (λ left is. g.met.S.Source.only _ stood.standing left stood.is is) (g.met.S.Source.may _ stood.standing stood.is) stood.holds

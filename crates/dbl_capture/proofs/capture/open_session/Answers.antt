@@ -59,7 +59,7 @@ returns-in_err-start_reading-clause-left g c tell entry asked f honest had =
     let before = c.start_reading.ensures.honest honest in
     let b = c.in_ok-offset.ensures.begun tell entry asked f before had in
     on_err _ _
-    (start_left b _ _ (g.met.K.Sink.only _) (g.met.K.Sink.may _)
+    (start_left b (g.met.K.Sink.only _) (g.met.K.Sink.may _)
     (subst IsFitHistory f.history (g.met.S.Source.fit _ (left_of f.standing) (g.met.S.Source.may _ f.standing f.source_is) (c.begin_session.ensures.honest before)))
     c.start_reading.new.src (λ left is. g.met.S.Source.fit _ left is honest) (λ left is. c.start_reading.ensures.left b.standing left b.source_is is) (c.start_reading.ensures.some b.standing b.source_is))
 
@@ -80,7 +80,7 @@ returns-clause-left g c tell entry asked f honest had =
     let before = c.start_reading.ensures.honest honest in
     let b = c.in_ok-offset.ensures.begun tell entry asked f before had in
     on_err _ _
-    (start_left b _ _ (g.met.K.Sink.only _) (g.met.K.Sink.may _)
+    (start_left b (g.met.K.Sink.only _) (g.met.K.Sink.may _)
     (subst IsFitHistory f.history (g.met.S.Source.fit _ (left_of f.standing) (g.met.S.Source.may _ f.standing f.source_is) (c.begin_session.ensures.honest before)))
     c.start_reading.new.src (λ left is. g.met.S.Source.fit _ left is honest) (λ left is. c.start_reading.ensures.left b.standing left b.source_is is) (c.start_reading.ensures.some b.standing b.source_is))
 
@@ -160,15 +160,15 @@ returns-clause-report g c = (refl, refl)
 
 pub returns-in_err-offset-clause-halted : goal.returns-in_err-offset-clause-halted
 returns-in_err-offset-clause-halted g c at stood none =
-    residual_of c.from_residual.result _ (Halts g.S.Source.stands at (g.S.Source.told c.args.src.now) c.args.config.now c.args.now_ms c.args.store.now.offset c.begin_session.new.store.offset c.args.report.now c.begin_session.new.src (g.S.Source.told c.begin_session.new.src)) c.from_residual.ensures.1
-    (record { halted = halts_unread g.S.Source.stands at (g.S.Source.told c.args.src.now) c.args.config.now c.args.now_ms c.args.store.now.offset c.begin_session.new.store.offset c.args.report.now c.args.src.now c.begin_session.new.src (g.S.Source.told c.begin_session.new.src) _ stood (inl (c.in_err-offset.ensures.halt, c.in_err-offset.ensures.keeps)) none.0 none.1 (inl c.begin_session.ensures.taken) (λ s t was now. inl (c.begin_session.ensures.still s t was now)); stood = λ s first. begin_stood c.args.config.now c.args.now_ms c.args.store.now.offset c.begin_session.new.store.offset c.args.report.now (g.S.Source.stands c.begin_session.new.src) (g.S.Source.told c.begin_session.new.src) _ c.in_err-offset.ensures.keeps c.in_err-offset.ensures.halt (c.in_err-offset.ensures.standing s (stood s first)); cause = open_caused c.args.config.now c.args.now_ms c.args.store.now.offset c.begin_session.new.store.offset c.args.report.now (g.S.Source.told c.begin_session.new.src) _ (inl (c.in_err-offset.ensures.halt, c.in_err-offset.ensures.keeps)); must = λ t. c.in_err-offset.ensures.ask c.args.report.now t none.0 })
+    residual_of c.from_residual.result _ (Halts g.S.Source at (g.S.Source.told c.args.src.now) c.args.config.now c.args.now_ms c.args.store.now.offset c.begin_session.new.store.offset c.args.report.now c.begin_session.new.src) c.from_residual.ensures.1
+    (record { halted = halts_unread g.S.Source at (g.S.Source.told c.args.src.now) c.args.config.now c.args.now_ms c.args.store.now.offset c.begin_session.new.store.offset c.args.report.now c.args.src.now c.begin_session.new.src _ stood (inl (c.in_err-offset.ensures.halt, c.in_err-offset.ensures.keeps)) none.0 none.1 (inl c.begin_session.ensures.taken) (λ s t was now. inl (c.begin_session.ensures.still s t was now)); stood = λ s first. begin_stood c.args.config.now c.args.now_ms c.args.store.now.offset c.begin_session.new.store.offset c.args.report.now (g.S.Source.stands c.begin_session.new.src) (g.S.Source.told c.begin_session.new.src) _ c.in_err-offset.ensures.keeps c.in_err-offset.ensures.halt (c.in_err-offset.ensures.standing s (stood s first)); cause = open_caused c.args.config.now c.args.now_ms c.args.store.now.offset c.begin_session.new.store.offset c.args.report.now (g.S.Source.told c.begin_session.new.src) _ (inl (c.in_err-offset.ensures.halt, c.in_err-offset.ensures.keeps)); must = λ t. c.in_err-offset.ensures.ask c.args.report.now t none.0 })
 
 pub returns-in_err-start_reading-clause-halted : goal.returns-in_err-start_reading-clause-halted
 returns-in_err-start_reading-clause-halted g c at stood none =
     let stored = has_stored c.args.config.now c.args.store.now.offset c.begin_session.new.store.offset c.in_ok-offset.offset c.in_ok-offset.ensures.of (own_first c.in_ok-offset.offset c.begin_session.new.store.offset c.in_ok-offset.ensures.loads) in
-    residual_of c.from_residual-in_err-start_reading.result _ (Halts g.S.Source.stands at (g.S.Source.told c.args.src.now) c.args.config.now c.args.now_ms c.args.store.now.offset c.begin_session.new.store.offset (record c.args.report.now { position = c.in_ok-offset.offset.lsn.0 }) c.start_reading.new.src (g.S.Source.told c.start_reading.new.src)) c.from_residual-in_err-start_reading.ensures.1
+    residual_of c.from_residual-in_err-start_reading.result _ (Halts g.S.Source at (g.S.Source.told c.args.src.now) c.args.config.now c.args.now_ms c.args.store.now.offset c.begin_session.new.store.offset (record c.args.report.now { position = c.in_ok-offset.offset.lsn.0 }) c.start_reading.new.src) c.from_residual-in_err-start_reading.ensures.1
     (record {
-      halted = halts_unread g.S.Source.stands at (g.S.Source.told c.args.src.now) c.args.config.now c.args.now_ms c.args.store.now.offset c.begin_session.new.store.offset (record c.args.report.now { position = c.in_ok-offset.offset.lsn.0 }) c.args.src.now c.start_reading.new.src (g.S.Source.told c.start_reading.new.src) _ stood
+      halted = halts_unread g.S.Source at (g.S.Source.told c.args.src.now) c.args.config.now c.args.now_ms c.args.store.now.offset c.begin_session.new.store.offset (record c.args.report.now { position = c.in_ok-offset.offset.lsn.0 }) c.args.src.now c.start_reading.new.src _ stood
           (start_opens c.args.config.now c.args.store.now.offset c.begin_session.new.store.offset (g.S.Source.told c.start_reading.new.src) c.in_ok-offset.offset.lsn _ stored (ap (λ (o : Offset). o.lsn) (first_some c.in_ok-offset.offset stored.offset (sym c.in_ok-offset.ensures.loads ∙ stored.is))) (λ asked first is. c.in_err-start_reading.ensures.gone asked first (ap (λ (h : Halt). Err h) is)) c.in_err-start_reading.ensures.halt)
           none.0 none.1 (fell_on (g.S.Source.told c.args.src.now) (g.S.Source.told c.begin_session.new.src) (g.S.Source.told c.start_reading.new.src) c.begin_session.ensures.taken c.in_err-start_reading.ensures.fell) (λ s t was now. let mid = c.in_ok-offset.ensures.stood s was in inr (read_none c.in_ok-offset.offset.lsn t.reading (c.start_reading.ensures.unread mid.standing t mid.is now)));
       stood = λ s first. start_stood c.args.config.now c.args.now_ms c.args.store.now.offset c.begin_session.new.store.offset (record c.args.report.now { position = c.in_ok-offset.offset.lsn.0 }) (g.S.Source.stands c.start_reading.new.src) c.in_ok-offset.offset.lsn _ c.in_err-start_reading.ensures.halt;
@@ -178,16 +178,16 @@ returns-in_err-start_reading-clause-halted g c at stood none =
 
 pub returns-clause-halted : goal.returns-clause-halted
 returns-clause-halted g c at stood none =
-    err_then c.make.result _ (Halts g.S.Source.stands at (g.S.Source.told c.args.src.now) c.args.config.now c.args.now_ms c.args.store.now.offset c.begin_session.new.store.offset (record c.args.report.now { position = c.in_ok-offset.offset.lsn.0 }) c.start_reading.new.src (g.S.Source.told c.start_reading.new.src)) c.make.ensures.memory
-    (λ h is. record { halted = halts_unread g.S.Source.stands at (g.S.Source.told c.args.src.now) c.args.config.now c.args.now_ms c.args.store.now.offset c.begin_session.new.store.offset (record c.args.report.now { position = c.in_ok-offset.offset.lsn.0 }) c.args.src.now c.start_reading.new.src (g.S.Source.told c.start_reading.new.src) h stood (inr (inr (inl is))) none.0 none.1 (inr (anew_on (g.S.Source.told c.args.src.now) (g.S.Source.told c.begin_session.new.src) (g.S.Source.told c.start_reading.new.src) c.begin_session.ensures.taken c.in_ok-start_reading.ensures.taken)) (λ s t was now. let mid = c.in_ok-offset.ensures.stood s was in inr (read_none c.in_ok-offset.offset.lsn t.reading (c.start_reading.ensures.unread mid.standing t mid.is now))); stood = λ s first. memory_stood c.args.config.now c.args.now_ms c.args.store.now.offset c.begin_session.new.store.offset (record c.args.report.now { position = c.in_ok-offset.offset.lsn.0 }) (g.S.Source.stands c.start_reading.new.src) h is; cause = open_caused c.args.config.now c.args.now_ms c.args.store.now.offset c.begin_session.new.store.offset (record c.args.report.now { position = c.in_ok-offset.offset.lsn.0 }) (g.S.Source.told c.start_reading.new.src) h (inr (inr (inl is))); must = λ t. memory_asks c.args.config.now c.args.store.now.offset c.begin_session.new.store.offset (g.S.Source.told c.start_reading.new.src) h c.requires.config.some_tables is (record c.args.report.now { position = c.in_ok-offset.offset.lsn.0 }) t none.0 })
+    err_then c.make.result _ (Halts g.S.Source at (g.S.Source.told c.args.src.now) c.args.config.now c.args.now_ms c.args.store.now.offset c.begin_session.new.store.offset (record c.args.report.now { position = c.in_ok-offset.offset.lsn.0 }) c.start_reading.new.src) c.make.ensures.memory
+    (λ h is. record { halted = halts_unread g.S.Source at (g.S.Source.told c.args.src.now) c.args.config.now c.args.now_ms c.args.store.now.offset c.begin_session.new.store.offset (record c.args.report.now { position = c.in_ok-offset.offset.lsn.0 }) c.args.src.now c.start_reading.new.src h stood (inr (inr (inl is))) none.0 none.1 (inr (anew_on (g.S.Source.told c.args.src.now) (g.S.Source.told c.begin_session.new.src) (g.S.Source.told c.start_reading.new.src) c.begin_session.ensures.taken c.in_ok-start_reading.ensures.taken)) (λ s t was now. let mid = c.in_ok-offset.ensures.stood s was in inr (read_none c.in_ok-offset.offset.lsn t.reading (c.start_reading.ensures.unread mid.standing t mid.is now))); stood = λ s first. memory_stood c.args.config.now c.args.now_ms c.args.store.now.offset c.begin_session.new.store.offset (record c.args.report.now { position = c.in_ok-offset.offset.lsn.0 }) (g.S.Source.stands c.start_reading.new.src) h is; cause = open_caused c.args.config.now c.args.now_ms c.args.store.now.offset c.begin_session.new.store.offset (record c.args.report.now { position = c.in_ok-offset.offset.lsn.0 }) (g.S.Source.told c.start_reading.new.src) h (inr (inr (inl is))); must = λ t. memory_asks c.args.config.now c.args.store.now.offset c.begin_session.new.store.offset (g.S.Source.told c.start_reading.new.src) h c.requires.config.some_tables is (record c.args.report.now { position = c.in_ok-offset.offset.lsn.0 }) t none.0 })
 
 pub returns-clause-under_way : goal.returns-clause-under_way
 returns-clause-under_way g c at stood none =
     answer_then c.make.result _ _ c.make.ensures.made
     (λ work made. (
       c.in_ok-offset.offset,
-      subst (λ (o : Option Offset). IsUnderWay g.S.Source.stands at (g.S.Source.told c.args.src.now) (beginning_at c.args.config.now c.args.now_ms c.args.store.now.offset c.in_ok-offset.offset) o work (record c.args.report.now { position = c.in_ok-offset.offset.lsn.0 }) c.start_reading.new.src (g.S.Source.told c.start_reading.new.src)) (sym c.in_ok-offset.ensures.loads)
-          (begins g.S.Source.stands at (g.S.Source.told c.args.src.now) (beginning_at c.args.config.now c.args.now_ms c.args.store.now.offset c.in_ok-offset.offset) c.args.config.now.every work (record c.args.report.now { position = c.in_ok-offset.offset.lsn.0 }) c.start_reading.new.src (g.S.Source.told c.start_reading.new.src) c.in_ok-offset.ensures.of
+      subst (λ (o : Option Offset). IsUnderWay g.S.Source at (g.S.Source.told c.args.src.now) (beginning_at c.args.config.now c.args.now_ms c.args.store.now.offset c.in_ok-offset.offset) o work (record c.args.report.now { position = c.in_ok-offset.offset.lsn.0 }) c.start_reading.new.src) (sym c.in_ok-offset.ensures.loads)
+          (begins g.S.Source at (g.S.Source.told c.args.src.now) (beginning_at c.args.config.now c.args.now_ms c.args.store.now.offset c.in_ok-offset.offset) c.args.config.now.every work (record c.args.report.now { position = c.in_ok-offset.offset.lsn.0 }) c.start_reading.new.src c.in_ok-offset.ensures.of
           (subst (λ (n : ℤ). BeginsWithOffset c.in_ok-offset.offset n c.args.config.now.chunk c.args.config.now.every work) (to_z-of_z c.ranges.now_ms) made) none.0 none.1 none.2
           (anew_on (g.S.Source.told c.args.src.now) (g.S.Source.told c.begin_session.new.src) (g.S.Source.told c.start_reading.new.src) c.begin_session.ensures.taken c.in_ok-start_reading.ensures.taken)
           (λ s first.
@@ -210,8 +210,8 @@ returns-clause-putting g c groups held at stood none =
     answer_then c.make.result _ _ c.make.ensures.made
     (λ work made. (
       c.in_ok-offset.offset,
-      subst (λ (o : Option Offset). IsPutting g.S.Source.stands g.K.Sink.holds groups at (g.S.Source.told c.args.src.now) (beginning_at c.args.config.now c.args.now_ms c.args.store.now.offset c.in_ok-offset.offset) o work (record c.args.report.now { position = c.in_ok-offset.offset.lsn.0 }) c.start_reading.new.src (g.S.Source.told c.start_reading.new.src) c.args.sink.now) (sym c.in_ok-offset.ensures.loads)
-          (puts_begin g.S.Source.stands g.K.Sink.holds g.K.Sink.may_leave groups at (g.S.Source.told c.args.src.now) (beginning_at c.args.config.now c.args.now_ms c.args.store.now.offset c.in_ok-offset.offset) c.args.config.now.every work (record c.args.report.now { position = c.in_ok-offset.offset.lsn.0 }) c.start_reading.new.src (g.S.Source.told c.start_reading.new.src) c.args.sink.now c.in_ok-offset.ensures.of
+      subst (λ (o : Option Offset). IsPutting g.S.Source g.K.Sink groups at (g.S.Source.told c.args.src.now) (beginning_at c.args.config.now c.args.now_ms c.args.store.now.offset c.in_ok-offset.offset) o work (record c.args.report.now { position = c.in_ok-offset.offset.lsn.0 }) c.start_reading.new.src c.args.sink.now) (sym c.in_ok-offset.ensures.loads)
+          (puts_begin g.S.Source g.K.Sink groups at (g.S.Source.told c.args.src.now) (beginning_at c.args.config.now c.args.now_ms c.args.store.now.offset c.in_ok-offset.offset) c.args.config.now.every work (record c.args.report.now { position = c.in_ok-offset.offset.lsn.0 }) c.start_reading.new.src c.args.sink.now c.in_ok-offset.ensures.of
           (subst (λ (n : ℤ). BeginsWithOffset c.in_ok-offset.offset n c.args.config.now.chunk c.args.config.now.every work) (to_z-of_z c.ranges.now_ms) made) none.0 none.1 none.2 none.3 none.4 held
           (anew_on (g.S.Source.told c.args.src.now) (g.S.Source.told c.begin_session.new.src) (g.S.Source.told c.start_reading.new.src) c.begin_session.ensures.taken c.in_ok-start_reading.ensures.taken)
           (λ s first.
@@ -325,7 +325,7 @@ returns-clause-awaits g c s is log =
     let mid = c.in_ok-offset.ensures.within s is log in
     let began = c.in_ok-start_reading.ensures.started mid.standing mid.is in
     answer_then c.make.result _ _ c.make.ensures.made
-    (λ work made. awaits_first g.S.Source.stands work c.start_reading.new.src c.in_ok-offset.offset.lsn mid.standing began.standing began.is began.holds mid.holds (ap (λ (f : Following). f.window) made.follower))
+    (λ work made. awaits_first g.S.Source work c.start_reading.new.src c.in_ok-offset.offset.lsn mid.standing began.standing began.is began.holds mid.holds (ap (λ (f : Following). f.window) made.follower))
 
 -- ---- what the store holds
 

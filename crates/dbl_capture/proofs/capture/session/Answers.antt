@@ -81,19 +81,19 @@ returns-clause-faithful g c entry asked f honest had =
     let s = c.in_ok-work.ensures.opened true entry asked.config_is (asked.now_is ∙ sym (to_z-of_z c.ranges.now_ms)) (told_found f) (c.process_messages.ensures.honest honest) had in
     going_left
     (either_answer c.process_messages.result _ _ (c.process_messages.ensures.ran true entry s honest) (c.process_messages.ensures.left true entry s honest)
-    (λ t. rests t _ _ _ (g.met.S.Source.only _) (g.met.S.Source.may _) (g.met.K.Sink.only _) (g.met.K.Sink.may _) honest (λ h l is. g.met.S.Source.fit _ l is h) (some_chunk t)))
+    (λ t. rests t _ (g.met.S.Source.only _) (g.met.S.Source.may _) (g.met.K.Sink.only _) (g.met.K.Sink.may _) honest (λ h l is. g.met.S.Source.fit _ l is h) (some_chunk t)))
 
 pub returns-clause-complete : goal.returns-clause-complete
 returns-clause-complete g c entry asked f honest had is =
     let s = c.in_ok-work.ensures.opened true entry asked.config_is (asked.now_is ∙ sym (to_z-of_z c.ranges.now_ms)) (told_found f) (c.process_messages.ensures.honest honest) had in
-    complete_left (c.process_messages.ensures.complete true entry s honest is) refl g.S.Source.may_leave g.K.Sink.may_leave _ (g.met.S.Source.only _) (g.met.K.Sink.only _) honest (λ h l is. g.met.S.Source.fit _ l is h) (c.process_messages.ensures.done is).0
+    complete_left (c.process_messages.ensures.complete true entry s honest is) refl _ (g.met.S.Source.only _) (g.met.K.Sink.only _) honest (λ h l is. g.met.S.Source.fit _ l is h) (c.process_messages.ensures.done is).0
 
 pub returns-clause-marks : goal.returns-clause-marks
 returns-clause-marks g c s is honest had left may =
     let entry = session_start_at c.args.config.now c.args.now_ms s c.args.offsets.now.offset in
     let in_session = c.in_ok-work.ensures.opened false entry refl (sym (to_z-of_z c.ranges.now_ms)) (source_found _ _ _ c.args.config.now c.args.now_ms s _ _ c.args.offsets.now is) (c.process_messages.ensures.honest honest) had in
     (either_answer c.process_messages.result _ _ (c.process_messages.ensures.ran false entry in_session honest) (c.process_messages.ensures.left false entry in_session honest)
-    (λ t. rests t _ _ _ (g.met.S.Source.only _) (g.met.S.Source.may _) (g.met.K.Sink.only _) (g.met.K.Sink.may _) honest (λ h l is. g.met.S.Source.fit _ l is h) (some_chunk t))).few left may
+    (λ t. rests t _ (g.met.S.Source.only _) (g.met.S.Source.may _) (g.met.K.Sink.only _) (g.met.K.Sink.may _) honest (λ h l is. g.met.S.Source.fit _ l is h) (some_chunk t))).few left may
 
 pub returns-clause-stores : goal.returns-clause-stores
 returns-clause-stores g c =
@@ -153,7 +153,7 @@ returns-in_err-work-clause-bounded g c =
     omega (arith, messages)
 
 pub returns-in_err-work-clause-read : goal.returns-in_err-work-clause-read
-returns-in_err-work-clause-read g c = residual_as c.from_residual.result _ (λ x. HasReadMessages x c.open_session.new.report.messages (g.S.Source.told c.args.src.now) (g.S.Source.told c.open_session.new.src)) c.from_residual.ensures.1 (subst (λ (n : ℤ). Halts g.S.Source.stands None (g.S.Source.told c.args.src.now) c.args.config.now n c.args.offsets.now.offset c.open_session.new.store.offset c.open_session.new.report c.open_session.new.src (g.S.Source.told c.open_session.new.src) c.in_err-work.field-0.0) (to_z-of_z c.ranges.now_ms) (c.in_err-work.ensures.halted None (at_none g.S.Source.stands c.args.src.now) (refl, refl, refl))).halted.tells.read
+returns-in_err-work-clause-read g c = residual_as c.from_residual.result _ (λ x. HasReadMessages x c.open_session.new.report.messages (g.S.Source.told c.args.src.now) (g.S.Source.told c.open_session.new.src)) c.from_residual.ensures.1 (subst (λ (n : ℤ). Halts g.S.Source None (g.S.Source.told c.args.src.now) c.args.config.now n c.args.offsets.now.offset c.open_session.new.store.offset c.open_session.new.report c.open_session.new.src c.in_err-work.field-0.0) (to_z-of_z c.ranges.now_ms) (c.in_err-work.ensures.halted None (at_none g.S.Source.stands c.args.src.now) (refl, refl, refl))).halted.tells.read
 
 pub returns-in_err-work-clause-last : goal.returns-in_err-work-clause-last
 returns-in_err-work-clause-last g c = residual_as c.from_residual.result _ (λ x. OnOk x (StoodAtLast c.args.config.now c.args.now_ms c.args.offsets.now.offset c.open_session.new.store.offset c.open_session.new.report (g.S.Source.told c.open_session.new.src))) c.from_residual.ensures.1 tt
@@ -162,49 +162,49 @@ pub returns-in_err-work-clause-settled : goal.returns-in_err-work-clause-settled
 returns-in_err-work-clause-settled g c s was = residual_as c.from_residual.result _ (λ x. OnOk x (HasState g.S.Source.stands c.open_session.new.src (HasSettled c.args.config.now c.args.now_ms c.args.offsets.now.offset c.open_session.new.store.offset c.open_session.new.report))) c.from_residual.ensures.1 tt
 
 pub returns-in_err-work-clause-followed : goal.returns-in_err-work-clause-followed
-returns-in_err-work-clause-followed g c = residual_of c.from_residual.result _ (IsFollowed c.args.config.now c.args.now_ms c.args.offsets.now.offset c.open_session.new.store.offset c.open_session.new.report (g.S.Source.told c.open_session.new.src)) c.from_residual.ensures.1 (subst (λ (n : ℤ). Halts g.S.Source.stands None (g.S.Source.told c.args.src.now) c.args.config.now n c.args.offsets.now.offset c.open_session.new.store.offset c.open_session.new.report c.open_session.new.src (g.S.Source.told c.open_session.new.src) c.in_err-work.field-0.0) (to_z-of_z c.ranges.now_ms) (c.in_err-work.ensures.halted None (at_none g.S.Source.stands c.args.src.now) (refl, refl, refl))).halted.tells.followed
+returns-in_err-work-clause-followed g c = residual_of c.from_residual.result _ (IsFollowed c.args.config.now c.args.now_ms c.args.offsets.now.offset c.open_session.new.store.offset c.open_session.new.report (g.S.Source.told c.open_session.new.src)) c.from_residual.ensures.1 (subst (λ (n : ℤ). Halts g.S.Source None (g.S.Source.told c.args.src.now) c.args.config.now n c.args.offsets.now.offset c.open_session.new.store.offset c.open_session.new.report c.open_session.new.src c.in_err-work.field-0.0) (to_z-of_z c.ranges.now_ms) (c.in_err-work.ensures.halted None (at_none g.S.Source.stands c.args.src.now) (refl, refl, refl))).halted.tells.followed
 
 pub returns-in_err-work-clause-stood : goal.returns-in_err-work-clause-stood
-returns-in_err-work-clause-stood g c s t was now = residual_of c.from_residual.result _ (HasStoodAfter c.args.config.now c.args.now_ms c.args.offsets.now.offset c.open_session.new.store.offset c.open_session.new.report s t) c.from_residual.ensures.1 ((subst (λ (n : ℤ). Halts g.S.Source.stands (Some s) (g.S.Source.told c.args.src.now) c.args.config.now n c.args.offsets.now.offset c.open_session.new.store.offset c.open_session.new.report c.open_session.new.src (g.S.Source.told c.open_session.new.src) c.in_err-work.field-0.0) (to_z-of_z c.ranges.now_ms) (c.in_err-work.ensures.halted (Some s) (at_some g.S.Source.stands c.args.src.now s was) (refl, refl, refl))).halted.stood s t refl now).stood
+returns-in_err-work-clause-stood g c s t was now = residual_of c.from_residual.result _ (HasStoodAfter c.args.config.now c.args.now_ms c.args.offsets.now.offset c.open_session.new.store.offset c.open_session.new.report s t) c.from_residual.ensures.1 ((subst (λ (n : ℤ). Halts g.S.Source (Some s) (g.S.Source.told c.args.src.now) c.args.config.now n c.args.offsets.now.offset c.open_session.new.store.offset c.open_session.new.report c.open_session.new.src c.in_err-work.field-0.0) (to_z-of_z c.ranges.now_ms) (c.in_err-work.ensures.halted (Some s) (at_some g.S.Source.stands c.args.src.now s was) (refl, refl, refl))).halted.stood s t refl now).stood
 
 pub returns-in_err-work-clause-must : goal.returns-in_err-work-clause-must
-returns-in_err-work-clause-must g c t is = residual_as c.from_residual.result _ (λ x. MustHaltTold c.args.config.now c.args.now_ms c.args.offsets.now.offset c.open_session.new.store.offset c.open_session.new.report t x) c.from_residual.ensures.1 ((subst (λ (n : ℤ). Halts g.S.Source.stands None (g.S.Source.told c.args.src.now) c.args.config.now n c.args.offsets.now.offset c.open_session.new.store.offset c.open_session.new.report c.open_session.new.src (g.S.Source.told c.open_session.new.src) c.in_err-work.field-0.0) (to_z-of_z c.ranges.now_ms) (c.in_err-work.ensures.halted None (at_none g.S.Source.stands c.args.src.now) (refl, refl, refl))).halted.tells.must t is)
+returns-in_err-work-clause-must g c t is = residual_as c.from_residual.result _ (λ x. MustHaltTold c.args.config.now c.args.now_ms c.args.offsets.now.offset c.open_session.new.store.offset c.open_session.new.report t x) c.from_residual.ensures.1 ((subst (λ (n : ℤ). Halts g.S.Source None (g.S.Source.told c.args.src.now) c.args.config.now n c.args.offsets.now.offset c.open_session.new.store.offset c.open_session.new.report c.open_session.new.src c.in_err-work.field-0.0) (to_z-of_z c.ranges.now_ms) (c.in_err-work.ensures.halted None (at_none g.S.Source.stands c.args.src.now) (refl, refl, refl))).halted.tells.must t is)
 
 pub returns-in_err-work-clause-must_stood : goal.returns-in_err-work-clause-must_stood
-returns-in_err-work-clause-must_stood g c s t was now = residual_as c.from_residual.result _ (λ x. MustHaltStood c.args.config.now c.args.now_ms c.args.offsets.now.offset c.open_session.new.store.offset c.open_session.new.report t x) c.from_residual.ensures.1 ((subst (λ (n : ℤ). Halts g.S.Source.stands (Some s) (g.S.Source.told c.args.src.now) c.args.config.now n c.args.offsets.now.offset c.open_session.new.store.offset c.open_session.new.report c.open_session.new.src (g.S.Source.told c.open_session.new.src) c.in_err-work.field-0.0) (to_z-of_z c.ranges.now_ms) (c.in_err-work.ensures.halted (Some s) (at_some g.S.Source.stands c.args.src.now s was) (refl, refl, refl))).halted.stood s t refl now).must
+returns-in_err-work-clause-must_stood g c s t was now = residual_as c.from_residual.result _ (λ x. MustHaltStood c.args.config.now c.args.now_ms c.args.offsets.now.offset c.open_session.new.store.offset c.open_session.new.report t x) c.from_residual.ensures.1 ((subst (λ (n : ℤ). Halts g.S.Source (Some s) (g.S.Source.told c.args.src.now) c.args.config.now n c.args.offsets.now.offset c.open_session.new.store.offset c.open_session.new.report c.open_session.new.src c.in_err-work.field-0.0) (to_z-of_z c.ranges.now_ms) (c.in_err-work.ensures.halted (Some s) (at_some g.S.Source.stands c.args.src.now s was) (refl, refl, refl))).halted.stood s t refl now).must
 
 pub returns-clause-read : goal.returns-clause-read
 returns-clause-read g c =
     let way = c.in_ok-work.ensures.under_way None (at_none g.S.Source.stands c.args.src.now) (refl, refl, refl) in
     let b = beginning_at c.args.config.now c.args.now_ms c.args.offsets.now.offset way.0 in
-    let u = subst (λ (n : ℤ). IsUnderWay g.S.Source.stands None (g.S.Source.told c.args.src.now) (beginning_at c.args.config.now n c.args.offsets.now.offset way.0) c.open_session.new.store.offset c.in_ok-work.work c.open_session.new.report c.open_session.new.src (g.S.Source.told c.open_session.new.src)) (to_z-of_z c.ranges.now_ms) way.1 in
+    let u = subst (λ (n : ℤ). IsUnderWay g.S.Source None (g.S.Source.told c.args.src.now) (beginning_at c.args.config.now n c.args.offsets.now.offset way.0) c.open_session.new.store.offset c.in_ok-work.work c.open_session.new.report c.open_session.new.src) (to_z-of_z c.ranges.now_ms) way.1 in
     let all = c.process_messages.ensures.all None (g.S.Source.told c.args.src.now) b u in
     let halted = c.process_messages.ensures.halted None (g.S.Source.told c.args.src.now) b u in
-    answer_as c.process_messages.result _ _ (λ r. HasReadMessages r c.process_messages.new.report.messages (g.S.Source.told c.args.src.now) (g.S.Source.told c.process_messages.new.src)) all halted (λ a e. inl (ended_told g.S.Source.stands None (g.S.Source.told c.args.src.now) b c.process_messages.new.store.offset c.process_messages.new.work c.process_messages.new.report c.process_messages.new.src (g.S.Source.told c.process_messages.new.src) e a).1) (λ h x. x.halted.tells.read)
+    answer_as c.process_messages.result _ _ (λ r. HasReadMessages r c.process_messages.new.report.messages (g.S.Source.told c.args.src.now) (g.S.Source.told c.process_messages.new.src)) all halted (λ a e. inl (ended_told g.S.Source None (g.S.Source.told c.args.src.now) b c.process_messages.new.store.offset c.process_messages.new.work c.process_messages.new.report c.process_messages.new.src e a).1) (λ h x. x.halted.tells.read)
 
 pub returns-clause-last : goal.returns-clause-last
 returns-clause-last g c =
     let way = c.in_ok-work.ensures.under_way None (at_none g.S.Source.stands c.args.src.now) (refl, refl, refl) in
     let b = beginning_at c.args.config.now c.args.now_ms c.args.offsets.now.offset way.0 in
-    let u = subst (λ (n : ℤ). IsUnderWay g.S.Source.stands None (g.S.Source.told c.args.src.now) (beginning_at c.args.config.now n c.args.offsets.now.offset way.0) c.open_session.new.store.offset c.in_ok-work.work c.open_session.new.report c.open_session.new.src (g.S.Source.told c.open_session.new.src)) (to_z-of_z c.ranges.now_ms) way.1 in
+    let u = subst (λ (n : ℤ). IsUnderWay g.S.Source None (g.S.Source.told c.args.src.now) (beginning_at c.args.config.now n c.args.offsets.now.offset way.0) c.open_session.new.store.offset c.in_ok-work.work c.open_session.new.report c.open_session.new.src) (to_z-of_z c.ranges.now_ms) way.1 in
     let all = c.process_messages.ensures.all None (g.S.Source.told c.args.src.now) b u in
     let halted = c.process_messages.ensures.halted None (g.S.Source.told c.args.src.now) b u in
-    answer_as c.process_messages.result _ _ (λ r. OnOk r (StoodAtLast c.args.config.now c.args.now_ms c.args.offsets.now.offset c.process_messages.new.store.offset c.process_messages.new.report (g.S.Source.told c.process_messages.new.src))) all halted (λ a e. (ended_told g.S.Source.stands None (g.S.Source.told c.args.src.now) b c.process_messages.new.store.offset c.process_messages.new.work c.process_messages.new.report c.process_messages.new.src (g.S.Source.told c.process_messages.new.src) e a).0) (λ h x. tt)
+    answer_as c.process_messages.result _ _ (λ r. OnOk r (StoodAtLast c.args.config.now c.args.now_ms c.args.offsets.now.offset c.process_messages.new.store.offset c.process_messages.new.report (g.S.Source.told c.process_messages.new.src))) all halted (λ a e. (ended_told g.S.Source None (g.S.Source.told c.args.src.now) b c.process_messages.new.store.offset c.process_messages.new.work c.process_messages.new.report c.process_messages.new.src e a).0) (λ h x. tt)
 
 pub returns-clause-settled : goal.returns-clause-settled
 returns-clause-settled g c s was =
     let way = c.in_ok-work.ensures.under_way (Some s) (at_some g.S.Source.stands c.args.src.now s was) (refl, refl, refl) in
     let b = beginning_at c.args.config.now c.args.now_ms c.args.offsets.now.offset way.0 in
-    let u = subst (λ (n : ℤ). IsUnderWay g.S.Source.stands (Some s) (g.S.Source.told c.args.src.now) (beginning_at c.args.config.now n c.args.offsets.now.offset way.0) c.open_session.new.store.offset c.in_ok-work.work c.open_session.new.report c.open_session.new.src (g.S.Source.told c.open_session.new.src)) (to_z-of_z c.ranges.now_ms) way.1 in
+    let u = subst (λ (n : ℤ). IsUnderWay g.S.Source (Some s) (g.S.Source.told c.args.src.now) (beginning_at c.args.config.now n c.args.offsets.now.offset way.0) c.open_session.new.store.offset c.in_ok-work.work c.open_session.new.report c.open_session.new.src) (to_z-of_z c.ranges.now_ms) way.1 in
     let all = c.process_messages.ensures.all (Some s) (g.S.Source.told c.args.src.now) b u in
     let halted = c.process_messages.ensures.halted (Some s) (g.S.Source.told c.args.src.now) b u in
-    answer_as c.process_messages.result _ _ (λ r. OnOk r (HasState g.S.Source.stands c.process_messages.new.src (HasSettled c.args.config.now c.args.now_ms c.args.offsets.now.offset c.process_messages.new.store.offset c.process_messages.new.report))) all halted (λ a e. let end = ended_stood g.S.Source.stands (Some s) (g.S.Source.told c.args.src.now) b c.process_messages.new.store.offset c.process_messages.new.work c.process_messages.new.report c.process_messages.new.src (g.S.Source.told c.process_messages.new.src) e a s refl in record { standing = end.standing; is = end.is; holds = end.holds.0 }) (λ h x. tt)
+    answer_as c.process_messages.result _ _ (λ r. OnOk r (HasState g.S.Source.stands c.process_messages.new.src (HasSettled c.args.config.now c.args.now_ms c.args.offsets.now.offset c.process_messages.new.store.offset c.process_messages.new.report))) all halted (λ a e. let end = ended_stood g.S.Source (Some s) (g.S.Source.told c.args.src.now) b c.process_messages.new.store.offset c.process_messages.new.work c.process_messages.new.report c.process_messages.new.src e a s refl in record { standing = end.standing; is = end.is; holds = end.holds.0 }) (λ h x. tt)
 
 pub returns-clause-followed : goal.returns-clause-followed
 returns-clause-followed g c =
     let way = c.in_ok-work.ensures.under_way None (at_none g.S.Source.stands c.args.src.now) (refl, refl, refl) in
     let b = beginning_at c.args.config.now c.args.now_ms c.args.offsets.now.offset way.0 in
-    let u = subst (λ (n : ℤ). IsUnderWay g.S.Source.stands None (g.S.Source.told c.args.src.now) (beginning_at c.args.config.now n c.args.offsets.now.offset way.0) c.open_session.new.store.offset c.in_ok-work.work c.open_session.new.report c.open_session.new.src (g.S.Source.told c.open_session.new.src)) (to_z-of_z c.ranges.now_ms) way.1 in
+    let u = subst (λ (n : ℤ). IsUnderWay g.S.Source None (g.S.Source.told c.args.src.now) (beginning_at c.args.config.now n c.args.offsets.now.offset way.0) c.open_session.new.store.offset c.in_ok-work.work c.open_session.new.report c.open_session.new.src) (to_z-of_z c.ranges.now_ms) way.1 in
     let all = c.process_messages.ensures.all None (g.S.Source.told c.args.src.now) b u in
     let halted = c.process_messages.ensures.halted None (g.S.Source.told c.args.src.now) b u in
     err_then c.process_messages.result _ _ halted (λ h x. x.halted.tells.followed)
@@ -213,7 +213,7 @@ pub returns-clause-stood : goal.returns-clause-stood
 returns-clause-stood g c s t was now =
     let way = c.in_ok-work.ensures.under_way (Some s) (at_some g.S.Source.stands c.args.src.now s was) (refl, refl, refl) in
     let b = beginning_at c.args.config.now c.args.now_ms c.args.offsets.now.offset way.0 in
-    let u = subst (λ (n : ℤ). IsUnderWay g.S.Source.stands (Some s) (g.S.Source.told c.args.src.now) (beginning_at c.args.config.now n c.args.offsets.now.offset way.0) c.open_session.new.store.offset c.in_ok-work.work c.open_session.new.report c.open_session.new.src (g.S.Source.told c.open_session.new.src)) (to_z-of_z c.ranges.now_ms) way.1 in
+    let u = subst (λ (n : ℤ). IsUnderWay g.S.Source (Some s) (g.S.Source.told c.args.src.now) (beginning_at c.args.config.now n c.args.offsets.now.offset way.0) c.open_session.new.store.offset c.in_ok-work.work c.open_session.new.report c.open_session.new.src) (to_z-of_z c.ranges.now_ms) way.1 in
     let all = c.process_messages.ensures.all (Some s) (g.S.Source.told c.args.src.now) b u in
     let halted = c.process_messages.ensures.halted (Some s) (g.S.Source.told c.args.src.now) b u in
     err_then c.process_messages.result _ _ halted (λ h x. (x.halted.stood s t refl now).stood)
@@ -222,28 +222,28 @@ pub returns-clause-must : goal.returns-clause-must
 returns-clause-must g c t is =
     let way = c.in_ok-work.ensures.under_way None (at_none g.S.Source.stands c.args.src.now) (refl, refl, refl) in
     let b = beginning_at c.args.config.now c.args.now_ms c.args.offsets.now.offset way.0 in
-    let u = subst (λ (n : ℤ). IsUnderWay g.S.Source.stands None (g.S.Source.told c.args.src.now) (beginning_at c.args.config.now n c.args.offsets.now.offset way.0) c.open_session.new.store.offset c.in_ok-work.work c.open_session.new.report c.open_session.new.src (g.S.Source.told c.open_session.new.src)) (to_z-of_z c.ranges.now_ms) way.1 in
+    let u = subst (λ (n : ℤ). IsUnderWay g.S.Source None (g.S.Source.told c.args.src.now) (beginning_at c.args.config.now n c.args.offsets.now.offset way.0) c.open_session.new.store.offset c.in_ok-work.work c.open_session.new.report c.open_session.new.src) (to_z-of_z c.ranges.now_ms) way.1 in
     let all = c.process_messages.ensures.all None (g.S.Source.told c.args.src.now) b u in
     let halted = c.process_messages.ensures.halted None (g.S.Source.told c.args.src.now) b u in
-    answer_as c.process_messages.result _ _ (λ r. MustHaltTold c.args.config.now c.args.now_ms c.args.offsets.now.offset c.process_messages.new.store.offset c.process_messages.new.report t r) all halted (λ a e. (ended_told g.S.Source.stands None (g.S.Source.told c.args.src.now) b c.process_messages.new.store.offset c.process_messages.new.work c.process_messages.new.report c.process_messages.new.src (g.S.Source.told c.process_messages.new.src) e a).2 t is) (λ h x. x.halted.tells.must t is)
+    answer_as c.process_messages.result _ _ (λ r. MustHaltTold c.args.config.now c.args.now_ms c.args.offsets.now.offset c.process_messages.new.store.offset c.process_messages.new.report t r) all halted (λ a e. (ended_told g.S.Source None (g.S.Source.told c.args.src.now) b c.process_messages.new.store.offset c.process_messages.new.work c.process_messages.new.report c.process_messages.new.src e a).2 t is) (λ h x. x.halted.tells.must t is)
 
 pub returns-clause-must_stood : goal.returns-clause-must_stood
 returns-clause-must_stood g c s t was now =
     let way = c.in_ok-work.ensures.under_way (Some s) (at_some g.S.Source.stands c.args.src.now s was) (refl, refl, refl) in
     let b = beginning_at c.args.config.now c.args.now_ms c.args.offsets.now.offset way.0 in
-    let u = subst (λ (n : ℤ). IsUnderWay g.S.Source.stands (Some s) (g.S.Source.told c.args.src.now) (beginning_at c.args.config.now n c.args.offsets.now.offset way.0) c.open_session.new.store.offset c.in_ok-work.work c.open_session.new.report c.open_session.new.src (g.S.Source.told c.open_session.new.src)) (to_z-of_z c.ranges.now_ms) way.1 in
+    let u = subst (λ (n : ℤ). IsUnderWay g.S.Source (Some s) (g.S.Source.told c.args.src.now) (beginning_at c.args.config.now n c.args.offsets.now.offset way.0) c.open_session.new.store.offset c.in_ok-work.work c.open_session.new.report c.open_session.new.src) (to_z-of_z c.ranges.now_ms) way.1 in
     let all = c.process_messages.ensures.all (Some s) (g.S.Source.told c.args.src.now) b u in
     let halted = c.process_messages.ensures.halted (Some s) (g.S.Source.told c.args.src.now) b u in
-    answer_as c.process_messages.result _ _ (λ r. MustHaltStood c.args.config.now c.args.now_ms c.args.offsets.now.offset c.process_messages.new.store.offset c.process_messages.new.report t r) all halted (λ a e. let end = ended_stood g.S.Source.stands (Some s) (g.S.Source.told c.args.src.now) b c.process_messages.new.store.offset c.process_messages.new.work c.process_messages.new.report c.process_messages.new.src (g.S.Source.told c.process_messages.new.src) e a s refl in subst (λ (x : SourceState). MustHaltStood c.args.config.now c.args.now_ms c.args.offsets.now.offset c.process_messages.new.store.offset c.process_messages.new.report x (Ok e)) (g.met.S.Source.one c.process_messages.new.src end.standing t end.is now) end.holds.1) (λ h x. (x.halted.stood s t refl now).must)
+    answer_as c.process_messages.result _ _ (λ r. MustHaltStood c.args.config.now c.args.now_ms c.args.offsets.now.offset c.process_messages.new.store.offset c.process_messages.new.report t r) all halted (λ a e. let end = ended_stood g.S.Source (Some s) (g.S.Source.told c.args.src.now) b c.process_messages.new.store.offset c.process_messages.new.work c.process_messages.new.report c.process_messages.new.src e a s refl in subst (λ (x : SourceState). MustHaltStood c.args.config.now c.args.now_ms c.args.offsets.now.offset c.process_messages.new.store.offset c.process_messages.new.report x (Ok e)) (g.met.S.Source.one c.process_messages.new.src end.standing t end.is now) end.holds.1) (λ h x. (x.halted.stood s t refl now).must)
 
 pub returns-in_err-work-clause-halt : goal.returns-in_err-work-clause-halt
-returns-in_err-work-clause-halt g c = residual_of c.from_residual.result _ (IsHalt c.args.config.now c.args.now_ms c.args.offsets.now.offset c.open_session.new.store.offset c.open_session.new.report (g.S.Source.told c.open_session.new.src)) c.from_residual.ensures.1 (subst (λ (n : ℤ). Halts g.S.Source.stands None (g.S.Source.told c.args.src.now) c.args.config.now n c.args.offsets.now.offset c.open_session.new.store.offset c.open_session.new.report c.open_session.new.src (g.S.Source.told c.open_session.new.src) c.in_err-work.field-0.0) (to_z-of_z c.ranges.now_ms) (c.in_err-work.ensures.halted None (at_none g.S.Source.stands c.args.src.now) (refl, refl, refl))).cause
+returns-in_err-work-clause-halt g c = residual_of c.from_residual.result _ (IsHalt c.args.config.now c.args.now_ms c.args.offsets.now.offset c.open_session.new.store.offset c.open_session.new.report (g.S.Source.told c.open_session.new.src)) c.from_residual.ensures.1 (subst (λ (n : ℤ). Halts g.S.Source None (g.S.Source.told c.args.src.now) c.args.config.now n c.args.offsets.now.offset c.open_session.new.store.offset c.open_session.new.report c.open_session.new.src c.in_err-work.field-0.0) (to_z-of_z c.ranges.now_ms) (c.in_err-work.ensures.halted None (at_none g.S.Source.stands c.args.src.now) (refl, refl, refl))).cause
 
 pub returns-clause-halt : goal.returns-clause-halt
 returns-clause-halt g c =
     let way = c.in_ok-work.ensures.under_way None (at_none g.S.Source.stands c.args.src.now) (refl, refl, refl) in
     let b = beginning_at c.args.config.now c.args.now_ms c.args.offsets.now.offset way.0 in
-    let u = subst (λ (n : ℤ). IsUnderWay g.S.Source.stands None (g.S.Source.told c.args.src.now) (beginning_at c.args.config.now n c.args.offsets.now.offset way.0) c.open_session.new.store.offset c.in_ok-work.work c.open_session.new.report c.open_session.new.src (g.S.Source.told c.open_session.new.src)) (to_z-of_z c.ranges.now_ms) way.1 in
+    let u = subst (λ (n : ℤ). IsUnderWay g.S.Source None (g.S.Source.told c.args.src.now) (beginning_at c.args.config.now n c.args.offsets.now.offset way.0) c.open_session.new.store.offset c.in_ok-work.work c.open_session.new.report c.open_session.new.src) (to_z-of_z c.ranges.now_ms) way.1 in
     let all = c.process_messages.ensures.all None (g.S.Source.told c.args.src.now) b u in
     let halted = c.process_messages.ensures.halted None (g.S.Source.told c.args.src.now) b u in
     err_then c.process_messages.result _ _ halted (λ h x. x.cause)
@@ -254,7 +254,7 @@ returns-clause-exactly g c s was honest had =
     let in_session = c.in_ok-work.ensures.opened false entry refl (sym (to_z-of_z c.ranges.now_ms)) (source_found _ _ _ c.args.config.now c.args.now_ms s _ _ c.args.offsets.now was) (c.process_messages.ensures.honest honest) had in
     let way = c.in_ok-work.ensures.under_way None (at_none g.S.Source.stands c.args.src.now) (refl, refl, refl) in
     let b = beginning_at c.args.config.now c.args.now_ms c.args.offsets.now.offset way.0 in
-    let u = subst (λ (n : ℤ). IsUnderWay g.S.Source.stands None (g.S.Source.told c.args.src.now) (beginning_at c.args.config.now n c.args.offsets.now.offset way.0) c.open_session.new.store.offset c.in_ok-work.work c.open_session.new.report c.open_session.new.src (g.S.Source.told c.open_session.new.src)) (to_z-of_z c.ranges.now_ms) way.1 in
+    let u = subst (λ (n : ℤ). IsUnderWay g.S.Source None (g.S.Source.told c.args.src.now) (beginning_at c.args.config.now n c.args.offsets.now.offset way.0) c.open_session.new.store.offset c.in_ok-work.work c.open_session.new.report c.open_session.new.src) (to_z-of_z c.ranges.now_ms) way.1 in
     let all = c.process_messages.ensures.all None (g.S.Source.told c.args.src.now) b u in
     exactly_by c.process_messages.result _ _ _ _ _ (c.process_messages.ensures.ran false entry in_session honest) all c.process_messages.ensures.none c.process_messages.ensures.waited
     (λ t e none left may. exact_left t c.process_messages.new.store.offset c.process_messages.new.report.chunks _ left (g.met.S.Source.only _ (state_at_stage t.stage) left t.source_is may) (exact_budget t c.process_messages.new.store.offset c.process_messages.new.report.chunks e.stored_is e.is.is.windows none))
@@ -278,19 +278,19 @@ pub returns-clause-grouped : goal.returns-clause-grouped
 returns-clause-grouped g c groups left held may =
     let way = c.in_ok-work.ensures.putting groups held None (at_none g.S.Source.stands c.args.src.now) (refl, refl, refl, refl, refl) in
     let b = beginning_at c.args.config.now c.args.now_ms c.args.offsets.now.offset way.0 in
-    let u = subst (λ (n : ℤ). IsPutting g.S.Source.stands g.K.Sink.holds groups None (g.S.Source.told c.args.src.now) (beginning_at c.args.config.now n c.args.offsets.now.offset way.0) c.open_session.new.store.offset c.in_ok-work.work c.open_session.new.report c.open_session.new.src (g.S.Source.told c.open_session.new.src) c.args.sink.now) (to_z-of_z c.ranges.now_ms) way.1 in
+    let u = subst (λ (n : ℤ). IsPutting g.S.Source g.K.Sink groups None (g.S.Source.told c.args.src.now) (beginning_at c.args.config.now n c.args.offsets.now.offset way.0) c.open_session.new.store.offset c.in_ok-work.work c.open_session.new.report c.open_session.new.src c.args.sink.now) (to_z-of_z c.ranges.now_ms) way.1 in
     let on = c.process_messages.ensures.putting groups None (g.S.Source.told c.args.src.now) b u in
     let put = c.process_messages.ensures.put groups None (g.S.Source.told c.args.src.now) b u in
-    either_of c.process_messages.result _ _ _ on put (λ x. left_gains g.S.Source.stands g.K.Sink.holds g.K.Sink.may_leave groups None (g.S.Source.told c.args.src.now) b c.process_messages.new.store.offset c.process_messages.new.src (g.S.Source.told c.process_messages.new.src) c.process_messages.new.sink c.process_messages.new.work c.process_messages.new.report (rests_put g.S.Source.stands g.K.Sink.holds g.K.Sink.may_leave groups None (g.S.Source.told c.args.src.now) b c.process_messages.new.store.offset c.process_messages.new.work c.process_messages.new.report c.process_messages.new.src (g.S.Source.told c.process_messages.new.src) c.process_messages.new.sink x) (g.met.K.Sink.only c.process_messages.new.sink) left may) (λ h x. x.grouped left may)
+    either_of c.process_messages.result _ _ _ on put (λ x. left_gains g.S.Source g.K.Sink groups None (g.S.Source.told c.args.src.now) b c.process_messages.new.store.offset c.process_messages.new.src c.process_messages.new.sink c.process_messages.new.work c.process_messages.new.report (rests_put g.S.Source g.K.Sink groups None (g.S.Source.told c.args.src.now) b c.process_messages.new.store.offset c.process_messages.new.work c.process_messages.new.report c.process_messages.new.src c.process_messages.new.sink x) (g.met.K.Sink.only c.process_messages.new.sink) left may) (λ h x. x.grouped left may)
 
 pub returns-clause-counted : goal.returns-clause-counted
 returns-clause-counted g c groups held =
     let way = c.in_ok-work.ensures.putting groups held None (at_none g.S.Source.stands c.args.src.now) (refl, refl, refl, refl, refl) in
     let b = beginning_at c.args.config.now c.args.now_ms c.args.offsets.now.offset way.0 in
-    let u = subst (λ (n : ℤ). IsPutting g.S.Source.stands g.K.Sink.holds groups None (g.S.Source.told c.args.src.now) (beginning_at c.args.config.now n c.args.offsets.now.offset way.0) c.open_session.new.store.offset c.in_ok-work.work c.open_session.new.report c.open_session.new.src (g.S.Source.told c.open_session.new.src) c.args.sink.now) (to_z-of_z c.ranges.now_ms) way.1 in
+    let u = subst (λ (n : ℤ). IsPutting g.S.Source g.K.Sink groups None (g.S.Source.told c.args.src.now) (beginning_at c.args.config.now n c.args.offsets.now.offset way.0) c.open_session.new.store.offset c.in_ok-work.work c.open_session.new.report c.open_session.new.src c.args.sink.now) (to_z-of_z c.ranges.now_ms) way.1 in
     let on = c.process_messages.ensures.putting groups None (g.S.Source.told c.args.src.now) b u in
     let put = c.process_messages.ensures.put groups None (g.S.Source.told c.args.src.now) b u in
-    answer_as c.process_messages.result _ _ (λ r. ReportsGroups g.K.Sink.holds g.K.Sink.may_leave groups r c.process_messages.new.sink c.process_messages.new.report) on put (λ x e. still_counted g.S.Source.stands g.K.Sink.holds g.K.Sink.may_leave groups None (g.S.Source.told c.args.src.now) b c.process_messages.new.store.offset c.process_messages.new.src (g.S.Source.told c.process_messages.new.src) c.process_messages.new.sink c.process_messages.new.work c.process_messages.new.report (rests_put g.S.Source.stands g.K.Sink.holds g.K.Sink.may_leave groups None (g.S.Source.told c.args.src.now) b c.process_messages.new.store.offset c.process_messages.new.work c.process_messages.new.report c.process_messages.new.src (g.S.Source.told c.process_messages.new.src) c.process_messages.new.sink x) (g.met.K.Sink.only c.process_messages.new.sink) c.process_messages.new.report refl refl refl) (λ h x. x.counted)
+    answer_as c.process_messages.result _ _ (λ r. ReportsGroups g.K.Sink.holds g.K.Sink.may_leave groups r c.process_messages.new.sink c.process_messages.new.report) on put (λ x e. still_counted g.S.Source g.K.Sink groups None (g.S.Source.told c.args.src.now) b c.process_messages.new.store.offset c.process_messages.new.src c.process_messages.new.sink c.process_messages.new.work c.process_messages.new.report (rests_put g.S.Source g.K.Sink groups None (g.S.Source.told c.args.src.now) b c.process_messages.new.store.offset c.process_messages.new.work c.process_messages.new.report c.process_messages.new.src c.process_messages.new.sink x) (g.met.K.Sink.only c.process_messages.new.sink) c.process_messages.new.report refl refl refl) (λ h x. x.counted)
 
 pub returns-in_err-work-clause-absent : goal.returns-in_err-work-clause-absent
 returns-in_err-work-clause-absent g c s is = residual_of c.from_residual.result _ (IsAbsentHalt c.args.config.now.tables s.history) c.from_residual.ensures.1 (c.in_err-work.ensures.absent s is)
@@ -299,7 +299,7 @@ pub returns-clause-absent : goal.returns-clause-absent
 returns-clause-absent g c s is =
     let way = c.in_ok-work.ensures.under_way None (at_none g.S.Source.stands c.args.src.now) (refl, refl, refl) in
     let b = beginning_at c.args.config.now c.args.now_ms c.args.offsets.now.offset way.0 in
-    let u = subst (λ (n : ℤ). IsUnderWay g.S.Source.stands None (g.S.Source.told c.args.src.now) (beginning_at c.args.config.now n c.args.offsets.now.offset way.0) c.open_session.new.store.offset c.in_ok-work.work c.open_session.new.report c.open_session.new.src (g.S.Source.told c.open_session.new.src)) (to_z-of_z c.ranges.now_ms) way.1 in
+    let u = subst (λ (n : ℤ). IsUnderWay g.S.Source None (g.S.Source.told c.args.src.now) (beginning_at c.args.config.now n c.args.offsets.now.offset way.0) c.open_session.new.store.offset c.in_ok-work.work c.open_session.new.report c.open_session.new.src) (to_z-of_z c.ranges.now_ms) way.1 in
     let all = c.process_messages.ensures.all None (g.S.Source.told c.args.src.now) b u in
     let halted = c.process_messages.ensures.halted None (g.S.Source.told c.args.src.now) b u in
     let begun = c.in_ok-work.ensures.begun in
@@ -319,7 +319,7 @@ pub returns-clause-missing : goal.returns-clause-missing
 returns-clause-missing g c s was honest log value at is =
     let way = c.in_ok-work.ensures.under_way (Some s) (at_some g.S.Source.stands c.args.src.now s was) (refl, refl, refl) in
     let b = beginning_at c.args.config.now c.args.now_ms c.args.offsets.now.offset way.0 in
-    let u = subst (λ (n : ℤ). IsUnderWay g.S.Source.stands (Some s) (g.S.Source.told c.args.src.now) (beginning_at c.args.config.now n c.args.offsets.now.offset way.0) c.open_session.new.store.offset c.in_ok-work.work c.open_session.new.report c.open_session.new.src (g.S.Source.told c.open_session.new.src)) (to_z-of_z c.ranges.now_ms) way.1 in
+    let u = subst (λ (n : ℤ). IsUnderWay g.S.Source (Some s) (g.S.Source.told c.args.src.now) (beginning_at c.args.config.now n c.args.offsets.now.offset way.0) c.open_session.new.store.offset c.in_ok-work.work c.open_session.new.report c.open_session.new.src) (to_z-of_z c.ranges.now_ms) way.1 in
     c.process_messages.ensures.unmissed (Some s) (g.S.Source.told c.args.src.now) b u s refl honest (c.in_ok-work.ensures.awaits s was log) value at is
 
 pub returns-in_err-work-clause-own : goal.returns-in_err-work-clause-own
@@ -333,7 +333,7 @@ returns-clause-own g c s was honest had =
     let in_session = c.in_ok-work.ensures.opened false entry refl (sym (to_z-of_z c.ranges.now_ms)) (source_found _ _ _ c.args.config.now c.args.now_ms s _ _ c.args.offsets.now was) (c.process_messages.ensures.honest honest) had in
     let way = c.in_ok-work.ensures.under_way (Some s) (at_some g.S.Source.stands c.args.src.now s was) (refl, refl, refl) in
     let b = beginning_at c.args.config.now c.args.now_ms c.args.offsets.now.offset way.0 in
-    let u = subst (λ (n : ℤ). IsUnderWay g.S.Source.stands (Some s) (g.S.Source.told c.args.src.now) (beginning_at c.args.config.now n c.args.offsets.now.offset way.0) c.open_session.new.store.offset c.in_ok-work.work c.open_session.new.report c.open_session.new.src (g.S.Source.told c.open_session.new.src)) (to_z-of_z c.ranges.now_ms) way.1 in
+    let u = subst (λ (n : ℤ). IsUnderWay g.S.Source (Some s) (g.S.Source.told c.args.src.now) (beginning_at c.args.config.now n c.args.offsets.now.offset way.0) c.open_session.new.store.offset c.in_ok-work.work c.open_session.new.report c.open_session.new.src) (to_z-of_z c.ranges.now_ms) way.1 in
     c.process_messages.ensures.own false entry (Some s) (g.S.Source.told c.args.src.now) b in_session u s refl honest
 
 pub returns-in_err-work-clause-most : goal.returns-in_err-work-clause-most
@@ -345,7 +345,7 @@ returns-clause-most g c s was honest had left may =
     let in_session = c.in_ok-work.ensures.opened false entry refl (sym (to_z-of_z c.ranges.now_ms)) (source_found _ _ _ c.args.config.now c.args.now_ms s _ _ c.args.offsets.now was) (c.process_messages.ensures.honest honest) had in
     let way = c.in_ok-work.ensures.under_way None (at_none g.S.Source.stands c.args.src.now) (refl, refl, refl) in
     let b = beginning_at c.args.config.now c.args.now_ms c.args.offsets.now.offset way.0 in
-    let u = subst (λ (n : ℤ). IsUnderWay g.S.Source.stands None (g.S.Source.told c.args.src.now) (beginning_at c.args.config.now n c.args.offsets.now.offset way.0) c.open_session.new.store.offset c.in_ok-work.work c.open_session.new.report c.open_session.new.src (g.S.Source.told c.open_session.new.src)) (to_z-of_z c.ranges.now_ms) way.1 in
+    let u = subst (λ (n : ℤ). IsUnderWay g.S.Source None (g.S.Source.told c.args.src.now) (beginning_at c.args.config.now n c.args.offsets.now.offset way.0) c.open_session.new.store.offset c.in_ok-work.work c.open_session.new.report c.open_session.new.src) (to_z-of_z c.ranges.now_ms) way.1 in
     let begins = c.in_ok-work.ensures.begun in
     let own = c.process_messages.ensures.stored (subst (λ (o : Offset). HasOwnStored o c.open_session.new.store.offset) (sym begins.2.offset_is) (own_first begins.0 c.open_session.new.store.offset begins.1)) in
     stored_most c.in_ok-work.work.offset c.process_messages.new.store.offset c.process_messages.new.report.chunks s.history left.history own
@@ -360,13 +360,13 @@ process_messages-requires-clause-some g c = c.requires.config.messages.0
 pub returns-in_err-work-clause-answered : goal.returns-in_err-work-clause-answered
 returns-in_err-work-clause-answered g c t is =
     residual_as c.from_residual.result _ (λ x. MustHalt c.args.config.now c.args.offsets.now.offset c.open_session.new.store.offset c.open_session.new.report t x) c.from_residual.ensures.1
-    ((subst (λ (n : ℤ). Halts g.S.Source.stands None (g.S.Source.told c.args.src.now) c.args.config.now n c.args.offsets.now.offset c.open_session.new.store.offset c.open_session.new.report c.open_session.new.src (g.S.Source.told c.open_session.new.src) c.in_err-work.field-0.0) (to_z-of_z c.ranges.now_ms) (c.in_err-work.ensures.halted None (at_none g.S.Source.stands c.args.src.now) (refl, refl, refl))).must t is)
+    ((subst (λ (n : ℤ). Halts g.S.Source None (g.S.Source.told c.args.src.now) c.args.config.now n c.args.offsets.now.offset c.open_session.new.store.offset c.open_session.new.report c.open_session.new.src c.in_err-work.field-0.0) (to_z-of_z c.ranges.now_ms) (c.in_err-work.ensures.halted None (at_none g.S.Source.stands c.args.src.now) (refl, refl, refl))).must t is)
 
 pub returns-clause-answered : goal.returns-clause-answered
 returns-clause-answered g c t is =
     let way = c.in_ok-work.ensures.under_way None (at_none g.S.Source.stands c.args.src.now) (refl, refl, refl) in
     let b = beginning_at c.args.config.now c.args.now_ms c.args.offsets.now.offset way.0 in
-    let u = subst (λ (n : ℤ). IsUnderWay g.S.Source.stands None (g.S.Source.told c.args.src.now) (beginning_at c.args.config.now n c.args.offsets.now.offset way.0) c.open_session.new.store.offset c.in_ok-work.work c.open_session.new.report c.open_session.new.src (g.S.Source.told c.open_session.new.src)) (to_z-of_z c.ranges.now_ms) way.1 in
+    let u = subst (λ (n : ℤ). IsUnderWay g.S.Source None (g.S.Source.told c.args.src.now) (beginning_at c.args.config.now n c.args.offsets.now.offset way.0) c.open_session.new.store.offset c.in_ok-work.work c.open_session.new.report c.open_session.new.src) (to_z-of_z c.ranges.now_ms) way.1 in
     let all = c.process_messages.ensures.all None (g.S.Source.told c.args.src.now) b u in
     let halted = c.process_messages.ensures.halted None (g.S.Source.told c.args.src.now) b u in
     answer_as c.process_messages.result _ _ (λ r. MustHalt c.args.config.now c.args.offsets.now.offset c.process_messages.new.store.offset c.process_messages.new.report t r) (ok_pair c.process_messages.result _ _ all c.process_messages.ensures.quiet) halted
@@ -383,7 +383,7 @@ returns-clause-content g c entry asked f honest faithful =
     let in_session = c.in_ok-work.ensures.opened true entry asked.config_is (asked.now_is ∙ sym (to_z-of_z c.ranges.now_ms)) (told_found f) (c.process_messages.ensures.honest honest) (had_of entry faithful) in
     let way = c.in_ok-work.ensures.under_way None (at_none g.S.Source.stands c.args.src.now) (refl, refl, refl) in
     let b = beginning_at c.args.config.now c.args.now_ms c.args.offsets.now.offset way.0 in
-    let u = subst (λ (n : ℤ). IsUnderWay g.S.Source.stands None (g.S.Source.told c.args.src.now) (beginning_at c.args.config.now n c.args.offsets.now.offset way.0) c.open_session.new.store.offset c.in_ok-work.work c.open_session.new.report c.open_session.new.src (g.S.Source.told c.open_session.new.src)) (to_z-of_z c.ranges.now_ms) way.1 in
+    let u = subst (λ (n : ℤ). IsUnderWay g.S.Source None (g.S.Source.told c.args.src.now) (beginning_at c.args.config.now n c.args.offsets.now.offset way.0) c.open_session.new.store.offset c.in_ok-work.work c.open_session.new.report c.open_session.new.src) (to_z-of_z c.ranges.now_ms) way.1 in
     c.process_messages.ensures.content entry None (g.S.Source.told c.args.src.now) b in_session u faithful honest
 
 pub returns-in_err-work-clause-long : goal.returns-in_err-work-clause-long
@@ -428,13 +428,13 @@ returns-clause-ungained g c groups left held may same =
     (has_stored c.args.config.now c.args.offsets.now.offset c.process_messages.new.store.offset c.in_ok-work.work.offset (subst (IsOffsetFor c.args.config.now c.args.offsets.now.offset) (sym b.2.offset_is) b.3) (c.process_messages.ensures.stored (subst (λ (o : Offset). HasOwnStored o c.open_session.new.store.offset) (sym b.2.offset_is) (own_first b.0 c.open_session.new.store.offset b.1)))) same)
 
 pub returns-in_err-work-clause-halt_stood : goal.returns-in_err-work-clause-halt_stood
-returns-in_err-work-clause-halt_stood g c s was = residual_of c.from_residual.result _ (IsHaltStanding c.args.config.now c.args.now_ms c.args.offsets.now.offset c.open_session.new.store.offset c.open_session.new.report (g.S.Source.stands c.open_session.new.src)) c.from_residual.ensures.1 ((subst (λ (n : ℤ). Halts g.S.Source.stands (Some s) (g.S.Source.told c.args.src.now) c.args.config.now n c.args.offsets.now.offset c.open_session.new.store.offset c.open_session.new.report c.open_session.new.src (g.S.Source.told c.open_session.new.src) c.in_err-work.field-0.0) (to_z-of_z c.ranges.now_ms) (c.in_err-work.ensures.halted (Some s) (at_some g.S.Source.stands c.args.src.now s was) (refl, refl, refl))).stood s refl)
+returns-in_err-work-clause-halt_stood g c s was = residual_of c.from_residual.result _ (IsHaltStanding c.args.config.now c.args.now_ms c.args.offsets.now.offset c.open_session.new.store.offset c.open_session.new.report (g.S.Source.stands c.open_session.new.src)) c.from_residual.ensures.1 ((subst (λ (n : ℤ). Halts g.S.Source (Some s) (g.S.Source.told c.args.src.now) c.args.config.now n c.args.offsets.now.offset c.open_session.new.store.offset c.open_session.new.report c.open_session.new.src c.in_err-work.field-0.0) (to_z-of_z c.ranges.now_ms) (c.in_err-work.ensures.halted (Some s) (at_some g.S.Source.stands c.args.src.now s was) (refl, refl, refl))).stood s refl)
 
 pub returns-clause-halt_stood : goal.returns-clause-halt_stood
 returns-clause-halt_stood g c s was =
     let way = c.in_ok-work.ensures.under_way (Some s) (at_some g.S.Source.stands c.args.src.now s was) (refl, refl, refl) in
     let b = beginning_at c.args.config.now c.args.now_ms c.args.offsets.now.offset way.0 in
-    let u = subst (λ (n : ℤ). IsUnderWay g.S.Source.stands (Some s) (g.S.Source.told c.args.src.now) (beginning_at c.args.config.now n c.args.offsets.now.offset way.0) c.open_session.new.store.offset c.in_ok-work.work c.open_session.new.report c.open_session.new.src (g.S.Source.told c.open_session.new.src)) (to_z-of_z c.ranges.now_ms) way.1 in
+    let u = subst (λ (n : ℤ). IsUnderWay g.S.Source (Some s) (g.S.Source.told c.args.src.now) (beginning_at c.args.config.now n c.args.offsets.now.offset way.0) c.open_session.new.store.offset c.in_ok-work.work c.open_session.new.report c.open_session.new.src) (to_z-of_z c.ranges.now_ms) way.1 in
     let halted = c.process_messages.ensures.halted (Some s) (g.S.Source.told c.args.src.now) b u in
     err_then c.process_messages.result _ _ halted (λ h x. x.stood s refl)
 
@@ -463,22 +463,22 @@ pub returns-clause-tallied : goal.returns-clause-tallied
 returns-clause-tallied g c groups held other =
     let way = c.in_ok-work.ensures.putting groups held None (at_none g.S.Source.stands c.args.src.now) (refl, refl, refl, refl, refl) in
     let b = beginning_at c.args.config.now c.args.now_ms c.args.offsets.now.offset way.0 in
-    let u = subst (λ (n : ℤ). IsPutting g.S.Source.stands g.K.Sink.holds groups None (g.S.Source.told c.args.src.now) (beginning_at c.args.config.now n c.args.offsets.now.offset way.0) c.open_session.new.store.offset c.in_ok-work.work c.open_session.new.report c.open_session.new.src (g.S.Source.told c.open_session.new.src) c.args.sink.now) (to_z-of_z c.ranges.now_ms) way.1 in
+    let u = subst (λ (n : ℤ). IsPutting g.S.Source g.K.Sink groups None (g.S.Source.told c.args.src.now) (beginning_at c.args.config.now n c.args.offsets.now.offset way.0) c.open_session.new.store.offset c.in_ok-work.work c.open_session.new.report c.open_session.new.src c.args.sink.now) (to_z-of_z c.ranges.now_ms) way.1 in
     let on = c.process_messages.ensures.putting groups None (g.S.Source.told c.args.src.now) b u in
     let put = c.process_messages.ensures.put groups None (g.S.Source.told c.args.src.now) b u in
     answer_as c.process_messages.result _ _ (λ r. (r ≡ Err halt.Sink → ⊥) → IsTallied g.K.Sink.holds groups c.args.config.now c.args.now_ms c.args.offsets.now.offset c.process_messages.new.store.offset c.process_messages.new.report (g.S.Source.told c.process_messages.new.src) c.process_messages.new.sink r) on put
-    (λ x e ok. between_tallied g.S.Source.stands g.K.Sink.holds groups None (g.S.Source.told c.args.src.now) b c.process_messages.new.store.offset c.process_messages.new.store.offset c.process_messages.new.work c.process_messages.new.report c.process_messages.new.report c.process_messages.new.src c.process_messages.new.src (g.S.Source.told c.process_messages.new.src) (g.S.Source.told c.process_messages.new.src) c.process_messages.new.sink (rests_put g.S.Source.stands g.K.Sink.holds g.K.Sink.may_leave groups None (g.S.Source.told c.args.src.now) b c.process_messages.new.store.offset c.process_messages.new.work c.process_messages.new.report c.process_messages.new.src (g.S.Source.told c.process_messages.new.src) c.process_messages.new.sink x) (Ok e) refl refl refl (inl refl) (none_taken (g.S.Source.told c.process_messages.new.src)))
+    (λ x e ok. between_tallied g.S.Source g.K.Sink groups None (g.S.Source.told c.args.src.now) b c.process_messages.new.store.offset c.process_messages.new.store.offset c.process_messages.new.work c.process_messages.new.report c.process_messages.new.report c.process_messages.new.src c.process_messages.new.src c.process_messages.new.sink (rests_put g.S.Source g.K.Sink groups None (g.S.Source.told c.args.src.now) b c.process_messages.new.store.offset c.process_messages.new.work c.process_messages.new.report c.process_messages.new.src c.process_messages.new.sink x) (Ok e) refl refl refl (inl refl) (none_taken (g.S.Source.told c.process_messages.new.src)))
     (λ h x ok. x.tallied (λ is. ok (ap (λ (k : Halt). Err k) is))) other
 
 pub returns-clause-tallied_stood : goal.returns-clause-tallied_stood
 returns-clause-tallied_stood g c groups held other s t was now =
     let way = c.in_ok-work.ensures.putting groups held (Some s) (at_some g.S.Source.stands c.args.src.now s was) (refl, refl, refl, refl, refl) in
     let b = beginning_at c.args.config.now c.args.now_ms c.args.offsets.now.offset way.0 in
-    let u = subst (λ (n : ℤ). IsPutting g.S.Source.stands g.K.Sink.holds groups (Some s) (g.S.Source.told c.args.src.now) (beginning_at c.args.config.now n c.args.offsets.now.offset way.0) c.open_session.new.store.offset c.in_ok-work.work c.open_session.new.report c.open_session.new.src (g.S.Source.told c.open_session.new.src) c.args.sink.now) (to_z-of_z c.ranges.now_ms) way.1 in
+    let u = subst (λ (n : ℤ). IsPutting g.S.Source g.K.Sink groups (Some s) (g.S.Source.told c.args.src.now) (beginning_at c.args.config.now n c.args.offsets.now.offset way.0) c.open_session.new.store.offset c.in_ok-work.work c.open_session.new.report c.open_session.new.src c.args.sink.now) (to_z-of_z c.ranges.now_ms) way.1 in
     let on = c.process_messages.ensures.putting groups (Some s) (g.S.Source.told c.args.src.now) b u in
     let put = c.process_messages.ensures.put groups (Some s) (g.S.Source.told c.args.src.now) b u in
     answer_as c.process_messages.result _ _ (λ r. (r ≡ Err halt.Sink → ⊥) → IsTalliedAfter g.K.Sink.holds groups c.args.config.now c.args.now_ms c.args.offsets.now.offset c.process_messages.new.store.offset c.process_messages.new.report t c.process_messages.new.sink r) on put
-    (λ x e ok. between_stood g.S.Source.stands g.K.Sink.holds groups (Some s) (g.S.Source.told c.args.src.now) b c.process_messages.new.store.offset c.process_messages.new.store.offset c.process_messages.new.work c.process_messages.new.report c.process_messages.new.report c.process_messages.new.src c.process_messages.new.src (g.S.Source.told c.process_messages.new.src) (g.S.Source.told c.process_messages.new.src) c.process_messages.new.sink (rests_put g.S.Source.stands g.K.Sink.holds g.K.Sink.may_leave groups (Some s) (g.S.Source.told c.args.src.now) b c.process_messages.new.store.offset c.process_messages.new.work c.process_messages.new.report c.process_messages.new.src (g.S.Source.told c.process_messages.new.src) c.process_messages.new.sink x) (Ok e) refl refl refl (inl refl) (λ a z one two. ap (λ (y : SourceState). y.reading) (g.met.S.Source.one c.process_messages.new.src z a two one)) s t refl now)
+    (λ x e ok. between_stood g.S.Source g.K.Sink groups (Some s) (g.S.Source.told c.args.src.now) b c.process_messages.new.store.offset c.process_messages.new.store.offset c.process_messages.new.work c.process_messages.new.report c.process_messages.new.report c.process_messages.new.src c.process_messages.new.src c.process_messages.new.sink (rests_put g.S.Source g.K.Sink groups (Some s) (g.S.Source.told c.args.src.now) b c.process_messages.new.store.offset c.process_messages.new.work c.process_messages.new.report c.process_messages.new.src c.process_messages.new.sink x) (Ok e) refl refl refl (inl refl) (λ a z one two. ap (λ (y : SourceState). y.reading) (g.met.S.Source.one c.process_messages.new.src z a two one)) s t refl now)
     (λ h x ok. x.tallied_stood (λ is. ok (ap (λ (k : Halt). Err k) is)) s t refl now) other
 
 pub returns-in_err-work-clause-unclosed : goal.returns-in_err-work-clause-unclosed
@@ -489,7 +489,7 @@ returns-clause-unclosed g c entry asked f honest faithful t now =
     let in_session = c.in_ok-work.ensures.opened true entry asked.config_is (asked.now_is ∙ sym (to_z-of_z c.ranges.now_ms)) (told_found f) (c.process_messages.ensures.honest honest) (had_of entry faithful) in
     let way = c.in_ok-work.ensures.under_way None (at_none g.S.Source.stands c.args.src.now) (refl, refl, refl) in
     let b = beginning_at c.args.config.now c.args.now_ms c.args.offsets.now.offset way.0 in
-    let u = subst (λ (n : ℤ). IsUnderWay g.S.Source.stands None (g.S.Source.told c.args.src.now) (beginning_at c.args.config.now n c.args.offsets.now.offset way.0) c.open_session.new.store.offset c.in_ok-work.work c.open_session.new.report c.open_session.new.src (g.S.Source.told c.open_session.new.src)) (to_z-of_z c.ranges.now_ms) way.1 in
+    let u = subst (λ (n : ℤ). IsUnderWay g.S.Source None (g.S.Source.told c.args.src.now) (beginning_at c.args.config.now n c.args.offsets.now.offset way.0) c.open_session.new.store.offset c.in_ok-work.work c.open_session.new.report c.open_session.new.src) (to_z-of_z c.ranges.now_ms) way.1 in
     ok_then c.process_messages.result _ _ (ok_pair c.process_messages.result _ _ (c.process_messages.ensures.ran true entry in_session honest) (c.process_messages.ensures.all None (g.S.Source.told c.args.src.now) b u))
     (λ x. closed_read x.0 faithful c.process_messages.new.store.offset c.process_messages.new.report t x.1.stored_is (g.met.S.Source.one c.process_messages.new.src t (state_at_stage x.0.stage) now x.0.source_is) x.1.is.is.windows)
 

@@ -42,10 +42,10 @@ use Rattle.dbl_capture_laws.proofs.Awaited.{awaits_commit, awaits_message, await
 use Rattle.dbl_capture.proofs.messages.read_and_deliver.Goals as goal
 
 pub returns-in_err-bytes-clause-left : goal.returns-in_err-bytes-clause-left
-returns-in_err-bytes-clause-left g c tell entry s honest = on_err _ _ (follow_fails s _ _ c.read.new.self (λ left is. c.read.ensures.left (state_at_stage s.stage) left s.source_is is) (λ left is. g.met.S.Source.fit _ left is honest) (λ t groups is. g.met.K.Sink.only _ s.stage.groups groups (s.sink_is t) is) (c.read.ensures.some (state_at_stage s.stage) s.source_is) (λ t. (s.stage.groups, g.met.K.Sink.may _ s.stage.groups (s.sink_is t))))
+returns-in_err-bytes-clause-left g c tell entry s honest = on_err _ _ (follow_fails s c.read.new.self (λ left is. c.read.ensures.left (state_at_stage s.stage) left s.source_is is) (λ left is. g.met.S.Source.fit _ left is honest) (λ t groups is. g.met.K.Sink.only _ s.stage.groups groups (s.sink_is t) is) (c.read.ensures.some (state_at_stage s.stage) s.source_is) (λ t. (s.stage.groups, g.met.K.Sink.may _ s.stage.groups (s.sink_is t))))
 
 pub returns-in_err-commit-in-Some-clause-left : goal.returns-in_err-commit-in-Some-clause-left
-returns-in_err-commit-in-Some-clause-left g c tell entry s honest = on_err _ _ (follow_fails s _ _ c.read.new.self (λ left is. c.read.ensures.left (state_at_stage s.stage) left s.source_is is) (λ left is. g.met.S.Source.fit _ left is honest) (λ t groups is. g.met.K.Sink.only _ s.stage.groups groups (s.sink_is t) is) (c.read.ensures.some (state_at_stage s.stage) s.source_is) (λ t. (s.stage.groups, g.met.K.Sink.may _ s.stage.groups (s.sink_is t))))
+returns-in_err-commit-in-Some-clause-left g c tell entry s honest = on_err _ _ (follow_fails s c.read.new.self (λ left is. c.read.ensures.left (state_at_stage s.stage) left s.source_is is) (λ left is. g.met.S.Source.fit _ left is honest) (λ t groups is. g.met.K.Sink.only _ s.stage.groups groups (s.sink_is t) is) (c.read.ensures.some (state_at_stage s.stage) s.source_is) (λ t. (s.stage.groups, g.met.K.Sink.may _ s.stage.groups (s.sink_is t))))
 
 pub returns-clause-next : goal.returns-clause-next
 returns-clause-next g c tell entry s honest =
@@ -61,7 +61,7 @@ pub returns-in_err-closed-in-Some-2-clause-left : goal.returns-in_err-closed-in-
 returns-in_err-closed-in-Some-2-clause-left g c tell entry s honest =
     let T = some_read _ _ _ _ c.in-Some.is (c.in_ok-bytes.ensures.took (state_at_stage s.stage) s.source_is) in
     on_err _ _
-    (step_fails s T.0 T.2.standing T.2.holds (g.met.S.Source.fit _ _ (g.met.S.Source.may _ T.2.standing T.2.is) honest) (λ r at. g.met.S.Source.right _ T.2.standing r T.2.is honest at) c.in-Some.bytes T.1 c.take_message.new.work (Some c.in-Some-2.commit) (subst (WasTaken s.stage.first.lsn s.stage.messages c.in-Some.bytes c.args.work.now c.take_message.new.work) c.in-Some-2.is (c.in_ok-commit-in-Some.ensures.taken s.stage.first.lsn s.stage.messages s.work_is.is)) c.in-Some-2.commit refl c.requires.time c.requires.since _ _ c.read.new.self c.deliver_commit.new.sink
+    (step_fails s T.0 T.2.standing T.2.holds (g.met.S.Source.fit _ _ (g.met.S.Source.may _ T.2.standing T.2.is) honest) (λ r at. g.met.S.Source.right _ T.2.standing r T.2.is honest at) c.in-Some.bytes T.1 c.take_message.new.work (Some c.in-Some-2.commit) (subst (WasTaken s.stage.first.lsn s.stage.messages c.in-Some.bytes c.args.work.now c.take_message.new.work) c.in-Some-2.is (c.in_ok-commit-in-Some.ensures.taken s.stage.first.lsn s.stage.messages s.work_is.is)) c.in-Some-2.commit refl c.requires.time c.requires.since c.read.new.self c.deliver_commit.new.sink
     (λ left is. g.met.S.Source.only _ T.2.standing left T.2.is is) (λ left is. c.read.ensures.left (state_at_stage s.stage) left s.source_is is) (λ left is. g.met.S.Source.fit _ left is honest)
     (λ t groups is. c.deliver_commit.ensures.left s.stage.groups groups (s.sink_is t) is) (c.read.ensures.some (state_at_stage s.stage) s.source_is) (λ t. c.deliver_commit.ensures.some s.stage.groups (s.sink_is t)))
 
@@ -175,9 +175,9 @@ deliver_commit-requires-clause-commits g c = omega (arith, c.requires.commits, c
 
 pub returns-in_err-bytes-clause-halted : goal.returns-in_err-bytes-clause-halted
 returns-in_err-bytes-clause-halted g c at found b u =
-    residual_of c.from_residual.result _ (Halts g.S.Source.stands at found b.config b.now b.held c.args.store.now.offset c.args.report.now c.read.new.self (g.S.Source.told c.read.new.self)) c.from_residual.ensures.1
+    residual_of c.from_residual.result _ (Halts g.S.Source at found b.config b.now b.held c.args.store.now.offset c.args.report.now c.read.new.self) c.from_residual.ensures.1
     (record {
-      halted = halts_between g.S.Source.stands at found b c.args.store.now.offset c.args.store.now.offset c.args.work.now c.args.report.now c.args.report.now c.args.src.now c.read.new.self (g.S.Source.told c.args.src.now) (g.S.Source.told c.read.new.self) _ (at_rest g.S.Source.stands at found b c.args.store.now.offset c.args.work.now c.args.report.now c.args.src.now (g.S.Source.told c.args.src.now) u) c.in_err-bytes.ensures.untaken
+      halted = halts_between g.S.Source at found b c.args.store.now.offset c.args.store.now.offset c.args.work.now c.args.report.now c.args.report.now c.args.src.now c.read.new.self _ (at_rest g.S.Source at found b c.args.store.now.offset c.args.work.now c.args.report.now c.args.src.now u) c.in_err-bytes.ensures.untaken
           (λ s t was now. absurd (dead_source (g.S.Source.is_live c.read.new.self) (g.met.S.Source.lives c.read.new.self t now) c.in_err-bytes.ensures.dead)) (source_left c.in_err-bytes.field-0.0) refl refl (inl refl);
       stood = λ s first. source_stood b.config b.now b.held c.args.store.now.offset c.args.report.now (g.S.Source.stands c.read.new.self) c.in_err-bytes.field-0.0;
       cause = source_caused b.config b.now b.held c.args.store.now.offset c.args.report.now (g.S.Source.told c.read.new.self) c.in_err-bytes.field-0.0;
@@ -186,11 +186,11 @@ returns-in_err-bytes-clause-halted g c at found b u =
 
 pub returns-in_err-commit-in-Some-clause-halted : goal.returns-in_err-commit-in-Some-clause-halted
 returns-in_err-commit-in-Some-clause-halted g c at found b u =
-    residual_of c.from_residual-in_err-commit-in-Some.result _ (Halts g.S.Source.stands at found b.config b.now b.held c.args.store.now.offset (record c.args.report.now { messages = c.args.report.now.messages + 1 }) c.read.new.self (g.S.Source.told c.read.new.self)) c.from_residual-in_err-commit-in-Some.ensures.1
+    residual_of c.from_residual-in_err-commit-in-Some.result _ (Halts g.S.Source at found b.config b.now b.held c.args.store.now.offset (record c.args.report.now { messages = c.args.report.now.messages + 1 }) c.read.new.self) c.from_residual-in_err-commit-in-Some.ensures.1
     (record {
-      halted = halts_at g.S.Source.stands at found b c.args.store.now.offset c.args.work.now c.args.report.now (record c.args.report.now { messages = c.args.report.now.messages + 1 }) c.args.src.now c.read.new.self (g.S.Source.told c.args.src.now) (g.S.Source.told c.read.new.self) c.in-Some.bytes _ u (some_read _ _ _ _ c.in-Some.is c.in_ok-bytes.ensures.taken) (λ s is. some_read _ _ _ _ c.in-Some.is (c.in_ok-bytes.ensures.took s is)) (g.met.S.Source.one c.read.new.self)
+      halted = halts_at g.S.Source at found b c.args.store.now.offset c.args.work.now c.args.report.now (record c.args.report.now { messages = c.args.report.now.messages + 1 }) c.args.src.now c.read.new.self c.in-Some.bytes _ u (some_read _ _ _ _ c.in-Some.is c.in_ok-bytes.ensures.taken) (λ s is. some_read _ _ _ _ c.in-Some.is (c.in_ok-bytes.ensures.took s is)) (g.met.S.Source.one c.read.new.self)
           (taken_cause (c.args.report.now.messages + 1) b.first.lsn u.messages c.in-Some.bytes c.args.work.now _ (c.in_err-commit-in-Some.ensures.halt b.first.lsn u.messages u.is.is.is)) refl refl;
-      stood = λ s first. messages_stood g.S.Source.stands at found b c.args.store.now.offset c.args.work.now c.args.src.now c.read.new.self (g.S.Source.told c.args.src.now) c.args.report.now c.in-Some.bytes _ u (λ s is. some_read _ _ _ _ c.in-Some.is (c.in_ok-bytes.ensures.took s is)) (c.in_err-commit-in-Some.ensures.halt b.first.lsn u.messages u.is.is.is) s first;
+      stood = λ s first. messages_stood g.S.Source at found b c.args.store.now.offset c.args.work.now c.args.src.now c.read.new.self c.args.report.now c.in-Some.bytes _ u (λ s is. some_read _ _ _ _ c.in-Some.is (c.in_ok-bytes.ensures.took s is)) (c.in_err-commit-in-Some.ensures.halt b.first.lsn u.messages u.is.is.is) s first;
       cause = taken_caused b u.messages c.args.store.now.offset c.args.work.now c.args.report.now found (g.S.Source.told c.args.src.now) (g.S.Source.told c.read.new.self) c.in-Some.bytes _ u.is u.tells (some_read _ _ _ _ c.in-Some.is c.in_ok-bytes.ensures.taken) (c.in_err-commit-in-Some.ensures.halt b.first.lsn u.messages u.is.is.is);
       must = newest_asks b u.messages c.args.store.now.offset c.args.work.now c.args.report.now (record c.args.report.now { messages = c.args.report.now.messages + 1 }) (g.S.Source.told c.args.src.now) (g.S.Source.told c.read.new.self) c.in-Some.bytes _ u.is.is (some_read _ _ _ _ c.in-Some.is c.in_ok-bytes.ensures.taken) (subst (λ (o : Option (List ℕ)). LastAnswerIs (g.S.Source.told c.read.new.self) (Read o)) c.in-Some.is c.in_ok-bytes.ensures.told)
           (taken_cause (c.args.report.now.messages + 1) b.first.lsn u.messages c.in-Some.bytes c.args.work.now _ (c.in_err-commit-in-Some.ensures.halt b.first.lsn u.messages u.is.is.is));
@@ -199,11 +199,11 @@ returns-in_err-commit-in-Some-clause-halted g c at found b u =
 pub returns-in_err-closed-in-Some-2-clause-halted : goal.returns-in_err-closed-in-Some-2-clause-halted
 returns-in_err-closed-in-Some-2-clause-halted g c at found b u =
     let counts = torn_counts c.in-Some-2.commit c.take_message.new.work c.args.report.now c.deliver_commit.new.report c.in_err-closed-in-Some-2.ensures.noted in
-    residual_of c.from_residual-in_err-closed-in-Some-2.result _ (Halts g.S.Source.stands at found b.config b.now b.held c.args.store.now.offset c.deliver_commit.new.report c.read.new.self (g.S.Source.told c.read.new.self)) c.from_residual-in_err-closed-in-Some-2.ensures.1
+    residual_of c.from_residual-in_err-closed-in-Some-2.result _ (Halts g.S.Source at found b.config b.now b.held c.args.store.now.offset c.deliver_commit.new.report c.read.new.self) c.from_residual-in_err-closed-in-Some-2.ensures.1
     (record {
-      halted = halts_at g.S.Source.stands at found b c.args.store.now.offset c.args.work.now c.args.report.now c.deliver_commit.new.report c.args.src.now c.read.new.self (g.S.Source.told c.args.src.now) (g.S.Source.told c.read.new.self) c.in-Some.bytes _ u (some_read _ _ _ _ c.in-Some.is c.in_ok-bytes.ensures.taken) (λ s is. some_read _ _ _ _ c.in-Some.is (c.in_ok-bytes.ensures.took s is)) (g.met.S.Source.one c.read.new.self)
+      halted = halts_at g.S.Source at found b c.args.store.now.offset c.args.work.now c.args.report.now c.deliver_commit.new.report c.args.src.now c.read.new.self c.in-Some.bytes _ u (some_read _ _ _ _ c.in-Some.is c.in_ok-bytes.ensures.taken) (λ s is. some_read _ _ _ _ c.in-Some.is (c.in_ok-bytes.ensures.took s is)) (g.met.S.Source.one c.read.new.self)
           (follow_cause c.deliver_commit.new.report.messages b.first.lsn u.messages c.in-Some.bytes c.args.work.now c.take_message.new.work c.in-Some-2.commit _ (subst (WasTaken b.first.lsn u.messages c.in-Some.bytes c.args.work.now c.take_message.new.work) c.in-Some-2.is (c.in_ok-commit-in-Some.ensures.taken b.first.lsn u.messages u.is.is.is)) (λ is. c.in_err-closed-in-Some-2.ensures.sink (ap (λ (k : Halt). Err k) is)) c.in_err-closed-in-Some-2.ensures.halt) counts.messages counts.commits;
-      stood = λ s first. commits_stood g.S.Source.stands at found b c.args.store.now.offset c.args.work.now c.args.src.now c.read.new.self (g.S.Source.told c.args.src.now) c.args.report.now c.deliver_commit.new.report c.in-Some.bytes c.take_message.new.work c.in-Some-2.commit _ u (λ s is. some_read _ _ _ _ c.in-Some.is (c.in_ok-bytes.ensures.took s is)) (subst (WasTaken b.first.lsn u.messages c.in-Some.bytes c.args.work.now c.take_message.new.work) c.in-Some-2.is (c.in_ok-commit-in-Some.ensures.taken b.first.lsn u.messages u.is.is.is)) counts.messages c.in_err-closed-in-Some-2.ensures.counts c.in_err-closed-in-Some-2.ensures.halt s first;
+      stood = λ s first. commits_stood g.S.Source at found b c.args.store.now.offset c.args.work.now c.args.src.now c.read.new.self c.args.report.now c.deliver_commit.new.report c.in-Some.bytes c.take_message.new.work c.in-Some-2.commit _ u (λ s is. some_read _ _ _ _ c.in-Some.is (c.in_ok-bytes.ensures.took s is)) (subst (WasTaken b.first.lsn u.messages c.in-Some.bytes c.args.work.now c.take_message.new.work) c.in-Some-2.is (c.in_ok-commit-in-Some.ensures.taken b.first.lsn u.messages u.is.is.is)) counts.messages c.in_err-closed-in-Some-2.ensures.counts c.in_err-closed-in-Some-2.ensures.halt s first;
       cause = follow_caused b u.messages c.args.store.now.offset c.args.work.now c.args.report.now c.deliver_commit.new.report found (g.S.Source.told c.args.src.now) (g.S.Source.told c.read.new.self) c.in-Some.bytes c.take_message.new.work c.in-Some-2.commit _ u.is u.tells (some_read _ _ _ _ c.in-Some.is c.in_ok-bytes.ensures.taken) (subst (WasTaken b.first.lsn u.messages c.in-Some.bytes c.args.work.now c.take_message.new.work) c.in-Some-2.is (c.in_ok-commit-in-Some.ensures.taken b.first.lsn u.messages u.is.is.is)) counts.messages c.in_err-closed-in-Some-2.ensures.counts c.in_err-closed-in-Some-2.ensures.halt;
       must = newest_asks b u.messages c.args.store.now.offset c.args.work.now c.args.report.now c.deliver_commit.new.report (g.S.Source.told c.args.src.now) (g.S.Source.told c.read.new.self) c.in-Some.bytes _ u.is.is (some_read _ _ _ _ c.in-Some.is c.in_ok-bytes.ensures.taken) (subst (λ (o : Option (List ℕ)). LastAnswerIs (g.S.Source.told c.read.new.self) (Read o)) c.in-Some.is c.in_ok-bytes.ensures.told)
           (follow_cause c.deliver_commit.new.report.messages b.first.lsn u.messages c.in-Some.bytes c.args.work.now c.take_message.new.work c.in-Some-2.commit _ (subst (WasTaken b.first.lsn u.messages c.in-Some.bytes c.args.work.now c.take_message.new.work) c.in-Some-2.is (c.in_ok-commit-in-Some.ensures.taken b.first.lsn u.messages u.is.is.is)) (λ is. c.in_err-closed-in-Some-2.ensures.sink (ap (λ (k : Halt). Err k) is)) c.in_err-closed-in-Some-2.ensures.halt);
@@ -211,17 +211,17 @@ returns-in_err-closed-in-Some-2-clause-halted g c at found b u =
 
 pub returns-in-Some-2-clause-under_way : goal.returns-in-Some-2-clause-under_way
 returns-in-Some-2-clause-under_way g c at found b u =
-    goes_due g.S.Source.stands at found b c.args.store.now.offset c.deliver_commit.new.work c.deliver_commit.new.report c.read.new.self (g.S.Source.told c.read.new.self) c.is_due.result
-    (λ due. follows_on g.S.Source.stands at found b c.args.store.now.offset c.args.src.now c.read.new.self (g.S.Source.told c.args.src.now) (g.S.Source.told c.read.new.self) c.args.work.now c.take_message.new.work c.deliver_commit.new.work c.args.report.now c.deliver_commit.new.report u c.in-Some.bytes c.in-Some-2.commit (subst (WasTaken b.first.lsn u.messages c.in-Some.bytes c.args.work.now c.take_message.new.work) c.in-Some-2.is (c.in_ok-commit-in-Some.ensures.taken b.first.lsn u.messages u.is.is.is)) c.in_ok-closed-in-Some-2.ensures.stepped c.in_ok-closed-in-Some-2.ensures.long c.requires.number c.in_ok-closed-in-Some-2.ensures.noted (some_read _ _ _ _ c.in-Some.is c.in_ok-bytes.ensures.taken) (λ s is. some_read _ _ _ _ c.in-Some.is (c.in_ok-bytes.ensures.took s is)))
-    (λ due. follows_at_rest g.S.Source.stands at found b c.args.store.now.offset c.args.src.now c.read.new.self (g.S.Source.told c.args.src.now) (g.S.Source.told c.read.new.self) c.args.work.now c.take_message.new.work c.deliver_commit.new.work c.args.report.now c.deliver_commit.new.report u c.in-Some.bytes c.in-Some-2.commit (subst (WasTaken b.first.lsn u.messages c.in-Some.bytes c.args.work.now c.take_message.new.work) c.in-Some-2.is (c.in_ok-commit-in-Some.ensures.taken b.first.lsn u.messages u.is.is.is)) c.in_ok-closed-in-Some-2.ensures.stepped c.in_ok-closed-in-Some-2.ensures.long c.requires.number c.in_ok-closed-in-Some-2.ensures.noted (some_read _ _ _ _ c.in-Some.is c.in_ok-bytes.ensures.taken) (λ s is. some_read _ _ _ _ c.in-Some.is (c.in_ok-bytes.ensures.took s is)) (sym c.in_ok-closed-in-Some-2.ensures.closes ∙ c.is_due.ensures.open due))
+    goes_due g.S.Source at found b c.args.store.now.offset c.deliver_commit.new.work c.deliver_commit.new.report c.read.new.self c.is_due.result
+    (λ due. follows_on g.S.Source at found b c.args.store.now.offset c.args.src.now c.read.new.self c.args.work.now c.take_message.new.work c.deliver_commit.new.work c.args.report.now c.deliver_commit.new.report u c.in-Some.bytes c.in-Some-2.commit (subst (WasTaken b.first.lsn u.messages c.in-Some.bytes c.args.work.now c.take_message.new.work) c.in-Some-2.is (c.in_ok-commit-in-Some.ensures.taken b.first.lsn u.messages u.is.is.is)) c.in_ok-closed-in-Some-2.ensures.stepped c.in_ok-closed-in-Some-2.ensures.long c.requires.number c.in_ok-closed-in-Some-2.ensures.noted (some_read _ _ _ _ c.in-Some.is c.in_ok-bytes.ensures.taken) (λ s is. some_read _ _ _ _ c.in-Some.is (c.in_ok-bytes.ensures.took s is)))
+    (λ due. follows_at_rest g.S.Source at found b c.args.store.now.offset c.args.src.now c.read.new.self c.args.work.now c.take_message.new.work c.deliver_commit.new.work c.args.report.now c.deliver_commit.new.report u c.in-Some.bytes c.in-Some-2.commit (subst (WasTaken b.first.lsn u.messages c.in-Some.bytes c.args.work.now c.take_message.new.work) c.in-Some-2.is (c.in_ok-commit-in-Some.ensures.taken b.first.lsn u.messages u.is.is.is)) c.in_ok-closed-in-Some-2.ensures.stepped c.in_ok-closed-in-Some-2.ensures.long c.requires.number c.in_ok-closed-in-Some-2.ensures.noted (some_read _ _ _ _ c.in-Some.is c.in_ok-bytes.ensures.taken) (λ s is. some_read _ _ _ _ c.in-Some.is (c.in_ok-bytes.ensures.took s is)) (sym c.in_ok-closed-in-Some-2.ensures.closes ∙ c.is_due.ensures.open due))
 
 pub returns-in-Some-clause-under_way : goal.returns-in-Some-clause-under_way
 returns-in-Some-clause-under_way g c at found b u =
-    takes_on g.S.Source.stands at found b c.args.store.now.offset c.args.src.now c.read.new.self (g.S.Source.told c.args.src.now) (g.S.Source.told c.read.new.self) c.args.work.now c.take_message.new.work c.args.report.now (record c.args.report.now { messages = c.args.report.now.messages + 1 }) u c.in-Some.bytes (subst (WasTaken b.first.lsn u.messages c.in-Some.bytes c.args.work.now c.take_message.new.work) c.in-None-2.is (c.in_ok-commit-in-Some.ensures.taken b.first.lsn u.messages u.is.is.is)) refl (some_read _ _ _ _ c.in-Some.is c.in_ok-bytes.ensures.taken) (λ s is. some_read _ _ _ _ c.in-Some.is (c.in_ok-bytes.ensures.took s is))
+    takes_on g.S.Source at found b c.args.store.now.offset c.args.src.now c.read.new.self c.args.work.now c.take_message.new.work c.args.report.now (record c.args.report.now { messages = c.args.report.now.messages + 1 }) u c.in-Some.bytes (subst (WasTaken b.first.lsn u.messages c.in-Some.bytes c.args.work.now c.take_message.new.work) c.in-None-2.is (c.in_ok-commit-in-Some.ensures.taken b.first.lsn u.messages u.is.is.is)) refl (some_read _ _ _ _ c.in-Some.is c.in_ok-bytes.ensures.taken) (λ s is. some_read _ _ _ _ c.in-Some.is (c.in_ok-bytes.ensures.took s is))
 
 pub returns-clause-under_way : goal.returns-clause-under_way
 returns-clause-under_way g c at found b u =
-    rests_on g.S.Source.stands at found b c.args.store.now.offset c.args.src.now c.read.new.self (g.S.Source.told c.args.src.now) (g.S.Source.told c.read.new.self) c.args.work.now c.args.report.now u (none_read _ _ _ c.in-None.is c.in_ok-bytes.ensures.taken)
+    rests_on g.S.Source at found b c.args.store.now.offset c.args.src.now c.read.new.self c.args.work.now c.args.report.now u (none_read _ _ _ c.in-None.is c.in_ok-bytes.ensures.taken)
     (λ s is. let t = none_read _ _ _ c.in-None.is (c.in_ok-bytes.ensures.took s is) in record { standing = t.standing; is = t.is; holds = t.holds.0.reading })
 
 pub returns-clause-nothing : goal.returns-clause-nothing
@@ -229,20 +229,20 @@ returns-clause-nothing g c is = subst (λ (o : Option (List ℕ)). LastAnswerIs 
 
 pub returns-in_err-bytes-clause-put : goal.returns-in_err-bytes-clause-put
 returns-in_err-bytes-clause-put g c groups at found b u =
-    residual_of c.from_residual.result _ (HasHaltedPut g.S.Source.stands g.K.Sink.holds g.K.Sink.may_leave groups at b.config b.now b.held c.args.store.now.offset c.args.report.now c.read.new.self (g.S.Source.told c.read.new.self) c.args.sink.now) c.from_residual.ensures.1
-    (halts_put_nothing g.S.Source.stands g.K.Sink.holds g.K.Sink.may_leave groups at found b c.args.store.now.offset c.args.store.now.offset c.args.work.now c.args.report.now c.args.report.now c.args.src.now c.read.new.self (g.S.Source.told c.args.src.now) (g.S.Source.told c.read.new.self) c.args.sink.now _ (rests_put g.S.Source.stands g.K.Sink.holds g.K.Sink.may_leave groups at found b c.args.store.now.offset c.args.work.now c.args.report.now c.args.src.now (g.S.Source.told c.args.src.now) c.args.sink.now u) (g.met.K.Sink.only c.args.sink.now) (source_other _ (source_of c.in_err-bytes.field-0.0)) refl refl refl (inl refl)
+    residual_of c.from_residual.result _ (HasHaltedPut g.S.Source g.K.Sink groups at b.config b.now b.held c.args.store.now.offset c.args.report.now c.read.new.self c.args.sink.now) c.from_residual.ensures.1
+    (halts_put_nothing g.S.Source g.K.Sink groups at found b c.args.store.now.offset c.args.store.now.offset c.args.work.now c.args.report.now c.args.report.now c.args.src.now c.read.new.self c.args.sink.now _ (rests_put g.S.Source g.K.Sink groups at found b c.args.store.now.offset c.args.work.now c.args.report.now c.args.src.now c.args.sink.now u) (g.met.K.Sink.only c.args.sink.now) (source_other _ (source_of c.in_err-bytes.field-0.0)) refl refl refl (inl refl)
     (source_left c.in_err-bytes.field-0.0) refl refl c.in_err-bytes.ensures.untaken (λ s t was now. absurd (dead_source (g.S.Source.is_live c.read.new.self) (g.met.S.Source.lives c.read.new.self t now) c.in_err-bytes.ensures.dead)))
 
 pub returns-in_err-commit-in-Some-clause-put : goal.returns-in_err-commit-in-Some-clause-put
 returns-in_err-commit-in-Some-clause-put g c groups at found b u =
-    residual_of c.from_residual-in_err-commit-in-Some.result _ (HasHaltedPut g.S.Source.stands g.K.Sink.holds g.K.Sink.may_leave groups at b.config b.now b.held c.args.store.now.offset (record c.args.report.now { messages = c.args.report.now.messages + 1 }) c.read.new.self (g.S.Source.told c.read.new.self) c.args.sink.now) c.from_residual-in_err-commit-in-Some.ensures.1
-    (halts_untaken g.S.Source.stands g.K.Sink.holds g.K.Sink.may_leave groups at found b c.args.store.now.offset c.args.work.now c.args.report.now (record c.args.report.now { messages = c.args.report.now.messages + 1 }) c.args.src.now c.read.new.self (g.S.Source.told c.args.src.now) (g.S.Source.told c.read.new.self) c.args.sink.now c.in-Some.bytes _ u (g.met.K.Sink.only c.args.sink.now) (none_other _ (taken_of _ c.requires.ready.after c.requires.ready.messages c.in-Some.bytes c.args.work.now _ (c.in_err-commit-in-Some.ensures.halt c.requires.ready.after c.requires.ready.messages c.requires.ready.is))) refl
+    residual_of c.from_residual-in_err-commit-in-Some.result _ (HasHaltedPut g.S.Source g.K.Sink groups at b.config b.now b.held c.args.store.now.offset (record c.args.report.now { messages = c.args.report.now.messages + 1 }) c.read.new.self c.args.sink.now) c.from_residual-in_err-commit-in-Some.ensures.1
+    (halts_untaken g.S.Source g.K.Sink groups at found b c.args.store.now.offset c.args.work.now c.args.report.now (record c.args.report.now { messages = c.args.report.now.messages + 1 }) c.args.src.now c.read.new.self c.args.sink.now c.in-Some.bytes _ u (g.met.K.Sink.only c.args.sink.now) (none_other _ (taken_of _ c.requires.ready.after c.requires.ready.messages c.in-Some.bytes c.args.work.now _ (c.in_err-commit-in-Some.ensures.halt c.requires.ready.after c.requires.ready.messages c.requires.ready.is))) refl
     (taken_cause (c.args.report.now.messages + 1) b.first.lsn u.way.messages c.in-Some.bytes c.args.work.now _ (c.in_err-commit-in-Some.ensures.halt b.first.lsn u.way.messages u.way.is.is.is)) (some_read _ _ _ _ c.in-Some.is c.in_ok-bytes.ensures.taken) (λ s is. some_read _ _ _ _ c.in-Some.is (c.in_ok-bytes.ensures.took s is)) (g.met.S.Source.one c.read.new.self))
 
 pub returns-in_err-closed-in-Some-2-clause-put : goal.returns-in_err-closed-in-Some-2-clause-put
 returns-in_err-closed-in-Some-2-clause-put g c groups at found b u =
-    residual_of c.from_residual-in_err-closed-in-Some-2.result _ (HasHaltedPut g.S.Source.stands g.K.Sink.holds g.K.Sink.may_leave groups at b.config b.now b.held c.args.store.now.offset c.deliver_commit.new.report c.read.new.self (g.S.Source.told c.read.new.self) c.deliver_commit.new.sink) c.from_residual-in_err-closed-in-Some-2.ensures.1
-    (follow_puts g.S.Source.stands g.K.Sink.holds g.K.Sink.may_leave groups at found b c.args.store.now.offset c.args.src.now c.read.new.self (g.S.Source.told c.args.src.now) (g.S.Source.told c.read.new.self) c.args.sink.now c.deliver_commit.new.sink c.args.work.now c.take_message.new.work c.args.report.now c.deliver_commit.new.report u c.in-Some.bytes c.in-Some-2.commit (subst (WasTaken b.first.lsn u.way.messages c.in-Some.bytes c.args.work.now c.take_message.new.work) c.in-Some-2.is (c.in_ok-commit-in-Some.ensures.taken b.first.lsn u.way.messages u.way.is.is.is)) (few_taken (length u.way.messages) c.args.report.now.messages u.way.is.is.many c.requires.messages) c.requires.time c.in_err-closed-in-Some-2.field-0.0
+    residual_of c.from_residual-in_err-closed-in-Some-2.result _ (HasHaltedPut g.S.Source g.K.Sink groups at b.config b.now b.held c.args.store.now.offset c.deliver_commit.new.report c.read.new.self c.deliver_commit.new.sink) c.from_residual-in_err-closed-in-Some-2.ensures.1
+    (follow_puts g.S.Source g.K.Sink groups at found b c.args.store.now.offset c.args.src.now c.read.new.self c.args.sink.now c.deliver_commit.new.sink c.args.work.now c.take_message.new.work c.args.report.now c.deliver_commit.new.report u c.in-Some.bytes c.in-Some-2.commit (subst (WasTaken b.first.lsn u.way.messages c.in-Some.bytes c.args.work.now c.take_message.new.work) c.in-Some-2.is (c.in_ok-commit-in-Some.ensures.taken b.first.lsn u.way.messages u.way.is.is.is)) (few_taken (length u.way.messages) c.args.report.now.messages u.way.is.is.many c.requires.messages) c.requires.time c.in_err-closed-in-Some-2.field-0.0
     (λ left may. c.deliver_commit.ensures.left (groups ++ cut u.put.records) left u.put.held may) (g.met.K.Sink.may c.deliver_commit.new.sink)
     (λ other. c.in_err-closed-in-Some-2.ensures.kept (groups ++ cut u.put.records) u.put.held (λ is. let same : c.in_err-closed-in-Some-2.field-0.0 ≡ halt.Sink = cc in other same))
     (λ is. c.in_err-closed-in-Some-2.ensures.torn (groups ++ cut u.put.records) u.put.held (ap (λ (k : Halt). Err k) is)) (c.deliver_commit.ensures.some (groups ++ cut u.put.records) u.put.held)
@@ -250,17 +250,17 @@ returns-in_err-closed-in-Some-2-clause-put g c groups at found b u =
 
 pub returns-in-Some-2-clause-putting : goal.returns-in-Some-2-clause-putting
 returns-in-Some-2-clause-putting g c groups at found b u =
-    puts_due g.S.Source.stands g.K.Sink.holds groups at found b c.args.store.now.offset c.deliver_commit.new.work c.deliver_commit.new.report c.read.new.self (g.S.Source.told c.read.new.self) c.deliver_commit.new.sink c.is_due.result
-    (λ due. commits_put g.S.Source.stands g.K.Sink.holds g.K.Sink.may_leave groups at found b c.args.store.now.offset c.args.src.now c.read.new.self (g.S.Source.told c.args.src.now) (g.S.Source.told c.read.new.self) c.args.sink.now c.deliver_commit.new.sink c.args.work.now c.take_message.new.work c.deliver_commit.new.work c.args.report.now c.deliver_commit.new.report u c.in-Some.bytes c.in-Some-2.commit (subst (WasTaken b.first.lsn u.way.messages c.in-Some.bytes c.args.work.now c.take_message.new.work) c.in-Some-2.is (c.in_ok-commit-in-Some.ensures.taken b.first.lsn u.way.messages u.way.is.is.is)) c.in_ok-closed-in-Some-2.ensures.stepped c.in_ok-closed-in-Some-2.ensures.long c.requires.number (few_taken (length u.way.messages) c.args.report.now.messages u.way.is.is.many c.requires.messages) c.requires.time c.in_ok-closed-in-Some-2.ensures.noted (c.in_ok-closed-in-Some-2.ensures.put (groups ++ cut u.put.records) u.put.held) (some_read _ _ _ _ c.in-Some.is c.in_ok-bytes.ensures.taken) (λ s is. some_read _ _ _ _ c.in-Some.is (c.in_ok-bytes.ensures.took s is)))
-    (λ due. commits_put_at_rest g.S.Source.stands g.K.Sink.holds g.K.Sink.may_leave groups at found b c.args.store.now.offset c.args.src.now c.read.new.self (g.S.Source.told c.args.src.now) (g.S.Source.told c.read.new.self) c.args.sink.now c.deliver_commit.new.sink c.args.work.now c.take_message.new.work c.deliver_commit.new.work c.args.report.now c.deliver_commit.new.report u c.in-Some.bytes c.in-Some-2.commit (subst (WasTaken b.first.lsn u.way.messages c.in-Some.bytes c.args.work.now c.take_message.new.work) c.in-Some-2.is (c.in_ok-commit-in-Some.ensures.taken b.first.lsn u.way.messages u.way.is.is.is)) c.in_ok-closed-in-Some-2.ensures.stepped c.in_ok-closed-in-Some-2.ensures.long c.requires.number (few_taken (length u.way.messages) c.args.report.now.messages u.way.is.is.many c.requires.messages) c.requires.time c.in_ok-closed-in-Some-2.ensures.noted (c.in_ok-closed-in-Some-2.ensures.put (groups ++ cut u.put.records) u.put.held) (some_read _ _ _ _ c.in-Some.is c.in_ok-bytes.ensures.taken) (λ s is. some_read _ _ _ _ c.in-Some.is (c.in_ok-bytes.ensures.took s is)) (sym c.in_ok-closed-in-Some-2.ensures.closes ∙ c.is_due.ensures.open due))
+    puts_due g.S.Source g.K.Sink groups at found b c.args.store.now.offset c.deliver_commit.new.work c.deliver_commit.new.report c.read.new.self c.deliver_commit.new.sink c.is_due.result
+    (λ due. commits_put g.S.Source g.K.Sink groups at found b c.args.store.now.offset c.args.src.now c.read.new.self c.args.sink.now c.deliver_commit.new.sink c.args.work.now c.take_message.new.work c.deliver_commit.new.work c.args.report.now c.deliver_commit.new.report u c.in-Some.bytes c.in-Some-2.commit (subst (WasTaken b.first.lsn u.way.messages c.in-Some.bytes c.args.work.now c.take_message.new.work) c.in-Some-2.is (c.in_ok-commit-in-Some.ensures.taken b.first.lsn u.way.messages u.way.is.is.is)) c.in_ok-closed-in-Some-2.ensures.stepped c.in_ok-closed-in-Some-2.ensures.long c.requires.number (few_taken (length u.way.messages) c.args.report.now.messages u.way.is.is.many c.requires.messages) c.requires.time c.in_ok-closed-in-Some-2.ensures.noted (c.in_ok-closed-in-Some-2.ensures.put (groups ++ cut u.put.records) u.put.held) (some_read _ _ _ _ c.in-Some.is c.in_ok-bytes.ensures.taken) (λ s is. some_read _ _ _ _ c.in-Some.is (c.in_ok-bytes.ensures.took s is)))
+    (λ due. commits_put_at_rest g.S.Source g.K.Sink groups at found b c.args.store.now.offset c.args.src.now c.read.new.self c.args.sink.now c.deliver_commit.new.sink c.args.work.now c.take_message.new.work c.deliver_commit.new.work c.args.report.now c.deliver_commit.new.report u c.in-Some.bytes c.in-Some-2.commit (subst (WasTaken b.first.lsn u.way.messages c.in-Some.bytes c.args.work.now c.take_message.new.work) c.in-Some-2.is (c.in_ok-commit-in-Some.ensures.taken b.first.lsn u.way.messages u.way.is.is.is)) c.in_ok-closed-in-Some-2.ensures.stepped c.in_ok-closed-in-Some-2.ensures.long c.requires.number (few_taken (length u.way.messages) c.args.report.now.messages u.way.is.is.many c.requires.messages) c.requires.time c.in_ok-closed-in-Some-2.ensures.noted (c.in_ok-closed-in-Some-2.ensures.put (groups ++ cut u.put.records) u.put.held) (some_read _ _ _ _ c.in-Some.is c.in_ok-bytes.ensures.taken) (λ s is. some_read _ _ _ _ c.in-Some.is (c.in_ok-bytes.ensures.took s is)) (sym c.in_ok-closed-in-Some-2.ensures.closes ∙ c.is_due.ensures.open due))
 
 pub returns-in-Some-clause-putting : goal.returns-in-Some-clause-putting
 returns-in-Some-clause-putting g c groups at found b u =
-    messages_put_nothing g.S.Source.stands g.K.Sink.holds g.K.Sink.may_leave groups at found b c.args.store.now.offset c.args.src.now c.read.new.self (g.S.Source.told c.args.src.now) (g.S.Source.told c.read.new.self) c.args.sink.now c.args.work.now c.take_message.new.work c.args.report.now (record c.args.report.now { messages = c.args.report.now.messages + 1 }) u c.in-Some.bytes (subst (WasTaken b.first.lsn u.way.messages c.in-Some.bytes c.args.work.now c.take_message.new.work) c.in-None-2.is (c.in_ok-commit-in-Some.ensures.taken b.first.lsn u.way.messages u.way.is.is.is)) refl (some_read _ _ _ _ c.in-Some.is c.in_ok-bytes.ensures.taken) (λ s is. some_read _ _ _ _ c.in-Some.is (c.in_ok-bytes.ensures.took s is))
+    messages_put_nothing g.S.Source g.K.Sink groups at found b c.args.store.now.offset c.args.src.now c.read.new.self c.args.sink.now c.args.work.now c.take_message.new.work c.args.report.now (record c.args.report.now { messages = c.args.report.now.messages + 1 }) u c.in-Some.bytes (subst (WasTaken b.first.lsn u.way.messages c.in-Some.bytes c.args.work.now c.take_message.new.work) c.in-None-2.is (c.in_ok-commit-in-Some.ensures.taken b.first.lsn u.way.messages u.way.is.is.is)) refl (some_read _ _ _ _ c.in-Some.is c.in_ok-bytes.ensures.taken) (λ s is. some_read _ _ _ _ c.in-Some.is (c.in_ok-bytes.ensures.took s is))
 
 pub returns-clause-putting : goal.returns-clause-putting
 returns-clause-putting g c groups at found b u =
-    rests_putting g.S.Source.stands g.K.Sink.holds g.K.Sink.may_leave groups at found b c.args.store.now.offset c.args.src.now c.read.new.self (g.S.Source.told c.args.src.now) (g.S.Source.told c.read.new.self) c.args.sink.now c.args.work.now c.args.report.now u (none_read _ _ _ c.in-None.is c.in_ok-bytes.ensures.taken)
+    rests_putting g.S.Source g.K.Sink groups at found b c.args.store.now.offset c.args.src.now c.read.new.self c.args.sink.now c.args.work.now c.args.report.now u (none_read _ _ _ c.in-None.is c.in_ok-bytes.ensures.taken)
     (λ s is. let t = none_read _ _ _ c.in-None.is (c.in_ok-bytes.ensures.took s is) in record { standing = t.standing; is = t.is; holds = t.holds.0.reading })
 
 pub returns-in_err-bytes-clause-reads : goal.returns-in_err-bytes-clause-reads
@@ -285,7 +285,7 @@ returns-in_err-commit-in-Some-clause-own g c tell entry at found b s u first is 
     (taken_honest entry (g.S.Source.stands c.read.new.self) s.stage.first.infos T.2.standing s.stage.first.lsn s.stage.messages T.0 c.in-Some.bytes (c.args.report.now.messages + 1) c.args.work.now _ (capturing s) T.2.is reading
     (captured_stays s.stage.history T.2.standing.history s.stage.first.infos T.2.holds.grows.tables s.going.reading.infos)
     (g.met.S.Source.right c.read.new.self T.2.standing _ T.2.is honest reading) infos_are (subst (λ (l : List TableInfo). AreWithoutFault l s.stage.first.lsn s.stage.messages) infos_are s.work_is.is.accepted) T.1
-    (let many = many_at g.S.Source.stands g.met.S.Source.one at found b c.args.store.now.offset c.args.work.now c.args.report.now c.args.src.now (g.S.Source.told c.args.src.now) first s.stage.first.lsn s.stage.messages u is (state_at_stage s.stage) s.source_is refl in sym (one_longer (length s.stage.messages) c.args.report.now.messages many))
+    (let many = many_at g.S.Source g.met.S.Source.one at found b c.args.store.now.offset c.args.work.now c.args.report.now c.args.src.now first s.stage.first.lsn s.stage.messages u is (state_at_stage s.stage) s.source_is refl in sym (one_longer (length s.stage.messages) c.args.report.now.messages many))
     (c.in_err-commit-in-Some.ensures.halt s.stage.first.lsn s.stage.messages s.work_is.is))
 
 pub returns-in_err-closed-in-Some-2-clause-own : goal.returns-in_err-closed-in-Some-2-clause-own
@@ -339,29 +339,29 @@ returns-in_err-closed-in-Some-2-clause-content g c entry at found b s u faithful
 
 pub returns-in-Some-2-clause-awaits : goal.returns-in-Some-2-clause-awaits
 returns-in-Some-2-clause-awaits g c at found b u s first honest a =
-    let own = (work_at g.S.Source.stands at found b c.args.store.now.offset c.args.work.now c.args.report.now c.args.src.now (g.S.Source.told c.args.src.now) u (g.met.S.Source.one c.args.src.now) s first a) in
+    let own = (work_at g.S.Source at found b c.args.store.now.offset c.args.work.now c.args.report.now c.args.src.now u (g.met.S.Source.one c.args.src.now) s first a) in
     let read = some_read _ _ _ _ c.in-Some.is (c.in_ok-bytes.ensures.took a.standing a.is) in
-    awaits_commit g.S.Source.stands c.args.work.now c.args.src.now c.read.new.self a c.in-Some.bytes read.0 read.2.standing read.1 read.2.is read.2.holds c.take_message.new.work c.deliver_commit.new.work c.in-Some-2.commit
+    awaits_commit g.S.Source c.args.work.now c.args.src.now c.read.new.self a c.in-Some.bytes read.0 read.2.standing read.1 read.2.is read.2.holds c.take_message.new.work c.deliver_commit.new.work c.in-Some-2.commit
     (subst (WasTaken a.reading.after a.reading.messages c.in-Some.bytes c.args.work.now c.take_message.new.work) c.in-Some-2.is (c.in_ok-commit-in-Some.ensures.taken a.reading.after a.reading.messages own)) own.accepted
     c.in_ok-closed-in-Some-2.ensures.stepped (λ is. g.met.S.Source.right c.read.new.self read.2.standing _ read.2.is honest is)
 
 pub returns-in-Some-clause-awaits : goal.returns-in-Some-clause-awaits
 returns-in-Some-clause-awaits g c at found b u s first honest a =
-    let own = (work_at g.S.Source.stands at found b c.args.store.now.offset c.args.work.now c.args.report.now c.args.src.now (g.S.Source.told c.args.src.now) u (g.met.S.Source.one c.args.src.now) s first a) in
+    let own = (work_at g.S.Source at found b c.args.store.now.offset c.args.work.now c.args.report.now c.args.src.now u (g.met.S.Source.one c.args.src.now) s first a) in
     let read = some_read _ _ _ _ c.in-Some.is (c.in_ok-bytes.ensures.took a.standing a.is) in
-    awaits_message g.S.Source.stands c.args.work.now c.args.src.now c.read.new.self a c.in-Some.bytes read.0 read.2.standing read.1 read.2.is read.2.holds c.take_message.new.work
+    awaits_message g.S.Source c.args.work.now c.args.src.now c.read.new.self a c.in-Some.bytes read.0 read.2.standing read.1 read.2.is read.2.holds c.take_message.new.work
     (subst (WasTaken a.reading.after a.reading.messages c.in-Some.bytes c.args.work.now c.take_message.new.work) c.in-None-2.is (c.in_ok-commit-in-Some.ensures.taken a.reading.after a.reading.messages own))
 
 pub returns-clause-awaits : goal.returns-clause-awaits
 returns-clause-awaits g c at found b u s first honest a =
     let t = none_read _ _ _ c.in-None.is (c.in_ok-bytes.ensures.took a.standing a.is) in
-    awaits_still g.S.Source.stands c.args.work.now c.args.work.now c.args.src.now c.read.new.self a t.standing t.is t.holds.0.grows t.holds.0.reading refl refl
+    awaits_still g.S.Source c.args.work.now c.args.work.now c.args.src.now c.read.new.self a t.standing t.is t.holds.0.grows t.holds.0.reading refl refl
 
 pub returns-clause-waits : goal.returns-clause-waits
 returns-clause-waits g c at found b u s first honest a is =
-    let own = (work_at g.S.Source.stands at found b c.args.store.now.offset c.args.work.now c.args.report.now c.args.src.now (g.S.Source.told c.args.src.now) u (g.met.S.Source.one c.args.src.now) s first a) in
+    let own = (work_at g.S.Source at found b c.args.store.now.offset c.args.work.now c.args.report.now c.args.src.now u (g.met.S.Source.one c.args.src.now) s first a) in
     let t = none_read _ _ _ c.in-None.is (c.in_ok-bytes.ensures.took a.standing a.is) in
-    awaits_nothing g.S.Source.stands c.args.work.now c.args.src.now t.standing a own.accepted t.holds.0 (t.holds.1 honest)
+    awaits_nothing g.S.Source c.args.work.now c.args.src.now t.standing a own.accepted t.holds.0 (t.holds.1 honest)
 
 -- ---- whose fault it is
 

@@ -25,10 +25,10 @@ use Rattle.dbl_capture_laws.proofs.HasState.{marks_stood, memory_stood}
 use Rattle.dbl_capture.proofs.settle.finish_complete.Goals as goal
 
 pub returns-in_err-copy-in-Some-clause-left : goal.returns-in_err-copy-in-Some-clause-left
-returns-in_err-copy-in-Some-clause-left g c tell entry s honest = on_err _ _ (rests s _ _ _ (g.met.S.Source.only _) (g.met.S.Source.may _) (g.met.K.Sink.only _) (g.met.K.Sink.may _) honest (λ h l is. g.met.S.Source.fit _ l is h) (some_chunk s))
+returns-in_err-copy-in-Some-clause-left g c tell entry s honest = on_err _ _ (rests s _ (g.met.S.Source.only _) (g.met.S.Source.may _) (g.met.K.Sink.only _) (g.met.K.Sink.may _) honest (λ h l is. g.met.S.Source.fit _ l is h) (some_chunk s))
 
 pub returns-in_ok-copy-in-Some-clause-left : goal.returns-in_ok-copy-in-Some-clause-left
-returns-in_ok-copy-in-Some-clause-left g c tell entry s honest = rests s _ _ _ (g.met.S.Source.only _) (g.met.S.Source.may _) (g.met.K.Sink.only _) (g.met.K.Sink.may _) honest (λ h l is. g.met.S.Source.fit _ l is h) (some_chunk s)
+returns-in_ok-copy-in-Some-clause-left g c tell entry s honest = rests s _ (g.met.S.Source.only _) (g.met.S.Source.may _) (g.met.K.Sink.only _) (g.met.K.Sink.may _) honest (λ h l is. g.met.S.Source.fit _ l is h) (some_chunk s)
 
 pub returns-in_ok-copy-in-Some-clause-report : goal.returns-in_ok-copy-in-Some-clause-report
 returns-in_ok-copy-in-Some-clause-report g c = inl (refl, refl)
@@ -60,35 +60,35 @@ returns-in_err-copy-in-Some-clause-report g c =
 
 pub returns-in_err-copy-in-Some-clause-halted : goal.returns-in_err-copy-in-Some-clause-halted
 returns-in_err-copy-in-Some-clause-halted g c at found b u answer =
-    residual_of c.from_residual.result halt.Memory (Halts g.S.Source.stands at found b.config b.now b.held c.args.store.now.offset c.args.report.now c.args.src.now (g.S.Source.told c.args.src.now)) c.from_residual.ensures.1
-    (record { halted = halts_between g.S.Source.stands at found b c.args.store.now.offset c.args.store.now.offset c.args.work.now c.args.report.now c.args.report.now c.args.src.now c.args.src.now (g.S.Source.told c.args.src.now) (g.S.Source.told c.args.src.now) halt.Memory (at_rest g.S.Source.stands at found b c.args.store.now.offset c.args.work.now c.args.report.now c.args.src.now (g.S.Source.told c.args.src.now) u) (none_taken (g.S.Source.told c.args.src.now)) (λ s t was now. ap (λ (x : SourceState). x.reading) (g.met.S.Source.one c.args.src.now t s now was)) memory_left refl refl (inl refl); stood = λ s first. memory_stood b.config b.now b.held c.args.store.now.offset c.args.report.now (g.S.Source.stands c.args.src.now) halt.Memory refl; cause = memory_caused b.config b.now b.held c.args.store.now.offset c.args.report.now (g.S.Source.told c.args.src.now) halt.Memory refl; must = quiet_asks b u.messages c.args.store.now.offset c.args.work.now c.args.report.now c.args.report.now found (g.S.Source.told c.args.src.now) c.args.store.now.offset (Err halt.Memory) u.is.is u.tells (read_quiet (g.S.Source.told c.args.src.now) None answer) (inl refl) })
+    residual_of c.from_residual.result halt.Memory (Halts g.S.Source at found b.config b.now b.held c.args.store.now.offset c.args.report.now c.args.src.now) c.from_residual.ensures.1
+    (record { halted = halts_between g.S.Source at found b c.args.store.now.offset c.args.store.now.offset c.args.work.now c.args.report.now c.args.report.now c.args.src.now c.args.src.now halt.Memory (at_rest g.S.Source at found b c.args.store.now.offset c.args.work.now c.args.report.now c.args.src.now u) (none_taken (g.S.Source.told c.args.src.now)) (λ s t was now. ap (λ (x : SourceState). x.reading) (g.met.S.Source.one c.args.src.now t s now was)) memory_left refl refl (inl refl); stood = λ s first. memory_stood b.config b.now b.held c.args.store.now.offset c.args.report.now (g.S.Source.stands c.args.src.now) halt.Memory refl; cause = memory_caused b.config b.now b.held c.args.store.now.offset c.args.report.now (g.S.Source.told c.args.src.now) halt.Memory refl; must = quiet_asks b u.messages c.args.store.now.offset c.args.work.now c.args.report.now c.args.report.now found (g.S.Source.told c.args.src.now) c.args.store.now.offset (Err halt.Memory) u.is.is u.tells (read_quiet (g.S.Source.told c.args.src.now) None answer) (inl refl) })
 
 pub returns-in_ok-copy-in-Some-clause-halted : goal.returns-in_ok-copy-in-Some-clause-halted
 returns-in_ok-copy-in-Some-clause-halted g c at found b u answer =
-    record { halted = halts_between g.S.Source.stands at found b c.args.store.now.offset c.args.store.now.offset c.args.work.now c.args.report.now c.args.report.now c.args.src.now c.args.src.now (g.S.Source.told c.args.src.now) (g.S.Source.told c.args.src.now) _ (at_rest g.S.Source.stands at found b c.args.store.now.offset c.args.work.now c.args.report.now c.args.src.now (g.S.Source.told c.args.src.now) u) (none_taken (g.S.Source.told c.args.src.now)) (λ s t was now. ap (λ (x : SourceState). x.reading) (g.met.S.Source.one c.args.src.now t s now was)) refl refl refl (inl refl); stood = λ s first. marks_stood g.S.Source.stands at found b c.args.store.now.offset c.args.work.now c.args.src.now c.args.src.now (g.S.Source.told c.args.src.now) c.args.report.now _ u (sym c.in-Some.ensures.text ∙ ap (λ (v : List ℕ). Some v) (sym c.in_ok-copy-in-Some.ensures)) s first; cause = missed_caused b u.messages c.args.store.now.offset c.args.work.now c.args.report.now found (g.S.Source.told c.args.src.now) _ u.is u.tells (sym c.in-Some.ensures.text ∙ ap (λ (v : List ℕ). Some v) (sym c.in_ok-copy-in-Some.ensures)) answer; must = quiet_asks b u.messages c.args.store.now.offset c.args.work.now c.args.report.now c.args.report.now found (g.S.Source.told c.args.src.now) c.args.store.now.offset _ u.is.is u.tells (read_quiet (g.S.Source.told c.args.src.now) None answer) (inl refl) }
+    record { halted = halts_between g.S.Source at found b c.args.store.now.offset c.args.store.now.offset c.args.work.now c.args.report.now c.args.report.now c.args.src.now c.args.src.now _ (at_rest g.S.Source at found b c.args.store.now.offset c.args.work.now c.args.report.now c.args.src.now u) (none_taken (g.S.Source.told c.args.src.now)) (λ s t was now. ap (λ (x : SourceState). x.reading) (g.met.S.Source.one c.args.src.now t s now was)) refl refl refl (inl refl); stood = λ s first. marks_stood g.S.Source at found b c.args.store.now.offset c.args.work.now c.args.src.now c.args.src.now c.args.report.now _ u (sym c.in-Some.ensures.text ∙ ap (λ (v : List ℕ). Some v) (sym c.in_ok-copy-in-Some.ensures)) s first; cause = missed_caused b u.messages c.args.store.now.offset c.args.work.now c.args.report.now found (g.S.Source.told c.args.src.now) _ u.is u.tells (sym c.in-Some.ensures.text ∙ ap (λ (v : List ℕ). Some v) (sym c.in_ok-copy-in-Some.ensures)) answer; must = quiet_asks b u.messages c.args.store.now.offset c.args.work.now c.args.report.now c.args.report.now found (g.S.Source.told c.args.src.now) c.args.store.now.offset _ u.is.is u.tells (read_quiet (g.S.Source.told c.args.src.now) None answer) (inl refl) }
 
 pub returns-in-None-clause-all : goal.returns-in-None-clause-all
-returns-in-None-clause-all g c at found b u = c.store_and_confirm.ensures.all at found b (at_rest g.S.Source.stands at found b c.args.store.now.offset c.args.work.now c.args.report.now c.args.src.now (g.S.Source.told c.args.src.now) u)
+returns-in-None-clause-all g c at found b u = c.store_and_confirm.ensures.all at found b (at_rest g.S.Source at found b c.args.store.now.offset c.args.work.now c.args.report.now c.args.src.now u)
 
 pub returns-in-None-clause-halted : goal.returns-in-None-clause-halted
-returns-in-None-clause-halted g c at found b u answer = c.store_and_confirm.ensures.halted at found b (at_rest g.S.Source.stands at found b c.args.store.now.offset c.args.work.now c.args.report.now c.args.src.now (g.S.Source.told c.args.src.now) u) (read_quiet (g.S.Source.told c.args.src.now) None answer)
+returns-in-None-clause-halted g c at found b u answer = c.store_and_confirm.ensures.halted at found b (at_rest g.S.Source at found b c.args.store.now.offset c.args.work.now c.args.report.now c.args.src.now u) (read_quiet (g.S.Source.told c.args.src.now) None answer)
 
 pub returns-in_err-copy-in-Some-clause-put : goal.returns-in_err-copy-in-Some-clause-put
 returns-in_err-copy-in-Some-clause-put g c groups at found b u =
-    residual_of c.from_residual.result halt.Memory (HasHaltedPut g.S.Source.stands g.K.Sink.holds g.K.Sink.may_leave groups at b.config b.now b.held c.args.store.now.offset c.args.report.now c.args.src.now (g.S.Source.told c.args.src.now) c.args.sink.now) c.from_residual.ensures.1
-    (halts_put_nothing g.S.Source.stands g.K.Sink.holds g.K.Sink.may_leave groups at found b c.args.store.now.offset c.args.store.now.offset c.args.work.now c.args.report.now c.args.report.now c.args.src.now c.args.src.now (g.S.Source.told c.args.src.now) (g.S.Source.told c.args.src.now) c.args.sink.now halt.Memory (rests_put g.S.Source.stands g.K.Sink.holds g.K.Sink.may_leave groups at found b c.args.store.now.offset c.args.work.now c.args.report.now c.args.src.now (g.S.Source.told c.args.src.now) c.args.sink.now u) (g.met.K.Sink.only c.args.sink.now) (none_other halt.Memory tt) refl refl refl (inl refl)
+    residual_of c.from_residual.result halt.Memory (HasHaltedPut g.S.Source g.K.Sink groups at b.config b.now b.held c.args.store.now.offset c.args.report.now c.args.src.now c.args.sink.now) c.from_residual.ensures.1
+    (halts_put_nothing g.S.Source g.K.Sink groups at found b c.args.store.now.offset c.args.store.now.offset c.args.work.now c.args.report.now c.args.report.now c.args.src.now c.args.src.now c.args.sink.now halt.Memory (rests_put g.S.Source g.K.Sink groups at found b c.args.store.now.offset c.args.work.now c.args.report.now c.args.src.now c.args.sink.now u) (g.met.K.Sink.only c.args.sink.now) (none_other halt.Memory tt) refl refl refl (inl refl)
     memory_left refl refl (none_taken (g.S.Source.told c.args.src.now)) (λ s t was now. ap (λ (x : SourceState). x.reading) (g.met.S.Source.one c.args.src.now t s now was)))
 
 pub returns-in_ok-copy-in-Some-clause-put : goal.returns-in_ok-copy-in-Some-clause-put
 returns-in_ok-copy-in-Some-clause-put g c groups at found b u =
-    halts_put_nothing g.S.Source.stands g.K.Sink.holds g.K.Sink.may_leave groups at found b c.args.store.now.offset c.args.store.now.offset c.args.work.now c.args.report.now c.args.report.now c.args.src.now c.args.src.now (g.S.Source.told c.args.src.now) (g.S.Source.told c.args.src.now) c.args.sink.now _ (rests_put g.S.Source.stands g.K.Sink.holds g.K.Sink.may_leave groups at found b c.args.store.now.offset c.args.work.now c.args.report.now c.args.src.now (g.S.Source.told c.args.src.now) c.args.sink.now u) (g.met.K.Sink.only c.args.sink.now) (λ is. cc) refl refl refl (inl refl)
+    halts_put_nothing g.S.Source g.K.Sink groups at found b c.args.store.now.offset c.args.store.now.offset c.args.work.now c.args.report.now c.args.report.now c.args.src.now c.args.src.now c.args.sink.now _ (rests_put g.S.Source g.K.Sink groups at found b c.args.store.now.offset c.args.work.now c.args.report.now c.args.src.now c.args.sink.now u) (g.met.K.Sink.only c.args.sink.now) (λ is. cc) refl refl refl (inl refl)
     refl refl refl (none_taken (g.S.Source.told c.args.src.now)) (λ s t was now. ap (λ (x : SourceState). x.reading) (g.met.S.Source.one c.args.src.now t s now was))
 
 pub returns-in-None-clause-putting : goal.returns-in-None-clause-putting
-returns-in-None-clause-putting g c groups at found b u = c.store_and_confirm.ensures.putting groups at found b (rests_put g.S.Source.stands g.K.Sink.holds g.K.Sink.may_leave groups at found b c.args.store.now.offset c.args.work.now c.args.report.now c.args.src.now (g.S.Source.told c.args.src.now) c.args.sink.now u)
+returns-in-None-clause-putting g c groups at found b u = c.store_and_confirm.ensures.putting groups at found b (rests_put g.S.Source g.K.Sink groups at found b c.args.store.now.offset c.args.work.now c.args.report.now c.args.src.now c.args.sink.now u)
 
 pub returns-in-None-clause-put : goal.returns-in-None-clause-put
-returns-in-None-clause-put g c groups at found b u = c.store_and_confirm.ensures.put groups at found b (rests_put g.S.Source.stands g.K.Sink.holds g.K.Sink.may_leave groups at found b c.args.store.now.offset c.args.work.now c.args.report.now c.args.src.now (g.S.Source.told c.args.src.now) c.args.sink.now u)
+returns-in-None-clause-put g c groups at found b u = c.store_and_confirm.ensures.put groups at found b (rests_put g.S.Source g.K.Sink groups at found b c.args.store.now.offset c.args.work.now c.args.report.now c.args.src.now c.args.sink.now u)
 
 pub returns-in_err-copy-in-Some-clause-reads : goal.returns-in_err-copy-in-Some-clause-reads
 returns-in_err-copy-in-Some-clause-reads g c = residual_of c.from_residual.result halt.Memory IsNotGone c.from_residual.ensures.1 tt

@@ -39,13 +39,13 @@ use Rattle.dbl_capture.proofs.settle.store_and_confirm.Goals as goal
 -- nothing was asked of the three yet
 pub returns-in_err-offset-clause-left : goal.returns-in_err-offset-clause-left
 returns-in_err-offset-clause-left g c tell entry s honest =
-    on_err _ _ (rests s _ _ _ (g.met.S.Source.only _) (g.met.S.Source.may _) (g.met.K.Sink.only _) (g.met.K.Sink.may _) honest (λ h l is. g.met.S.Source.fit _ l is h) (some_chunk s))
+    on_err _ _ (rests s _ (g.met.S.Source.only _) (g.met.S.Source.may _) (g.met.K.Sink.only _) (g.met.K.Sink.may _) honest (λ h l is. g.met.S.Source.fit _ l is h) (some_chunk s))
 
 -- the store failed
 pub returns-in_err-put_offset-clause-left : goal.returns-in_err-put_offset-clause-left
 returns-in_err-put_offset-clause-left g c tell entry s honest =
     on_err _ _
-    (store_fails s _ _ c.put_offset.new.store _
+    (store_fails s c.put_offset.new.store _
     (λ t. subst (λ (o : Offset). LeavesOffset g.D.Disk (disk_of c.put_offset.new.store) (λ left. (left ≡ Some s.stage.stored) ⊎ (left ≡ Some o))) c.in_ok-offset.ensures.next (c.put_offset.ensures.left (Some s.stage.stored) (s.store_is t)))
     (g.met.S.Source.only _) (g.met.S.Source.may _) honest (λ h l is. g.met.S.Source.fit _ l is h)
     (λ t groups is. g.met.K.Sink.only _ s.stage.groups groups (s.sink_is t) is) (λ t. (s.stage.groups, g.met.K.Sink.may _ s.stage.groups (s.sink_is t))))
@@ -54,7 +54,7 @@ returns-in_err-put_offset-clause-left g c tell entry s honest =
 pub returns-in_err-confirm-clause-left : goal.returns-in_err-confirm-clause-left
 returns-in_err-confirm-clause-left g c tell entry s honest =
     on_err _ _
-    (settle_fails s _ _ c.confirm.new.self c.put_offset.new.store
+    (settle_fails s c.confirm.new.self c.put_offset.new.store
     (λ t. subst (λ (o : Offset). HoldsOffset g.D.Disk c.put_offset.new.store (Some o)) c.in_ok-offset.ensures.next (c.in_ok-put_offset.ensures.stored (Some s.stage.stored) (s.store_is t)))
     (λ left is. subst (λ (o : Offset). MayFollowConfirm o.lsn (state_at_stage s.stage) left) c.in_ok-offset.ensures.next (c.confirm.ensures.left (state_at_stage s.stage) left s.source_is is))
     (λ left is. g.met.S.Source.fit _ left is honest)
@@ -127,19 +127,19 @@ returns-clause-never g c value at is = cc
 
 pub returns-in_err-offset-clause-halted : goal.returns-in_err-offset-clause-halted
 returns-in_err-offset-clause-halted g c at found b u quiet =
-    residual_of c.from_residual.result halt.Memory (Halts g.S.Source.stands at found b.config b.now b.held c.args.store.now.offset c.args.report.now c.args.src.now (g.S.Source.told c.args.src.now)) c.from_residual.ensures.1
-    (record { halted = halts_between g.S.Source.stands at found b c.args.store.now.offset c.args.store.now.offset c.args.work.now c.args.report.now c.args.report.now c.args.src.now c.args.src.now (g.S.Source.told c.args.src.now) (g.S.Source.told c.args.src.now) halt.Memory u (none_taken (g.S.Source.told c.args.src.now)) (λ s t was now. ap (λ (x : SourceState). x.reading) (g.met.S.Source.one c.args.src.now t s now was)) memory_left refl refl (inl refl); stood = λ s first. memory_stood b.config b.now b.held c.args.store.now.offset c.args.report.now (g.S.Source.stands c.args.src.now) halt.Memory refl; cause = memory_caused b.config b.now b.held c.args.store.now.offset c.args.report.now (g.S.Source.told c.args.src.now) halt.Memory refl; must = quiet_asks b u.messages c.args.store.now.offset c.args.work.now c.args.report.now c.args.report.now found (g.S.Source.told c.args.src.now) c.args.store.now.offset (Err halt.Memory) u.is u.tells quiet (inl refl) })
+    residual_of c.from_residual.result halt.Memory (Halts g.S.Source at found b.config b.now b.held c.args.store.now.offset c.args.report.now c.args.src.now) c.from_residual.ensures.1
+    (record { halted = halts_between g.S.Source at found b c.args.store.now.offset c.args.store.now.offset c.args.work.now c.args.report.now c.args.report.now c.args.src.now c.args.src.now halt.Memory u (none_taken (g.S.Source.told c.args.src.now)) (λ s t was now. ap (λ (x : SourceState). x.reading) (g.met.S.Source.one c.args.src.now t s now was)) memory_left refl refl (inl refl); stood = λ s first. memory_stood b.config b.now b.held c.args.store.now.offset c.args.report.now (g.S.Source.stands c.args.src.now) halt.Memory refl; cause = memory_caused b.config b.now b.held c.args.store.now.offset c.args.report.now (g.S.Source.told c.args.src.now) halt.Memory refl; must = quiet_asks b u.messages c.args.store.now.offset c.args.work.now c.args.report.now c.args.report.now found (g.S.Source.told c.args.src.now) c.args.store.now.offset (Err halt.Memory) u.is u.tells quiet (inl refl) })
 
 pub returns-in_err-put_offset-clause-halted : goal.returns-in_err-put_offset-clause-halted
 returns-in_err-put_offset-clause-halted g c at found b u quiet =
-    residual_of c.from_residual-in_err-put_offset.result _ (Halts g.S.Source.stands at found b.config b.now b.held c.put_offset.new.store.offset c.args.report.now c.args.src.now (g.S.Source.told c.args.src.now)) c.from_residual-in_err-put_offset.ensures.1
-    (record { halted = halts_between g.S.Source.stands at found b c.args.store.now.offset c.put_offset.new.store.offset c.args.work.now c.args.report.now c.args.report.now c.args.src.now c.args.src.now (g.S.Source.told c.args.src.now) (g.S.Source.told c.args.src.now) _ u (none_taken (g.S.Source.told c.args.src.now)) (λ s t was now. ap (λ (x : SourceState). x.reading) (g.met.S.Source.one c.args.src.now t s now was)) (store_left _ _ c.in_err-put_offset.ensures.halt) refl refl (inl c.in_err-put_offset.ensures.keeps); stood = λ s first. subst (λ (o : Option Offset). IsHaltStanding b.config b.now b.held o c.args.report.now (g.S.Source.stands c.args.src.now) c.in_err-put_offset.field-0.0) (sym c.in_err-put_offset.ensures.keeps) (offsets_stood g.S.Source.stands at found b c.args.store.now.offset c.args.work.now c.args.src.now c.args.src.now (g.S.Source.told c.args.src.now) c.args.report.now c.in_err-put_offset.field-0.0 u (subst IsOffset c.in_ok-offset.ensures.next c.in_ok-offset.ensures.asked) (subst (λ (o : Offset). (c.in_err-put_offset.field-0.0 ≡ halt.Memory) ⊎ ((c.in_err-put_offset.field-0.0 ≡ halt.Offsets) ⊎ IsTooLong o c.in_err-put_offset.field-0.0)) c.in_ok-offset.ensures.next c.in_err-put_offset.ensures.halt) s first); cause = subst (λ (o : Option Offset). IsHalt b.config b.now b.held o c.args.report.now (g.S.Source.told c.args.src.now) c.in_err-put_offset.field-0.0) (sym c.in_err-put_offset.ensures.keeps) (store_caused b u.messages c.args.store.now.offset c.args.work.now c.args.report.now found (g.S.Source.told c.args.src.now) _ u.is u.tells (subst IsOffset c.in_ok-offset.ensures.next c.in_ok-offset.ensures.asked) (subst (λ (o : Offset). (c.in_err-put_offset.field-0.0 ≡ halt.Memory) ⊎ ((c.in_err-put_offset.field-0.0 ≡ halt.Offsets) ⊎ IsTooLong o c.in_err-put_offset.field-0.0)) c.in_ok-offset.ensures.next c.in_err-put_offset.ensures.halt)); must = quiet_asks b u.messages c.args.store.now.offset c.args.work.now c.args.report.now c.args.report.now found (g.S.Source.told c.args.src.now) c.put_offset.new.store.offset (Err c.in_err-put_offset.field-0.0) u.is u.tells quiet (inl c.in_err-put_offset.ensures.keeps) })
+    residual_of c.from_residual-in_err-put_offset.result _ (Halts g.S.Source at found b.config b.now b.held c.put_offset.new.store.offset c.args.report.now c.args.src.now) c.from_residual-in_err-put_offset.ensures.1
+    (record { halted = halts_between g.S.Source at found b c.args.store.now.offset c.put_offset.new.store.offset c.args.work.now c.args.report.now c.args.report.now c.args.src.now c.args.src.now _ u (none_taken (g.S.Source.told c.args.src.now)) (λ s t was now. ap (λ (x : SourceState). x.reading) (g.met.S.Source.one c.args.src.now t s now was)) (store_left _ _ c.in_err-put_offset.ensures.halt) refl refl (inl c.in_err-put_offset.ensures.keeps); stood = λ s first. subst (λ (o : Option Offset). IsHaltStanding b.config b.now b.held o c.args.report.now (g.S.Source.stands c.args.src.now) c.in_err-put_offset.field-0.0) (sym c.in_err-put_offset.ensures.keeps) (offsets_stood g.S.Source at found b c.args.store.now.offset c.args.work.now c.args.src.now c.args.src.now c.args.report.now c.in_err-put_offset.field-0.0 u (subst IsOffset c.in_ok-offset.ensures.next c.in_ok-offset.ensures.asked) (subst (λ (o : Offset). (c.in_err-put_offset.field-0.0 ≡ halt.Memory) ⊎ ((c.in_err-put_offset.field-0.0 ≡ halt.Offsets) ⊎ IsTooLong o c.in_err-put_offset.field-0.0)) c.in_ok-offset.ensures.next c.in_err-put_offset.ensures.halt) s first); cause = subst (λ (o : Option Offset). IsHalt b.config b.now b.held o c.args.report.now (g.S.Source.told c.args.src.now) c.in_err-put_offset.field-0.0) (sym c.in_err-put_offset.ensures.keeps) (store_caused b u.messages c.args.store.now.offset c.args.work.now c.args.report.now found (g.S.Source.told c.args.src.now) _ u.is u.tells (subst IsOffset c.in_ok-offset.ensures.next c.in_ok-offset.ensures.asked) (subst (λ (o : Offset). (c.in_err-put_offset.field-0.0 ≡ halt.Memory) ⊎ ((c.in_err-put_offset.field-0.0 ≡ halt.Offsets) ⊎ IsTooLong o c.in_err-put_offset.field-0.0)) c.in_ok-offset.ensures.next c.in_err-put_offset.ensures.halt)); must = quiet_asks b u.messages c.args.store.now.offset c.args.work.now c.args.report.now c.args.report.now found (g.S.Source.told c.args.src.now) c.put_offset.new.store.offset (Err c.in_err-put_offset.field-0.0) u.is u.tells quiet (inl c.in_err-put_offset.ensures.keeps) })
 
 pub returns-in_err-confirm-clause-halted : goal.returns-in_err-confirm-clause-halted
 returns-in_err-confirm-clause-halted g c at found b u quiet =
-    residual_of c.from_residual-in_err-confirm.result _ (Halts g.S.Source.stands at found b.config b.now b.held c.put_offset.new.store.offset (record c.args.report.now { position = c.in_ok-offset.offset.lsn.0 }) c.confirm.new.self (g.S.Source.told c.confirm.new.self)) c.from_residual-in_err-confirm.ensures.1
+    residual_of c.from_residual-in_err-confirm.result _ (Halts g.S.Source at found b.config b.now b.held c.put_offset.new.store.offset (record c.args.report.now { position = c.in_ok-offset.offset.lsn.0 }) c.confirm.new.self) c.from_residual-in_err-confirm.ensures.1
     (record {
-      halted = halts_between g.S.Source.stands at found b c.args.store.now.offset c.put_offset.new.store.offset c.args.work.now c.args.report.now (record c.args.report.now { position = c.in_ok-offset.offset.lsn.0 }) c.args.src.now c.confirm.new.self (g.S.Source.told c.args.src.now) (g.S.Source.told c.confirm.new.self) _ u c.confirm.ensures.taken
+      halted = halts_between g.S.Source at found b c.args.store.now.offset c.put_offset.new.store.offset c.args.work.now c.args.report.now (record c.args.report.now { position = c.in_ok-offset.offset.lsn.0 }) c.args.src.now c.confirm.new.self _ u c.confirm.ensures.taken
           (λ s t was now. absurd (dead_source (g.S.Source.is_live c.confirm.new.self) (g.met.S.Source.lives c.confirm.new.self t now) c.in_err-confirm.ensures.dead)) (source_left c.in_err-confirm.field-0.0) refl refl (inr (c.in_ok-put_offset.ensures.loads ∙ ap (λ (o : Offset). Some o) c.in_ok-offset.ensures.next));
       stood = λ s first. source_stood b.config b.now b.held c.put_offset.new.store.offset (record c.args.report.now { position = c.in_ok-offset.offset.lsn.0 }) (g.S.Source.stands c.confirm.new.self) c.in_err-confirm.field-0.0;
       cause = source_caused b.config b.now b.held c.put_offset.new.store.offset (record c.args.report.now { position = c.in_ok-offset.offset.lsn.0 }) (g.S.Source.told c.confirm.new.self) c.in_err-confirm.field-0.0;
@@ -148,30 +148,30 @@ returns-in_err-confirm-clause-halted g c at found b u quiet =
 
 pub returns-clause-all : goal.returns-clause-all
 returns-clause-all g c at found b u =
-    settles_on g.S.Source.stands at found b c.args.store.now.offset c.put_offset.new.store.offset c.args.work.now (record c.args.work.now { since = 0 }) c.args.report.now (record c.args.report.now { position = c.in_ok-offset.offset.lsn.0 }) c.args.src.now c.confirm.new.self (g.S.Source.told c.args.src.now) (g.S.Source.told c.confirm.new.self) u (c.in_ok-put_offset.ensures.loads ∙ ap (λ (o : Offset). Some o) c.in_ok-offset.ensures.next) refl refl c.confirm.ensures.taken
+    settles_on g.S.Source at found b c.args.store.now.offset c.put_offset.new.store.offset c.args.work.now (record c.args.work.now { since = 0 }) c.args.report.now (record c.args.report.now { position = c.in_ok-offset.offset.lsn.0 }) c.args.src.now c.confirm.new.self u (c.in_ok-put_offset.ensures.loads ∙ ap (λ (o : Offset). Some o) c.in_ok-offset.ensures.next) refl refl c.confirm.ensures.taken
     (λ s is. subst (λ (o : Offset). HasState g.S.Source.stands c.confirm.new.self (IsConfirmed o.lsn s)) c.in_ok-offset.ensures.next (c.in_ok-confirm.ensures.confirmed s is))
 
 pub returns-in_err-offset-clause-put : goal.returns-in_err-offset-clause-put
 returns-in_err-offset-clause-put g c groups at found b u =
-    residual_of c.from_residual.result halt.Memory (HasHaltedPut g.S.Source.stands g.K.Sink.holds g.K.Sink.may_leave groups at b.config b.now b.held c.args.store.now.offset c.args.report.now c.args.src.now (g.S.Source.told c.args.src.now) c.args.sink.now) c.from_residual.ensures.1
-    (halts_put_nothing g.S.Source.stands g.K.Sink.holds g.K.Sink.may_leave groups at found b c.args.store.now.offset c.args.store.now.offset c.args.work.now c.args.report.now c.args.report.now c.args.src.now c.args.src.now (g.S.Source.told c.args.src.now) (g.S.Source.told c.args.src.now) c.args.sink.now halt.Memory u (g.met.K.Sink.only c.args.sink.now) (none_other halt.Memory tt) refl refl refl (inl refl)
+    residual_of c.from_residual.result halt.Memory (HasHaltedPut g.S.Source g.K.Sink groups at b.config b.now b.held c.args.store.now.offset c.args.report.now c.args.src.now c.args.sink.now) c.from_residual.ensures.1
+    (halts_put_nothing g.S.Source g.K.Sink groups at found b c.args.store.now.offset c.args.store.now.offset c.args.work.now c.args.report.now c.args.report.now c.args.src.now c.args.src.now c.args.sink.now halt.Memory u (g.met.K.Sink.only c.args.sink.now) (none_other halt.Memory tt) refl refl refl (inl refl)
     memory_left refl refl (none_taken (g.S.Source.told c.args.src.now)) (λ s t was now. ap (λ (x : SourceState). x.reading) (g.met.S.Source.one c.args.src.now t s now was)))
 
 pub returns-in_err-put_offset-clause-put : goal.returns-in_err-put_offset-clause-put
 returns-in_err-put_offset-clause-put g c groups at found b u =
-    residual_of c.from_residual-in_err-put_offset.result _ (HasHaltedPut g.S.Source.stands g.K.Sink.holds g.K.Sink.may_leave groups at b.config b.now b.held c.put_offset.new.store.offset c.args.report.now c.args.src.now (g.S.Source.told c.args.src.now) c.args.sink.now) c.from_residual-in_err-put_offset.ensures.1
-    (halts_put_nothing g.S.Source.stands g.K.Sink.holds g.K.Sink.may_leave groups at found b c.args.store.now.offset c.put_offset.new.store.offset c.args.work.now c.args.report.now c.args.report.now c.args.src.now c.args.src.now (g.S.Source.told c.args.src.now) (g.S.Source.told c.args.src.now) c.args.sink.now _ u (g.met.K.Sink.only c.args.sink.now) (store_other _ (store_of _ _ c.in_err-put_offset.ensures.halt)) refl refl refl (inl c.in_err-put_offset.ensures.keeps)
+    residual_of c.from_residual-in_err-put_offset.result _ (HasHaltedPut g.S.Source g.K.Sink groups at b.config b.now b.held c.put_offset.new.store.offset c.args.report.now c.args.src.now c.args.sink.now) c.from_residual-in_err-put_offset.ensures.1
+    (halts_put_nothing g.S.Source g.K.Sink groups at found b c.args.store.now.offset c.put_offset.new.store.offset c.args.work.now c.args.report.now c.args.report.now c.args.src.now c.args.src.now c.args.sink.now _ u (g.met.K.Sink.only c.args.sink.now) (store_other _ (store_of _ _ c.in_err-put_offset.ensures.halt)) refl refl refl (inl c.in_err-put_offset.ensures.keeps)
     (store_left _ _ c.in_err-put_offset.ensures.halt) refl refl (none_taken (g.S.Source.told c.args.src.now)) (λ s t was now. ap (λ (x : SourceState). x.reading) (g.met.S.Source.one c.args.src.now t s now was)))
 
 pub returns-in_err-confirm-clause-put : goal.returns-in_err-confirm-clause-put
 returns-in_err-confirm-clause-put g c groups at found b u =
-    residual_of c.from_residual-in_err-confirm.result _ (HasHaltedPut g.S.Source.stands g.K.Sink.holds g.K.Sink.may_leave groups at b.config b.now b.held c.put_offset.new.store.offset (record c.args.report.now { position = c.in_ok-offset.offset.lsn.0 }) c.confirm.new.self (g.S.Source.told c.confirm.new.self) c.args.sink.now) c.from_residual-in_err-confirm.ensures.1
-    (halts_put_nothing g.S.Source.stands g.K.Sink.holds g.K.Sink.may_leave groups at found b c.args.store.now.offset c.put_offset.new.store.offset c.args.work.now c.args.report.now (record c.args.report.now { position = c.in_ok-offset.offset.lsn.0 }) c.args.src.now c.confirm.new.self (g.S.Source.told c.args.src.now) (g.S.Source.told c.confirm.new.self) c.args.sink.now _ u (g.met.K.Sink.only c.args.sink.now) (source_other _ (source_of c.in_err-confirm.field-0.0)) refl refl refl (inr (c.in_ok-put_offset.ensures.loads ∙ ap (λ (o : Offset). Some o) c.in_ok-offset.ensures.next))
+    residual_of c.from_residual-in_err-confirm.result _ (HasHaltedPut g.S.Source g.K.Sink groups at b.config b.now b.held c.put_offset.new.store.offset (record c.args.report.now { position = c.in_ok-offset.offset.lsn.0 }) c.confirm.new.self c.args.sink.now) c.from_residual-in_err-confirm.ensures.1
+    (halts_put_nothing g.S.Source g.K.Sink groups at found b c.args.store.now.offset c.put_offset.new.store.offset c.args.work.now c.args.report.now (record c.args.report.now { position = c.in_ok-offset.offset.lsn.0 }) c.args.src.now c.confirm.new.self c.args.sink.now _ u (g.met.K.Sink.only c.args.sink.now) (source_other _ (source_of c.in_err-confirm.field-0.0)) refl refl refl (inr (c.in_ok-put_offset.ensures.loads ∙ ap (λ (o : Offset). Some o) c.in_ok-offset.ensures.next))
     (source_left c.in_err-confirm.field-0.0) refl refl c.confirm.ensures.taken (λ s t was now. absurd (dead_source (g.S.Source.is_live c.confirm.new.self) (g.met.S.Source.lives c.confirm.new.self t now) c.in_err-confirm.ensures.dead)))
 
 pub returns-clause-putting : goal.returns-clause-putting
 returns-clause-putting g c groups at found b u =
-    stores_put_nothing g.S.Source.stands g.K.Sink.holds g.K.Sink.may_leave groups at found b c.args.store.now.offset c.args.src.now c.confirm.new.self (g.S.Source.told c.args.src.now) (g.S.Source.told c.confirm.new.self) c.args.sink.now c.put_offset.new.store.offset c.args.work.now (record c.args.work.now { since = 0 }) c.args.report.now (record c.args.report.now { position = c.in_ok-offset.offset.lsn.0 }) u (c.in_ok-put_offset.ensures.loads ∙ ap (λ (o : Offset). Some o) c.in_ok-offset.ensures.next) refl refl c.confirm.ensures.taken
+    stores_put_nothing g.S.Source g.K.Sink groups at found b c.args.store.now.offset c.args.src.now c.confirm.new.self c.args.sink.now c.put_offset.new.store.offset c.args.work.now (record c.args.work.now { since = 0 }) c.args.report.now (record c.args.report.now { position = c.in_ok-offset.offset.lsn.0 }) u (c.in_ok-put_offset.ensures.loads ∙ ap (λ (o : Offset). Some o) c.in_ok-offset.ensures.next) refl refl c.confirm.ensures.taken
     (λ s is. subst (λ (o : Offset). HasState g.S.Source.stands c.confirm.new.self (IsConfirmed o.lsn s)) c.in_ok-offset.ensures.next (c.in_ok-confirm.ensures.confirmed s is))
 
 pub returns-in_err-offset-clause-reads : goal.returns-in_err-offset-clause-reads
@@ -227,7 +227,7 @@ returns-in_err-confirm-clause-content g c entry s faithful =
 pub returns-clause-awaits : goal.returns-clause-awaits
 returns-clause-awaits g c a =
     let t = c.in_ok-confirm.ensures.confirmed a.standing a.is in
-    awaits_still g.S.Source.stands c.args.work.now (record c.args.work.now { since = 0 }) c.args.src.now c.confirm.new.self a t.standing t.is t.holds.grows t.holds.reading refl refl
+    awaits_still g.S.Source c.args.work.now (record c.args.work.now { since = 0 }) c.args.src.now c.confirm.new.self a t.standing t.is t.holds.grows t.holds.reading refl refl
 
 -- ---- what the store holds
 

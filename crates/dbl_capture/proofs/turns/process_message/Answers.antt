@@ -317,28 +317,28 @@ pub read_and_deliver-requires-clause-number : goal.read_and_deliver-requires-cla
 read_and_deliver-requires-clause-number g c = omega (arith, c.in_ok-open_next_window.ensures.waits.number, c.requires.number)
 
 pub returns-in_err-open_next_window-clause-halted : goal.returns-in_err-open_next_window-clause-halted
-returns-in_err-open_next_window-clause-halted g c at found b u = residual_of c.from_residual.result _ (Halts g.S.Source.stands at found b.config b.now b.held c.args.store.now.offset c.args.report.now c.open_next_window.new.src (g.S.Source.told c.open_next_window.new.src)) c.from_residual.ensures.1 (c.in_err-open_next_window.ensures.halted at found b c.args.report.now u)
+returns-in_err-open_next_window-clause-halted g c at found b u = residual_of c.from_residual.result _ (Halts g.S.Source at found b.config b.now b.held c.args.store.now.offset c.args.report.now c.open_next_window.new.src) c.from_residual.ensures.1 (c.in_err-open_next_window.ensures.halted at found b c.args.report.now u)
 
 pub returns-in_err-read_and_deliver-clause-halted : goal.returns-in_err-read_and_deliver-clause-halted
-returns-in_err-read_and_deliver-clause-halted g c at found b u = residual_of c.from_residual-in_err-read_and_deliver.result _ (Halts g.S.Source.stands at found b.config b.now b.held c.args.store.now.offset c.read_and_deliver.new.report c.read_and_deliver.new.src (g.S.Source.told c.read_and_deliver.new.src)) c.from_residual-in_err-read_and_deliver.ensures.1 (c.in_err-read_and_deliver.ensures.halted at found b (c.in_ok-open_next_window.ensures.under_way at found b c.args.report.now u))
+returns-in_err-read_and_deliver-clause-halted g c at found b u = residual_of c.from_residual-in_err-read_and_deliver.result _ (Halts g.S.Source at found b.config b.now b.held c.args.store.now.offset c.read_and_deliver.new.report c.read_and_deliver.new.src) c.from_residual-in_err-read_and_deliver.ensures.1 (c.in_err-read_and_deliver.ensures.halted at found b (c.in_ok-open_next_window.ensures.under_way at found b c.args.report.now u))
 
 pub returns-in_err-store_and_confirm-in-Some-true-clause-halted : goal.returns-in_err-store_and_confirm-in-Some-true-clause-halted
-returns-in_err-store_and_confirm-in-Some-true-clause-halted g c at found b u = residual_of c.from_residual-in_err-store_and_confirm-in-Some-true.result _ (Halts g.S.Source.stands at found b.config b.now b.held c.store_and_confirm.new.store.offset c.store_and_confirm.new.report c.store_and_confirm.new.src (g.S.Source.told c.store_and_confirm.new.src)) c.from_residual-in_err-store_and_confirm-in-Some-true.ensures.1 (c.in_err-store_and_confirm-in-Some-true.ensures.halted at found b (goes_true g.S.Source.stands at found b c.args.store.now.offset c.read_and_deliver.new.work c.read_and_deliver.new.report c.read_and_deliver.new.src (g.S.Source.told c.read_and_deliver.new.src) _ c.in-Some-true.field-0 c.in-Some-true.is c.in-Some-true.field-0-test (c.in_ok-read_and_deliver.ensures.under_way at found b (c.in_ok-open_next_window.ensures.under_way at found b c.args.report.now u))) c.in_ok-read_and_deliver.ensures.quiet)
+returns-in_err-store_and_confirm-in-Some-true-clause-halted g c at found b u = residual_of c.from_residual-in_err-store_and_confirm-in-Some-true.result _ (Halts g.S.Source at found b.config b.now b.held c.store_and_confirm.new.store.offset c.store_and_confirm.new.report c.store_and_confirm.new.src) c.from_residual-in_err-store_and_confirm-in-Some-true.ensures.1 (c.in_err-store_and_confirm-in-Some-true.ensures.halted at found b (goes_true g.S.Source at found b c.args.store.now.offset c.read_and_deliver.new.work c.read_and_deliver.new.report c.read_and_deliver.new.src _ c.in-Some-true.field-0 c.in-Some-true.is c.in-Some-true.field-0-test (c.in_ok-read_and_deliver.ensures.under_way at found b (c.in_ok-open_next_window.ensures.under_way at found b c.args.report.now u))) c.in_ok-read_and_deliver.ensures.quiet)
 
 pub returns-in_ok-store_and_confirm-in-Some-true-clause-under_way : goal.returns-in_ok-store_and_confirm-in-Some-true-clause-under_way
-returns-in_ok-store_and_confirm-in-Some-true-clause-under_way g c at found b u = settled_rests g.S.Source.stands at found b c.store_and_confirm.new.store.offset c.store_and_confirm.new.work c.store_and_confirm.new.report c.store_and_confirm.new.src (g.S.Source.told c.store_and_confirm.new.src) (c.in_ok-store_and_confirm-in-Some-true.ensures.all at found b (goes_true g.S.Source.stands at found b c.args.store.now.offset c.read_and_deliver.new.work c.read_and_deliver.new.report c.read_and_deliver.new.src (g.S.Source.told c.read_and_deliver.new.src) _ c.in-Some-true.field-0 c.in-Some-true.is c.in-Some-true.field-0-test (c.in_ok-read_and_deliver.ensures.under_way at found b (c.in_ok-open_next_window.ensures.under_way at found b c.args.report.now u))))
+returns-in_ok-store_and_confirm-in-Some-true-clause-under_way g c at found b u = settled_rests g.S.Source at found b c.store_and_confirm.new.store.offset c.store_and_confirm.new.work c.store_and_confirm.new.report c.store_and_confirm.new.src (c.in_ok-store_and_confirm-in-Some-true.ensures.all at found b (goes_true g.S.Source at found b c.args.store.now.offset c.read_and_deliver.new.work c.read_and_deliver.new.report c.read_and_deliver.new.src _ c.in-Some-true.field-0 c.in-Some-true.is c.in-Some-true.field-0-test (c.in_ok-read_and_deliver.ensures.under_way at found b (c.in_ok-open_next_window.ensures.under_way at found b c.args.report.now u))))
 
 pub returns-in_err-finish_complete-in-None-clause-halted : goal.returns-in_err-finish_complete-in-None-clause-halted
-returns-in_err-finish_complete-in-None-clause-halted g c at found b u = residual_of c.from_residual-in_err-finish_complete-in-None.result _ (Halts g.S.Source.stands at found b.config b.now b.held c.finish_complete.new.store.offset c.finish_complete.new.report c.finish_complete.new.src (g.S.Source.told c.finish_complete.new.src)) c.from_residual-in_err-finish_complete-in-None.ensures.1 (c.in_err-finish_complete-in-None.ensures.halted at found b (goes_none g.S.Source.stands at found b c.args.store.now.offset c.read_and_deliver.new.work c.read_and_deliver.new.report c.read_and_deliver.new.src (g.S.Source.told c.read_and_deliver.new.src) _ c.in-None.is (c.in_ok-read_and_deliver.ensures.under_way at found b (c.in_ok-open_next_window.ensures.under_way at found b c.args.report.now u))) (c.read_and_deliver.ensures.nothing (c.in_ok-read_and_deliver.was ∙ ap (λ o. Ok o) c.in-None.is)))
+returns-in_err-finish_complete-in-None-clause-halted g c at found b u = residual_of c.from_residual-in_err-finish_complete-in-None.result _ (Halts g.S.Source at found b.config b.now b.held c.finish_complete.new.store.offset c.finish_complete.new.report c.finish_complete.new.src) c.from_residual-in_err-finish_complete-in-None.ensures.1 (c.in_err-finish_complete-in-None.ensures.halted at found b (goes_none g.S.Source at found b c.args.store.now.offset c.read_and_deliver.new.work c.read_and_deliver.new.report c.read_and_deliver.new.src _ c.in-None.is (c.in_ok-read_and_deliver.ensures.under_way at found b (c.in_ok-open_next_window.ensures.under_way at found b c.args.report.now u))) (c.read_and_deliver.ensures.nothing (c.in_ok-read_and_deliver.was ∙ ap (λ o. Ok o) c.in-None.is)))
 
 pub returns-in_ok-finish_complete-in-None-clause-under_way : goal.returns-in_ok-finish_complete-in-None-clause-under_way
-returns-in_ok-finish_complete-in-None-clause-under_way g c at found b u = settled_rests g.S.Source.stands at found b c.finish_complete.new.store.offset c.finish_complete.new.work c.finish_complete.new.report c.finish_complete.new.src (g.S.Source.told c.finish_complete.new.src) (c.in_ok-finish_complete-in-None.ensures.all at found b (goes_none g.S.Source.stands at found b c.args.store.now.offset c.read_and_deliver.new.work c.read_and_deliver.new.report c.read_and_deliver.new.src (g.S.Source.told c.read_and_deliver.new.src) _ c.in-None.is (c.in_ok-read_and_deliver.ensures.under_way at found b (c.in_ok-open_next_window.ensures.under_way at found b c.args.report.now u))))
+returns-in_ok-finish_complete-in-None-clause-under_way g c at found b u = settled_rests g.S.Source at found b c.finish_complete.new.store.offset c.finish_complete.new.work c.finish_complete.new.report c.finish_complete.new.src (c.in_ok-finish_complete-in-None.ensures.all at found b (goes_none g.S.Source at found b c.args.store.now.offset c.read_and_deliver.new.work c.read_and_deliver.new.report c.read_and_deliver.new.src _ c.in-None.is (c.in_ok-read_and_deliver.ensures.under_way at found b (c.in_ok-open_next_window.ensures.under_way at found b c.args.report.now u))))
 
 pub returns-in_ok-finish_complete-in-None-clause-all : goal.returns-in_ok-finish_complete-in-None-clause-all
-returns-in_ok-finish_complete-in-None-clause-all g c at found b u is = c.in_ok-finish_complete-in-None.ensures.all at found b (goes_none g.S.Source.stands at found b c.args.store.now.offset c.read_and_deliver.new.work c.read_and_deliver.new.report c.read_and_deliver.new.src (g.S.Source.told c.read_and_deliver.new.src) _ c.in-None.is (c.in_ok-read_and_deliver.ensures.under_way at found b (c.in_ok-open_next_window.ensures.under_way at found b c.args.report.now u)))
+returns-in_ok-finish_complete-in-None-clause-all g c at found b u is = c.in_ok-finish_complete-in-None.ensures.all at found b (goes_none g.S.Source at found b c.args.store.now.offset c.read_and_deliver.new.work c.read_and_deliver.new.report c.read_and_deliver.new.src _ c.in-None.is (c.in_ok-read_and_deliver.ensures.under_way at found b (c.in_ok-open_next_window.ensures.under_way at found b c.args.report.now u)))
 
 pub returns-in-Some-false-clause-under_way : goal.returns-in-Some-false-clause-under_way
-returns-in-Some-false-clause-under_way g c at found b u = goes_false g.S.Source.stands at found b c.args.store.now.offset c.read_and_deliver.new.work c.read_and_deliver.new.report c.read_and_deliver.new.src (g.S.Source.told c.read_and_deliver.new.src) _ c.in-Some-false.field-0 c.in-Some-false.is c.in-Some-false.field-0-test (c.in_ok-read_and_deliver.ensures.under_way at found b (c.in_ok-open_next_window.ensures.under_way at found b c.args.report.now u))
+returns-in-Some-false-clause-under_way g c at found b u = goes_false g.S.Source at found b c.args.store.now.offset c.read_and_deliver.new.work c.read_and_deliver.new.report c.read_and_deliver.new.src _ c.in-Some-false.field-0 c.in-Some-false.is c.in-Some-false.field-0-test (c.in_ok-read_and_deliver.ensures.under_way at found b (c.in_ok-open_next_window.ensures.under_way at found b c.args.report.now u))
 
 pub returns-in_ok-finish_complete-in-None-clause-none : goal.returns-in_ok-finish_complete-in-None-clause-none
 returns-in_ok-finish_complete-in-None-clause-none g c is =
@@ -346,25 +346,25 @@ returns-in_ok-finish_complete-in-None-clause-none g c is =
     (none_settled c.open_next_window.new.work c.read_and_deliver.new.work c.finish_complete.new.work c.in_ok-open_next_window.ensures.waits.none_next same c.in_ok-finish_complete-in-None.ensures.same, absent_settled c.read_and_deliver.new.work c.finish_complete.new.work c.in_ok-finish_complete-in-None.ensures.waited c.in_ok-finish_complete-in-None.ensures.same)
 
 pub returns-in_err-open_next_window-clause-put : goal.returns-in_err-open_next_window-clause-put
-returns-in_err-open_next_window-clause-put g c groups at found b u = residual_of c.from_residual.result _ (HasHaltedPut g.S.Source.stands g.K.Sink.holds g.K.Sink.may_leave groups at b.config b.now b.held c.args.store.now.offset c.args.report.now c.open_next_window.new.src (g.S.Source.told c.open_next_window.new.src) c.args.sink.now) c.from_residual.ensures.1 (c.in_err-open_next_window.ensures.put groups at found b c.args.report.now u)
+returns-in_err-open_next_window-clause-put g c groups at found b u = residual_of c.from_residual.result _ (HasHaltedPut g.S.Source g.K.Sink groups at b.config b.now b.held c.args.store.now.offset c.args.report.now c.open_next_window.new.src c.args.sink.now) c.from_residual.ensures.1 (c.in_err-open_next_window.ensures.put groups at found b c.args.report.now u)
 
 pub returns-in_err-read_and_deliver-clause-put : goal.returns-in_err-read_and_deliver-clause-put
-returns-in_err-read_and_deliver-clause-put g c groups at found b u = residual_of c.from_residual-in_err-read_and_deliver.result _ (HasHaltedPut g.S.Source.stands g.K.Sink.holds g.K.Sink.may_leave groups at b.config b.now b.held c.args.store.now.offset c.read_and_deliver.new.report c.read_and_deliver.new.src (g.S.Source.told c.read_and_deliver.new.src) c.read_and_deliver.new.sink) c.from_residual-in_err-read_and_deliver.ensures.1 (c.in_err-read_and_deliver.ensures.put groups at found b (c.in_ok-open_next_window.ensures.putting groups at found b c.args.report.now u))
+returns-in_err-read_and_deliver-clause-put g c groups at found b u = residual_of c.from_residual-in_err-read_and_deliver.result _ (HasHaltedPut g.S.Source g.K.Sink groups at b.config b.now b.held c.args.store.now.offset c.read_and_deliver.new.report c.read_and_deliver.new.src c.read_and_deliver.new.sink) c.from_residual-in_err-read_and_deliver.ensures.1 (c.in_err-read_and_deliver.ensures.put groups at found b (c.in_ok-open_next_window.ensures.putting groups at found b c.args.report.now u))
 
 pub returns-in_err-store_and_confirm-in-Some-true-clause-put : goal.returns-in_err-store_and_confirm-in-Some-true-clause-put
-returns-in_err-store_and_confirm-in-Some-true-clause-put g c groups at found b u = residual_of c.from_residual-in_err-store_and_confirm-in-Some-true.result _ (HasHaltedPut g.S.Source.stands g.K.Sink.holds g.K.Sink.may_leave groups at b.config b.now b.held c.store_and_confirm.new.store.offset c.store_and_confirm.new.report c.store_and_confirm.new.src (g.S.Source.told c.store_and_confirm.new.src) c.read_and_deliver.new.sink) c.from_residual-in_err-store_and_confirm-in-Some-true.ensures.1 (c.in_err-store_and_confirm-in-Some-true.ensures.put groups at found b (puts_true g.S.Source.stands g.K.Sink.holds groups at found b c.args.store.now.offset c.read_and_deliver.new.work c.read_and_deliver.new.report c.read_and_deliver.new.src (g.S.Source.told c.read_and_deliver.new.src) c.read_and_deliver.new.sink _ c.in-Some-true.field-0 c.in-Some-true.is c.in-Some-true.field-0-test (c.in_ok-read_and_deliver.ensures.putting groups at found b (c.in_ok-open_next_window.ensures.putting groups at found b c.args.report.now u))))
+returns-in_err-store_and_confirm-in-Some-true-clause-put g c groups at found b u = residual_of c.from_residual-in_err-store_and_confirm-in-Some-true.result _ (HasHaltedPut g.S.Source g.K.Sink groups at b.config b.now b.held c.store_and_confirm.new.store.offset c.store_and_confirm.new.report c.store_and_confirm.new.src c.read_and_deliver.new.sink) c.from_residual-in_err-store_and_confirm-in-Some-true.ensures.1 (c.in_err-store_and_confirm-in-Some-true.ensures.put groups at found b (puts_true g.S.Source g.K.Sink groups at found b c.args.store.now.offset c.read_and_deliver.new.work c.read_and_deliver.new.report c.read_and_deliver.new.src c.read_and_deliver.new.sink _ c.in-Some-true.field-0 c.in-Some-true.is c.in-Some-true.field-0-test (c.in_ok-read_and_deliver.ensures.putting groups at found b (c.in_ok-open_next_window.ensures.putting groups at found b c.args.report.now u))))
 
 pub returns-in_ok-store_and_confirm-in-Some-true-clause-putting : goal.returns-in_ok-store_and_confirm-in-Some-true-clause-putting
-returns-in_ok-store_and_confirm-in-Some-true-clause-putting g c groups at found b u = c.in_ok-store_and_confirm-in-Some-true.ensures.putting groups at found b (puts_true g.S.Source.stands g.K.Sink.holds groups at found b c.args.store.now.offset c.read_and_deliver.new.work c.read_and_deliver.new.report c.read_and_deliver.new.src (g.S.Source.told c.read_and_deliver.new.src) c.read_and_deliver.new.sink _ c.in-Some-true.field-0 c.in-Some-true.is c.in-Some-true.field-0-test (c.in_ok-read_and_deliver.ensures.putting groups at found b (c.in_ok-open_next_window.ensures.putting groups at found b c.args.report.now u)))
+returns-in_ok-store_and_confirm-in-Some-true-clause-putting g c groups at found b u = c.in_ok-store_and_confirm-in-Some-true.ensures.putting groups at found b (puts_true g.S.Source g.K.Sink groups at found b c.args.store.now.offset c.read_and_deliver.new.work c.read_and_deliver.new.report c.read_and_deliver.new.src c.read_and_deliver.new.sink _ c.in-Some-true.field-0 c.in-Some-true.is c.in-Some-true.field-0-test (c.in_ok-read_and_deliver.ensures.putting groups at found b (c.in_ok-open_next_window.ensures.putting groups at found b c.args.report.now u)))
 
 pub returns-in_err-finish_complete-in-None-clause-put : goal.returns-in_err-finish_complete-in-None-clause-put
-returns-in_err-finish_complete-in-None-clause-put g c groups at found b u = residual_of c.from_residual-in_err-finish_complete-in-None.result _ (HasHaltedPut g.S.Source.stands g.K.Sink.holds g.K.Sink.may_leave groups at b.config b.now b.held c.finish_complete.new.store.offset c.finish_complete.new.report c.finish_complete.new.src (g.S.Source.told c.finish_complete.new.src) c.read_and_deliver.new.sink) c.from_residual-in_err-finish_complete-in-None.ensures.1 (c.in_err-finish_complete-in-None.ensures.put groups at found b (puts_none g.S.Source.stands g.K.Sink.holds groups at found b c.args.store.now.offset c.read_and_deliver.new.work c.read_and_deliver.new.report c.read_and_deliver.new.src (g.S.Source.told c.read_and_deliver.new.src) c.read_and_deliver.new.sink _ c.in-None.is (c.in_ok-read_and_deliver.ensures.putting groups at found b (c.in_ok-open_next_window.ensures.putting groups at found b c.args.report.now u))))
+returns-in_err-finish_complete-in-None-clause-put g c groups at found b u = residual_of c.from_residual-in_err-finish_complete-in-None.result _ (HasHaltedPut g.S.Source g.K.Sink groups at b.config b.now b.held c.finish_complete.new.store.offset c.finish_complete.new.report c.finish_complete.new.src c.read_and_deliver.new.sink) c.from_residual-in_err-finish_complete-in-None.ensures.1 (c.in_err-finish_complete-in-None.ensures.put groups at found b (puts_none g.S.Source g.K.Sink groups at found b c.args.store.now.offset c.read_and_deliver.new.work c.read_and_deliver.new.report c.read_and_deliver.new.src c.read_and_deliver.new.sink _ c.in-None.is (c.in_ok-read_and_deliver.ensures.putting groups at found b (c.in_ok-open_next_window.ensures.putting groups at found b c.args.report.now u))))
 
 pub returns-in_ok-finish_complete-in-None-clause-putting : goal.returns-in_ok-finish_complete-in-None-clause-putting
-returns-in_ok-finish_complete-in-None-clause-putting g c groups at found b u = c.in_ok-finish_complete-in-None.ensures.putting groups at found b (puts_none g.S.Source.stands g.K.Sink.holds groups at found b c.args.store.now.offset c.read_and_deliver.new.work c.read_and_deliver.new.report c.read_and_deliver.new.src (g.S.Source.told c.read_and_deliver.new.src) c.read_and_deliver.new.sink _ c.in-None.is (c.in_ok-read_and_deliver.ensures.putting groups at found b (c.in_ok-open_next_window.ensures.putting groups at found b c.args.report.now u)))
+returns-in_ok-finish_complete-in-None-clause-putting g c groups at found b u = c.in_ok-finish_complete-in-None.ensures.putting groups at found b (puts_none g.S.Source g.K.Sink groups at found b c.args.store.now.offset c.read_and_deliver.new.work c.read_and_deliver.new.report c.read_and_deliver.new.src c.read_and_deliver.new.sink _ c.in-None.is (c.in_ok-read_and_deliver.ensures.putting groups at found b (c.in_ok-open_next_window.ensures.putting groups at found b c.args.report.now u)))
 
 pub returns-in-Some-false-clause-putting : goal.returns-in-Some-false-clause-putting
-returns-in-Some-false-clause-putting g c groups at found b u = puts_false g.S.Source.stands g.K.Sink.holds groups at found b c.args.store.now.offset c.read_and_deliver.new.work c.read_and_deliver.new.report c.read_and_deliver.new.src (g.S.Source.told c.read_and_deliver.new.src) c.read_and_deliver.new.sink _ c.in-Some-false.field-0 c.in-Some-false.is c.in-Some-false.field-0-test (c.in_ok-read_and_deliver.ensures.putting groups at found b (c.in_ok-open_next_window.ensures.putting groups at found b c.args.report.now u))
+returns-in-Some-false-clause-putting g c groups at found b u = puts_false g.S.Source g.K.Sink groups at found b c.args.store.now.offset c.read_and_deliver.new.work c.read_and_deliver.new.report c.read_and_deliver.new.src c.read_and_deliver.new.sink _ c.in-Some-false.field-0 c.in-Some-false.is c.in-Some-false.field-0-test (c.in_ok-read_and_deliver.ensures.putting groups at found b (c.in_ok-open_next_window.ensures.putting groups at found b c.args.report.now u))
 
 pub returns-in_err-open_next_window-clause-reads : goal.returns-in_err-open_next_window-clause-reads
 returns-in_err-open_next_window-clause-reads g c = residual_of c.from_residual.result _ IsNotGone c.from_residual.ensures.1 c.in_err-open_next_window.ensures.reads
@@ -430,13 +430,13 @@ pub returns-in_err-store_and_confirm-in-Some-true-clause-most : goal.returns-in_
 returns-in_err-store_and_confirm-in-Some-true-clause-most g c tell entry at found b s u honest =
     let before = c.store_and_confirm.ensures.honest honest in
     on_err _ _ (c.in_err-store_and_confirm-in-Some-true.ensures.most tell entry (c.in_ok-read_and_deliver.ensures.next tell entry (c.in_ok-open_next_window.ensures.armed tell entry s (c.read_and_deliver.ensures.honest before)) before)
-    (goes_true g.S.Source.stands at found b c.args.store.now.offset c.read_and_deliver.new.work c.read_and_deliver.new.report c.read_and_deliver.new.src (g.S.Source.told c.read_and_deliver.new.src) _ c.in-Some-true.field-0 c.in-Some-true.is c.in-Some-true.field-0-test (c.in_ok-read_and_deliver.ensures.under_way at found b (c.in_ok-open_next_window.ensures.under_way at found b c.args.report.now u))).is.windows)
+    (goes_true g.S.Source at found b c.args.store.now.offset c.read_and_deliver.new.work c.read_and_deliver.new.report c.read_and_deliver.new.src _ c.in-Some-true.field-0 c.in-Some-true.is c.in-Some-true.field-0-test (c.in_ok-read_and_deliver.ensures.under_way at found b (c.in_ok-open_next_window.ensures.under_way at found b c.args.report.now u))).is.windows)
 
 pub returns-in_err-finish_complete-in-None-clause-most : goal.returns-in_err-finish_complete-in-None-clause-most
 returns-in_err-finish_complete-in-None-clause-most g c tell entry at found b s u honest =
     let before = c.finish_complete.ensures.honest honest in
     on_err _ _ (c.in_err-finish_complete-in-None.ensures.most tell entry (c.in_ok-read_and_deliver.ensures.next tell entry (c.in_ok-open_next_window.ensures.armed tell entry s (c.read_and_deliver.ensures.honest before)) before)
-    (goes_none g.S.Source.stands at found b c.args.store.now.offset c.read_and_deliver.new.work c.read_and_deliver.new.report c.read_and_deliver.new.src (g.S.Source.told c.read_and_deliver.new.src) _ c.in-None.is (c.in_ok-read_and_deliver.ensures.under_way at found b (c.in_ok-open_next_window.ensures.under_way at found b c.args.report.now u))).is.is.windows)
+    (goes_none g.S.Source at found b c.args.store.now.offset c.read_and_deliver.new.work c.read_and_deliver.new.report c.read_and_deliver.new.src _ c.in-None.is (c.in_ok-read_and_deliver.ensures.under_way at found b (c.in_ok-open_next_window.ensures.under_way at found b c.args.report.now u))).is.is.windows)
 
 pub returns-in_ok-store_and_confirm-in-Some-true-clause-quiet : goal.returns-in_ok-store_and_confirm-in-Some-true-clause-quiet
 returns-in_ok-store_and_confirm-in-Some-true-clause-quiet g c = c.in_ok-store_and_confirm-in-Some-true.ensures.quiet

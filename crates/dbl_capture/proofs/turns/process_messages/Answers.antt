@@ -311,16 +311,16 @@ pub returns-in_err-process_message-clause-commits : goal.returns-in_err-process_
 returns-in_err-process_message-clause-commits g c = c.process_message.ensures.commits
 
 pub returns-in_err-process_message-clause-halted : goal.returns-in_err-process_message-clause-halted
-returns-in_err-process_message-clause-halted g c at found b u = residual_of c.from_residual.result _ (Halts g.S.Source.stands at found b.config b.now b.held c.process_message.new.store.offset c.process_message.new.report c.process_message.new.src (g.S.Source.told c.process_message.new.src)) c.from_residual.ensures.1 (c.in_err-process_message.ensures.halted at found b (c.turns.invariant.under_way at found b u))
+returns-in_err-process_message-clause-halted g c at found b u = residual_of c.from_residual.result _ (Halts g.S.Source at found b.config b.now b.held c.process_message.new.store.offset c.process_message.new.report c.process_message.new.src) c.from_residual.ensures.1 (c.in_err-process_message.ensures.halted at found b (c.turns.invariant.under_way at found b u))
 
 pub returns-in_err-open_next_window-clause-halted : goal.returns-in_err-open_next_window-clause-halted
-returns-in_err-open_next_window-clause-halted g c at found b u = residual_of c.from_residual-in_err-open_next_window.result _ (Halts g.S.Source.stands at found b.config b.now b.held c.turns.store.offset c.turns.report c.open_next_window.new.src (g.S.Source.told c.open_next_window.new.src)) c.from_residual-in_err-open_next_window.ensures.1 (c.in_err-open_next_window.ensures.halted at found b c.turns.report (c.turns.invariant.under_way at found b u))
+returns-in_err-open_next_window-clause-halted g c at found b u = residual_of c.from_residual-in_err-open_next_window.result _ (Halts g.S.Source at found b.config b.now b.held c.turns.store.offset c.turns.report c.open_next_window.new.src) c.from_residual-in_err-open_next_window.ensures.1 (c.in_err-open_next_window.ensures.halted at found b c.turns.report (c.turns.invariant.under_way at found b u))
 
 pub returns-in_err-store_and_confirm-clause-halted : goal.returns-in_err-store_and_confirm-clause-halted
-returns-in_err-store_and_confirm-clause-halted g c at found b u = residual_of c.from_residual-in_err-store_and_confirm.result _ (Halts g.S.Source.stands at found b.config b.now b.held c.store_and_confirm.new.store.offset c.store_and_confirm.new.report c.store_and_confirm.new.src (g.S.Source.told c.store_and_confirm.new.src)) c.from_residual-in_err-store_and_confirm.ensures.1 (c.in_err-store_and_confirm.ensures.halted at found b (at_rest g.S.Source.stands at found b c.turns.store.offset c.open_next_window.new.work c.turns.report c.open_next_window.new.src (g.S.Source.told c.open_next_window.new.src) (c.in_ok-open_next_window.ensures.under_way at found b c.turns.report (c.turns.invariant.under_way at found b u))) (c.in_ok-open_next_window.ensures.quiet (c.turns.invariant.quiet (omega (arith, c.requires.some, c.turns-test.false)))))
+returns-in_err-store_and_confirm-clause-halted g c at found b u = residual_of c.from_residual-in_err-store_and_confirm.result _ (Halts g.S.Source at found b.config b.now b.held c.store_and_confirm.new.store.offset c.store_and_confirm.new.report c.store_and_confirm.new.src) c.from_residual-in_err-store_and_confirm.ensures.1 (c.in_err-store_and_confirm.ensures.halted at found b (at_rest g.S.Source at found b c.turns.store.offset c.open_next_window.new.work c.turns.report c.open_next_window.new.src (c.in_ok-open_next_window.ensures.under_way at found b c.turns.report (c.turns.invariant.under_way at found b u))) (c.in_ok-open_next_window.ensures.quiet (c.turns.invariant.quiet (omega (arith, c.requires.some, c.turns-test.false)))))
 
 pub returns-clause-all : goal.returns-clause-all
-returns-clause-all g c at found b u = c.in_ok-store_and_confirm.ensures.all at found b (at_rest g.S.Source.stands at found b c.turns.store.offset c.open_next_window.new.work c.turns.report c.open_next_window.new.src (g.S.Source.told c.open_next_window.new.src) (c.in_ok-open_next_window.ensures.under_way at found b c.turns.report (c.turns.invariant.under_way at found b u)))
+returns-clause-all g c at found b u = c.in_ok-store_and_confirm.ensures.all at found b (at_rest g.S.Source at found b c.turns.store.offset c.open_next_window.new.work c.turns.report c.open_next_window.new.src (c.in_ok-open_next_window.ensures.under_way at found b c.turns.report (c.turns.invariant.under_way at found b u)))
 
 pub returns-then-branch-clause-all : goal.returns-then-branch-clause-all
 returns-then-branch-clause-all g c at found b u = c.process_message.ensures.all at found b (c.turns.invariant.under_way at found b u) (c.in_ok-process_message.was ∙ ap (λ (x : Bool). Ok x) c.if-branch.true)
@@ -338,16 +338,16 @@ pub returns-then-branch-clause-waited : goal.returns-then-branch-clause-waited
 returns-then-branch-clause-waited g c is = (c.process_message.ensures.none (c.in_ok-process_message.was ∙ ap (λ (x : Bool). Ok x) c.if-branch.true)).1
 
 pub returns-in_err-process_message-clause-put : goal.returns-in_err-process_message-clause-put
-returns-in_err-process_message-clause-put g c groups at found b u = residual_of c.from_residual.result _ (HasHaltedPut g.S.Source.stands g.K.Sink.holds g.K.Sink.may_leave groups at b.config b.now b.held c.process_message.new.store.offset c.process_message.new.report c.process_message.new.src (g.S.Source.told c.process_message.new.src) c.process_message.new.sink) c.from_residual.ensures.1 (c.in_err-process_message.ensures.put groups at found b (c.turns.invariant.putting groups at found b u))
+returns-in_err-process_message-clause-put g c groups at found b u = residual_of c.from_residual.result _ (HasHaltedPut g.S.Source g.K.Sink groups at b.config b.now b.held c.process_message.new.store.offset c.process_message.new.report c.process_message.new.src c.process_message.new.sink) c.from_residual.ensures.1 (c.in_err-process_message.ensures.put groups at found b (c.turns.invariant.putting groups at found b u))
 
 pub returns-in_err-open_next_window-clause-put : goal.returns-in_err-open_next_window-clause-put
-returns-in_err-open_next_window-clause-put g c groups at found b u = residual_of c.from_residual-in_err-open_next_window.result _ (HasHaltedPut g.S.Source.stands g.K.Sink.holds g.K.Sink.may_leave groups at b.config b.now b.held c.turns.store.offset c.turns.report c.open_next_window.new.src (g.S.Source.told c.open_next_window.new.src) c.turns.sink) c.from_residual-in_err-open_next_window.ensures.1 (c.in_err-open_next_window.ensures.put groups at found b c.turns.report (c.turns.invariant.putting groups at found b u))
+returns-in_err-open_next_window-clause-put g c groups at found b u = residual_of c.from_residual-in_err-open_next_window.result _ (HasHaltedPut g.S.Source g.K.Sink groups at b.config b.now b.held c.turns.store.offset c.turns.report c.open_next_window.new.src c.turns.sink) c.from_residual-in_err-open_next_window.ensures.1 (c.in_err-open_next_window.ensures.put groups at found b c.turns.report (c.turns.invariant.putting groups at found b u))
 
 pub returns-in_err-store_and_confirm-clause-put : goal.returns-in_err-store_and_confirm-clause-put
-returns-in_err-store_and_confirm-clause-put g c groups at found b u = residual_of c.from_residual-in_err-store_and_confirm.result _ (HasHaltedPut g.S.Source.stands g.K.Sink.holds g.K.Sink.may_leave groups at b.config b.now b.held c.store_and_confirm.new.store.offset c.store_and_confirm.new.report c.store_and_confirm.new.src (g.S.Source.told c.store_and_confirm.new.src) c.turns.sink) c.from_residual-in_err-store_and_confirm.ensures.1 (c.in_err-store_and_confirm.ensures.put groups at found b (rests_put g.S.Source.stands g.K.Sink.holds g.K.Sink.may_leave groups at found b c.turns.store.offset c.open_next_window.new.work c.turns.report c.open_next_window.new.src (g.S.Source.told c.open_next_window.new.src) c.turns.sink (c.in_ok-open_next_window.ensures.putting groups at found b c.turns.report (c.turns.invariant.putting groups at found b u))))
+returns-in_err-store_and_confirm-clause-put g c groups at found b u = residual_of c.from_residual-in_err-store_and_confirm.result _ (HasHaltedPut g.S.Source g.K.Sink groups at b.config b.now b.held c.store_and_confirm.new.store.offset c.store_and_confirm.new.report c.store_and_confirm.new.src c.turns.sink) c.from_residual-in_err-store_and_confirm.ensures.1 (c.in_err-store_and_confirm.ensures.put groups at found b (rests_put g.S.Source g.K.Sink groups at found b c.turns.store.offset c.open_next_window.new.work c.turns.report c.open_next_window.new.src c.turns.sink (c.in_ok-open_next_window.ensures.putting groups at found b c.turns.report (c.turns.invariant.putting groups at found b u))))
 
 pub returns-clause-putting : goal.returns-clause-putting
-returns-clause-putting g c groups at found b u = c.in_ok-store_and_confirm.ensures.putting groups at found b (rests_put g.S.Source.stands g.K.Sink.holds g.K.Sink.may_leave groups at found b c.turns.store.offset c.open_next_window.new.work c.turns.report c.open_next_window.new.src (g.S.Source.told c.open_next_window.new.src) c.turns.sink (c.in_ok-open_next_window.ensures.putting groups at found b c.turns.report (c.turns.invariant.putting groups at found b u)))
+returns-clause-putting g c groups at found b u = c.in_ok-store_and_confirm.ensures.putting groups at found b (rests_put g.S.Source g.K.Sink groups at found b c.turns.store.offset c.open_next_window.new.work c.turns.report c.open_next_window.new.src c.turns.sink (c.in_ok-open_next_window.ensures.putting groups at found b c.turns.report (c.turns.invariant.putting groups at found b u)))
 
 pub returns-then-branch-clause-putting : goal.returns-then-branch-clause-putting
 returns-then-branch-clause-putting g c groups at found b u = c.in_ok-process_message.ensures.putting groups at found b (c.turns.invariant.putting groups at found b u)

@@ -16,14 +16,14 @@ use Rattle.dbl_capture.proofs.turns.process_messages.Given as goal
 
 abbrev pub invariant-turns : goal.invariant-turns
 invariant-turns g l = record {
-  kept : (tell : Bool) (entry : SessionStart) → InSession tell g.S.Source.stands g.K.Sink.holds g.D.Disk entry l.fn.work l.fn.src l.fn.sink l.fn.store → g.S.Source.honest l.src →
-      InSession tell g.S.Source.stands g.K.Sink.holds g.D.Disk entry l.work l.src l.sink l.store;
-  under_way : (at : Option SourceState) (found : Option Trace) (b : Beginning) → IsUnderWay g.S.Source.stands at found b l.fn.store.offset l.fn.work l.fn.report l.fn.src (g.S.Source.told l.fn.src) →
-      IsUnderWay g.S.Source.stands at found b l.store.offset l.work l.report l.src (g.S.Source.told l.src);
-  awaits : (at : Option SourceState) (found : Option Trace) (b : Beginning) → IsUnderWay g.S.Source.stands at found b l.fn.store.offset l.fn.work l.fn.report l.fn.src (g.S.Source.told l.fn.src) → (s : SourceState) → at ≡ Some s →
+  kept : (tell : Bool) (entry : SessionStart) → InSession tell g.S.Source g.K.Sink g.D.Disk entry l.fn.work l.fn.src l.fn.sink l.fn.store → g.S.Source.honest l.src →
+      InSession tell g.S.Source g.K.Sink g.D.Disk entry l.work l.src l.sink l.store;
+  under_way : (at : Option SourceState) (found : Option Trace) (b : Beginning) → IsUnderWay g.S.Source at found b l.fn.store.offset l.fn.work l.fn.report l.fn.src →
+      IsUnderWay g.S.Source at found b l.store.offset l.work l.report l.src;
+  awaits : (at : Option SourceState) (found : Option Trace) (b : Beginning) → IsUnderWay g.S.Source at found b l.fn.store.offset l.fn.work l.fn.report l.fn.src → (s : SourceState) → at ≡ Some s →
       Awaits g.S.Source.stands l.fn.work l.fn.src → g.S.Source.honest l.src → Awaits g.S.Source.stands l.work l.src;
-  putting : (groups : List (List Record)) (at : Option SourceState) (found : Option Trace) (b : Beginning) → IsPutting g.S.Source.stands g.K.Sink.holds groups at found b l.fn.store.offset l.fn.work l.fn.report l.fn.src (g.S.Source.told l.fn.src) l.fn.sink →
-      IsPutting g.S.Source.stands g.K.Sink.holds groups at found b l.store.offset l.work l.report l.src (g.S.Source.told l.src) l.sink;
+  putting : (groups : List (List Record)) (at : Option SourceState) (found : Option Trace) (b : Beginning) → IsPutting g.S.Source g.K.Sink groups at found b l.fn.store.offset l.fn.work l.fn.report l.fn.src l.fn.sink →
+      IsPutting g.S.Source g.K.Sink groups at found b l.store.offset l.work l.report l.src l.sink;
   quiet : 1 ≤ l._count → IsQuiet (g.S.Source.told l.src);
   ready : HasReadyWork l.work;
   offset_is : l.work.offset ≡ record l.fn.work.offset { lsn = l.work.offset.lsn; end_lsn = l.work.offset.end_lsn };

@@ -27,14 +27,14 @@ use Rattle.dbl_capture.proofs.windows.arm.Goals as goal
 pub returns-clause-armed : goal.returns-clause-armed
 returns-clause-armed g c tell entry s honest =
     ok_then c.read_window.result _ _ (c.read_window.ensures.windowed (state_at_stage s.stage) s.source_is)
-    (λ w. window_on s c.args.table c.read_window.new.work (g.S.Source.honest c.read_window.new.src) honest c.read_window.new.src w c.requires.table c.requires.number c.requires.absent
+    (λ w. window_on s c.args.table c.read_window.new.work c.read_window.new.src honest w c.requires.table c.requires.number c.requires.absent
     (λ t is. g.met.S.Source.fit _ _ (g.met.S.Source.may _ t is) honest))
 
 pub returns-clause-left : goal.returns-clause-left
 returns-clause-left g c tell entry s honest =
     let planned = plan_here c.args.work.now c.args.table c.requires.ready c.requires.table in
     on_err _ _
-    (arm_left s c.args.table planned.0 (plan_parts c.args.work.now c.args.table planned.0 planned.1) c.requires.table c.requires.number _ _ c.read_window.new.src c.requires.absent
+    (arm_left s c.args.table planned.0 (plan_parts c.args.work.now c.args.table planned.0 planned.1) c.requires.table c.requires.number c.read_window.new.src c.requires.absent
     (λ left is. c.read_window.ensures.left planned.0 planned.1 (state_at_stage s.stage) left s.source_is is)
     (λ left is. g.met.S.Source.fit _ left is honest)
     (λ t groups is. g.met.K.Sink.only _ s.stage.groups groups (s.sink_is t) is)
@@ -54,24 +54,24 @@ returns-clause-never g c value at is = err_at c.read_window.result _ OfSource (e
 pub returns-clause-under_way : goal.returns-clause-under_way
 returns-clause-under_way g c at found b report u =
     ok_both c.read_window.result _ _ (g.S.Source.stands c.args.src.now) _ c.read_window.ensures.same c.read_window.ensures.windowed
-    (λ armed windowed. arms_on g.S.Source.stands at found b c.args.store.now.offset c.args.src.now c.read_window.new.src (g.S.Source.told c.args.src.now) (g.S.Source.told c.read_window.new.src) c.args.work.now c.read_window.new.work c.args.table report u c.requires.absent c.requires.table armed c.read_window.ensures.taken
+    (λ armed windowed. arms_on g.S.Source at found b c.args.store.now.offset c.args.src.now c.read_window.new.src c.args.work.now c.read_window.new.work c.args.table report u c.requires.absent c.requires.table armed c.read_window.ensures.taken
     (λ s is. let w = windowed s is in record { standing = w.stood.standing; is = w.stood.is; holds = w.stood.holds.looked.reading }))
 
 pub returns-clause-halted : goal.returns-clause-halted
 returns-clause-halted g c at found b report u =
-    err_then c.read_window.result _ (Halts g.S.Source.stands at found b.config b.now b.held c.args.store.now.offset report c.read_window.new.src (g.S.Source.told c.read_window.new.src)) c.read_window.ensures.halt
-    (λ h chunk. record { halted = halts_between g.S.Source.stands at found b c.args.store.now.offset c.args.store.now.offset c.args.work.now report report c.args.src.now c.read_window.new.src (g.S.Source.told c.args.src.now) (g.S.Source.told c.read_window.new.src) h (at_rest g.S.Source.stands at found b c.args.store.now.offset c.args.work.now report c.args.src.now (g.S.Source.told c.args.src.now) u) c.read_window.ensures.taken c.read_window.ensures.still (chunk_left c.args.work.now c.args.table _ h chunk) refl refl (inl refl); stood = λ s first. chunk_stood b.config b.now b.held c.args.store.now.offset report (g.S.Source.stands c.read_window.new.src) c.args.work.now c.args.table (g.S.Source.told c.read_window.new.src) h chunk; cause = chunk_caused b u.messages c.args.store.now.offset c.args.work.now report c.args.table (g.S.Source.told c.read_window.new.src) h u.is c.requires.absent c.requires.table chunk; must = chunk_asks b u.messages c.args.store.now.offset c.args.work.now report c.args.table found (g.S.Source.told c.args.src.now) (g.S.Source.told c.read_window.new.src) h u.is u.tells c.read_window.ensures.taken c.requires.absent c.requires.table chunk })
+    err_then c.read_window.result _ (Halts g.S.Source at found b.config b.now b.held c.args.store.now.offset report c.read_window.new.src) c.read_window.ensures.halt
+    (λ h chunk. record { halted = halts_between g.S.Source at found b c.args.store.now.offset c.args.store.now.offset c.args.work.now report report c.args.src.now c.read_window.new.src h (at_rest g.S.Source at found b c.args.store.now.offset c.args.work.now report c.args.src.now u) c.read_window.ensures.taken c.read_window.ensures.still (chunk_left c.args.work.now c.args.table _ h chunk) refl refl (inl refl); stood = λ s first. chunk_stood b.config b.now b.held c.args.store.now.offset report (g.S.Source.stands c.read_window.new.src) c.args.work.now c.args.table (g.S.Source.told c.read_window.new.src) h chunk; cause = chunk_caused b u.messages c.args.store.now.offset c.args.work.now report c.args.table (g.S.Source.told c.read_window.new.src) h u.is c.requires.absent c.requires.table chunk; must = chunk_asks b u.messages c.args.store.now.offset c.args.work.now report c.args.table found (g.S.Source.told c.args.src.now) (g.S.Source.told c.read_window.new.src) h u.is u.tells c.read_window.ensures.taken c.requires.absent c.requires.table chunk })
 
 pub returns-clause-putting : goal.returns-clause-putting
 returns-clause-putting g c groups at found b report u =
     ok_both c.read_window.result _ _ (g.S.Source.stands c.args.src.now) _ c.read_window.ensures.same c.read_window.ensures.windowed
-    (λ armed windowed. windows_put_nothing g.S.Source.stands g.K.Sink.holds g.K.Sink.may_leave groups at found b c.args.store.now.offset c.args.src.now c.read_window.new.src (g.S.Source.told c.args.src.now) (g.S.Source.told c.read_window.new.src) c.args.sink.now c.args.work.now c.read_window.new.work c.args.table report u c.requires.absent c.requires.table armed c.read_window.ensures.taken
+    (λ armed windowed. windows_put_nothing g.S.Source g.K.Sink groups at found b c.args.store.now.offset c.args.src.now c.read_window.new.src c.args.sink.now c.args.work.now c.read_window.new.work c.args.table report u c.requires.absent c.requires.table armed c.read_window.ensures.taken
     (λ s is. let w = windowed s is in record { standing = w.stood.standing; is = w.stood.is; holds = w.stood.holds.looked.reading }))
 
 pub returns-clause-put : goal.returns-clause-put
 returns-clause-put g c groups at found b report u =
-    err_then c.read_window.result _ (HasHaltedPut g.S.Source.stands g.K.Sink.holds g.K.Sink.may_leave groups at b.config b.now b.held c.args.store.now.offset report c.read_window.new.src (g.S.Source.told c.read_window.new.src) c.args.sink.now) c.read_window.ensures.halt
-    (λ h chunk. halts_put_nothing g.S.Source.stands g.K.Sink.holds g.K.Sink.may_leave groups at found b c.args.store.now.offset c.args.store.now.offset c.args.work.now report report c.args.src.now c.read_window.new.src (g.S.Source.told c.args.src.now) (g.S.Source.told c.read_window.new.src) c.args.sink.now h (rests_put g.S.Source.stands g.K.Sink.holds g.K.Sink.may_leave groups at found b c.args.store.now.offset c.args.work.now report c.args.src.now (g.S.Source.told c.args.src.now) c.args.sink.now u) (g.met.K.Sink.only c.args.sink.now) (source_other h (chunk_of c.args.work.now c.args.table _ h chunk)) refl refl refl (inl refl)
+    err_then c.read_window.result _ (HasHaltedPut g.S.Source g.K.Sink groups at b.config b.now b.held c.args.store.now.offset report c.read_window.new.src c.args.sink.now) c.read_window.ensures.halt
+    (λ h chunk. halts_put_nothing g.S.Source g.K.Sink groups at found b c.args.store.now.offset c.args.store.now.offset c.args.work.now report report c.args.src.now c.read_window.new.src c.args.sink.now h (rests_put g.S.Source g.K.Sink groups at found b c.args.store.now.offset c.args.work.now report c.args.src.now c.args.sink.now u) (g.met.K.Sink.only c.args.sink.now) (source_other h (chunk_of c.args.work.now c.args.table _ h chunk)) refl refl refl (inl refl)
     (chunk_left c.args.work.now c.args.table _ h chunk) refl refl c.read_window.ensures.taken c.read_window.ensures.still)
 
 pub returns-clause-reads : goal.returns-clause-reads
@@ -103,4 +103,4 @@ returns-clause-free g c = err_then c.read_window.result _ IsContentFree c.read_w
 pub returns-clause-awaits : goal.returns-clause-awaits
 returns-clause-awaits g c a =
     ok_then c.read_window.result _ _ (c.read_window.ensures.windowed a.standing a.is)
-    (λ w. awaits_armed g.S.Source.stands (g.S.Source.honest c.read_window.new.src) c.args.table c.args.work.now c.read_window.new.work c.args.src.now c.read_window.new.src a w)
+    (λ w. awaits_armed g.S.Source c.args.table c.args.work.now c.read_window.new.work c.args.src.now c.read_window.new.src a w)

@@ -4,6 +4,7 @@
 
 mod capture;
 mod messages;
+mod opening;
 mod settle;
 mod turns;
 mod windows;

@@ -1,11 +1,15 @@
 -- The batches of a commit's records, as they are gathered and appended, and what a report counts of them.
 use Rattle.std.specs.Prelude.{◌≡◌, ◌⊎◌, ℕ, ◌+◌, ◌-◌, ◌^◌, ◌≤◌, ◌<◌, min, Bool, true, false}
 use Rattle.std.specs.Prelude.{if◌then◌else◌, Some, List, [], ◌∷◌, ◌++◌, length, filter, take, slice_get}
+use Rattle.std.specs.Prelude.{◌≢◌, Result, Err, OnErr, OnOk}
 use Rattle.dbl_record.specs.declared.record.Record.{Record}
 use Rattle.dbl_record.specs.Cuts.{cut}
 use Rattle.dbl_record.specs.Groups.{group_form}
+use Rattle.dbl_topic.specs.Model.{SinkModel}
 use Rattle.dbl_topic.specs.Sinks.{IsLeftByPut}
 use Rattle.dbl_capture_work.specs.declared.groups.Gathered.{Gathered}
+use Rattle.dbl_capture_work.specs.declared.halt.Halt.{Halt}
+use Rattle.dbl_capture_work.specs.declared.halt.Halt.TheVariants as halt
 use Rattle.dbl_capture_work.specs.declared.report.Report.{Report}
 
 -- A batch that was begun has the length of its encoding, at most 2^64 - 1, and the position of its last record.
@@ -79,3 +83,21 @@ pub record WasTorn {K : Type 0} (may_leave : K → List (List Record) → Type 0
   pub parted : cut records ≡ cut (take count records) ++ group ∷ later
   pub left : (found : List (List Record)) → may_leave sink found → IsLeftByPut (groups ++ cut (take count records)) group found
   pub report : after ≡ report_with snapshot (take count records) before
+
+-- ---- one batch
+
+-- The batch is appended; if the sink failed, a crash may leave some first records of it; after another error nothing was appended.
+pub record PutsGroup {K T : Type 0} (sink_model : SinkModel K) (sink new_sink : K) (group : List Record) (result : Result T Halt)
+    : Type 0 where
+  pub put : (groups : List (List Record)) → sink_model.holds sink groups → OnOk result (sink_model.holds new_sink (groups ++ group ∷ []))
+  pub kept : (groups : List (List Record)) → sink_model.holds sink groups
+      → OnErr result (result ≢ Err halt.Sink → sink_model.holds new_sink groups)
+  pub left : (groups left : List (List Record)) → sink_model.holds sink groups → sink_model.may_leave new_sink left
+      → IsLeftByPut groups group left
+  pub some : (groups : List (List Record)) → sink_model.holds sink groups → (left : List (List Record)) × sink_model.may_leave new_sink left
+
+-- The report counts the batch once its append was acknowledged.
+pub record CountsGroup {T : Type 0} (snapshot : Bool) (group : List Record) (report new_report : Report) (result : Result T Halt)
+    : Type 0 where
+  pub noted : OnOk result (HasLastsAtItsEnd group → new_report ≡ report_with snapshot group report)
+  pub unnoted : OnErr result (new_report ≡ report)

@@ -2,7 +2,6 @@
 
 ghost use Rattle.std.specs.Prelude.{◌≡◌, ◌≢◌, ◌⊎◌, ◌^◌, ◌<◌, ◌≤◌, ◌∷◌, [], Contains, Option, None};
 ghost use Rattle.std.specs.Prelude.{Some, IfOk, IfErr, IfSome, IsTrue, OnOk, OnErr, length, map};
-ghost use Rattle.dbl_base.specs.Streams.{FailsOnlyIfCounted};
 ghost use Rattle.dbl_model_table.specs.Configs.{IsGoodConfig};
 ghost use Rattle.dbl_model_history.specs.Fit.{AreInfosOf};
 ghost use Rattle.dbl_source_model.specs.Standings.{SourceState, MovesTo};
@@ -13,8 +12,9 @@ ghost use Rattle.dbl_offset_content.specs.declared.offset.Offset.{Offset as Spec
 ghost use Rattle.dbl_offset.specs.Entries.{offset_bytes_form};
 ghost use Rattle.dbl_offset.specs.Measures.{capped, offset_limit};
 ghost use Rattle.dbl_offset.specs.Offsets.{IsOffset};
-ghost use Rattle.dbl_offset.specs.Stores.{ExtendsOffsets, HoldsOffset};
-ghost use Rattle.dbl_offset.specs.Stores.{IsLive, LeavesOffset, disk_of};
+ghost use Rattle.dbl_offset.specs.Stores.{HoldsOffset, IsLive, LeavesOffset, disk_of};
+ghost use Rattle.dbl_source.specs.Keeps.{KeepsSource, ReadsNothing};
+ghost use Rattle.dbl_offset.specs.Keeps.{KeepsStore};
 ghost use Rattle.dbl_capture_work.specs.Begins.{AreInfosAt, AreUnread, IsAbsentHalt, IsAgain};
 ghost use Rattle.dbl_capture_work.specs.Begins.{IsDescribedAs, IsExhausted, IsFaultless};
 ghost use Rattle.dbl_capture_work.specs.Begins.{IsFirstOffsetAtHead, IsGoneFrom, IsModelFault};
@@ -44,16 +44,8 @@ fn describe_table<S: Source>(
         ⊎ IsModelFault name.now (S.told src.new) h)) }
     ensures absent { (s : SourceState) → S.stands src.old s →
         IfErr result (IsAbsentHalt (name.now ∷ []) s.history) }
-    ensures left { Leaves S.stands S.may_leave src.old src.new MayFollow }
-    ensures some { LeavesSome S.stands S.may_leave src.old src.new }
-    ensures still { (s t : SourceState) → S.stands src.old s → S.stands src.new t →
-        t.reading ≡ s.reading }
-    ensures taken { IsTakenBy [] (S.told src.old) (S.told src.new) }
-    ensures live { OnOk result (IsTrue (S.is_live src.new)) }
-    ensures honest { S.honest src.new → S.honest src.old }
-    ensures comes { S.comes_of src.old src.new }
-    ensures cause { FailsOnlyIfCounted (result ≡ Err Halt.Source)
-        (S.faults src.old) (S.faults src.new) }
+    ensures rests { ReadsNothing S.Source src.old src.new MayFollow }
+    ensures source { KeepsSource S.Source src.old src.new result Halt.Source }
 {
     match src.describe(name)? {
         Some(raw) => Ok(TableInfo::make(alloc, &raw)?),
@@ -77,16 +69,8 @@ fn describe_tables<S: Source>(
         ⊎ ((name : _) × Contains names.now.items name × IsModelFault name (S.told src.new) h))) }
     ensures absent { (s : SourceState) → S.stands src.old s →
         IfErr result (IsAbsentHalt names.now.items s.history) }
-    ensures left { Leaves S.stands S.may_leave src.old src.new MayRest }
-    ensures some { LeavesSome S.stands S.may_leave src.old src.new }
-    ensures still { (s t : SourceState) → S.stands src.old s → S.stands src.new t →
-        t.reading ≡ s.reading }
-    ensures taken { IsTakenBy [] (S.told src.old) (S.told src.new) }
-    ensures live { OnOk result (IsTrue (S.is_live src.new)) }
-    ensures honest { S.honest src.new → S.honest src.old }
-    ensures comes { S.comes_of src.old src.new }
-    ensures cause { FailsOnlyIfCounted (result ≡ Err Halt.Source)
-        (S.faults src.old) (S.faults src.new) }
+    ensures rests { ReadsNothing S.Source src.old src.new MayRest }
+    ensures source { KeepsSource S.Source src.old src.new result Halt.Source }
 {
     let mut infos = Vec::with_capacity(alloc, names.len())?;
     'tables: for name in names {
@@ -147,16 +131,8 @@ pub fn first_offset<S: Source>(alloc: Global, config: &Config, src: &mut S) -> R
         ⊎ ((name : _) × Contains config.now.tables name × IsModelFault name (S.told src.new) h))) }
     ensures absent { (s : SourceState) → S.stands src.old s →
         IfErr result (IsAbsentHalt config.now.tables s.history) }
-    ensures left { Leaves S.stands S.may_leave src.old src.new MayRest }
-    ensures some { LeavesSome S.stands S.may_leave src.old src.new }
-    ensures still { (s t : SourceState) → S.stands src.old s → S.stands src.new t →
-        t.reading ≡ s.reading }
-    ensures taken { IsTakenBy [] (S.told src.old) (S.told src.new) }
-    ensures live { OnOk result (IsTrue (S.is_live src.new)) }
-    ensures honest { S.honest src.new → S.honest src.old }
-    ensures comes { S.comes_of src.old src.new }
-    ensures cause { FailsOnlyIfCounted (result ≡ Err Halt.Source)
-        (S.faults src.old) (S.faults src.new) }
+    ensures rests { ReadsNothing S.Source src.old src.new MayRest }
+    ensures source { KeepsSource S.Source src.old src.new result Halt.Source }
 {
     let infos = describe_tables(alloc, src, config.tables.items())?;
     let head = src.head()?;
@@ -200,17 +176,14 @@ pub fn put_offset<D: Disk>(
         OnOk result (HoldsOffset D.Disk store.new (Some offset)) }
     ensures left { (old : Option SpecOffset) → HoldsOffset D.Disk store.old old →
         LeavesOffset D.Disk (disk_of store.new) (λ left. (left ≡ old) ⊎ (left ≡ Some offset)) }
-    ensures comes { ExtendsOffsets D.Disk store.old store.new }
     ensures loads { OnOk result (store.new.offset ≡ Some offset) }
     ensures kept { OnErr result (result ≢ Err Halt.Offsets → store.new ≡ store.old) }
     ensures keeps { OnErr result (store.new.offset ≡ store.old.offset) }
-    ensures live { OnOk result (IsLive store.new) }
     ensures halt { IfErr result (λ h. (h ≡ Halt.Memory) ⊎ ((h ≡ Halt.Offsets)
         ⊎ IsTooLong offset h)) }
     ensures long { offset_limit < length (offset_bytes_form offset) →
         result ≡ Err (Halt.OffsetTooLong (capped (length (offset_bytes_form offset)))) }
-    ensures cause { FailsOnlyIfCounted (result ≡ Err Halt.Offsets)
-        (D.faults (disk_of store.old)) (D.faults (disk_of store.new)) }
+    ensures store { KeepsStore D.Disk store.old store.new result Halt.Offsets }
 {
     store.store(alloc, offset)?;
     Ok(())
@@ -236,11 +209,7 @@ pub fn start_reading<S: Source>(src: &mut S, after: Lsn) -> Result<(), Halt>
     ensures taken { OnOk result (IsTakenAnew (S.told src.old) (S.told src.new)) }
     ensures fell { OnErr result (IsTakenBy [] (S.told src.old) (S.told src.new)
         ⊎ IsTakenAnew (S.told src.old) (S.told src.new)) }
-    ensures live { OnOk result (IsTrue (S.is_live src.new)) }
-    ensures honest { S.honest src.new → S.honest src.old }
-    ensures comes { S.comes_of src.old src.new }
-    ensures cause { FailsOnlyIfCounted (result ≡ Err Halt.Source)
-        (S.faults src.old) (S.faults src.new) }
+    ensures source { KeepsSource S.Source src.old src.new result Halt.Source }
 {
     match src.start(after)? {
         Started::Ready => Ok(()),

@@ -2,15 +2,15 @@
 
 ghost use Rattle.std.specs.Prelude.{◌≡◌, ◌≢◌, ◌⊎◌, ◌<◌, ◌++◌, ◌∷◌, [], ℕ, Some, List, length};
 ghost use Rattle.std.specs.Prelude.{slice_get, IfErr, IfOk, IsErr, IsTrue, OnOk, OnErr};
-ghost use Rattle.dbl_base.specs.Streams.{FailsOnlyIfCounted};
 ghost use Rattle.dbl_record.specs.declared.record.Record.{Record as SpecRecord};
 ghost use Rattle.dbl_record.specs.Cuts.{IsHandful, begins_batch, cut};
 ghost use Rattle.dbl_record.specs.Groups.{group_form};
-ghost use Rattle.dbl_topic.specs.Sinks.{IsLeftByPut, told_length, group_limit};
+ghost use Rattle.dbl_topic.specs.Sinks.{told_length, group_limit};
+ghost use Rattle.dbl_topic.specs.Keeps.{KeepsSink};
 ghost use Rattle.dbl_capture_work.specs.Causes.{HasPutBefore, IsLongRecord};
-ghost use Rattle.dbl_capture_work.specs.Groups.{HasLastsAtItsEnd, HoldsPut};
-ghost use Rattle.dbl_capture_work.specs.Groups.{IsGathered, IsLeftByCut, WasTorn};
-ghost use Rattle.dbl_capture_work.specs.Groups.{WerePut, ends_commit, report_with};
+ghost use Rattle.dbl_capture_work.specs.Groups.{HasLastsAtItsEnd, HoldsPut, IsGathered};
+ghost use Rattle.dbl_capture_work.specs.Groups.{IsLeftByCut, WasTorn, WerePut, ends_commit};
+ghost use Rattle.dbl_capture_work.specs.Groups.{report_with, PutsGroup, CountsGroup};
 
 use crate::{Halt, Report};
 use dbl_record::{Record, record_length};
@@ -108,25 +108,13 @@ fn put_group<K: Sink>(
 ) -> Result<(), Halt>
     requires live { IsTrue (K.is_live sink.old) }
     requires handful { IsHandful group.now.items }
-    ensures put { (groups : List (List SpecRecord)) → K.holds sink.old groups →
-        OnOk result (K.holds sink.new (groups ++ group.now.items ∷ [])) }
-    ensures kept { (groups : List (List SpecRecord)) → K.holds sink.old groups →
-        OnErr result (result ≢ Err Halt.Sink → K.holds sink.new groups) }
-    ensures left { (groups left : List (List SpecRecord)) → K.holds sink.old groups →
-        K.may_leave sink.new left → IsLeftByPut groups group.now.items left }
-    ensures some { (groups : List (List SpecRecord)) → K.holds sink.old groups →
-        (left : List (List SpecRecord)) × K.may_leave sink.new left }
-    ensures noted { OnOk result (HasLastsAtItsEnd group.now.items →
-        report.new ≡ report_with snapshot group.now.items report.old) }
-    ensures unnoted { OnErr result (report.new ≡ report.old) }
     ensures halt { IfErr result (λ h. (h ≡ Halt.Memory) ⊎ ((h ≡ Halt.Sink)
         ⊎ ((group_limit < length (group_form group.now.items))
         × (h ≡ Halt.RecordTooLong (told_length group.now.items))))) }
     ensures long { group_limit < length (group_form group.now.items) → IsErr result }
-    ensures live { OnOk result (IsTrue (K.is_live sink.new)) }
-    ensures comes { K.comes_of sink.old sink.new }
-    ensures cause { FailsOnlyIfCounted (result ≡ Err Halt.Sink)
-        (K.faults sink.old) (K.faults sink.new) }
+    ensures group { PutsGroup K.Sink sink.old sink.new group.now.items result }
+    ensures counts { CountsGroup snapshot group.now.items report.old report.new result }
+    ensures sink { KeepsSink K.Sink sink.old sink.new result Halt.Sink }
 {
     sink.put(group)?;
     count_batch(report, group, snapshot);
@@ -169,10 +157,7 @@ pub fn put_all<K: Sink>(
         (Halt.RecordTooLong len) }
     ensures long { (place : ℕ) (item : SpecRecord) → slice_get records.items place ≡ Some item →
         group_limit < length (group_form (item ∷ [])) → IsErr result }
-    ensures live { OnOk result (IsTrue (K.is_live sink.new)) }
-    ensures comes { K.comes_of sink.old sink.new }
-    ensures cause { FailsOnlyIfCounted (result ≡ Err Halt.Sink)
-        (K.faults sink.old) (K.faults sink.new) }
+    ensures sink { KeepsSink K.Sink sink.old sink.new result Halt.Sink }
 {
     // Each count has 64 bits.
     let (_records, _chunks, _rows) = (report.records, report.chunks, report.snapshot_rows);

@@ -1,10 +1,8 @@
 //! Reads messages, and follows commits.
 
-ghost use Rattle.std.specs.Prelude.{◌≡◌, ◌≢◌, ◌⊎◌, ◌+◌, ◌^◌, ◌<◌, ◌++◌, ℕ, All};
-ghost use Rattle.std.specs.Prelude.{Some, None, List, IfErr, IfOk, IfSome};
-ghost use Rattle.std.specs.Prelude.{IsErr, IsTrue, OnErr, OnOk, is_ok, is_some};
+ghost use Rattle.std.specs.Prelude.{◌≡◌, ◌≢◌, ◌⊎◌, ◌^◌, ◌<◌, ◌++◌, ℕ, All, Some, None, List, IfErr};
+ghost use Rattle.std.specs.Prelude.{IfOk, IfSome, IsErr, IsTrue, OnErr, OnOk, is_ok, is_some};
 ghost use Rattle.dbl_base.specs.declared.lsn.Lsn.{Lsn as SpecLsn};
-ghost use Rattle.dbl_base.specs.Streams.{FailsOnlyIfCounted};
 ghost use Rattle.dbl_pgmsg.specs.declared.messages.Message.{Message as SpecMessage};
 ghost use Rattle.dbl_pgmsg.specs.Grammar.{Spells};
 ghost use Rattle.dbl_record.specs.declared.record.Record.{Record as SpecRecord};
@@ -15,6 +13,7 @@ ghost use Rattle.dbl_model_commit.specs.declared.txn_error.TxnError.{TxnError as
 ghost use Rattle.dbl_model_commit.specs.Stated.{transaction_fault};
 ghost use Rattle.dbl_txn.specs.Stands.{StandsWhole, Taken};
 ghost use Rattle.dbl_follow.specs.Steps.{clash_by, mark_of, records_by};
+ghost use Rattle.dbl_topic.specs.Keeps.{KeepsSink};
 ghost use Rattle.dbl_capture_work.specs.Causes.{HasPutBefore, IsLongRecord};
 ghost use Rattle.dbl_capture_work.specs.Groups.{HoldsPut, WasTorn};
 ghost use Rattle.dbl_capture_work.specs.Takes.{IsClashIn, IsLeftByStep, IsMessageHalt, IsTxnHalt};
@@ -138,10 +137,7 @@ pub fn deliver_commit<K: Sink>(
     ensures sink { result ≡ Err Halt.Sink → clash_by work.old.follower commit.now ≡ None }
     ensures long { OnOk result
         (AreShort (records_by work.old.follower commit.now work.old.now_ms)) }
-    ensures live { OnOk result (IsTrue (K.is_live sink.new)) }
-    ensures comes { K.comes_of sink.old sink.new }
-    ensures cause { FailsOnlyIfCounted (result ≡ Err Halt.Sink)
-        (K.faults sink.old) (K.faults sink.new) }
+    ensures device { KeepsSink K.Sink sink.old sink.new result Halt.Sink }
 {
     // Each count has 64 bits.
     let (_records, _chunks, _rows) = (report.records, report.chunks, report.snapshot_rows);

@@ -1,22 +1,22 @@
 //! Windows of a session: rows that are selected between two watermarks.
 
-ghost use Rattle.std.specs.Prelude.{◌≡◌, ◌⊎◌, ◌+◌, ◌^◌, ◌<◌, ◌∷◌, [], length};
-ghost use Rattle.std.specs.Prelude.{IfErr, IfOk, IsTrue, OnErr, OnOk, Some, List};
-ghost use Rattle.dbl_base.specs.Streams.{FailsOnlyIfCounted};
+ghost use Rattle.std.specs.Prelude.{◌≡◌, ◌⊎◌, ◌+◌, ◌^◌, ◌<◌, ◌∷◌, [], length, IfErr, IfOk, IsTrue};
+ghost use Rattle.std.specs.Prelude.{OnErr, OnOk, Some, List};
 ghost use Rattle.dbl_model_table.specs.declared.table.TableInfo.{TableInfo as SpecInfo};
 ghost use Rattle.dbl_source_model.specs.Leaves.{Leaves, LeavesSome};
 ghost use Rattle.dbl_source_model.specs.Standings.{SourceState, MovesTo};
-ghost use Rattle.dbl_source_model.specs.Trace.{Done, IsTakenBy, LastAnswerIs};
+ghost use Rattle.dbl_source_model.specs.Trace.{IsTakenBy};
 ghost use Rattle.dbl_window.specs.Plans.{Plan, high_text};
 ghost use Rattle.dbl_window.specs.Selected.{IsCaptured};
 ghost use Rattle.dbl_follow.specs.declared.window.Window.TheVariants as windows;
-ghost use Rattle.dbl_capture_work.specs.Causes.{IsChunkHalt, IsHonestChunkHalt};
-ghost use Rattle.dbl_capture_work.specs.Causes.{IsHonestFault, IsOfRows};
+ghost use Rattle.dbl_source.specs.Keeps.{KeepsSource, ReadsNothing, AnswersDone};
+ghost use Rattle.dbl_capture_work.specs.Causes.{IsChunkHalt, IsHonestChunkHalt, IsHonestFault};
+ghost use Rattle.dbl_capture_work.specs.Causes.{IsOfRows};
 ghost use Rattle.dbl_capture_work.specs.Halts.{window_halt};
-ghost use Rattle.dbl_capture_work.specs.Windowed.{HasReadWindow, MayHaveMarks};
-ghost use Rattle.dbl_capture_work.specs.Windowed.{WasLooked, WasWindowed, own_marks};
-ghost use Rattle.dbl_capture_work.specs.Works.{IsArmedWork, IsChunkOf, IsOpenTable};
-ghost use Rattle.dbl_capture_work.specs.Works.{HasReadyWork, plan_at};
+ghost use Rattle.dbl_capture_work.specs.Windowed.{HasReadWindow, MayHaveMarks, WasLooked};
+ghost use Rattle.dbl_capture_work.specs.Windowed.{WasWindowed, own_marks};
+ghost use Rattle.dbl_capture_work.specs.Works.{IsArmedWork, IsChunkOf, IsOpenTable, HasReadyWork};
+ghost use Rattle.dbl_capture_work.specs.Works.{plan_at};
 
 use crate::Halt;
 use crate::work::SessionState;
@@ -60,19 +60,9 @@ fn select_and_mark_high<S: Source>(marked: Marked, src: &mut S) -> Result<Armed,
         S.honest src.new →
         IsCaptured infos s.history marked →
         IfErr result (IsHonestFault marked (S.stands src.new) infos) }
-    ensures left { Leaves S.stands S.may_leave src.old src.new
-        (MayHaveMarks (high_text marked ∷ [])) }
-    ensures some { LeavesSome S.stands S.may_leave src.old src.new }
-    ensures still { (s t : SourceState) → S.stands src.old s → S.stands src.new t →
-        t.reading ≡ s.reading }
-    ensures taken { IsTakenBy [] (S.told src.old) (S.told src.new) }
-    ensures told { OnOk result (LastAnswerIs (S.told src.new) Done) }
-    ensures reading { S.is_reading src.new ≡ S.is_reading src.old }
-    ensures live { OnOk result (IsTrue (S.is_live src.new)) }
-    ensures honest { S.honest src.new → S.honest src.old }
-    ensures comes { S.comes_of src.old src.new }
-    ensures cause { FailsOnlyIfCounted (result ≡ Err WindowError.Failed)
-        (S.faults src.old) (S.faults src.new) }
+    ensures rests { ReadsNothing S.Source src.old src.new (MayHaveMarks (high_text marked ∷ [])) }
+    ensures answered { AnswersDone S.Source src.old src.new result }
+    ensures source { KeepsSource S.Source src.old src.new result WindowError.Failed }
 {
     let held = marked.select(src)?;
     held.high(src)
@@ -90,18 +80,9 @@ fn read_between_watermarks<S: Source>(idle: Idle, src: &mut S) -> Result<Armed, 
         S.honest src.new →
         IsCaptured infos s.history idle →
         IfErr result (IsHonestFault idle (S.stands src.new) infos) }
-    ensures left { Leaves S.stands S.may_leave src.old src.new (MayHaveMarks (own_marks idle)) }
-    ensures some { LeavesSome S.stands S.may_leave src.old src.new }
-    ensures still { (s t : SourceState) → S.stands src.old s → S.stands src.new t →
-        t.reading ≡ s.reading }
-    ensures taken { IsTakenBy [] (S.told src.old) (S.told src.new) }
-    ensures told { OnOk result (LastAnswerIs (S.told src.new) Done) }
-    ensures reading { S.is_reading src.new ≡ S.is_reading src.old }
-    ensures live { OnOk result (IsTrue (S.is_live src.new)) }
-    ensures honest { S.honest src.new → S.honest src.old }
-    ensures comes { S.comes_of src.old src.new }
-    ensures cause { FailsOnlyIfCounted (result ≡ Err WindowError.Failed)
-        (S.faults src.old) (S.faults src.new) }
+    ensures rests { ReadsNothing S.Source src.old src.new (MayHaveMarks (own_marks idle)) }
+    ensures answered { AnswersDone S.Source src.old src.new result }
+    ensures source { KeepsSource S.Source src.old src.new result WindowError.Failed }
 {
     let marked = idle.low(src)?;
     select_and_mark_high(marked, src)
@@ -157,21 +138,16 @@ pub fn read_window<S: Source>(work: &mut SessionState, table: u32, src: &mut S) 
         S.stands src.old s → S.honest src.new →
         plan_at work.old table ≡ Some plan → IsCaptured infos s.history plan →
         IfErr result (IsHonestChunkHalt plan (S.stands src.new) infos) }
-    ensures cause { FailsOnlyIfCounted (result ≡ Err Halt.Source)
-        (S.faults src.old) (S.faults src.new) }
 
     // The source after any answer.
     ensures left { (plan : Plan) → plan_at work.old table ≡ Some plan →
         Leaves S.stands S.may_leave src.old src.new (MayHaveMarks (own_marks plan)) }
     ensures some { LeavesSome S.stands S.may_leave src.old src.new }
-    ensures told { OnOk result (LastAnswerIs (S.told src.new) Done) }
     ensures still { (s t : SourceState) → S.stands src.old s → S.stands src.new t →
         t.reading ≡ s.reading }
     ensures taken { IsTakenBy [] (S.told src.old) (S.told src.new) }
-    ensures reading { S.is_reading src.new ≡ S.is_reading src.old }
-    ensures live { OnOk result (IsTrue (S.is_live src.new)) }
-    ensures honest { S.honest src.new → S.honest src.old }
-    ensures comes { S.comes_of src.old src.new }
+    ensures answered { AnswersDone S.Source src.old src.new result }
+    ensures source { KeepsSource S.Source src.old src.new result Halt.Source }
 {
     let idle = window_of(work, table)?;
     match read_between_watermarks(idle, src) {

@@ -2,10 +2,9 @@
 //! clients' commits can't undo: a watermark in a history that grows, and rows of one position
 //! between two watermarks.
 
-ghost use Rattle.std.specs.Prelude.{◌≡◌, ◌≢◌, ◌⊎◌, ◌↔◌, ◌≤◌, ℕ, List, [], length};
-ghost use Rattle.std.specs.Prelude.{nat_lt, IsTrue, IfOk, IfErr, IfSome, IsOk, OnOk};
+ghost use Rattle.std.specs.Prelude.{◌≡◌, ◌≢◌, ◌⊎◌, ◌↔◌, ◌≤◌, ℕ, List, [], length, nat_lt, IsTrue};
+ghost use Rattle.std.specs.Prelude.{IfOk, IfErr, IfSome, IsOk, OnOk};
 ghost use Rattle.std.specs.List.{AllByRecursion};
-ghost use Rattle.dbl_base.specs.Streams.{FailsOnlyIfCounted};
 ghost use Rattle.dbl_value.specs.declared.error.ValueError.{ValueError as SpecValueError};
 ghost use Rattle.dbl_model_table.specs.declared.table.TableInfo.{TableInfo as SpecInfo};
 ghost use Rattle.dbl_model_table.specs.Rows.{table_of};
@@ -14,15 +13,16 @@ ghost use Rattle.dbl_model_history.specs.KeyedRows.{last_key};
 ghost use Rattle.dbl_model_event.specs.Snapshots.{AreInKeyOrder, FitsChunk};
 ghost use Rattle.dbl_source.specs.SourceModel.Standings.{SourceState, HasState, MovesTo};
 ghost use Rattle.dbl_source.specs.SourceModel.Calls.{Moved, IsMarked};
-ghost use Rattle.dbl_source.specs.SourceModel.Leaves.{Leaves, LeavesSome, MayFollow, MayFollowMark};
+ghost use Rattle.dbl_source.specs.SourceModel.Leaves.{Leaves, MayFollow, MayFollowMark};
 ghost use Rattle.dbl_source.specs.SourceModel.Selected.{Selects};
-ghost use Rattle.dbl_source.specs.SourceModel.Trace.{Selected, Done, IsTakenBy, LastAnswerIs};
+ghost use Rattle.dbl_source.specs.SourceModel.Trace.{Selected, LastAnswerIs};
 ghost use Rattle.dbl_window.specs.Plans.{Chunk, low_text, high_text, IsFitChunk};
 ghost use Rattle.dbl_window.specs.Changing.{FitsTableChange, IsLeftBy};
-ghost use Rattle.dbl_window.specs.Selected.{IsCaptured, SelectsChunk, HasUnreadable};
-ghost use Rattle.dbl_window.specs.Selected.{IsReadAs, IsChunkReadFrom};
+ghost use Rattle.dbl_window.specs.Selected.{IsCaptured, SelectsChunk, HasUnreadable, IsReadAs};
+ghost use Rattle.dbl_window.specs.Selected.{IsChunkReadFrom};
 ghost use Rattle.dbl_window.specs.Leaving.{MayStayOrMark, MayStayOrFollow};
 ghost use Rattle.dbl_window.specs.Promise.{KeepsPromise, IsClosedOf, closed_of};
+ghost use Rattle.dbl_source.specs.Keeps.{KeepsSource, ReadsNothing, AnswersDone};
 
 use crate::frame::Frame;
 use crate::reading::{Read, read_rows};
@@ -192,20 +192,11 @@ impl Idle {
         ensures errors { IfErr result (λ e. (e ≡ WindowError.Failed) ⊎ (e ≡ WindowError.Memory)) }
 
         // About the source, for every result.
-        ensures left { Leaves S.stands S.may_leave src.old src.new (MayStayOrMark (low_text self)) }
-        ensures some { LeavesSome S.stands S.may_leave src.old src.new }
         ensures unmarked { result ≡ Err WindowError.Memory →
             Leaves S.stands S.may_leave src.old src.new MayStayOrFollow }
-        ensures told { OnOk result (LastAnswerIs (S.told src.new) Done) }
-        ensures taken { IsTakenBy [] (S.told src.old) (S.told src.new) }
-        ensures still { (s t : SourceState) → S.stands src.old s → S.stands src.new t →
-            t.reading ≡ s.reading }
-        ensures reading { S.is_reading src.new ≡ S.is_reading src.old }
-        ensures live { OnOk result (IsTrue (S.is_live src.new)) }
-        ensures honest { S.honest src.new → S.honest src.old }
-        ensures comes { S.comes_of src.old src.new }
-        ensures cause { FailsOnlyIfCounted (result ≡ Err WindowError.Failed)
-            (S.faults src.old) (S.faults src.new) }
+        ensures rests { ReadsNothing S.Source src.old src.new (MayStayOrMark (low_text self)) }
+        ensures answered { AnswersDone S.Source src.old src.new result }
+        ensures source { KeepsSource S.Source src.old src.new result WindowError.Failed }
     {
         let marked = self.name_marks()?;
         src.mark(marked.low_mark())?;
@@ -255,17 +246,9 @@ impl Marked {
         ensures told { IfOk result (λ rows. LastAnswerIs (S.told src.new) (Selected rows.items)) }
         ensures starts { IfSome self.now.above (IsKeyOf self.now.info) }
         ensures errors { IfErr result (λ e. (e ≡ WindowError.Failed) ⊎ (e ≡ WindowError.Memory)) }
-        ensures left { Leaves S.stands S.may_leave src.old src.new MayFollow }
-        ensures some { LeavesSome S.stands S.may_leave src.old src.new }
-        ensures taken { IsTakenBy [] (S.told src.old) (S.told src.new) }
-        ensures still { (s t : SourceState) → S.stands src.old s → S.stands src.new t →
-            t.reading ≡ s.reading }
         ensures reading { S.is_reading src.new ≡ S.is_reading src.old }
-        ensures live { OnOk result (IsTrue (S.is_live src.new)) }
-        ensures honest { S.honest src.new → S.honest src.old }
-        ensures comes { S.comes_of src.old src.new }
-        ensures cause { FailsOnlyIfCounted (result ≡ Err WindowError.Failed)
-            (S.faults src.old) (S.faults src.new) }
+        ensures rests { ReadsNothing S.Source src.old src.new MayFollow }
+        ensures source { KeepsSource S.Source src.old src.new result WindowError.Failed }
     {
         let frame = &self.frame;
         Ok(src.select(&frame.info.name, frame.bound(), frame.limit)?)
@@ -298,17 +281,9 @@ impl Marked {
             HasState S.stands src.new (λ t. HasUnreadable infos t.history self column error) }
 
         // About the source, for every result.
-        ensures left { Leaves S.stands S.may_leave src.old src.new MayFollow }
-        ensures some { LeavesSome S.stands S.may_leave src.old src.new }
-        ensures taken { IsTakenBy [] (S.told src.old) (S.told src.new) }
-        ensures still { (s t : SourceState) → S.stands src.old s → S.stands src.new t →
-            t.reading ≡ s.reading }
         ensures reading { S.is_reading src.new ≡ S.is_reading src.old }
-        ensures live { OnOk result (IsTrue (S.is_live src.new)) }
-        ensures honest { S.honest src.new → S.honest src.old }
-        ensures comes { S.comes_of src.old src.new }
-        ensures cause { FailsOnlyIfCounted (result ≡ Err WindowError.Failed)
-            (S.faults src.old) (S.faults src.new) }
+        ensures rests { ReadsNothing S.Source src.old src.new MayFollow }
+        ensures source { KeepsSource S.Source src.old src.new result WindowError.Failed }
     {
         let rows = self.answered_rows(src)?;
         self.holding(rows)
@@ -343,21 +318,12 @@ impl Held {
         ensures errors { IfErr result (λ e. (e ≡ WindowError.Failed) ⊎ (e ≡ WindowError.Memory)) }
 
         // About the source, for every result.
-        ensures left { Leaves S.stands S.may_leave src.old src.new
-            (MayFollowMark (high_text self.plan)) }
-        ensures some { LeavesSome S.stands S.may_leave src.old src.new }
         ensures unmarked { result ≡ Err WindowError.Memory →
             Leaves S.stands S.may_leave src.old src.new MayFollow }
-        ensures told { OnOk result (LastAnswerIs (S.told src.new) Done) }
-        ensures taken { IsTakenBy [] (S.told src.old) (S.told src.new) }
-        ensures still { (s t : SourceState) → S.stands src.old s → S.stands src.new t →
-            t.reading ≡ s.reading }
-        ensures reading { S.is_reading src.new ≡ S.is_reading src.old }
-        ensures live { OnOk result (IsTrue (S.is_live src.new)) }
-        ensures honest { S.honest src.new → S.honest src.old }
-        ensures comes { S.comes_of src.old src.new }
-        ensures cause { FailsOnlyIfCounted (result ≡ Err WindowError.Failed)
-            (S.faults src.old) (S.faults src.new) }
+        ensures rests { ReadsNothing S.Source src.old src.new
+            (MayFollowMark (high_text self.plan)) }
+        ensures answered { AnswersDone S.Source src.old src.new result }
+        ensures source { KeepsSource S.Source src.old src.new result WindowError.Failed }
     {
         src.mark(self.high_mark())?;
         Ok(Armed { held: self })

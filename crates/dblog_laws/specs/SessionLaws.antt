@@ -45,7 +45,7 @@ SupportedSessionsEnd {S} {K} stands holds =
     → CanBegin entry.config entry.history entry.offset → HasMetSupported entry (stands src) (holds sink)
     → IfErr result MayStillHalt
 
--- The clauses `faithful`, `holds`, `halt`, `absent`, `gone`, `missing`, `own`, `content` and `counted` of a session, verbatim, for one call
+-- What `faithful`, `holds`, `halt`, `absent`, `gone`, `missing`, `own`, `content` and `counted` say of a session, verbatim, for one call
 -- with this configuration and time, from these source, sink and store to the new ones.
 pub record TellsHalts {S K D : Type 0} (source_model : SourceModel S) (sink_model : SinkModel K) (model : DiskModel D)
     (config : Config) (now : ℤ) (src new_src : S) (sink new_sink : K) (store new_store : StoreOn D) (report : Report)

@@ -1,4 +1,4 @@
-use Rattle.std.proofs.Common.{◌≡◌, ◌∙◌, arith, inl, inr, ℤ, true, false, Some, None, [], Ok, Err, refl, sym, ap, subst, le_refl}
+use Rattle.std.proofs.Common.{◌≡◌, ◌∙◌, arith, inl, inr, ℤ, true, false, Some, None, [], Ok, Err, refl, sym, ap, subst, le_refl, rules}
 use Rattle.std.specs.Prelude.{OnOk}
 use Rattle.std.proofs.Math.Facts.{to_z-of_z}
 use Rattle.dbl_model_history.specs.Ranges.{IsMomentInRange}
@@ -54,461 +54,429 @@ use Rattle.dbl_capture.proofs.capture.session.Goals as goal
 
 -- it didn't begin
 pub returns-in_err-work-clause-faithful : goal.returns-in_err-work-clause-faithful
-returns-in_err-work-clause-faithful g c entry asked f honest had = going_left (c.in_err-work.ensures.left true entry asked.config_is (told_found f) honest had)
+returns-in_err-work-clause-faithful g c = record {
+  faithful = λ entry asked f honest had. going_left (c.in_err-work.ensures.session.left true entry asked.config_is (told_found f) honest had);
+  complete = search rules;
+}
 
 pub returns-in_err-work-clause-marks : goal.returns-in_err-work-clause-marks
-returns-in_err-work-clause-marks g c s is honest had left may =
-    (c.in_err-work.ensures.left false (session_start_at c.args.config.now c.args.now_ms s c.args.offsets.now.offset) refl (source_found _ _ _ c.args.config.now c.args.now_ms s _ _ c.args.offsets.now is) honest had).few left may
+returns-in_err-work-clause-marks g c = record {
+  marks = λ s is honest had left may.
+      (c.in_err-work.ensures.session.left false (session_start_at c.args.config.now c.args.now_ms s c.args.offsets.now.offset) refl (source_found _ _ _ c.args.config.now c.args.now_ms s _ _ c.args.offsets.now is) honest had).few left may;
+  exactly = search rules;
+  most = λ s was honest had left may. none_most c.open_session.new.store.offset c.open_session.new.report.chunks s.history left.history (c.open_session.ensures.by_state.unmarked s left was may);
+}
 
 pub returns-in_err-work-clause-stores : goal.returns-in_err-work-clause-stores
-returns-in_err-work-clause-stores g c = c.in_err-work.ensures.stored
+returns-in_err-work-clause-stores g c = record {
+  holds = λ held other. c.open_session.ensures.state.held held (λ is. other (residual_on c.open_session.result c.from_residual.result _ halt.Offsets is c.in_err-work.was c.from_residual.ensures.1));
+  stores = c.in_err-work.ensures.state.stored;
+  firsts = λ s is. c.open_session.ensures.by_state.firsts s is;
+}
 
-pub returns-in_err-work-clause-position : goal.returns-in_err-work-clause-position
-returns-in_err-work-clause-position g c = c.in_err-work.ensures.position refl
+pub returns-in_err-work-clause-counts : goal.returns-in_err-work-clause-counts
+returns-in_err-work-clause-counts g c = record {
+  commits =
+      let messages : c.open_session.new.report.messages ≡ 0 = c.open_session.ensures.state.uncounted.0 in
+      let commits : c.open_session.new.report.commits ≡ 0 = c.open_session.ensures.state.uncounted.1 in
+      omega (arith, messages, commits);
+  bounded =
+      let messages : c.open_session.new.report.messages ≡ 0 = c.open_session.ensures.state.uncounted.0 in
+      omega (arith, messages);
+  position = c.in_err-work.ensures.state.position refl;
+}
 
 -- it ran
-pub process_messages-requires-clause-time : goal.process_messages-requires-clause-time
-process_messages-requires-clause-time g c = subst IsMomentInRange (sym (c.in_ok-work.ensures.begun.2.now_is ∙ to_z-of_z c.ranges.now_ms)) c.ranges.now_ms
-
-pub process_messages-requires-clause-since : goal.process_messages-requires-clause-since
-process_messages-requires-clause-since g c = omega (arith, c.in_ok-work.ensures.begun.2.none, c.in_ok-work.ensures.begun.2.every_is, c.requires.config.every.0)
-
-pub process_messages-requires-clause-ready : goal.process_messages-requires-clause-ready
-process_messages-requires-clause-ready g c = record { after = c.in_ok-work.ensures.begun.0.lsn; messages = []; is = c.in_ok-work.ensures.begun.2.is }
+pub process_messages-requires : goal.process_messages-requires
+process_messages-requires g c = record {
+  source_live = search rules;
+  reading = search rules;
+  sink_live = search rules;
+  store_live = search rules;
+  ready = record { after = c.in_ok-work.ensures.state.begun.0.lsn; messages = []; is = c.in_ok-work.ensures.state.begun.2.is };
+  since = omega (arith, c.in_ok-work.ensures.state.begun.2.none, c.in_ok-work.ensures.state.begun.2.every_is, c.requires.config.every.0);
+  time = subst IsMomentInRange (sym (c.in_ok-work.ensures.state.begun.2.now_is ∙ to_z-of_z c.ranges.now_ms)) c.ranges.now_ms;
+  number = c.in_ok-work.ensures.state.begun.2.unread;
+  nothing = (c.open_session.ensures.state.uncounted.0, c.open_session.ensures.state.uncounted.1);
+  some = c.requires.config.messages.0;
+  within = c.requires.config.messages.1;
+}
 
 pub returns-clause-faithful : goal.returns-clause-faithful
-returns-clause-faithful g c entry asked f honest had =
-    let s = c.in_ok-work.ensures.opened true entry asked.config_is (asked.now_is ∙ sym (to_z-of_z c.ranges.now_ms)) (told_found f) (c.process_messages.ensures.honest honest) had in
-    going_left
-    (either_answer c.process_messages.result _ _ (c.process_messages.ensures.ran true entry s honest) (c.process_messages.ensures.left true entry s honest)
-    (λ t. rests t _ (g.met.S.Source.only _) (g.met.S.Source.may _) (g.met.K.Sink.only _) (g.met.K.Sink.may _) honest (λ h l is. g.met.S.Source.fit _ l is h) (some_chunk t)))
-
-pub returns-clause-complete : goal.returns-clause-complete
-returns-clause-complete g c entry asked f honest had is =
-    let s = c.in_ok-work.ensures.opened true entry asked.config_is (asked.now_is ∙ sym (to_z-of_z c.ranges.now_ms)) (told_found f) (c.process_messages.ensures.honest honest) had in
-    complete_left (c.process_messages.ensures.complete true entry s honest is) refl _ (g.met.S.Source.only _) (g.met.K.Sink.only _) honest (λ h l is. g.met.S.Source.fit _ l is h) (c.process_messages.ensures.done is).0
+returns-clause-faithful g c = record {
+  faithful = λ entry asked f honest had.
+      let s = c.in_ok-work.ensures.session.next true entry asked.config_is (asked.now_is ∙ sym (to_z-of_z c.ranges.now_ms)) (told_found f) (c.process_messages.ensures.source.honest honest) had in
+      going_left
+      (either_answer c.process_messages.result _ _ (c.process_messages.ensures.session.next true entry s honest) (c.process_messages.ensures.session.left true entry s honest)
+      (λ t. rests t _ (g.met.S.Source.only _) (g.met.S.Source.may _) (g.met.K.Sink.only _) (g.met.K.Sink.may _) honest (λ h l is. g.met.S.Source.fit _ l is h) (some_chunk t)));
+  complete = λ entry asked f honest had is.
+      let s = c.in_ok-work.ensures.session.next true entry asked.config_is (asked.now_is ∙ sym (to_z-of_z c.ranges.now_ms)) (told_found f) (c.process_messages.ensures.source.honest honest) had in
+      complete_left (c.process_messages.ensures.session.complete true entry s honest is) refl _ (g.met.S.Source.only _) (g.met.K.Sink.only _) honest (λ h l is. g.met.S.Source.fit _ l is h) (c.process_messages.ensures.state.done is).0;
+}
 
 pub returns-clause-marks : goal.returns-clause-marks
-returns-clause-marks g c s is honest had left may =
-    let entry = session_start_at c.args.config.now c.args.now_ms s c.args.offsets.now.offset in
-    let in_session = c.in_ok-work.ensures.opened false entry refl (sym (to_z-of_z c.ranges.now_ms)) (source_found _ _ _ c.args.config.now c.args.now_ms s _ _ c.args.offsets.now is) (c.process_messages.ensures.honest honest) had in
-    (either_answer c.process_messages.result _ _ (c.process_messages.ensures.ran false entry in_session honest) (c.process_messages.ensures.left false entry in_session honest)
-    (λ t. rests t _ (g.met.S.Source.only _) (g.met.S.Source.may _) (g.met.K.Sink.only _) (g.met.K.Sink.may _) honest (λ h l is. g.met.S.Source.fit _ l is h) (some_chunk t))).few left may
+returns-clause-marks g c = record {
+  marks = λ s is honest had left may.
+      let entry = session_start_at c.args.config.now c.args.now_ms s c.args.offsets.now.offset in
+      let in_session = c.in_ok-work.ensures.session.next false entry refl (sym (to_z-of_z c.ranges.now_ms)) (source_found _ _ _ c.args.config.now c.args.now_ms s _ _ c.args.offsets.now is) (c.process_messages.ensures.source.honest honest) had in
+      (either_answer c.process_messages.result _ _ (c.process_messages.ensures.session.next false entry in_session honest) (c.process_messages.ensures.session.left false entry in_session honest)
+      (λ t. rests t _ (g.met.S.Source.only _) (g.met.S.Source.may _) (g.met.K.Sink.only _) (g.met.K.Sink.may _) honest (λ h l is. g.met.S.Source.fit _ l is h) (some_chunk t))).few left may;
+  exactly = λ s was honest had.
+      let entry = session_start_at c.args.config.now c.args.now_ms s c.args.offsets.now.offset in
+      let in_session = c.in_ok-work.ensures.session.next false entry refl (sym (to_z-of_z c.ranges.now_ms)) (source_found _ _ _ c.args.config.now c.args.now_ms s _ _ c.args.offsets.now was) (c.process_messages.ensures.source.honest honest) had in
+      let way = c.in_ok-work.ensures.report.under_way None (at_none g.S.Source.stands c.args.src.now) (refl, refl, refl) in
+      let b = beginning_at c.args.config.now c.args.now_ms c.args.offsets.now.offset way.0 in
+      let u = subst (λ (n : ℤ). IsUnderWay g.S.Source None (g.S.Source.told c.args.src.now) (beginning_at c.args.config.now n c.args.offsets.now.offset way.0) c.open_session.new.store.offset c.in_ok-work.work c.open_session.new.report c.open_session.new.src) (to_z-of_z c.ranges.now_ms) way.1 in
+      let all = c.process_messages.ensures.report.all None (g.S.Source.told c.args.src.now) b u in
+      exactly_by c.process_messages.result _ _ _ _ _ (c.process_messages.ensures.session.next false entry in_session honest) all c.process_messages.ensures.state.none c.process_messages.ensures.state.waited
+      (λ t e none left may. exact_left t c.process_messages.new.store.offset c.process_messages.new.report.chunks _ left (g.met.S.Source.only _ (state_at_stage t.stage) left t.source_is may) (exact_budget t c.process_messages.new.store.offset c.process_messages.new.report.chunks e.stored_is e.is.is.windows none))
+      (λ t e none absent left may. exact_left t c.process_messages.new.store.offset c.process_messages.new.report.chunks _ left (g.met.S.Source.only _ (state_at_stage t.stage) left t.source_is may) (exact_complete t c.process_messages.new.store.offset c.process_messages.new.report.chunks e.stored_is e.is.is.windows none absent));
+  most = λ s was honest had left may.
+      let entry = session_start_at c.args.config.now c.args.now_ms s c.args.offsets.now.offset in
+      let in_session = c.in_ok-work.ensures.session.next false entry refl (sym (to_z-of_z c.ranges.now_ms)) (source_found _ _ _ c.args.config.now c.args.now_ms s _ _ c.args.offsets.now was) (c.process_messages.ensures.source.honest honest) had in
+      let way = c.in_ok-work.ensures.report.under_way None (at_none g.S.Source.stands c.args.src.now) (refl, refl, refl) in
+      let b = beginning_at c.args.config.now c.args.now_ms c.args.offsets.now.offset way.0 in
+      let u = subst (λ (n : ℤ). IsUnderWay g.S.Source None (g.S.Source.told c.args.src.now) (beginning_at c.args.config.now n c.args.offsets.now.offset way.0) c.open_session.new.store.offset c.in_ok-work.work c.open_session.new.report c.open_session.new.src) (to_z-of_z c.ranges.now_ms) way.1 in
+      let begins = c.in_ok-work.ensures.state.begun in
+      let own = c.process_messages.ensures.state.stored (subst (λ (o : Offset). HasOwnStored o c.open_session.new.store.offset) (sym begins.2.offset_is) (own_first begins.0 c.open_session.new.store.offset begins.1)) in
+      stored_most c.in_ok-work.work.offset c.process_messages.new.store.offset c.process_messages.new.report.chunks s.history left.history own
+      (either_most c.process_messages.result _ _ (AddsNoMore c.process_messages.new.report.chunks s.history left.history) (c.process_messages.ensures.session.next false entry in_session honest) (c.process_messages.ensures.report.all None (g.S.Source.told c.args.src.now) b u) (c.process_messages.ensures.session.most false entry None (g.S.Source.told c.args.src.now) b in_session u honest)
+      (λ t e. others_leave_few_marks entry t.stage c.process_messages.new.work left.history c.process_messages.new.report.chunks c.process_messages.new.report.chunks t.work_is t.going e.is.is.windows (same_most c.process_messages.new.report.chunks)
+      (left_rests t.stage.history (state_at_stage t.stage) left t.going.reading.fit.rising refl (g.met.S.Source.only c.process_messages.new.src (state_at_stage t.stage) left t.source_is may)))
+      (λ few. few left may));
+}
 
 pub returns-clause-stores : goal.returns-clause-stores
-returns-clause-stores g c =
-    let b = c.in_ok-work.ensures.begun in
-    inr (has_stored c.args.config.now c.args.offsets.now.offset c.process_messages.new.store.offset c.in_ok-work.work.offset (subst (IsOffsetFor c.args.config.now c.args.offsets.now.offset) (sym b.2.offset_is) b.3)
-    (c.process_messages.ensures.stored (subst (λ (o : Offset). HasOwnStored o c.open_session.new.store.offset) (sym b.2.offset_is) (own_first b.0 c.open_session.new.store.offset b.1))))
+returns-clause-stores g c = record {
+  holds = λ held. c.process_messages.ensures.state.held (c.open_session.ensures.state.held held (λ is. not_both c.open_session.result _ halt.Offsets is c.in_ok-work.was));
+  stores =
+      let b = c.in_ok-work.ensures.state.begun in
+      inr (has_stored c.args.config.now c.args.offsets.now.offset c.process_messages.new.store.offset c.in_ok-work.work.offset (subst (IsOffsetFor c.args.config.now c.args.offsets.now.offset) (sym b.2.offset_is) b.3)
+      (c.process_messages.ensures.state.stored (subst (λ (o : Offset). HasOwnStored o c.open_session.new.store.offset) (sym b.2.offset_is) (own_first b.0 c.open_session.new.store.offset b.1))));
+  firsts = λ s is.
+      let b = c.in_ok-work.ensures.state.begun in
+      first_stored c.args.config.now s.history c.args.offsets.now.offset c.process_messages.new.store.offset b.0
+      (first_of_stored c.args.config.now s.history c.args.offsets.now.offset c.open_session.new.store.offset b.0 (c.open_session.ensures.by_state.firsts s is) b.1)
+      (subst (λ (o : Offset). HasOwnStored o c.process_messages.new.store.offset) b.2.offset_is (c.process_messages.ensures.state.stored (subst (λ (o : Offset). HasOwnStored o c.open_session.new.store.offset) (sym b.2.offset_is) (own_first b.0 c.open_session.new.store.offset b.1))));
+}
 
-pub returns-clause-position : goal.returns-clause-position
-returns-clause-position g c =
-    let b = c.in_ok-work.ensures.begun in
-    position_is c.args.config.now c.args.offsets.now.offset c.process_messages.new.store.offset c.process_messages.new.report
-    (has_stored c.args.config.now c.args.offsets.now.offset c.process_messages.new.store.offset c.in_ok-work.work.offset (subst (IsOffsetFor c.args.config.now c.args.offsets.now.offset) (sym b.2.offset_is) b.3)
-    (c.process_messages.ensures.stored (subst (λ (o : Offset). HasOwnStored o c.open_session.new.store.offset) (sym b.2.offset_is) (own_first b.0 c.open_session.new.store.offset b.1))))
-    (c.process_messages.ensures.position c.in_ok-work.ensures.at)
+pub returns-clause-counts : goal.returns-clause-counts
+returns-clause-counts g c = record {
+  commits = search rules;
+  bounded = search rules;
+  position =
+      let b = c.in_ok-work.ensures.state.begun in
+      position_is c.args.config.now c.args.offsets.now.offset c.process_messages.new.store.offset c.process_messages.new.report
+      (has_stored c.args.config.now c.args.offsets.now.offset c.process_messages.new.store.offset c.in_ok-work.work.offset (subst (IsOffsetFor c.args.config.now c.args.offsets.now.offset) (sym b.2.offset_is) b.3)
+      (c.process_messages.ensures.state.stored (subst (λ (o : Offset). HasOwnStored o c.open_session.new.store.offset) (sym b.2.offset_is) (own_first b.0 c.open_session.new.store.offset b.1))))
+      (c.process_messages.ensures.state.position c.in_ok-work.ensures.state.at);
+}
 
-pub returns-clause-done : goal.returns-clause-done
-returns-clause-done g c is = let done = c.process_messages.ensures.done is in (next_offset_of c.process_messages.new.work, done.1, done.0, done.2)
+pub returns-clause-ends : goal.returns-clause-ends
+returns-clause-ends g c = record {
+  done = λ is. let done = c.process_messages.ensures.state.done is in (next_offset_of c.process_messages.new.work, done.1, done.0, done.2);
+  ended = search rules;
+  spent = search rules;
+}
 
 -- ---- counts, and what no call undoes
 
-pub returns-in_err-work-clause-sink_comes : goal.returns-in_err-work-clause-sink_comes
-returns-in_err-work-clause-sink_comes g c = g.met.K.Sink.comes_self _
+pub returns-in_err-work-clause-sink : goal.returns-in_err-work-clause-sink
+returns-in_err-work-clause-sink g c = record {
+  live = search rules;
+  comes = g.met.K.Sink.comes_self _;
+  cause = record { later = le_refl _; cause = λ is. absurd (c.open_session.ensures.stops.sink (residual_is c.from_residual.result c.open_session.result _ _ c.in_err-work.was c.from_residual.ensures.1 is)) };
+}
 
-pub returns-clause-source_comes : goal.returns-clause-source_comes
-returns-clause-source_comes g c = g.met.S.Source.comes_on c.args.src.now c.open_session.new.src c.process_messages.new.src c.open_session.ensures.source_comes c.process_messages.ensures.source_comes
-
-pub returns-in_err-work-clause-missed : goal.returns-in_err-work-clause-missed
-returns-in_err-work-clause-missed g c value at is = absurd (c.open_session.ensures.never value at (residual_is c.from_residual.result c.open_session.result _ _ c.in_err-work.was c.from_residual.ensures.1 is))
-
-pub returns-clause-missed : goal.returns-clause-missed
-returns-clause-missed g c = c.process_messages.ensures.missed
-
-pub returns-clause-honest : goal.returns-clause-honest
-returns-clause-honest g c honest = c.open_session.ensures.honest (c.process_messages.ensures.honest honest)
-
-pub returns-clause-store_comes : goal.returns-clause-store_comes
-returns-clause-store_comes g c most known = c.process_messages.ensures.store_comes most (c.open_session.ensures.store_comes most known)
-
-pub process_messages-requires-clause-report : goal.process_messages-requires-clause-report
-process_messages-requires-clause-report g c = (c.open_session.ensures.report.0, c.open_session.ensures.report.1)
-
-pub process_messages-requires-clause-number : goal.process_messages-requires-clause-number
-process_messages-requires-clause-number g c = c.in_ok-work.ensures.begun.2.unread
-
-pub process_messages-requires-clause-budget : goal.process_messages-requires-clause-budget
-process_messages-requires-clause-budget g c = c.requires.config.messages.1
-
-pub returns-in_err-work-clause-commits : goal.returns-in_err-work-clause-commits
-returns-in_err-work-clause-commits g c =
-    let messages : c.open_session.new.report.messages ≡ 0 = c.open_session.ensures.report.0 in
-    let commits : c.open_session.new.report.commits ≡ 0 = c.open_session.ensures.report.1 in
-    omega (arith, messages, commits)
-
-pub returns-in_err-work-clause-bounded : goal.returns-in_err-work-clause-bounded
-returns-in_err-work-clause-bounded g c =
-    let messages : c.open_session.new.report.messages ≡ 0 = c.open_session.ensures.report.0 in
-    omega (arith, messages)
-
-pub returns-in_err-work-clause-read : goal.returns-in_err-work-clause-read
-returns-in_err-work-clause-read g c = residual_as c.from_residual.result _ (λ x. HasReadMessages x c.open_session.new.report.messages (g.S.Source.told c.args.src.now) (g.S.Source.told c.open_session.new.src)) c.from_residual.ensures.1 (subst (λ (n : ℤ). Halts g.S.Source None (g.S.Source.told c.args.src.now) c.args.config.now n c.args.offsets.now.offset c.open_session.new.store.offset c.open_session.new.report c.open_session.new.src c.in_err-work.field-0.0) (to_z-of_z c.ranges.now_ms) (c.in_err-work.ensures.halted None (at_none g.S.Source.stands c.args.src.now) (refl, refl, refl))).halted.tells.read
-
-pub returns-in_err-work-clause-last : goal.returns-in_err-work-clause-last
-returns-in_err-work-clause-last g c = residual_as c.from_residual.result _ (λ x. OnOk x (StoodAtLast c.args.config.now c.args.now_ms c.args.offsets.now.offset c.open_session.new.store.offset c.open_session.new.report (g.S.Source.told c.open_session.new.src))) c.from_residual.ensures.1 tt
-
-pub returns-in_err-work-clause-settled : goal.returns-in_err-work-clause-settled
-returns-in_err-work-clause-settled g c s was = residual_as c.from_residual.result _ (λ x. OnOk x (HasState g.S.Source.stands c.open_session.new.src (HasSettled c.args.config.now c.args.now_ms c.args.offsets.now.offset c.open_session.new.store.offset c.open_session.new.report))) c.from_residual.ensures.1 tt
-
-pub returns-in_err-work-clause-followed : goal.returns-in_err-work-clause-followed
-returns-in_err-work-clause-followed g c = residual_of c.from_residual.result _ (IsFollowed c.args.config.now c.args.now_ms c.args.offsets.now.offset c.open_session.new.store.offset c.open_session.new.report (g.S.Source.told c.open_session.new.src)) c.from_residual.ensures.1 (subst (λ (n : ℤ). Halts g.S.Source None (g.S.Source.told c.args.src.now) c.args.config.now n c.args.offsets.now.offset c.open_session.new.store.offset c.open_session.new.report c.open_session.new.src c.in_err-work.field-0.0) (to_z-of_z c.ranges.now_ms) (c.in_err-work.ensures.halted None (at_none g.S.Source.stands c.args.src.now) (refl, refl, refl))).halted.tells.followed
-
-pub returns-in_err-work-clause-stood : goal.returns-in_err-work-clause-stood
-returns-in_err-work-clause-stood g c s t was now = residual_of c.from_residual.result _ (HasStoodAfter c.args.config.now c.args.now_ms c.args.offsets.now.offset c.open_session.new.store.offset c.open_session.new.report s t) c.from_residual.ensures.1 ((subst (λ (n : ℤ). Halts g.S.Source (Some s) (g.S.Source.told c.args.src.now) c.args.config.now n c.args.offsets.now.offset c.open_session.new.store.offset c.open_session.new.report c.open_session.new.src c.in_err-work.field-0.0) (to_z-of_z c.ranges.now_ms) (c.in_err-work.ensures.halted (Some s) (at_some g.S.Source.stands c.args.src.now s was) (refl, refl, refl))).halted.stood s t refl now).stood
-
-pub returns-in_err-work-clause-must : goal.returns-in_err-work-clause-must
-returns-in_err-work-clause-must g c t is = residual_as c.from_residual.result _ (λ x. MustHaltTold c.args.config.now c.args.now_ms c.args.offsets.now.offset c.open_session.new.store.offset c.open_session.new.report t x) c.from_residual.ensures.1 ((subst (λ (n : ℤ). Halts g.S.Source None (g.S.Source.told c.args.src.now) c.args.config.now n c.args.offsets.now.offset c.open_session.new.store.offset c.open_session.new.report c.open_session.new.src c.in_err-work.field-0.0) (to_z-of_z c.ranges.now_ms) (c.in_err-work.ensures.halted None (at_none g.S.Source.stands c.args.src.now) (refl, refl, refl))).halted.tells.must t is)
-
-pub returns-in_err-work-clause-must_stood : goal.returns-in_err-work-clause-must_stood
-returns-in_err-work-clause-must_stood g c s t was now = residual_as c.from_residual.result _ (λ x. MustHaltStood c.args.config.now c.args.now_ms c.args.offsets.now.offset c.open_session.new.store.offset c.open_session.new.report t x) c.from_residual.ensures.1 ((subst (λ (n : ℤ). Halts g.S.Source (Some s) (g.S.Source.told c.args.src.now) c.args.config.now n c.args.offsets.now.offset c.open_session.new.store.offset c.open_session.new.report c.open_session.new.src c.in_err-work.field-0.0) (to_z-of_z c.ranges.now_ms) (c.in_err-work.ensures.halted (Some s) (at_some g.S.Source.stands c.args.src.now s was) (refl, refl, refl))).halted.stood s t refl now).must
-
-pub returns-clause-read : goal.returns-clause-read
-returns-clause-read g c =
-    let way = c.in_ok-work.ensures.under_way None (at_none g.S.Source.stands c.args.src.now) (refl, refl, refl) in
-    let b = beginning_at c.args.config.now c.args.now_ms c.args.offsets.now.offset way.0 in
-    let u = subst (λ (n : ℤ). IsUnderWay g.S.Source None (g.S.Source.told c.args.src.now) (beginning_at c.args.config.now n c.args.offsets.now.offset way.0) c.open_session.new.store.offset c.in_ok-work.work c.open_session.new.report c.open_session.new.src) (to_z-of_z c.ranges.now_ms) way.1 in
-    let all = c.process_messages.ensures.all None (g.S.Source.told c.args.src.now) b u in
-    let halted = c.process_messages.ensures.halted None (g.S.Source.told c.args.src.now) b u in
-    answer_as c.process_messages.result _ _ (λ r. HasReadMessages r c.process_messages.new.report.messages (g.S.Source.told c.args.src.now) (g.S.Source.told c.process_messages.new.src)) all halted (λ a e. inl (ended_told g.S.Source None (g.S.Source.told c.args.src.now) b c.process_messages.new.store.offset c.process_messages.new.work c.process_messages.new.report c.process_messages.new.src e a).1) (λ h x. x.halted.tells.read)
-
-pub returns-clause-last : goal.returns-clause-last
-returns-clause-last g c =
-    let way = c.in_ok-work.ensures.under_way None (at_none g.S.Source.stands c.args.src.now) (refl, refl, refl) in
-    let b = beginning_at c.args.config.now c.args.now_ms c.args.offsets.now.offset way.0 in
-    let u = subst (λ (n : ℤ). IsUnderWay g.S.Source None (g.S.Source.told c.args.src.now) (beginning_at c.args.config.now n c.args.offsets.now.offset way.0) c.open_session.new.store.offset c.in_ok-work.work c.open_session.new.report c.open_session.new.src) (to_z-of_z c.ranges.now_ms) way.1 in
-    let all = c.process_messages.ensures.all None (g.S.Source.told c.args.src.now) b u in
-    let halted = c.process_messages.ensures.halted None (g.S.Source.told c.args.src.now) b u in
-    answer_as c.process_messages.result _ _ (λ r. OnOk r (StoodAtLast c.args.config.now c.args.now_ms c.args.offsets.now.offset c.process_messages.new.store.offset c.process_messages.new.report (g.S.Source.told c.process_messages.new.src))) all halted (λ a e. (ended_told g.S.Source None (g.S.Source.told c.args.src.now) b c.process_messages.new.store.offset c.process_messages.new.work c.process_messages.new.report c.process_messages.new.src e a).0) (λ h x. tt)
-
-pub returns-clause-settled : goal.returns-clause-settled
-returns-clause-settled g c s was =
-    let way = c.in_ok-work.ensures.under_way (Some s) (at_some g.S.Source.stands c.args.src.now s was) (refl, refl, refl) in
-    let b = beginning_at c.args.config.now c.args.now_ms c.args.offsets.now.offset way.0 in
-    let u = subst (λ (n : ℤ). IsUnderWay g.S.Source (Some s) (g.S.Source.told c.args.src.now) (beginning_at c.args.config.now n c.args.offsets.now.offset way.0) c.open_session.new.store.offset c.in_ok-work.work c.open_session.new.report c.open_session.new.src) (to_z-of_z c.ranges.now_ms) way.1 in
-    let all = c.process_messages.ensures.all (Some s) (g.S.Source.told c.args.src.now) b u in
-    let halted = c.process_messages.ensures.halted (Some s) (g.S.Source.told c.args.src.now) b u in
-    answer_as c.process_messages.result _ _ (λ r. OnOk r (HasState g.S.Source.stands c.process_messages.new.src (HasSettled c.args.config.now c.args.now_ms c.args.offsets.now.offset c.process_messages.new.store.offset c.process_messages.new.report))) all halted (λ a e. let end = ended_stood g.S.Source (Some s) (g.S.Source.told c.args.src.now) b c.process_messages.new.store.offset c.process_messages.new.work c.process_messages.new.report c.process_messages.new.src e a s refl in record { standing = end.standing; is = end.is; holds = end.holds.0 }) (λ h x. tt)
-
-pub returns-clause-followed : goal.returns-clause-followed
-returns-clause-followed g c =
-    let way = c.in_ok-work.ensures.under_way None (at_none g.S.Source.stands c.args.src.now) (refl, refl, refl) in
-    let b = beginning_at c.args.config.now c.args.now_ms c.args.offsets.now.offset way.0 in
-    let u = subst (λ (n : ℤ). IsUnderWay g.S.Source None (g.S.Source.told c.args.src.now) (beginning_at c.args.config.now n c.args.offsets.now.offset way.0) c.open_session.new.store.offset c.in_ok-work.work c.open_session.new.report c.open_session.new.src) (to_z-of_z c.ranges.now_ms) way.1 in
-    let all = c.process_messages.ensures.all None (g.S.Source.told c.args.src.now) b u in
-    let halted = c.process_messages.ensures.halted None (g.S.Source.told c.args.src.now) b u in
-    err_then c.process_messages.result _ _ halted (λ h x. x.halted.tells.followed)
-
-pub returns-clause-stood : goal.returns-clause-stood
-returns-clause-stood g c s t was now =
-    let way = c.in_ok-work.ensures.under_way (Some s) (at_some g.S.Source.stands c.args.src.now s was) (refl, refl, refl) in
-    let b = beginning_at c.args.config.now c.args.now_ms c.args.offsets.now.offset way.0 in
-    let u = subst (λ (n : ℤ). IsUnderWay g.S.Source (Some s) (g.S.Source.told c.args.src.now) (beginning_at c.args.config.now n c.args.offsets.now.offset way.0) c.open_session.new.store.offset c.in_ok-work.work c.open_session.new.report c.open_session.new.src) (to_z-of_z c.ranges.now_ms) way.1 in
-    let all = c.process_messages.ensures.all (Some s) (g.S.Source.told c.args.src.now) b u in
-    let halted = c.process_messages.ensures.halted (Some s) (g.S.Source.told c.args.src.now) b u in
-    err_then c.process_messages.result _ _ halted (λ h x. (x.halted.stood s t refl now).stood)
-
-pub returns-clause-must : goal.returns-clause-must
-returns-clause-must g c t is =
-    let way = c.in_ok-work.ensures.under_way None (at_none g.S.Source.stands c.args.src.now) (refl, refl, refl) in
-    let b = beginning_at c.args.config.now c.args.now_ms c.args.offsets.now.offset way.0 in
-    let u = subst (λ (n : ℤ). IsUnderWay g.S.Source None (g.S.Source.told c.args.src.now) (beginning_at c.args.config.now n c.args.offsets.now.offset way.0) c.open_session.new.store.offset c.in_ok-work.work c.open_session.new.report c.open_session.new.src) (to_z-of_z c.ranges.now_ms) way.1 in
-    let all = c.process_messages.ensures.all None (g.S.Source.told c.args.src.now) b u in
-    let halted = c.process_messages.ensures.halted None (g.S.Source.told c.args.src.now) b u in
-    answer_as c.process_messages.result _ _ (λ r. MustHaltTold c.args.config.now c.args.now_ms c.args.offsets.now.offset c.process_messages.new.store.offset c.process_messages.new.report t r) all halted (λ a e. (ended_told g.S.Source None (g.S.Source.told c.args.src.now) b c.process_messages.new.store.offset c.process_messages.new.work c.process_messages.new.report c.process_messages.new.src e a).2 t is) (λ h x. x.halted.tells.must t is)
-
-pub returns-clause-must_stood : goal.returns-clause-must_stood
-returns-clause-must_stood g c s t was now =
-    let way = c.in_ok-work.ensures.under_way (Some s) (at_some g.S.Source.stands c.args.src.now s was) (refl, refl, refl) in
-    let b = beginning_at c.args.config.now c.args.now_ms c.args.offsets.now.offset way.0 in
-    let u = subst (λ (n : ℤ). IsUnderWay g.S.Source (Some s) (g.S.Source.told c.args.src.now) (beginning_at c.args.config.now n c.args.offsets.now.offset way.0) c.open_session.new.store.offset c.in_ok-work.work c.open_session.new.report c.open_session.new.src) (to_z-of_z c.ranges.now_ms) way.1 in
-    let all = c.process_messages.ensures.all (Some s) (g.S.Source.told c.args.src.now) b u in
-    let halted = c.process_messages.ensures.halted (Some s) (g.S.Source.told c.args.src.now) b u in
-    answer_as c.process_messages.result _ _ (λ r. MustHaltStood c.args.config.now c.args.now_ms c.args.offsets.now.offset c.process_messages.new.store.offset c.process_messages.new.report t r) all halted (λ a e. let end = ended_stood g.S.Source (Some s) (g.S.Source.told c.args.src.now) b c.process_messages.new.store.offset c.process_messages.new.work c.process_messages.new.report c.process_messages.new.src e a s refl in subst (λ (x : SourceState). MustHaltStood c.args.config.now c.args.now_ms c.args.offsets.now.offset c.process_messages.new.store.offset c.process_messages.new.report x (Ok e)) (g.met.S.Source.one c.process_messages.new.src end.standing t end.is now) end.holds.1) (λ h x. (x.halted.stood s t refl now).must)
+pub returns-clause-source : goal.returns-clause-source
+returns-clause-source g c = record {
+  live = search rules;
+  honest = λ honest. c.open_session.ensures.source.honest (c.process_messages.ensures.source.honest honest);
+  comes = g.met.S.Source.comes_on c.args.src.now c.open_session.new.src c.process_messages.new.src c.open_session.ensures.source.comes c.process_messages.ensures.source.comes;
+  cause = record { later = later_on (g.S.Source.faults c.args.src.now) (g.S.Source.faults c.open_session.new.src) (g.S.Source.faults c.process_messages.new.src) c.open_session.ensures.source.cause.later c.process_messages.ensures.source.cause.later; cause = λ is. rose_behind (g.S.Source.faults c.args.src.now) (g.S.Source.faults c.open_session.new.src) (g.S.Source.faults c.process_messages.new.src) c.open_session.ensures.source.cause.later (c.process_messages.ensures.source.cause.cause is) };
+}
 
 pub returns-in_err-work-clause-halt : goal.returns-in_err-work-clause-halt
-returns-in_err-work-clause-halt g c = residual_of c.from_residual.result _ (IsHalt c.args.config.now c.args.now_ms c.args.offsets.now.offset c.open_session.new.store.offset c.open_session.new.report (g.S.Source.told c.open_session.new.src)) c.from_residual.ensures.1 (subst (λ (n : ℤ). Halts g.S.Source None (g.S.Source.told c.args.src.now) c.args.config.now n c.args.offsets.now.offset c.open_session.new.store.offset c.open_session.new.report c.open_session.new.src c.in_err-work.field-0.0) (to_z-of_z c.ranges.now_ms) (c.in_err-work.ensures.halted None (at_none g.S.Source.stands c.args.src.now) (refl, refl, refl))).cause
+returns-in_err-work-clause-halt g c = record {
+  must = λ t is. residual_as c.from_residual.result _ (λ x. MustHaltTold c.args.config.now c.args.now_ms c.args.offsets.now.offset c.open_session.new.store.offset c.open_session.new.report t x) c.from_residual.ensures.1 ((subst (λ (n : ℤ). Halts g.S.Source None (g.S.Source.told c.args.src.now) c.args.config.now n c.args.offsets.now.offset c.open_session.new.store.offset c.open_session.new.report c.open_session.new.src c.in_err-work.field-0.0) (to_z-of_z c.ranges.now_ms) (c.in_err-work.ensures.report.halted None (at_none g.S.Source.stands c.args.src.now) (refl, refl, refl))).halted.tells.must t is);
+  answered = λ t is.
+      residual_as c.from_residual.result _ (λ x. MustHalt c.args.config.now c.args.offsets.now.offset c.open_session.new.store.offset c.open_session.new.report t x) c.from_residual.ensures.1
+      ((subst (λ (n : ℤ). Halts g.S.Source None (g.S.Source.told c.args.src.now) c.args.config.now n c.args.offsets.now.offset c.open_session.new.store.offset c.open_session.new.report c.open_session.new.src c.in_err-work.field-0.0) (to_z-of_z c.ranges.now_ms) (c.in_err-work.ensures.report.halted None (at_none g.S.Source.stands c.args.src.now) (refl, refl, refl))).must t is);
+  exhausted = λ h is. residual_on c.open_session.result c.from_residual.result _ h (c.open_session.ensures.stops.exhausted h is) c.in_err-work.was c.from_residual.ensures.1;
+  missed = λ value at is. absurd (c.open_session.ensures.stops.never value at (residual_is c.from_residual.result c.open_session.result _ _ c.in_err-work.was c.from_residual.ensures.1 is));
+  halt = residual_of c.from_residual.result _ (IsHalt c.args.config.now c.args.now_ms c.args.offsets.now.offset c.open_session.new.store.offset c.open_session.new.report (g.S.Source.told c.open_session.new.src)) c.from_residual.ensures.1 (subst (λ (n : ℤ). Halts g.S.Source None (g.S.Source.told c.args.src.now) c.args.config.now n c.args.offsets.now.offset c.open_session.new.store.offset c.open_session.new.report c.open_session.new.src c.in_err-work.field-0.0) (to_z-of_z c.ranges.now_ms) (c.in_err-work.ensures.report.halted None (at_none g.S.Source.stands c.args.src.now) (refl, refl, refl))).cause;
+}
 
 pub returns-clause-halt : goal.returns-clause-halt
-returns-clause-halt g c =
-    let way = c.in_ok-work.ensures.under_way None (at_none g.S.Source.stands c.args.src.now) (refl, refl, refl) in
-    let b = beginning_at c.args.config.now c.args.now_ms c.args.offsets.now.offset way.0 in
-    let u = subst (λ (n : ℤ). IsUnderWay g.S.Source None (g.S.Source.told c.args.src.now) (beginning_at c.args.config.now n c.args.offsets.now.offset way.0) c.open_session.new.store.offset c.in_ok-work.work c.open_session.new.report c.open_session.new.src) (to_z-of_z c.ranges.now_ms) way.1 in
-    let all = c.process_messages.ensures.all None (g.S.Source.told c.args.src.now) b u in
-    let halted = c.process_messages.ensures.halted None (g.S.Source.told c.args.src.now) b u in
-    err_then c.process_messages.result _ _ halted (λ h x. x.cause)
+returns-clause-halt g c = record {
+  must = λ t is.
+      let way = c.in_ok-work.ensures.report.under_way None (at_none g.S.Source.stands c.args.src.now) (refl, refl, refl) in
+      let b = beginning_at c.args.config.now c.args.now_ms c.args.offsets.now.offset way.0 in
+      let u = subst (λ (n : ℤ). IsUnderWay g.S.Source None (g.S.Source.told c.args.src.now) (beginning_at c.args.config.now n c.args.offsets.now.offset way.0) c.open_session.new.store.offset c.in_ok-work.work c.open_session.new.report c.open_session.new.src) (to_z-of_z c.ranges.now_ms) way.1 in
+      let all = c.process_messages.ensures.report.all None (g.S.Source.told c.args.src.now) b u in
+      let halted = c.process_messages.ensures.report.halted None (g.S.Source.told c.args.src.now) b u in
+      answer_as c.process_messages.result _ _ (λ r. MustHaltTold c.args.config.now c.args.now_ms c.args.offsets.now.offset c.process_messages.new.store.offset c.process_messages.new.report t r) all halted (λ a e. (ended_told g.S.Source None (g.S.Source.told c.args.src.now) b c.process_messages.new.store.offset c.process_messages.new.work c.process_messages.new.report c.process_messages.new.src e a).2 t is) (λ h x. x.halted.tells.must t is);
+  answered = λ t is.
+      let way = c.in_ok-work.ensures.report.under_way None (at_none g.S.Source.stands c.args.src.now) (refl, refl, refl) in
+      let b = beginning_at c.args.config.now c.args.now_ms c.args.offsets.now.offset way.0 in
+      let u = subst (λ (n : ℤ). IsUnderWay g.S.Source None (g.S.Source.told c.args.src.now) (beginning_at c.args.config.now n c.args.offsets.now.offset way.0) c.open_session.new.store.offset c.in_ok-work.work c.open_session.new.report c.open_session.new.src) (to_z-of_z c.ranges.now_ms) way.1 in
+      let all = c.process_messages.ensures.report.all None (g.S.Source.told c.args.src.now) b u in
+      let halted = c.process_messages.ensures.report.halted None (g.S.Source.told c.args.src.now) b u in
+      answer_as c.process_messages.result _ _ (λ r. MustHalt c.args.config.now c.args.offsets.now.offset c.process_messages.new.store.offset c.process_messages.new.report t r) (ok_pair c.process_messages.result _ _ all c.process_messages.ensures.state.quiet) halted
+      (λ a e. quiet_asks b a.0.messages c.process_messages.new.store.offset c.process_messages.new.work c.process_messages.new.report c.process_messages.new.report (g.S.Source.told c.args.src.now) (g.S.Source.told c.process_messages.new.src) c.process_messages.new.store.offset (Ok e) a.0.is.is a.0.tells a.1 (inl refl) t is)
+      (λ h x. x.must t is);
+  exhausted = λ h is. absurd (not_both c.open_session.result _ h (c.open_session.ensures.stops.exhausted h is) c.in_ok-work.was);
+  missed = c.process_messages.ensures.state.missed;
+  halt =
+      let way = c.in_ok-work.ensures.report.under_way None (at_none g.S.Source.stands c.args.src.now) (refl, refl, refl) in
+      let b = beginning_at c.args.config.now c.args.now_ms c.args.offsets.now.offset way.0 in
+      let u = subst (λ (n : ℤ). IsUnderWay g.S.Source None (g.S.Source.told c.args.src.now) (beginning_at c.args.config.now n c.args.offsets.now.offset way.0) c.open_session.new.store.offset c.in_ok-work.work c.open_session.new.report c.open_session.new.src) (to_z-of_z c.ranges.now_ms) way.1 in
+      let all = c.process_messages.ensures.report.all None (g.S.Source.told c.args.src.now) b u in
+      let halted = c.process_messages.ensures.report.halted None (g.S.Source.told c.args.src.now) b u in
+      err_then c.process_messages.result _ _ halted (λ h x. x.cause);
+}
 
-pub returns-clause-exactly : goal.returns-clause-exactly
-returns-clause-exactly g c s was honest had =
-    let entry = session_start_at c.args.config.now c.args.now_ms s c.args.offsets.now.offset in
-    let in_session = c.in_ok-work.ensures.opened false entry refl (sym (to_z-of_z c.ranges.now_ms)) (source_found _ _ _ c.args.config.now c.args.now_ms s _ _ c.args.offsets.now was) (c.process_messages.ensures.honest honest) had in
-    let way = c.in_ok-work.ensures.under_way None (at_none g.S.Source.stands c.args.src.now) (refl, refl, refl) in
-    let b = beginning_at c.args.config.now c.args.now_ms c.args.offsets.now.offset way.0 in
-    let u = subst (λ (n : ℤ). IsUnderWay g.S.Source None (g.S.Source.told c.args.src.now) (beginning_at c.args.config.now n c.args.offsets.now.offset way.0) c.open_session.new.store.offset c.in_ok-work.work c.open_session.new.report c.open_session.new.src) (to_z-of_z c.ranges.now_ms) way.1 in
-    let all = c.process_messages.ensures.all None (g.S.Source.told c.args.src.now) b u in
-    exactly_by c.process_messages.result _ _ _ _ _ (c.process_messages.ensures.ran false entry in_session honest) all c.process_messages.ensures.none c.process_messages.ensures.waited
-    (λ t e none left may. exact_left t c.process_messages.new.store.offset c.process_messages.new.report.chunks _ left (g.met.S.Source.only _ (state_at_stage t.stage) left t.source_is may) (exact_budget t c.process_messages.new.store.offset c.process_messages.new.report.chunks e.stored_is e.is.is.windows none))
-    (λ t e none absent left may. exact_left t c.process_messages.new.store.offset c.process_messages.new.report.chunks _ left (g.met.S.Source.only _ (state_at_stage t.stage) left t.source_is may) (exact_complete t c.process_messages.new.store.offset c.process_messages.new.report.chunks e.stored_is e.is.is.windows none absent))
+pub returns-clause-store : goal.returns-clause-store
+returns-clause-store g c = record {
+  live = search rules;
+  comes = λ most known. c.process_messages.ensures.store.comes most (c.open_session.ensures.store.comes most known);
+  cause = record { later = later_on (g.D.Disk.faults (disk_of c.args.offsets.now)) (g.D.Disk.faults (disk_of c.open_session.new.store)) (g.D.Disk.faults (disk_of c.process_messages.new.store)) c.open_session.ensures.store.cause.later c.process_messages.ensures.store.cause.later; cause = λ is. rose_behind _ _ _ c.open_session.ensures.store.cause.later (c.process_messages.ensures.store.cause.cause is) };
+}
 
-pub returns-in_err-work-clause-exhausted : goal.returns-in_err-work-clause-exhausted
-returns-in_err-work-clause-exhausted g c h is = residual_on c.open_session.result c.from_residual.result _ h (c.open_session.ensures.exhausted h is) c.in_err-work.was c.from_residual.ensures.1
+pub returns-in_err-work-clause-by_trace : goal.returns-in_err-work-clause-by_trace
+returns-in_err-work-clause-by_trace g c = record {
+  read = residual_as c.from_residual.result _ (λ x. HasReadMessages x c.open_session.new.report.messages (g.S.Source.told c.args.src.now) (g.S.Source.told c.open_session.new.src)) c.from_residual.ensures.1 (subst (λ (n : ℤ). Halts g.S.Source None (g.S.Source.told c.args.src.now) c.args.config.now n c.args.offsets.now.offset c.open_session.new.store.offset c.open_session.new.report c.open_session.new.src c.in_err-work.field-0.0) (to_z-of_z c.ranges.now_ms) (c.in_err-work.ensures.report.halted None (at_none g.S.Source.stands c.args.src.now) (refl, refl, refl))).halted.tells.read;
+  last = residual_as c.from_residual.result _ (λ x. OnOk x (StoodAtLast c.args.config.now c.args.now_ms c.args.offsets.now.offset c.open_session.new.store.offset c.open_session.new.report (g.S.Source.told c.open_session.new.src))) c.from_residual.ensures.1 tt;
+  followed = residual_of c.from_residual.result _ (IsFollowed c.args.config.now c.args.now_ms c.args.offsets.now.offset c.open_session.new.store.offset c.open_session.new.report (g.S.Source.told c.open_session.new.src)) c.from_residual.ensures.1 (subst (λ (n : ℤ). Halts g.S.Source None (g.S.Source.told c.args.src.now) c.args.config.now n c.args.offsets.now.offset c.open_session.new.store.offset c.open_session.new.report c.open_session.new.src c.in_err-work.field-0.0) (to_z-of_z c.ranges.now_ms) (c.in_err-work.ensures.report.halted None (at_none g.S.Source.stands c.args.src.now) (refl, refl, refl))).halted.tells.followed;
+}
 
-pub returns-clause-exhausted : goal.returns-clause-exhausted
-returns-clause-exhausted g c h is = absurd (not_both c.open_session.result _ h (c.open_session.ensures.exhausted h is) c.in_ok-work.was)
+pub returns-in_err-work-clause-by_state : goal.returns-in_err-work-clause-by_state
+returns-in_err-work-clause-by_state g c = record {
+  settled = λ s was. residual_as c.from_residual.result _ (λ x. OnOk x (HasState g.S.Source.stands c.open_session.new.src (HasSettled c.args.config.now c.args.now_ms c.args.offsets.now.offset c.open_session.new.store.offset c.open_session.new.report))) c.from_residual.ensures.1 tt;
+  stood = λ s t was now. residual_of c.from_residual.result _ (HasStoodAfter c.args.config.now c.args.now_ms c.args.offsets.now.offset c.open_session.new.store.offset c.open_session.new.report s t) c.from_residual.ensures.1 ((subst (λ (n : ℤ). Halts g.S.Source (Some s) (g.S.Source.told c.args.src.now) c.args.config.now n c.args.offsets.now.offset c.open_session.new.store.offset c.open_session.new.report c.open_session.new.src c.in_err-work.field-0.0) (to_z-of_z c.ranges.now_ms) (c.in_err-work.ensures.report.halted (Some s) (at_some g.S.Source.stands c.args.src.now s was) (refl, refl, refl))).halted.stood s t refl now).stood;
+}
 
-pub returns-in_err-work-clause-grouped : goal.returns-in_err-work-clause-grouped
-returns-in_err-work-clause-grouped g c groups left held may = gains_nothing c.args.config.now c.args.now_ms c.args.offsets.now.offset c.open_session.new.store.offset groups left (g.met.K.Sink.only c.args.sink.now groups left held may)
+pub returns-in_err-work-clause-halt_by_state : goal.returns-in_err-work-clause-halt_by_state
+returns-in_err-work-clause-halt_by_state g c = record {
+  halt_stood = λ s was. residual_of c.from_residual.result _ (IsHaltStanding c.args.config.now c.args.now_ms c.args.offsets.now.offset c.open_session.new.store.offset c.open_session.new.report (g.S.Source.stands c.open_session.new.src)) c.from_residual.ensures.1 ((subst (λ (n : ℤ). Halts g.S.Source (Some s) (g.S.Source.told c.args.src.now) c.args.config.now n c.args.offsets.now.offset c.open_session.new.store.offset c.open_session.new.report c.open_session.new.src c.in_err-work.field-0.0) (to_z-of_z c.ranges.now_ms) (c.in_err-work.ensures.report.halted (Some s) (at_some g.S.Source.stands c.args.src.now s was) (refl, refl, refl))).stood s refl);
+  absent = λ s is. residual_of c.from_residual.result _ (IsAbsentHalt c.args.config.now.tables s.history) c.from_residual.ensures.1 (c.in_err-work.ensures.by_state.absent s is);
+  captures = λ s is. c.open_session.ensures.by_state.captured s is;
+  gone = λ s is kept asked first gone. err_at c.from_residual.result _ IsNotGone (residual_of c.from_residual.result _ IsNotGone c.from_residual.ensures.1 (c.in_err-work.ensures.by_state.gone s is kept)) gone;
+  gone_stood = λ s was. residual_of c.from_residual.result _ (IsGoneBelow s.confirmed) c.from_residual.ensures.1 (c.in_err-work.ensures.by_state.gone_stood s was);
+  must_absent = λ s is.
+      must_absent c.args.config.now s.history c.args.offsets.now.offset c.from_residual.result
+      (λ none. residual_as c.from_residual.result _ (CapturesOrHalts c.args.config.now s.history) c.from_residual.ensures.1 (c.in_err-work.ensures.by_state.captures s is none))
+      (residual_of c.from_residual.result _ (IsAbsentHalt c.args.config.now.tables s.history) c.from_residual.ensures.1 (c.in_err-work.ensures.by_state.absent s is));
+  must_stood = λ s t was now. residual_as c.from_residual.result _ (λ x. MustHaltStood c.args.config.now c.args.now_ms c.args.offsets.now.offset c.open_session.new.store.offset c.open_session.new.report t x) c.from_residual.ensures.1 ((subst (λ (n : ℤ). Halts g.S.Source (Some s) (g.S.Source.told c.args.src.now) c.args.config.now n c.args.offsets.now.offset c.open_session.new.store.offset c.open_session.new.report c.open_session.new.src c.in_err-work.field-0.0) (to_z-of_z c.ranges.now_ms) (c.in_err-work.ensures.report.halted (Some s) (at_some g.S.Source.stands c.args.src.now s was) (refl, refl, refl))).halted.stood s t refl now).must;
+  long = λ s was none still. residual_of c.from_residual.result _ (IsLongBy c.args.config.now s.history) c.from_residual.ensures.1 (c.in_err-work.ensures.by_state.long s was none);
+}
 
-pub returns-in_err-work-clause-counted : goal.returns-in_err-work-clause-counted
-returns-in_err-work-clause-counted g c groups held =
-    residual_as c.from_residual.result _ (λ x. ReportsGroups g.K.Sink.holds g.K.Sink.may_leave groups x c.args.sink.now c.open_session.new.report) c.from_residual.ensures.1
-    (reported_other g.K.Sink.holds g.K.Sink.may_leave groups _ c.args.sink.now c.open_session.new.report (λ is. c.open_session.ensures.sink (c.in_err-work.was ∙ ap (λ (h : Halt). Err h) is)) (counts_nothing g.K.Sink.holds groups c.args.sink.now c.open_session.new.report held c.open_session.ensures.counts.0 c.open_session.ensures.counts.1 c.open_session.ensures.counts.2))
+pub returns-clause-by_trace : goal.returns-clause-by_trace
+returns-clause-by_trace g c = record {
+  read =
+      let way = c.in_ok-work.ensures.report.under_way None (at_none g.S.Source.stands c.args.src.now) (refl, refl, refl) in
+      let b = beginning_at c.args.config.now c.args.now_ms c.args.offsets.now.offset way.0 in
+      let u = subst (λ (n : ℤ). IsUnderWay g.S.Source None (g.S.Source.told c.args.src.now) (beginning_at c.args.config.now n c.args.offsets.now.offset way.0) c.open_session.new.store.offset c.in_ok-work.work c.open_session.new.report c.open_session.new.src) (to_z-of_z c.ranges.now_ms) way.1 in
+      let all = c.process_messages.ensures.report.all None (g.S.Source.told c.args.src.now) b u in
+      let halted = c.process_messages.ensures.report.halted None (g.S.Source.told c.args.src.now) b u in
+      answer_as c.process_messages.result _ _ (λ r. HasReadMessages r c.process_messages.new.report.messages (g.S.Source.told c.args.src.now) (g.S.Source.told c.process_messages.new.src)) all halted (λ a e. inl (ended_told g.S.Source None (g.S.Source.told c.args.src.now) b c.process_messages.new.store.offset c.process_messages.new.work c.process_messages.new.report c.process_messages.new.src e a).1) (λ h x. x.halted.tells.read);
+  last =
+      let way = c.in_ok-work.ensures.report.under_way None (at_none g.S.Source.stands c.args.src.now) (refl, refl, refl) in
+      let b = beginning_at c.args.config.now c.args.now_ms c.args.offsets.now.offset way.0 in
+      let u = subst (λ (n : ℤ). IsUnderWay g.S.Source None (g.S.Source.told c.args.src.now) (beginning_at c.args.config.now n c.args.offsets.now.offset way.0) c.open_session.new.store.offset c.in_ok-work.work c.open_session.new.report c.open_session.new.src) (to_z-of_z c.ranges.now_ms) way.1 in
+      let all = c.process_messages.ensures.report.all None (g.S.Source.told c.args.src.now) b u in
+      let halted = c.process_messages.ensures.report.halted None (g.S.Source.told c.args.src.now) b u in
+      answer_as c.process_messages.result _ _ (λ r. OnOk r (StoodAtLast c.args.config.now c.args.now_ms c.args.offsets.now.offset c.process_messages.new.store.offset c.process_messages.new.report (g.S.Source.told c.process_messages.new.src))) all halted (λ a e. (ended_told g.S.Source None (g.S.Source.told c.args.src.now) b c.process_messages.new.store.offset c.process_messages.new.work c.process_messages.new.report c.process_messages.new.src e a).0) (λ h x. tt);
+  followed =
+      let way = c.in_ok-work.ensures.report.under_way None (at_none g.S.Source.stands c.args.src.now) (refl, refl, refl) in
+      let b = beginning_at c.args.config.now c.args.now_ms c.args.offsets.now.offset way.0 in
+      let u = subst (λ (n : ℤ). IsUnderWay g.S.Source None (g.S.Source.told c.args.src.now) (beginning_at c.args.config.now n c.args.offsets.now.offset way.0) c.open_session.new.store.offset c.in_ok-work.work c.open_session.new.report c.open_session.new.src) (to_z-of_z c.ranges.now_ms) way.1 in
+      let all = c.process_messages.ensures.report.all None (g.S.Source.told c.args.src.now) b u in
+      let halted = c.process_messages.ensures.report.halted None (g.S.Source.told c.args.src.now) b u in
+      err_then c.process_messages.result _ _ halted (λ h x. x.halted.tells.followed);
+}
 
-pub returns-clause-grouped : goal.returns-clause-grouped
-returns-clause-grouped g c groups left held may =
-    let way = c.in_ok-work.ensures.putting groups held None (at_none g.S.Source.stands c.args.src.now) (refl, refl, refl, refl, refl) in
-    let b = beginning_at c.args.config.now c.args.now_ms c.args.offsets.now.offset way.0 in
-    let u = subst (λ (n : ℤ). IsPutting g.S.Source g.K.Sink groups None (g.S.Source.told c.args.src.now) (beginning_at c.args.config.now n c.args.offsets.now.offset way.0) c.open_session.new.store.offset c.in_ok-work.work c.open_session.new.report c.open_session.new.src c.args.sink.now) (to_z-of_z c.ranges.now_ms) way.1 in
-    let on = c.process_messages.ensures.putting groups None (g.S.Source.told c.args.src.now) b u in
-    let put = c.process_messages.ensures.put groups None (g.S.Source.told c.args.src.now) b u in
-    either_of c.process_messages.result _ _ _ on put (λ x. left_gains g.S.Source g.K.Sink groups None (g.S.Source.told c.args.src.now) b c.process_messages.new.store.offset c.process_messages.new.src c.process_messages.new.sink c.process_messages.new.work c.process_messages.new.report (rests_put g.S.Source g.K.Sink groups None (g.S.Source.told c.args.src.now) b c.process_messages.new.store.offset c.process_messages.new.work c.process_messages.new.report c.process_messages.new.src c.process_messages.new.sink x) (g.met.K.Sink.only c.process_messages.new.sink) left may) (λ h x. x.grouped left may)
+pub returns-clause-by_state : goal.returns-clause-by_state
+returns-clause-by_state g c = record {
+  settled = λ s was.
+      let way = c.in_ok-work.ensures.report.under_way (Some s) (at_some g.S.Source.stands c.args.src.now s was) (refl, refl, refl) in
+      let b = beginning_at c.args.config.now c.args.now_ms c.args.offsets.now.offset way.0 in
+      let u = subst (λ (n : ℤ). IsUnderWay g.S.Source (Some s) (g.S.Source.told c.args.src.now) (beginning_at c.args.config.now n c.args.offsets.now.offset way.0) c.open_session.new.store.offset c.in_ok-work.work c.open_session.new.report c.open_session.new.src) (to_z-of_z c.ranges.now_ms) way.1 in
+      let all = c.process_messages.ensures.report.all (Some s) (g.S.Source.told c.args.src.now) b u in
+      let halted = c.process_messages.ensures.report.halted (Some s) (g.S.Source.told c.args.src.now) b u in
+      answer_as c.process_messages.result _ _ (λ r. OnOk r (HasState g.S.Source.stands c.process_messages.new.src (HasSettled c.args.config.now c.args.now_ms c.args.offsets.now.offset c.process_messages.new.store.offset c.process_messages.new.report))) all halted (λ a e. let end = ended_stood g.S.Source (Some s) (g.S.Source.told c.args.src.now) b c.process_messages.new.store.offset c.process_messages.new.work c.process_messages.new.report c.process_messages.new.src e a s refl in record { standing = end.standing; is = end.is; holds = end.holds.0 }) (λ h x. tt);
+  stood = λ s t was now.
+      let way = c.in_ok-work.ensures.report.under_way (Some s) (at_some g.S.Source.stands c.args.src.now s was) (refl, refl, refl) in
+      let b = beginning_at c.args.config.now c.args.now_ms c.args.offsets.now.offset way.0 in
+      let u = subst (λ (n : ℤ). IsUnderWay g.S.Source (Some s) (g.S.Source.told c.args.src.now) (beginning_at c.args.config.now n c.args.offsets.now.offset way.0) c.open_session.new.store.offset c.in_ok-work.work c.open_session.new.report c.open_session.new.src) (to_z-of_z c.ranges.now_ms) way.1 in
+      let all = c.process_messages.ensures.report.all (Some s) (g.S.Source.told c.args.src.now) b u in
+      let halted = c.process_messages.ensures.report.halted (Some s) (g.S.Source.told c.args.src.now) b u in
+      err_then c.process_messages.result _ _ halted (λ h x. (x.halted.stood s t refl now).stood);
+}
 
-pub returns-clause-counted : goal.returns-clause-counted
-returns-clause-counted g c groups held =
-    let way = c.in_ok-work.ensures.putting groups held None (at_none g.S.Source.stands c.args.src.now) (refl, refl, refl, refl, refl) in
-    let b = beginning_at c.args.config.now c.args.now_ms c.args.offsets.now.offset way.0 in
-    let u = subst (λ (n : ℤ). IsPutting g.S.Source g.K.Sink groups None (g.S.Source.told c.args.src.now) (beginning_at c.args.config.now n c.args.offsets.now.offset way.0) c.open_session.new.store.offset c.in_ok-work.work c.open_session.new.report c.open_session.new.src c.args.sink.now) (to_z-of_z c.ranges.now_ms) way.1 in
-    let on = c.process_messages.ensures.putting groups None (g.S.Source.told c.args.src.now) b u in
-    let put = c.process_messages.ensures.put groups None (g.S.Source.told c.args.src.now) b u in
-    answer_as c.process_messages.result _ _ (λ r. ReportsGroups g.K.Sink.holds g.K.Sink.may_leave groups r c.process_messages.new.sink c.process_messages.new.report) on put (λ x e. still_counted g.S.Source g.K.Sink groups None (g.S.Source.told c.args.src.now) b c.process_messages.new.store.offset c.process_messages.new.src c.process_messages.new.sink c.process_messages.new.work c.process_messages.new.report (rests_put g.S.Source g.K.Sink groups None (g.S.Source.told c.args.src.now) b c.process_messages.new.store.offset c.process_messages.new.work c.process_messages.new.report c.process_messages.new.src c.process_messages.new.sink x) (g.met.K.Sink.only c.process_messages.new.sink) c.process_messages.new.report refl refl refl) (λ h x. x.counted)
+pub returns-clause-halt_by_state : goal.returns-clause-halt_by_state
+returns-clause-halt_by_state g c = record {
+  halt_stood = λ s was.
+      let way = c.in_ok-work.ensures.report.under_way (Some s) (at_some g.S.Source.stands c.args.src.now s was) (refl, refl, refl) in
+      let b = beginning_at c.args.config.now c.args.now_ms c.args.offsets.now.offset way.0 in
+      let u = subst (λ (n : ℤ). IsUnderWay g.S.Source (Some s) (g.S.Source.told c.args.src.now) (beginning_at c.args.config.now n c.args.offsets.now.offset way.0) c.open_session.new.store.offset c.in_ok-work.work c.open_session.new.report c.open_session.new.src) (to_z-of_z c.ranges.now_ms) way.1 in
+      let halted = c.process_messages.ensures.report.halted (Some s) (g.S.Source.told c.args.src.now) b u in
+      err_then c.process_messages.result _ _ halted (λ h x. x.stood s refl);
+  absent = λ s is.
+      let way = c.in_ok-work.ensures.report.under_way None (at_none g.S.Source.stands c.args.src.now) (refl, refl, refl) in
+      let b = beginning_at c.args.config.now c.args.now_ms c.args.offsets.now.offset way.0 in
+      let u = subst (λ (n : ℤ). IsUnderWay g.S.Source None (g.S.Source.told c.args.src.now) (beginning_at c.args.config.now n c.args.offsets.now.offset way.0) c.open_session.new.store.offset c.in_ok-work.work c.open_session.new.report c.open_session.new.src) (to_z-of_z c.ranges.now_ms) way.1 in
+      let all = c.process_messages.ensures.report.all None (g.S.Source.told c.args.src.now) b u in
+      let halted = c.process_messages.ensures.report.halted None (g.S.Source.told c.args.src.now) b u in
+      let begun = c.in_ok-work.ensures.state.begun in
+      let own = c.process_messages.ensures.state.stored (subst (λ (o : Offset). HasOwnStored o c.open_session.new.store.offset) (sym begun.2.offset_is) (own_first begun.0 c.open_session.new.store.offset begun.1)) in
+      err_then c.process_messages.result _ (IsAbsentHalt c.args.config.now.tables s.history) halted (λ h x. caused_absent c.args.config.now.tables s.history c.args.config.now c.args.now_ms c.args.offsets.now.offset c.process_messages.new.store.offset c.process_messages.new.report (g.S.Source.told c.process_messages.new.src) own.offset h own.is x.cause);
+  captures = λ s is. captures_by c.args.config.now s.history c.args.offsets.now.offset c.process_messages.new.store.offset (λ none. c.in_ok-work.ensures.by_state.captures s is none);
+  gone = λ s is kept asked first gone. err_at c.process_messages.result _ IsNotGone c.process_messages.ensures.state.reads gone;
+  gone_stood = λ s was. err_then c.process_messages.result _ (IsGoneBelow s.confirmed) c.process_messages.ensures.state.reads (free_below s.confirmed);
+  must_absent = λ s is. must_captured c.args.config.now s.history c.args.offsets.now.offset c.process_messages.result (λ none. c.in_ok-work.ensures.by_state.captures s is none);
+  must_stood = λ s t was now.
+      let way = c.in_ok-work.ensures.report.under_way (Some s) (at_some g.S.Source.stands c.args.src.now s was) (refl, refl, refl) in
+      let b = beginning_at c.args.config.now c.args.now_ms c.args.offsets.now.offset way.0 in
+      let u = subst (λ (n : ℤ). IsUnderWay g.S.Source (Some s) (g.S.Source.told c.args.src.now) (beginning_at c.args.config.now n c.args.offsets.now.offset way.0) c.open_session.new.store.offset c.in_ok-work.work c.open_session.new.report c.open_session.new.src) (to_z-of_z c.ranges.now_ms) way.1 in
+      let all = c.process_messages.ensures.report.all (Some s) (g.S.Source.told c.args.src.now) b u in
+      let halted = c.process_messages.ensures.report.halted (Some s) (g.S.Source.told c.args.src.now) b u in
+      answer_as c.process_messages.result _ _ (λ r. MustHaltStood c.args.config.now c.args.now_ms c.args.offsets.now.offset c.process_messages.new.store.offset c.process_messages.new.report t r) all halted (λ a e. let end = ended_stood g.S.Source (Some s) (g.S.Source.told c.args.src.now) b c.process_messages.new.store.offset c.process_messages.new.work c.process_messages.new.report c.process_messages.new.src e a s refl in subst (λ (x : SourceState). MustHaltStood c.args.config.now c.args.now_ms c.args.offsets.now.offset c.process_messages.new.store.offset c.process_messages.new.report x (Ok e)) (g.met.S.Source.one c.process_messages.new.src end.standing t end.is now) end.holds.1) (λ h x. (x.halted.stood s t refl now).must);
+  long = λ s was none still.
+      let begun = c.in_ok-work.ensures.state.begun in
+      let own = c.process_messages.ensures.state.stored (subst (λ (o : Offset). HasOwnStored o c.open_session.new.store.offset) (sym begun.2.offset_is) (own_first begun.0 c.open_session.new.store.offset begun.1)) in
+      let wrong : None ≡ Some own.offset = sym still ∙ own.is in
+      absurd (none_some own.offset wrong);
+}
 
-pub returns-in_err-work-clause-absent : goal.returns-in_err-work-clause-absent
-returns-in_err-work-clause-absent g c s is = residual_of c.from_residual.result _ (IsAbsentHalt c.args.config.now.tables s.history) c.from_residual.ensures.1 (c.in_err-work.ensures.absent s is)
+pub returns-in_err-work-clause-gains : goal.returns-in_err-work-clause-gains
+returns-in_err-work-clause-gains g c = record {
+  grouped = λ groups left held may. gains_nothing c.args.config.now c.args.now_ms c.args.offsets.now.offset c.open_session.new.store.offset groups left (g.met.K.Sink.only c.args.sink.now groups left held may);
+  ungained = λ groups left held may same. g.met.K.Sink.only _ groups left held may;
+}
 
-pub returns-clause-absent : goal.returns-clause-absent
-returns-clause-absent g c s is =
-    let way = c.in_ok-work.ensures.under_way None (at_none g.S.Source.stands c.args.src.now) (refl, refl, refl) in
-    let b = beginning_at c.args.config.now c.args.now_ms c.args.offsets.now.offset way.0 in
-    let u = subst (λ (n : ℤ). IsUnderWay g.S.Source None (g.S.Source.told c.args.src.now) (beginning_at c.args.config.now n c.args.offsets.now.offset way.0) c.open_session.new.store.offset c.in_ok-work.work c.open_session.new.report c.open_session.new.src) (to_z-of_z c.ranges.now_ms) way.1 in
-    let all = c.process_messages.ensures.all None (g.S.Source.told c.args.src.now) b u in
-    let halted = c.process_messages.ensures.halted None (g.S.Source.told c.args.src.now) b u in
-    let begun = c.in_ok-work.ensures.begun in
-    let own = c.process_messages.ensures.stored (subst (λ (o : Offset). HasOwnStored o c.open_session.new.store.offset) (sym begun.2.offset_is) (own_first begun.0 c.open_session.new.store.offset begun.1)) in
-    err_then c.process_messages.result _ (IsAbsentHalt c.args.config.now.tables s.history) halted (λ h x. caused_absent c.args.config.now.tables s.history c.args.config.now c.args.now_ms c.args.offsets.now.offset c.process_messages.new.store.offset c.process_messages.new.report (g.S.Source.told c.process_messages.new.src) own.offset h own.is x.cause)
+pub returns-in_err-work-clause-tallies : goal.returns-in_err-work-clause-tallies
+returns-in_err-work-clause-tallies g c = record {
+  counted = λ groups held.
+      residual_as c.from_residual.result _ (λ x. ReportsGroups g.K.Sink.holds g.K.Sink.may_leave groups x c.args.sink.now c.open_session.new.report) c.from_residual.ensures.1
+      (reported_other g.K.Sink.holds g.K.Sink.may_leave groups _ c.args.sink.now c.open_session.new.report (λ is. c.open_session.ensures.stops.sink (c.in_err-work.was ∙ ap (λ (h : Halt). Err h) is)) (counts_nothing g.K.Sink.holds groups c.args.sink.now c.open_session.new.report held c.open_session.ensures.state.counts.0 c.open_session.ensures.state.counts.1 c.open_session.ensures.state.counts.2));
+  tallied = λ groups held other. inl (c.open_session.ensures.state.uncounted.0, c.open_session.ensures.state.uncounted.1, held);
+  tallied_stood = λ groups held other s t was now. inl (c.open_session.ensures.state.uncounted.0, c.open_session.ensures.state.uncounted.1, held);
+}
 
-pub returns-in_err-work-clause-gone : goal.returns-in_err-work-clause-gone
-returns-in_err-work-clause-gone g c s is kept asked first gone = err_at c.from_residual.result _ IsNotGone (residual_of c.from_residual.result _ IsNotGone c.from_residual.ensures.1 (c.in_err-work.ensures.gone s is kept)) gone
+pub returns-clause-gains : goal.returns-clause-gains
+returns-clause-gains g c = record {
+  grouped = λ groups left held may.
+      let way = c.in_ok-work.ensures.report.putting groups held None (at_none g.S.Source.stands c.args.src.now) (refl, refl, refl, refl, refl) in
+      let b = beginning_at c.args.config.now c.args.now_ms c.args.offsets.now.offset way.0 in
+      let u = subst (λ (n : ℤ). IsPutting g.S.Source g.K.Sink groups None (g.S.Source.told c.args.src.now) (beginning_at c.args.config.now n c.args.offsets.now.offset way.0) c.open_session.new.store.offset c.in_ok-work.work c.open_session.new.report c.open_session.new.src c.args.sink.now) (to_z-of_z c.ranges.now_ms) way.1 in
+      let on = c.process_messages.ensures.puts.putting groups None (g.S.Source.told c.args.src.now) b u in
+      let put = c.process_messages.ensures.puts.put groups None (g.S.Source.told c.args.src.now) b u in
+      either_of c.process_messages.result _ _ _ on put (λ x. left_gains g.S.Source g.K.Sink groups None (g.S.Source.told c.args.src.now) b c.process_messages.new.store.offset c.process_messages.new.src c.process_messages.new.sink c.process_messages.new.work c.process_messages.new.report (rests_put g.S.Source g.K.Sink groups None (g.S.Source.told c.args.src.now) b c.process_messages.new.store.offset c.process_messages.new.work c.process_messages.new.report c.process_messages.new.src c.process_messages.new.sink x) (g.met.K.Sink.only c.process_messages.new.sink) left may) (λ h x. x.grouped left may);
+  ungained = λ groups left held may same.
+      let b = c.in_ok-work.ensures.state.begun in
+      absurd (stored_anew c.args.config.now c.args.offsets.now.offset c.process_messages.new.store.offset
+      (has_stored c.args.config.now c.args.offsets.now.offset c.process_messages.new.store.offset c.in_ok-work.work.offset (subst (IsOffsetFor c.args.config.now c.args.offsets.now.offset) (sym b.2.offset_is) b.3) (c.process_messages.ensures.state.stored (subst (λ (o : Offset). HasOwnStored o c.open_session.new.store.offset) (sym b.2.offset_is) (own_first b.0 c.open_session.new.store.offset b.1)))) same);
+}
 
-pub returns-clause-gone : goal.returns-clause-gone
-returns-clause-gone g c s is kept asked first gone = err_at c.process_messages.result _ IsNotGone c.process_messages.ensures.reads gone
-
-pub returns-in_err-work-clause-missing : goal.returns-in_err-work-clause-missing
-returns-in_err-work-clause-missing g c s was honest log value at is = c.open_session.ensures.never value at (residual_is c.from_residual.result c.open_session.result _ _ c.in_err-work.was c.from_residual.ensures.1 is)
-
-pub returns-clause-missing : goal.returns-clause-missing
-returns-clause-missing g c s was honest log value at is =
-    let way = c.in_ok-work.ensures.under_way (Some s) (at_some g.S.Source.stands c.args.src.now s was) (refl, refl, refl) in
-    let b = beginning_at c.args.config.now c.args.now_ms c.args.offsets.now.offset way.0 in
-    let u = subst (λ (n : ℤ). IsUnderWay g.S.Source (Some s) (g.S.Source.told c.args.src.now) (beginning_at c.args.config.now n c.args.offsets.now.offset way.0) c.open_session.new.store.offset c.in_ok-work.work c.open_session.new.report c.open_session.new.src) (to_z-of_z c.ranges.now_ms) way.1 in
-    c.process_messages.ensures.unmissed (Some s) (g.S.Source.told c.args.src.now) b u s refl honest (c.in_ok-work.ensures.awaits s was log) value at is
+pub returns-clause-tallies : goal.returns-clause-tallies
+returns-clause-tallies g c = record {
+  counted = λ groups held.
+      let way = c.in_ok-work.ensures.report.putting groups held None (at_none g.S.Source.stands c.args.src.now) (refl, refl, refl, refl, refl) in
+      let b = beginning_at c.args.config.now c.args.now_ms c.args.offsets.now.offset way.0 in
+      let u = subst (λ (n : ℤ). IsPutting g.S.Source g.K.Sink groups None (g.S.Source.told c.args.src.now) (beginning_at c.args.config.now n c.args.offsets.now.offset way.0) c.open_session.new.store.offset c.in_ok-work.work c.open_session.new.report c.open_session.new.src c.args.sink.now) (to_z-of_z c.ranges.now_ms) way.1 in
+      let on = c.process_messages.ensures.puts.putting groups None (g.S.Source.told c.args.src.now) b u in
+      let put = c.process_messages.ensures.puts.put groups None (g.S.Source.told c.args.src.now) b u in
+      answer_as c.process_messages.result _ _ (λ r. ReportsGroups g.K.Sink.holds g.K.Sink.may_leave groups r c.process_messages.new.sink c.process_messages.new.report) on put (λ x e. still_counted g.S.Source g.K.Sink groups None (g.S.Source.told c.args.src.now) b c.process_messages.new.store.offset c.process_messages.new.src c.process_messages.new.sink c.process_messages.new.work c.process_messages.new.report (rests_put g.S.Source g.K.Sink groups None (g.S.Source.told c.args.src.now) b c.process_messages.new.store.offset c.process_messages.new.work c.process_messages.new.report c.process_messages.new.src c.process_messages.new.sink x) (g.met.K.Sink.only c.process_messages.new.sink) c.process_messages.new.report refl refl refl) (λ h x. x.counted);
+  tallied = λ groups held other.
+      let way = c.in_ok-work.ensures.report.putting groups held None (at_none g.S.Source.stands c.args.src.now) (refl, refl, refl, refl, refl) in
+      let b = beginning_at c.args.config.now c.args.now_ms c.args.offsets.now.offset way.0 in
+      let u = subst (λ (n : ℤ). IsPutting g.S.Source g.K.Sink groups None (g.S.Source.told c.args.src.now) (beginning_at c.args.config.now n c.args.offsets.now.offset way.0) c.open_session.new.store.offset c.in_ok-work.work c.open_session.new.report c.open_session.new.src c.args.sink.now) (to_z-of_z c.ranges.now_ms) way.1 in
+      let on = c.process_messages.ensures.puts.putting groups None (g.S.Source.told c.args.src.now) b u in
+      let put = c.process_messages.ensures.puts.put groups None (g.S.Source.told c.args.src.now) b u in
+      answer_as c.process_messages.result _ _ (λ r. (r ≡ Err halt.Sink → ⊥) → IsTallied g.K.Sink.holds groups c.args.config.now c.args.now_ms c.args.offsets.now.offset c.process_messages.new.store.offset c.process_messages.new.report (g.S.Source.told c.process_messages.new.src) c.process_messages.new.sink r) on put
+      (λ x e ok. between_tallied g.S.Source g.K.Sink groups None (g.S.Source.told c.args.src.now) b c.process_messages.new.store.offset c.process_messages.new.store.offset c.process_messages.new.work c.process_messages.new.report c.process_messages.new.report c.process_messages.new.src c.process_messages.new.src c.process_messages.new.sink (rests_put g.S.Source g.K.Sink groups None (g.S.Source.told c.args.src.now) b c.process_messages.new.store.offset c.process_messages.new.work c.process_messages.new.report c.process_messages.new.src c.process_messages.new.sink x) (Ok e) refl refl refl (inl refl) (none_taken (g.S.Source.told c.process_messages.new.src)))
+      (λ h x ok. x.tallied (λ is. ok (ap (λ (k : Halt). Err k) is))) other;
+  tallied_stood = λ groups held other s t was now.
+      let way = c.in_ok-work.ensures.report.putting groups held (Some s) (at_some g.S.Source.stands c.args.src.now s was) (refl, refl, refl, refl, refl) in
+      let b = beginning_at c.args.config.now c.args.now_ms c.args.offsets.now.offset way.0 in
+      let u = subst (λ (n : ℤ). IsPutting g.S.Source g.K.Sink groups (Some s) (g.S.Source.told c.args.src.now) (beginning_at c.args.config.now n c.args.offsets.now.offset way.0) c.open_session.new.store.offset c.in_ok-work.work c.open_session.new.report c.open_session.new.src c.args.sink.now) (to_z-of_z c.ranges.now_ms) way.1 in
+      let on = c.process_messages.ensures.puts.putting groups (Some s) (g.S.Source.told c.args.src.now) b u in
+      let put = c.process_messages.ensures.puts.put groups (Some s) (g.S.Source.told c.args.src.now) b u in
+      answer_as c.process_messages.result _ _ (λ r. (r ≡ Err halt.Sink → ⊥) → IsTalliedAfter g.K.Sink.holds groups c.args.config.now c.args.now_ms c.args.offsets.now.offset c.process_messages.new.store.offset c.process_messages.new.report t c.process_messages.new.sink r) on put
+      (λ x e ok. between_stood g.S.Source g.K.Sink groups (Some s) (g.S.Source.told c.args.src.now) b c.process_messages.new.store.offset c.process_messages.new.store.offset c.process_messages.new.work c.process_messages.new.report c.process_messages.new.report c.process_messages.new.src c.process_messages.new.src c.process_messages.new.sink (rests_put g.S.Source g.K.Sink groups (Some s) (g.S.Source.told c.args.src.now) b c.process_messages.new.store.offset c.process_messages.new.work c.process_messages.new.report c.process_messages.new.src c.process_messages.new.sink x) (Ok e) refl refl refl (inl refl) (λ a z one two. ap (λ (y : SourceState). y.reading) (g.met.S.Source.one c.process_messages.new.src z a two one)) s t refl now)
+      (λ h x ok. x.tallied_stood (λ is. ok (ap (λ (k : Halt). Err k) is)) s t refl now) other;
+}
 
 pub returns-in_err-work-clause-own : goal.returns-in_err-work-clause-own
-returns-in_err-work-clause-own g c s was honest had =
-    residual_of c.from_residual.result _ (IsHonestHalt (session_start_at c.args.config.now c.args.now_ms s c.args.offsets.now.offset) (g.S.Source.stands c.open_session.new.src)) c.from_residual.ensures.1
-    (c.in_err-work.ensures.own (session_start_at c.args.config.now c.args.now_ms s c.args.offsets.now.offset))
+returns-in_err-work-clause-own g c = record {
+  missing = λ s was honest log value at is. c.open_session.ensures.stops.never value at (residual_is c.from_residual.result c.open_session.result _ _ c.in_err-work.was c.from_residual.ensures.1 is);
+  own = λ s was honest had.
+      residual_of c.from_residual.result _ (IsHonestHalt (session_start_at c.args.config.now c.args.now_ms s c.args.offsets.now.offset) (g.S.Source.stands c.open_session.new.src)) c.from_residual.ensures.1
+      (c.in_err-work.ensures.stops.own (session_start_at c.args.config.now c.args.now_ms s c.args.offsets.now.offset));
+}
 
 pub returns-clause-own : goal.returns-clause-own
-returns-clause-own g c s was honest had =
-    let entry = session_start_at c.args.config.now c.args.now_ms s c.args.offsets.now.offset in
-    let in_session = c.in_ok-work.ensures.opened false entry refl (sym (to_z-of_z c.ranges.now_ms)) (source_found _ _ _ c.args.config.now c.args.now_ms s _ _ c.args.offsets.now was) (c.process_messages.ensures.honest honest) had in
-    let way = c.in_ok-work.ensures.under_way (Some s) (at_some g.S.Source.stands c.args.src.now s was) (refl, refl, refl) in
-    let b = beginning_at c.args.config.now c.args.now_ms c.args.offsets.now.offset way.0 in
-    let u = subst (λ (n : ℤ). IsUnderWay g.S.Source (Some s) (g.S.Source.told c.args.src.now) (beginning_at c.args.config.now n c.args.offsets.now.offset way.0) c.open_session.new.store.offset c.in_ok-work.work c.open_session.new.report c.open_session.new.src) (to_z-of_z c.ranges.now_ms) way.1 in
-    c.process_messages.ensures.own false entry (Some s) (g.S.Source.told c.args.src.now) b in_session u s refl honest
-
-pub returns-in_err-work-clause-most : goal.returns-in_err-work-clause-most
-returns-in_err-work-clause-most g c s was honest had left may = none_most c.open_session.new.store.offset c.open_session.new.report.chunks s.history left.history (c.open_session.ensures.unmarked s left was may)
-
-pub returns-clause-most : goal.returns-clause-most
-returns-clause-most g c s was honest had left may =
-    let entry = session_start_at c.args.config.now c.args.now_ms s c.args.offsets.now.offset in
-    let in_session = c.in_ok-work.ensures.opened false entry refl (sym (to_z-of_z c.ranges.now_ms)) (source_found _ _ _ c.args.config.now c.args.now_ms s _ _ c.args.offsets.now was) (c.process_messages.ensures.honest honest) had in
-    let way = c.in_ok-work.ensures.under_way None (at_none g.S.Source.stands c.args.src.now) (refl, refl, refl) in
-    let b = beginning_at c.args.config.now c.args.now_ms c.args.offsets.now.offset way.0 in
-    let u = subst (λ (n : ℤ). IsUnderWay g.S.Source None (g.S.Source.told c.args.src.now) (beginning_at c.args.config.now n c.args.offsets.now.offset way.0) c.open_session.new.store.offset c.in_ok-work.work c.open_session.new.report c.open_session.new.src) (to_z-of_z c.ranges.now_ms) way.1 in
-    let begins = c.in_ok-work.ensures.begun in
-    let own = c.process_messages.ensures.stored (subst (λ (o : Offset). HasOwnStored o c.open_session.new.store.offset) (sym begins.2.offset_is) (own_first begins.0 c.open_session.new.store.offset begins.1)) in
-    stored_most c.in_ok-work.work.offset c.process_messages.new.store.offset c.process_messages.new.report.chunks s.history left.history own
-    (either_most c.process_messages.result _ _ (AddsNoMore c.process_messages.new.report.chunks s.history left.history) (c.process_messages.ensures.ran false entry in_session honest) (c.process_messages.ensures.all None (g.S.Source.told c.args.src.now) b u) (c.process_messages.ensures.most false entry None (g.S.Source.told c.args.src.now) b in_session u honest)
-    (λ t e. others_leave_few_marks entry t.stage c.process_messages.new.work left.history c.process_messages.new.report.chunks c.process_messages.new.report.chunks t.work_is t.going e.is.is.windows (same_most c.process_messages.new.report.chunks)
-    (left_rests t.stage.history (state_at_stage t.stage) left t.going.reading.fit.rising refl (g.met.S.Source.only c.process_messages.new.src (state_at_stage t.stage) left t.source_is may)))
-    (λ few. few left may))
-
-pub process_messages-requires-clause-some : goal.process_messages-requires-clause-some
-process_messages-requires-clause-some g c = c.requires.config.messages.0
-
-pub returns-in_err-work-clause-answered : goal.returns-in_err-work-clause-answered
-returns-in_err-work-clause-answered g c t is =
-    residual_as c.from_residual.result _ (λ x. MustHalt c.args.config.now c.args.offsets.now.offset c.open_session.new.store.offset c.open_session.new.report t x) c.from_residual.ensures.1
-    ((subst (λ (n : ℤ). Halts g.S.Source None (g.S.Source.told c.args.src.now) c.args.config.now n c.args.offsets.now.offset c.open_session.new.store.offset c.open_session.new.report c.open_session.new.src c.in_err-work.field-0.0) (to_z-of_z c.ranges.now_ms) (c.in_err-work.ensures.halted None (at_none g.S.Source.stands c.args.src.now) (refl, refl, refl))).must t is)
-
-pub returns-clause-answered : goal.returns-clause-answered
-returns-clause-answered g c t is =
-    let way = c.in_ok-work.ensures.under_way None (at_none g.S.Source.stands c.args.src.now) (refl, refl, refl) in
-    let b = beginning_at c.args.config.now c.args.now_ms c.args.offsets.now.offset way.0 in
-    let u = subst (λ (n : ℤ). IsUnderWay g.S.Source None (g.S.Source.told c.args.src.now) (beginning_at c.args.config.now n c.args.offsets.now.offset way.0) c.open_session.new.store.offset c.in_ok-work.work c.open_session.new.report c.open_session.new.src) (to_z-of_z c.ranges.now_ms) way.1 in
-    let all = c.process_messages.ensures.all None (g.S.Source.told c.args.src.now) b u in
-    let halted = c.process_messages.ensures.halted None (g.S.Source.told c.args.src.now) b u in
-    answer_as c.process_messages.result _ _ (λ r. MustHalt c.args.config.now c.args.offsets.now.offset c.process_messages.new.store.offset c.process_messages.new.report t r) (ok_pair c.process_messages.result _ _ all c.process_messages.ensures.quiet) halted
-    (λ a e. quiet_asks b a.0.messages c.process_messages.new.store.offset c.process_messages.new.work c.process_messages.new.report c.process_messages.new.report (g.S.Source.told c.args.src.now) (g.S.Source.told c.process_messages.new.src) c.process_messages.new.store.offset (Ok e) a.0.is.is a.0.tells a.1 (inl refl) t is)
-    (λ h x. x.must t is)
+returns-clause-own g c = record {
+  missing = λ s was honest log value at is.
+      let way = c.in_ok-work.ensures.report.under_way (Some s) (at_some g.S.Source.stands c.args.src.now s was) (refl, refl, refl) in
+      let b = beginning_at c.args.config.now c.args.now_ms c.args.offsets.now.offset way.0 in
+      let u = subst (λ (n : ℤ). IsUnderWay g.S.Source (Some s) (g.S.Source.told c.args.src.now) (beginning_at c.args.config.now n c.args.offsets.now.offset way.0) c.open_session.new.store.offset c.in_ok-work.work c.open_session.new.report c.open_session.new.src) (to_z-of_z c.ranges.now_ms) way.1 in
+      c.process_messages.ensures.report.unmissed (Some s) (g.S.Source.told c.args.src.now) b u s refl honest (c.in_ok-work.ensures.by_state.awaits s was log) value at is;
+  own = λ s was honest had.
+      let entry = session_start_at c.args.config.now c.args.now_ms s c.args.offsets.now.offset in
+      let in_session = c.in_ok-work.ensures.session.next false entry refl (sym (to_z-of_z c.ranges.now_ms)) (source_found _ _ _ c.args.config.now c.args.now_ms s _ _ c.args.offsets.now was) (c.process_messages.ensures.source.honest honest) had in
+      let way = c.in_ok-work.ensures.report.under_way (Some s) (at_some g.S.Source.stands c.args.src.now s was) (refl, refl, refl) in
+      let b = beginning_at c.args.config.now c.args.now_ms c.args.offsets.now.offset way.0 in
+      let u = subst (λ (n : ℤ). IsUnderWay g.S.Source (Some s) (g.S.Source.told c.args.src.now) (beginning_at c.args.config.now n c.args.offsets.now.offset way.0) c.open_session.new.store.offset c.in_ok-work.work c.open_session.new.report c.open_session.new.src) (to_z-of_z c.ranges.now_ms) way.1 in
+      c.process_messages.ensures.session.own false entry (Some s) (g.S.Source.told c.args.src.now) b in_session u s refl honest;
+}
 
 pub returns-in_err-work-clause-content : goal.returns-in_err-work-clause-content
 returns-in_err-work-clause-content g c entry asked f honest faithful =
     residual_of c.from_residual.result _ (IsFaithfulHalt entry c.open_session.new.store.offset c.open_session.new.report (g.S.Source.stands c.open_session.new.src) (g.K.Sink.holds c.args.sink.now)) c.from_residual.ensures.1
-    (c.in_err-work.ensures.content entry asked.config_is (told_found f) honest faithful)
+    (c.in_err-work.ensures.session.content entry asked.config_is (told_found f) honest faithful)
 
 pub returns-clause-content : goal.returns-clause-content
 returns-clause-content g c entry asked f honest faithful =
-    let in_session = c.in_ok-work.ensures.opened true entry asked.config_is (asked.now_is ∙ sym (to_z-of_z c.ranges.now_ms)) (told_found f) (c.process_messages.ensures.honest honest) (had_of entry faithful) in
-    let way = c.in_ok-work.ensures.under_way None (at_none g.S.Source.stands c.args.src.now) (refl, refl, refl) in
+    let in_session = c.in_ok-work.ensures.session.next true entry asked.config_is (asked.now_is ∙ sym (to_z-of_z c.ranges.now_ms)) (told_found f) (c.process_messages.ensures.source.honest honest) (had_of entry faithful) in
+    let way = c.in_ok-work.ensures.report.under_way None (at_none g.S.Source.stands c.args.src.now) (refl, refl, refl) in
     let b = beginning_at c.args.config.now c.args.now_ms c.args.offsets.now.offset way.0 in
     let u = subst (λ (n : ℤ). IsUnderWay g.S.Source None (g.S.Source.told c.args.src.now) (beginning_at c.args.config.now n c.args.offsets.now.offset way.0) c.open_session.new.store.offset c.in_ok-work.work c.open_session.new.report c.open_session.new.src) (to_z-of_z c.ranges.now_ms) way.1 in
-    c.process_messages.ensures.content entry None (g.S.Source.told c.args.src.now) b in_session u faithful honest
-
-pub returns-in_err-work-clause-long : goal.returns-in_err-work-clause-long
-returns-in_err-work-clause-long g c s was none still = residual_of c.from_residual.result _ (IsLongBy c.args.config.now s.history) c.from_residual.ensures.1 (c.in_err-work.ensures.long s was none)
-
-pub returns-clause-long : goal.returns-clause-long
-returns-clause-long g c s was none still =
-    let begun = c.in_ok-work.ensures.begun in
-    let own = c.process_messages.ensures.stored (subst (λ (o : Offset). HasOwnStored o c.open_session.new.store.offset) (sym begun.2.offset_is) (own_first begun.0 c.open_session.new.store.offset begun.1)) in
-    let wrong : None ≡ Some own.offset = sym still ∙ own.is in
-    absurd (none_some own.offset wrong)
-
-pub returns-in_err-work-clause-holds : goal.returns-in_err-work-clause-holds
-returns-in_err-work-clause-holds g c held other = c.open_session.ensures.held held (λ is. other (residual_on c.open_session.result c.from_residual.result _ halt.Offsets is c.in_err-work.was c.from_residual.ensures.1))
-
-pub returns-clause-holds : goal.returns-clause-holds
-returns-clause-holds g c held = c.process_messages.ensures.held (c.open_session.ensures.held held (λ is. not_both c.open_session.result _ halt.Offsets is c.in_ok-work.was))
-
-pub returns-in_err-work-clause-firsts : goal.returns-in_err-work-clause-firsts
-returns-in_err-work-clause-firsts g c s is = c.open_session.ensures.firsts s is
-
-pub returns-clause-firsts : goal.returns-clause-firsts
-returns-clause-firsts g c s is =
-    let b = c.in_ok-work.ensures.begun in
-    first_stored c.args.config.now s.history c.args.offsets.now.offset c.process_messages.new.store.offset b.0
-    (first_of_stored c.args.config.now s.history c.args.offsets.now.offset c.open_session.new.store.offset b.0 (c.open_session.ensures.firsts s is) b.1)
-    (subst (λ (o : Offset). HasOwnStored o c.process_messages.new.store.offset) b.2.offset_is (c.process_messages.ensures.stored (subst (λ (o : Offset). HasOwnStored o c.open_session.new.store.offset) (sym b.2.offset_is) (own_first b.0 c.open_session.new.store.offset b.1))))
-
-pub returns-in_err-work-clause-gone_stood : goal.returns-in_err-work-clause-gone_stood
-returns-in_err-work-clause-gone_stood g c s was = residual_of c.from_residual.result _ (IsGoneBelow s.confirmed) c.from_residual.ensures.1 (c.in_err-work.ensures.gone_stood s was)
-
-pub returns-clause-gone_stood : goal.returns-clause-gone_stood
-returns-clause-gone_stood g c s was = err_then c.process_messages.result _ (IsGoneBelow s.confirmed) c.process_messages.ensures.reads (free_below s.confirmed)
-
-pub returns-in_err-work-clause-ungained : goal.returns-in_err-work-clause-ungained
-returns-in_err-work-clause-ungained g c groups left held may same = g.met.K.Sink.only _ groups left held may
-
-pub returns-clause-ungained : goal.returns-clause-ungained
-returns-clause-ungained g c groups left held may same =
-    let b = c.in_ok-work.ensures.begun in
-    absurd (stored_anew c.args.config.now c.args.offsets.now.offset c.process_messages.new.store.offset
-    (has_stored c.args.config.now c.args.offsets.now.offset c.process_messages.new.store.offset c.in_ok-work.work.offset (subst (IsOffsetFor c.args.config.now c.args.offsets.now.offset) (sym b.2.offset_is) b.3) (c.process_messages.ensures.stored (subst (λ (o : Offset). HasOwnStored o c.open_session.new.store.offset) (sym b.2.offset_is) (own_first b.0 c.open_session.new.store.offset b.1)))) same)
-
-pub returns-in_err-work-clause-halt_stood : goal.returns-in_err-work-clause-halt_stood
-returns-in_err-work-clause-halt_stood g c s was = residual_of c.from_residual.result _ (IsHaltStanding c.args.config.now c.args.now_ms c.args.offsets.now.offset c.open_session.new.store.offset c.open_session.new.report (g.S.Source.stands c.open_session.new.src)) c.from_residual.ensures.1 ((subst (λ (n : ℤ). Halts g.S.Source (Some s) (g.S.Source.told c.args.src.now) c.args.config.now n c.args.offsets.now.offset c.open_session.new.store.offset c.open_session.new.report c.open_session.new.src c.in_err-work.field-0.0) (to_z-of_z c.ranges.now_ms) (c.in_err-work.ensures.halted (Some s) (at_some g.S.Source.stands c.args.src.now s was) (refl, refl, refl))).stood s refl)
-
-pub returns-clause-halt_stood : goal.returns-clause-halt_stood
-returns-clause-halt_stood g c s was =
-    let way = c.in_ok-work.ensures.under_way (Some s) (at_some g.S.Source.stands c.args.src.now s was) (refl, refl, refl) in
-    let b = beginning_at c.args.config.now c.args.now_ms c.args.offsets.now.offset way.0 in
-    let u = subst (λ (n : ℤ). IsUnderWay g.S.Source (Some s) (g.S.Source.told c.args.src.now) (beginning_at c.args.config.now n c.args.offsets.now.offset way.0) c.open_session.new.store.offset c.in_ok-work.work c.open_session.new.report c.open_session.new.src) (to_z-of_z c.ranges.now_ms) way.1 in
-    let halted = c.process_messages.ensures.halted (Some s) (g.S.Source.told c.args.src.now) b u in
-    err_then c.process_messages.result _ _ halted (λ h x. x.stood s refl)
-
-pub returns-in_err-work-clause-captures : goal.returns-in_err-work-clause-captures
-returns-in_err-work-clause-captures g c s is = c.open_session.ensures.captured s is
-
-pub returns-clause-captures : goal.returns-clause-captures
-returns-clause-captures g c s is = captures_by c.args.config.now s.history c.args.offsets.now.offset c.process_messages.new.store.offset (λ none. c.in_ok-work.ensures.captures s is none)
-
-pub returns-in_err-work-clause-must_absent : goal.returns-in_err-work-clause-must_absent
-returns-in_err-work-clause-must_absent g c s is =
-    must_absent c.args.config.now s.history c.args.offsets.now.offset c.from_residual.result
-    (λ none. residual_as c.from_residual.result _ (CapturesOrHalts c.args.config.now s.history) c.from_residual.ensures.1 (c.in_err-work.ensures.captures s is none))
-    (residual_of c.from_residual.result _ (IsAbsentHalt c.args.config.now.tables s.history) c.from_residual.ensures.1 (c.in_err-work.ensures.absent s is))
-
-pub returns-clause-must_absent : goal.returns-clause-must_absent
-returns-clause-must_absent g c s is = must_captured c.args.config.now s.history c.args.offsets.now.offset c.process_messages.result (λ none. c.in_ok-work.ensures.captures s is none)
-
-pub returns-in_err-work-clause-tallied : goal.returns-in_err-work-clause-tallied
-returns-in_err-work-clause-tallied g c groups held other = inl (c.open_session.ensures.report.0, c.open_session.ensures.report.1, held)
-
-pub returns-in_err-work-clause-tallied_stood : goal.returns-in_err-work-clause-tallied_stood
-returns-in_err-work-clause-tallied_stood g c groups held other s t was now = inl (c.open_session.ensures.report.0, c.open_session.ensures.report.1, held)
-
-pub returns-clause-tallied : goal.returns-clause-tallied
-returns-clause-tallied g c groups held other =
-    let way = c.in_ok-work.ensures.putting groups held None (at_none g.S.Source.stands c.args.src.now) (refl, refl, refl, refl, refl) in
-    let b = beginning_at c.args.config.now c.args.now_ms c.args.offsets.now.offset way.0 in
-    let u = subst (λ (n : ℤ). IsPutting g.S.Source g.K.Sink groups None (g.S.Source.told c.args.src.now) (beginning_at c.args.config.now n c.args.offsets.now.offset way.0) c.open_session.new.store.offset c.in_ok-work.work c.open_session.new.report c.open_session.new.src c.args.sink.now) (to_z-of_z c.ranges.now_ms) way.1 in
-    let on = c.process_messages.ensures.putting groups None (g.S.Source.told c.args.src.now) b u in
-    let put = c.process_messages.ensures.put groups None (g.S.Source.told c.args.src.now) b u in
-    answer_as c.process_messages.result _ _ (λ r. (r ≡ Err halt.Sink → ⊥) → IsTallied g.K.Sink.holds groups c.args.config.now c.args.now_ms c.args.offsets.now.offset c.process_messages.new.store.offset c.process_messages.new.report (g.S.Source.told c.process_messages.new.src) c.process_messages.new.sink r) on put
-    (λ x e ok. between_tallied g.S.Source g.K.Sink groups None (g.S.Source.told c.args.src.now) b c.process_messages.new.store.offset c.process_messages.new.store.offset c.process_messages.new.work c.process_messages.new.report c.process_messages.new.report c.process_messages.new.src c.process_messages.new.src c.process_messages.new.sink (rests_put g.S.Source g.K.Sink groups None (g.S.Source.told c.args.src.now) b c.process_messages.new.store.offset c.process_messages.new.work c.process_messages.new.report c.process_messages.new.src c.process_messages.new.sink x) (Ok e) refl refl refl (inl refl) (none_taken (g.S.Source.told c.process_messages.new.src)))
-    (λ h x ok. x.tallied (λ is. ok (ap (λ (k : Halt). Err k) is))) other
-
-pub returns-clause-tallied_stood : goal.returns-clause-tallied_stood
-returns-clause-tallied_stood g c groups held other s t was now =
-    let way = c.in_ok-work.ensures.putting groups held (Some s) (at_some g.S.Source.stands c.args.src.now s was) (refl, refl, refl, refl, refl) in
-    let b = beginning_at c.args.config.now c.args.now_ms c.args.offsets.now.offset way.0 in
-    let u = subst (λ (n : ℤ). IsPutting g.S.Source g.K.Sink groups (Some s) (g.S.Source.told c.args.src.now) (beginning_at c.args.config.now n c.args.offsets.now.offset way.0) c.open_session.new.store.offset c.in_ok-work.work c.open_session.new.report c.open_session.new.src c.args.sink.now) (to_z-of_z c.ranges.now_ms) way.1 in
-    let on = c.process_messages.ensures.putting groups (Some s) (g.S.Source.told c.args.src.now) b u in
-    let put = c.process_messages.ensures.put groups (Some s) (g.S.Source.told c.args.src.now) b u in
-    answer_as c.process_messages.result _ _ (λ r. (r ≡ Err halt.Sink → ⊥) → IsTalliedAfter g.K.Sink.holds groups c.args.config.now c.args.now_ms c.args.offsets.now.offset c.process_messages.new.store.offset c.process_messages.new.report t c.process_messages.new.sink r) on put
-    (λ x e ok. between_stood g.S.Source g.K.Sink groups (Some s) (g.S.Source.told c.args.src.now) b c.process_messages.new.store.offset c.process_messages.new.store.offset c.process_messages.new.work c.process_messages.new.report c.process_messages.new.report c.process_messages.new.src c.process_messages.new.src c.process_messages.new.sink (rests_put g.S.Source g.K.Sink groups (Some s) (g.S.Source.told c.args.src.now) b c.process_messages.new.store.offset c.process_messages.new.work c.process_messages.new.report c.process_messages.new.src c.process_messages.new.sink x) (Ok e) refl refl refl (inl refl) (λ a z one two. ap (λ (y : SourceState). y.reading) (g.met.S.Source.one c.process_messages.new.src z a two one)) s t refl now)
-    (λ h x ok. x.tallied_stood (λ is. ok (ap (λ (k : Halt). Err k) is)) s t refl now) other
+    c.process_messages.ensures.session.content entry None (g.S.Source.told c.args.src.now) b in_session u faithful honest
 
 pub returns-in_err-work-clause-unclosed : goal.returns-in_err-work-clause-unclosed
 returns-in_err-work-clause-unclosed g c entry asked f honest faithful t now = residual_as c.from_residual.result _ (λ x. OnOk x (HasClosedRead c.open_session.new.store.offset c.open_session.new.report t)) c.from_residual.ensures.1 tt
 
 pub returns-clause-unclosed : goal.returns-clause-unclosed
 returns-clause-unclosed g c entry asked f honest faithful t now =
-    let in_session = c.in_ok-work.ensures.opened true entry asked.config_is (asked.now_is ∙ sym (to_z-of_z c.ranges.now_ms)) (told_found f) (c.process_messages.ensures.honest honest) (had_of entry faithful) in
-    let way = c.in_ok-work.ensures.under_way None (at_none g.S.Source.stands c.args.src.now) (refl, refl, refl) in
+    let in_session = c.in_ok-work.ensures.session.next true entry asked.config_is (asked.now_is ∙ sym (to_z-of_z c.ranges.now_ms)) (told_found f) (c.process_messages.ensures.source.honest honest) (had_of entry faithful) in
+    let way = c.in_ok-work.ensures.report.under_way None (at_none g.S.Source.stands c.args.src.now) (refl, refl, refl) in
     let b = beginning_at c.args.config.now c.args.now_ms c.args.offsets.now.offset way.0 in
     let u = subst (λ (n : ℤ). IsUnderWay g.S.Source None (g.S.Source.told c.args.src.now) (beginning_at c.args.config.now n c.args.offsets.now.offset way.0) c.open_session.new.store.offset c.in_ok-work.work c.open_session.new.report c.open_session.new.src) (to_z-of_z c.ranges.now_ms) way.1 in
-    ok_then c.process_messages.result _ _ (ok_pair c.process_messages.result _ _ (c.process_messages.ensures.ran true entry in_session honest) (c.process_messages.ensures.all None (g.S.Source.told c.args.src.now) b u))
+    ok_then c.process_messages.result _ _ (ok_pair c.process_messages.result _ _ (c.process_messages.ensures.session.next true entry in_session honest) (c.process_messages.ensures.report.all None (g.S.Source.told c.args.src.now) b u))
     (λ x. closed_read x.0 faithful c.process_messages.new.store.offset c.process_messages.new.report t x.1.stored_is (g.met.S.Source.one c.process_messages.new.src t (state_at_stage x.0.stage) now x.0.source_is) x.1.is.is.windows)
 
 -- ---- whose fault it is
 
 pub returns-in_err-work-clause-source : goal.returns-in_err-work-clause-source
-returns-in_err-work-clause-source g c = record { later = c.open_session.ensures.source.later; cause = λ is. c.open_session.ensures.source.cause (residual_is c.from_residual.result c.open_session.result _ _ c.in_err-work.was c.from_residual.ensures.1 is) }
+returns-in_err-work-clause-source g c = record {
+  live = search rules;
+  honest = search rules;
+  comes = search rules;
+  cause = record { later = c.open_session.ensures.source.cause.later; cause = λ is. c.open_session.ensures.source.cause.cause (residual_is c.from_residual.result c.open_session.result _ _ c.in_err-work.was c.from_residual.ensures.1 is) };
+}
 
-pub returns-in_err-work-clause-sink : goal.returns-in_err-work-clause-sink
-returns-in_err-work-clause-sink g c = record { later = le_refl _; cause = λ is. absurd (c.open_session.ensures.sink (residual_is c.from_residual.result c.open_session.result _ _ c.in_err-work.was c.from_residual.ensures.1 is)) }
-
-pub returns-in_err-work-clause-offsets : goal.returns-in_err-work-clause-offsets
-returns-in_err-work-clause-offsets g c = record { later = c.open_session.ensures.offsets.later; cause = λ is. c.open_session.ensures.offsets.cause (residual_is c.from_residual.result c.open_session.result _ _ c.in_err-work.was c.from_residual.ensures.1 is) }
-
-pub returns-clause-source : goal.returns-clause-source
-returns-clause-source g c = record { later = later_on (g.S.Source.faults c.args.src.now) (g.S.Source.faults c.open_session.new.src) (g.S.Source.faults c.process_messages.new.src) c.open_session.ensures.source.later c.process_messages.ensures.source.later; cause = λ is. rose_behind (g.S.Source.faults c.args.src.now) (g.S.Source.faults c.open_session.new.src) (g.S.Source.faults c.process_messages.new.src) c.open_session.ensures.source.later (c.process_messages.ensures.source.cause is) }
+pub returns-in_err-work-clause-store : goal.returns-in_err-work-clause-store
+returns-in_err-work-clause-store g c = record {
+  live = search rules;
+  comes = search rules;
+  cause = record { later = c.open_session.ensures.store.cause.later; cause = λ is. c.open_session.ensures.store.cause.cause (residual_is c.from_residual.result c.open_session.result _ _ c.in_err-work.was c.from_residual.ensures.1 is) };
+}
 
 pub returns-clause-sink : goal.returns-clause-sink
-returns-clause-sink g c = c.process_messages.ensures.sink
-
-pub returns-clause-offsets : goal.returns-clause-offsets
-returns-clause-offsets g c = record { later = later_on (g.D.Disk.faults (disk_of c.args.offsets.now)) (g.D.Disk.faults (disk_of c.open_session.new.store)) (g.D.Disk.faults (disk_of c.process_messages.new.store)) c.open_session.ensures.offsets.later c.process_messages.ensures.offsets.later; cause = λ is. rose_behind _ _ _ c.open_session.ensures.offsets.later (c.process_messages.ensures.offsets.cause is) }
+returns-clause-sink g c = record {
+  live = search rules;
+  comes = search rules;
+  cause = c.process_messages.ensures.sink.cause;
+}

@@ -1,4 +1,4 @@
-use Rattle.std.proofs.Common.{◌∙◌, ℕ, Err, List, None, Some, ap, inl, refl, sym, le_refl}
+use Rattle.std.proofs.Common.{◌∙◌, ℕ, Err, List, None, Some, ap, inl, refl, sym, le_refl, rules}
 use Rattle.std.proofs.lemmas.Result.{err_from_is_err_and}
 use Rattle.dbl_capture_work.specs.declared.halt.Halt.TheVariants as halt
 use Rattle.dbl_capture_laws.proofs.Reporting.{report_err}
@@ -24,152 +24,183 @@ use Rattle.dbl_capture_laws.specs.Nevers.{IsFaithfulHalt}
 use Rattle.dbl_capture_laws.proofs.HasState.{marks_stood, memory_stood}
 use Rattle.dbl_capture.proofs.settle.finish_complete.Goals as goal
 
-pub returns-in_err-copy-in-Some-clause-left : goal.returns-in_err-copy-in-Some-clause-left
-returns-in_err-copy-in-Some-clause-left g c tell entry s honest = on_err _ _ (rests s _ (g.met.S.Source.only _) (g.met.S.Source.may _) (g.met.K.Sink.only _) (g.met.K.Sink.may _) honest (λ h l is. g.met.S.Source.fit _ l is h) (some_chunk s))
+pub returns-in_err-copy-in-Some-clause-session : goal.returns-in_err-copy-in-Some-clause-session
+returns-in_err-copy-in-Some-clause-session g c = record {
+  next = search rules;
+  left = λ tell entry s honest. on_err _ _ (rests s _ (g.met.S.Source.only _) (g.met.S.Source.may _) (g.met.K.Sink.only _) (g.met.K.Sink.may _) honest (λ h l is. g.met.S.Source.fit _ l is h) (some_chunk s));
+  own = λ entry. residual_of c.from_residual.result halt.Memory (IsHonestHalt entry (g.S.Source.stands c.args.src.now)) c.from_residual.ensures.1 tt;
+  most = λ tell entry s closed.
+      leaves_most _ g.S.Source.may_leave c.args.src.now c.args.report.now.chunks entry.history (λ left may. others_leave_few_marks entry s.stage c.args.work.now left.history c.args.report.now.chunks c.args.report.now.chunks s.work_is s.going closed (same_most c.args.report.now.chunks)
+      (left_rests s.stage.history (state_at_stage s.stage) left s.going.reading.fit.rising refl (g.met.S.Source.only c.args.src.now (state_at_stage s.stage) left s.source_is may)));
+  content = λ entry s faithful. residual_of c.from_residual.result halt.Memory (IsFaithfulHalt entry c.args.store.now.offset c.args.report.now (g.S.Source.stands c.args.src.now) (g.K.Sink.holds c.args.sink.now)) c.from_residual.ensures.1 tt;
+}
 
-pub returns-in_ok-copy-in-Some-clause-left : goal.returns-in_ok-copy-in-Some-clause-left
-returns-in_ok-copy-in-Some-clause-left g c tell entry s honest = rests s _ (g.met.S.Source.only _) (g.met.S.Source.may _) (g.met.K.Sink.only _) (g.met.K.Sink.may _) honest (λ h l is. g.met.S.Source.fit _ l is h) (some_chunk s)
+pub returns-in_ok-copy-in-Some-clause-session : goal.returns-in_ok-copy-in-Some-clause-session
+returns-in_ok-copy-in-Some-clause-session g c = record {
+  next = search rules;
+  left = λ tell entry s honest. rests s _ (g.met.S.Source.only _) (g.met.S.Source.may _) (g.met.K.Sink.only _) (g.met.K.Sink.may _) honest (λ h l is. g.met.S.Source.fit _ l is h) (some_chunk s);
+  own = λ entry. tt;
+  most = λ tell entry s closed left may.
+      others_leave_few_marks entry s.stage c.args.work.now left.history c.args.report.now.chunks c.args.report.now.chunks s.work_is s.going closed (same_most c.args.report.now.chunks)
+      (left_rests s.stage.history (state_at_stage s.stage) left s.going.reading.fit.rising refl (g.met.S.Source.only c.args.src.now (state_at_stage s.stage) left s.source_is may));
+  content = λ entry s faithful. tt;
+}
 
-pub returns-in_ok-copy-in-Some-clause-report : goal.returns-in_ok-copy-in-Some-clause-report
-returns-in_ok-copy-in-Some-clause-report g c = inl (refl, refl)
+pub returns-in_ok-copy-in-Some-clause-state : goal.returns-in_ok-copy-in-Some-clause-state
+returns-in_ok-copy-in-Some-clause-state g c = record {
+  waited = search rules;
+  same = search rules;
+  held = λ held other. held;
+  still = search rules;
+  reading = search rules;
+  quiet = search rules;
+  reported = inl (refl, refl);
+}
 
-pub returns-in-None-clause-waited : goal.returns-in-None-clause-waited
-returns-in-None-clause-waited g c = on_ok _ _ (not_awaited c.args.work.now.follower.window c.in-None.ensures.text)
+pub returns-in-None-clause-state : goal.returns-in-None-clause-state
+returns-in-None-clause-state g c = record {
+  waited = on_ok _ _ (not_awaited c.args.work.now.follower.window c.in-None.ensures.text);
+  same = search rules;
+  held = c.store_and_confirm.ensures.state.held;
+  still = search rules;
+  reading = search rules;
+  quiet = c.store_and_confirm.ensures.state.quiet;
+  reported = search rules;
+}
 
-pub returns-in-None-clause-ended : goal.returns-in-None-clause-ended
-returns-in-None-clause-ended g c = c.store_and_confirm.ensures.whole
-
-pub returns-in-None-clause-left : goal.returns-in-None-clause-left
-returns-in-None-clause-left g c = c.store_and_confirm.ensures.left
+pub returns-in-None-clause-session : goal.returns-in-None-clause-session
+returns-in-None-clause-session g c = record {
+  next = c.store_and_confirm.ensures.session.whole;
+  left = c.store_and_confirm.ensures.session.left;
+  own = c.store_and_confirm.ensures.session.own;
+  most = c.store_and_confirm.ensures.session.most;
+  content = c.store_and_confirm.ensures.session.content;
+}
 
 -- ---- counts, and what no call undoes
 
-pub returns-in_err-copy-in-Some-clause-source_comes : goal.returns-in_err-copy-in-Some-clause-source_comes
-returns-in_err-copy-in-Some-clause-source_comes g c = g.met.S.Source.comes_self _
+pub returns-in_err-copy-in-Some-clause-source : goal.returns-in_err-copy-in-Some-clause-source
+returns-in_err-copy-in-Some-clause-source g c = record {
+  live = search rules;
+  honest = search rules;
+  comes = g.met.S.Source.comes_self _;
+  cause = record { later = le_refl _; cause = λ is. absurd (err_at c.from_residual.result _ OfNone (residual_of c.from_residual.result halt.Memory OfNone c.from_residual.ensures.1 tt) is) };
+}
 
-pub returns-in_ok-copy-in-Some-clause-source_comes : goal.returns-in_ok-copy-in-Some-clause-source_comes
-returns-in_ok-copy-in-Some-clause-source_comes g c = g.met.S.Source.comes_self _
+pub returns-in_ok-copy-in-Some-clause-source : goal.returns-in_ok-copy-in-Some-clause-source
+returns-in_ok-copy-in-Some-clause-source g c = record {
+  live = search rules;
+  honest = search rules;
+  comes = g.met.S.Source.comes_self _;
+  cause = record { later = le_refl _; cause = λ is. absurd (let i = is in cc) };
+}
 
-pub returns-in_err-copy-in-Some-clause-sink : goal.returns-in_err-copy-in-Some-clause-sink
-returns-in_err-copy-in-Some-clause-sink g c is = err_at c.from_residual.result _ OfNone (residual_of c.from_residual.result halt.Memory OfNone c.from_residual.ensures.1 tt) is
+pub returns-in_err-copy-in-Some-clause-stops : goal.returns-in_err-copy-in-Some-clause-stops
+returns-in_err-copy-in-Some-clause-stops g c = record {
+  unmissed = λ absent value at is. err_at c.from_residual.result _ OfNone (residual_of c.from_residual.result halt.Memory OfNone c.from_residual.ensures.1 tt) is;
+  reads = residual_of c.from_residual.result halt.Memory IsNotGone c.from_residual.ensures.1 tt;
+  sink = λ is. err_at c.from_residual.result _ OfNone (residual_of c.from_residual.result halt.Memory OfNone c.from_residual.ensures.1 tt) is;
+}
+
+pub returns-in_err-copy-in-Some-clause-state : goal.returns-in_err-copy-in-Some-clause-state
+returns-in_err-copy-in-Some-clause-state g c = record {
+  waited = search rules;
+  same = search rules;
+  held = λ held other. held;
+  still = search rules;
+  reading = search rules;
+  quiet = search rules;
+  reported =
+      let p = err_from_is_err_and c.from_residual.result c.from_residual.ensures.1 in
+      report_err c.from_residual.result p.0 c.args.store.now.offset c.args.store.now.offset c.args.work.now c.args.report.now c.args.report.now p.1 (inl (refl, refl));
+}
 
 pub returns-in_err-copy-in-Some-clause-report : goal.returns-in_err-copy-in-Some-clause-report
-returns-in_err-copy-in-Some-clause-report g c =
-    let p = err_from_is_err_and c.from_residual.result c.from_residual.ensures.1 in
-    report_err c.from_residual.result p.0 c.args.store.now.offset c.args.store.now.offset c.args.work.now c.args.report.now c.args.report.now p.1 (inl (refl, refl))
+returns-in_err-copy-in-Some-clause-report g c = record {
+  all = search rules;
+  halted = λ at found b u answer.
+      residual_of c.from_residual.result halt.Memory (Halts g.S.Source at found b.config b.now b.held c.args.store.now.offset c.args.report.now c.args.src.now) c.from_residual.ensures.1
+      (record { halted = halts_between g.S.Source at found b c.args.store.now.offset c.args.store.now.offset c.args.work.now c.args.report.now c.args.report.now c.args.src.now c.args.src.now halt.Memory (at_rest g.S.Source at found b c.args.store.now.offset c.args.work.now c.args.report.now c.args.src.now u) (none_taken (g.S.Source.told c.args.src.now)) (λ s t was now. ap (λ (x : SourceState). x.reading) (g.met.S.Source.one c.args.src.now t s now was)) memory_left refl refl (inl refl); stood = λ s first. memory_stood b.config b.now b.held c.args.store.now.offset c.args.report.now (g.S.Source.stands c.args.src.now) halt.Memory refl; cause = memory_caused b.config b.now b.held c.args.store.now.offset c.args.report.now (g.S.Source.told c.args.src.now) halt.Memory refl; must = quiet_asks b u.messages c.args.store.now.offset c.args.work.now c.args.report.now c.args.report.now found (g.S.Source.told c.args.src.now) c.args.store.now.offset (Err halt.Memory) u.is.is u.tells (read_quiet (g.S.Source.told c.args.src.now) None answer) (inl refl) });
+}
 
-pub returns-in_err-copy-in-Some-clause-halted : goal.returns-in_err-copy-in-Some-clause-halted
-returns-in_err-copy-in-Some-clause-halted g c at found b u answer =
-    residual_of c.from_residual.result halt.Memory (Halts g.S.Source at found b.config b.now b.held c.args.store.now.offset c.args.report.now c.args.src.now) c.from_residual.ensures.1
-    (record { halted = halts_between g.S.Source at found b c.args.store.now.offset c.args.store.now.offset c.args.work.now c.args.report.now c.args.report.now c.args.src.now c.args.src.now halt.Memory (at_rest g.S.Source at found b c.args.store.now.offset c.args.work.now c.args.report.now c.args.src.now u) (none_taken (g.S.Source.told c.args.src.now)) (λ s t was now. ap (λ (x : SourceState). x.reading) (g.met.S.Source.one c.args.src.now t s now was)) memory_left refl refl (inl refl); stood = λ s first. memory_stood b.config b.now b.held c.args.store.now.offset c.args.report.now (g.S.Source.stands c.args.src.now) halt.Memory refl; cause = memory_caused b.config b.now b.held c.args.store.now.offset c.args.report.now (g.S.Source.told c.args.src.now) halt.Memory refl; must = quiet_asks b u.messages c.args.store.now.offset c.args.work.now c.args.report.now c.args.report.now found (g.S.Source.told c.args.src.now) c.args.store.now.offset (Err halt.Memory) u.is.is u.tells (read_quiet (g.S.Source.told c.args.src.now) None answer) (inl refl) })
+pub returns-in_ok-copy-in-Some-clause-report : goal.returns-in_ok-copy-in-Some-clause-report
+returns-in_ok-copy-in-Some-clause-report g c = record {
+  all = search rules;
+  halted = λ at found b u answer.
+      record { halted = halts_between g.S.Source at found b c.args.store.now.offset c.args.store.now.offset c.args.work.now c.args.report.now c.args.report.now c.args.src.now c.args.src.now _ (at_rest g.S.Source at found b c.args.store.now.offset c.args.work.now c.args.report.now c.args.src.now u) (none_taken (g.S.Source.told c.args.src.now)) (λ s t was now. ap (λ (x : SourceState). x.reading) (g.met.S.Source.one c.args.src.now t s now was)) refl refl refl (inl refl); stood = λ s first. marks_stood g.S.Source at found b c.args.store.now.offset c.args.work.now c.args.src.now c.args.src.now c.args.report.now _ u (sym c.in-Some.ensures.text ∙ ap (λ (v : List ℕ). Some v) (sym c.in_ok-copy-in-Some.ensures)) s first; cause = missed_caused b u.messages c.args.store.now.offset c.args.work.now c.args.report.now found (g.S.Source.told c.args.src.now) _ u.is u.tells (sym c.in-Some.ensures.text ∙ ap (λ (v : List ℕ). Some v) (sym c.in_ok-copy-in-Some.ensures)) answer; must = quiet_asks b u.messages c.args.store.now.offset c.args.work.now c.args.report.now c.args.report.now found (g.S.Source.told c.args.src.now) c.args.store.now.offset _ u.is.is u.tells (read_quiet (g.S.Source.told c.args.src.now) None answer) (inl refl) };
+}
 
-pub returns-in_ok-copy-in-Some-clause-halted : goal.returns-in_ok-copy-in-Some-clause-halted
-returns-in_ok-copy-in-Some-clause-halted g c at found b u answer =
-    record { halted = halts_between g.S.Source at found b c.args.store.now.offset c.args.store.now.offset c.args.work.now c.args.report.now c.args.report.now c.args.src.now c.args.src.now _ (at_rest g.S.Source at found b c.args.store.now.offset c.args.work.now c.args.report.now c.args.src.now u) (none_taken (g.S.Source.told c.args.src.now)) (λ s t was now. ap (λ (x : SourceState). x.reading) (g.met.S.Source.one c.args.src.now t s now was)) refl refl refl (inl refl); stood = λ s first. marks_stood g.S.Source at found b c.args.store.now.offset c.args.work.now c.args.src.now c.args.src.now c.args.report.now _ u (sym c.in-Some.ensures.text ∙ ap (λ (v : List ℕ). Some v) (sym c.in_ok-copy-in-Some.ensures)) s first; cause = missed_caused b u.messages c.args.store.now.offset c.args.work.now c.args.report.now found (g.S.Source.told c.args.src.now) _ u.is u.tells (sym c.in-Some.ensures.text ∙ ap (λ (v : List ℕ). Some v) (sym c.in_ok-copy-in-Some.ensures)) answer; must = quiet_asks b u.messages c.args.store.now.offset c.args.work.now c.args.report.now c.args.report.now found (g.S.Source.told c.args.src.now) c.args.store.now.offset _ u.is.is u.tells (read_quiet (g.S.Source.told c.args.src.now) None answer) (inl refl) }
+pub returns-in-None-clause-report : goal.returns-in-None-clause-report
+returns-in-None-clause-report g c = record {
+  all = λ at found b u. c.store_and_confirm.ensures.report.all at found b (at_rest g.S.Source at found b c.args.store.now.offset c.args.work.now c.args.report.now c.args.src.now u);
+  halted = λ at found b u answer. c.store_and_confirm.ensures.report.halted at found b (at_rest g.S.Source at found b c.args.store.now.offset c.args.work.now c.args.report.now c.args.src.now u) (read_quiet (g.S.Source.told c.args.src.now) None answer);
+}
 
-pub returns-in-None-clause-all : goal.returns-in-None-clause-all
-returns-in-None-clause-all g c at found b u = c.store_and_confirm.ensures.all at found b (at_rest g.S.Source at found b c.args.store.now.offset c.args.work.now c.args.report.now c.args.src.now u)
+pub returns-in_err-copy-in-Some-clause-puts : goal.returns-in_err-copy-in-Some-clause-puts
+returns-in_err-copy-in-Some-clause-puts g c = record {
+  putting = search rules;
+  put = λ groups at found b u.
+      residual_of c.from_residual.result halt.Memory (HasHaltedPut g.S.Source g.K.Sink groups at b.config b.now b.held c.args.store.now.offset c.args.report.now c.args.src.now c.args.sink.now) c.from_residual.ensures.1
+      (halts_put_nothing g.S.Source g.K.Sink groups at found b c.args.store.now.offset c.args.store.now.offset c.args.work.now c.args.report.now c.args.report.now c.args.src.now c.args.src.now c.args.sink.now halt.Memory (rests_put g.S.Source g.K.Sink groups at found b c.args.store.now.offset c.args.work.now c.args.report.now c.args.src.now c.args.sink.now u) (g.met.K.Sink.only c.args.sink.now) (none_other halt.Memory tt) refl refl refl (inl refl)
+      memory_left refl refl (none_taken (g.S.Source.told c.args.src.now)) (λ s t was now. ap (λ (x : SourceState). x.reading) (g.met.S.Source.one c.args.src.now t s now was)));
+}
 
-pub returns-in-None-clause-halted : goal.returns-in-None-clause-halted
-returns-in-None-clause-halted g c at found b u answer = c.store_and_confirm.ensures.halted at found b (at_rest g.S.Source at found b c.args.store.now.offset c.args.work.now c.args.report.now c.args.src.now u) (read_quiet (g.S.Source.told c.args.src.now) None answer)
+pub returns-in_ok-copy-in-Some-clause-puts : goal.returns-in_ok-copy-in-Some-clause-puts
+returns-in_ok-copy-in-Some-clause-puts g c = record {
+  putting = search rules;
+  put = λ groups at found b u.
+      halts_put_nothing g.S.Source g.K.Sink groups at found b c.args.store.now.offset c.args.store.now.offset c.args.work.now c.args.report.now c.args.report.now c.args.src.now c.args.src.now c.args.sink.now _ (rests_put g.S.Source g.K.Sink groups at found b c.args.store.now.offset c.args.work.now c.args.report.now c.args.src.now c.args.sink.now u) (g.met.K.Sink.only c.args.sink.now) (λ is. cc) refl refl refl (inl refl)
+      refl refl refl (none_taken (g.S.Source.told c.args.src.now)) (λ s t was now. ap (λ (x : SourceState). x.reading) (g.met.S.Source.one c.args.src.now t s now was));
+}
 
-pub returns-in_err-copy-in-Some-clause-put : goal.returns-in_err-copy-in-Some-clause-put
-returns-in_err-copy-in-Some-clause-put g c groups at found b u =
-    residual_of c.from_residual.result halt.Memory (HasHaltedPut g.S.Source g.K.Sink groups at b.config b.now b.held c.args.store.now.offset c.args.report.now c.args.src.now c.args.sink.now) c.from_residual.ensures.1
-    (halts_put_nothing g.S.Source g.K.Sink groups at found b c.args.store.now.offset c.args.store.now.offset c.args.work.now c.args.report.now c.args.report.now c.args.src.now c.args.src.now c.args.sink.now halt.Memory (rests_put g.S.Source g.K.Sink groups at found b c.args.store.now.offset c.args.work.now c.args.report.now c.args.src.now c.args.sink.now u) (g.met.K.Sink.only c.args.sink.now) (none_other halt.Memory tt) refl refl refl (inl refl)
-    memory_left refl refl (none_taken (g.S.Source.told c.args.src.now)) (λ s t was now. ap (λ (x : SourceState). x.reading) (g.met.S.Source.one c.args.src.now t s now was)))
+pub returns-in-None-clause-puts : goal.returns-in-None-clause-puts
+returns-in-None-clause-puts g c = record {
+  putting = λ groups at found b u. c.store_and_confirm.ensures.puts.putting groups at found b (rests_put g.S.Source g.K.Sink groups at found b c.args.store.now.offset c.args.work.now c.args.report.now c.args.src.now c.args.sink.now u);
+  put = λ groups at found b u. c.store_and_confirm.ensures.puts.put groups at found b (rests_put g.S.Source g.K.Sink groups at found b c.args.store.now.offset c.args.work.now c.args.report.now c.args.src.now c.args.sink.now u);
+}
 
-pub returns-in_ok-copy-in-Some-clause-put : goal.returns-in_ok-copy-in-Some-clause-put
-returns-in_ok-copy-in-Some-clause-put g c groups at found b u =
-    halts_put_nothing g.S.Source g.K.Sink groups at found b c.args.store.now.offset c.args.store.now.offset c.args.work.now c.args.report.now c.args.report.now c.args.src.now c.args.src.now c.args.sink.now _ (rests_put g.S.Source g.K.Sink groups at found b c.args.store.now.offset c.args.work.now c.args.report.now c.args.src.now c.args.sink.now u) (g.met.K.Sink.only c.args.sink.now) (λ is. cc) refl refl refl (inl refl)
-    refl refl refl (none_taken (g.S.Source.told c.args.src.now)) (λ s t was now. ap (λ (x : SourceState). x.reading) (g.met.S.Source.one c.args.src.now t s now was))
+pub returns-in_ok-copy-in-Some-clause-stops : goal.returns-in_ok-copy-in-Some-clause-stops
+returns-in_ok-copy-in-Some-clause-stops g c = record {
+  unmissed = λ absent value at is.
+      not_waiting c.args.work.now.follower.window _ absent (sym c.in-Some.ensures.text);
+  reads = tt;
+  sink = search rules;
+}
 
-pub returns-in-None-clause-putting : goal.returns-in-None-clause-putting
-returns-in-None-clause-putting g c groups at found b u = c.store_and_confirm.ensures.putting groups at found b (rests_put g.S.Source g.K.Sink groups at found b c.args.store.now.offset c.args.work.now c.args.report.now c.args.src.now c.args.sink.now u)
-
-pub returns-in-None-clause-put : goal.returns-in-None-clause-put
-returns-in-None-clause-put g c groups at found b u = c.store_and_confirm.ensures.put groups at found b (rests_put g.S.Source g.K.Sink groups at found b c.args.store.now.offset c.args.work.now c.args.report.now c.args.src.now c.args.sink.now u)
-
-pub returns-in_err-copy-in-Some-clause-reads : goal.returns-in_err-copy-in-Some-clause-reads
-returns-in_err-copy-in-Some-clause-reads g c = residual_of c.from_residual.result halt.Memory IsNotGone c.from_residual.ensures.1 tt
-
-pub returns-in_ok-copy-in-Some-clause-reads : goal.returns-in_ok-copy-in-Some-clause-reads
-returns-in_ok-copy-in-Some-clause-reads g c = tt
-
-pub returns-in-None-clause-reads : goal.returns-in-None-clause-reads
-returns-in-None-clause-reads g c = c.store_and_confirm.ensures.reads
-
-pub returns-in_err-copy-in-Some-clause-unmissed : goal.returns-in_err-copy-in-Some-clause-unmissed
-returns-in_err-copy-in-Some-clause-unmissed g c absent value at is = err_at c.from_residual.result _ OfNone (residual_of c.from_residual.result halt.Memory OfNone c.from_residual.ensures.1 tt) is
-
-pub returns-in_ok-copy-in-Some-clause-unmissed : goal.returns-in_ok-copy-in-Some-clause-unmissed
-returns-in_ok-copy-in-Some-clause-unmissed g c absent value at is =
-    not_waiting c.args.work.now.follower.window _ absent (sym c.in-Some.ensures.text)
-
-pub returns-in-None-clause-unmissed : goal.returns-in-None-clause-unmissed
-returns-in-None-clause-unmissed g c absent = c.store_and_confirm.ensures.never
-
-pub returns-in_err-copy-in-Some-clause-own : goal.returns-in_err-copy-in-Some-clause-own
-returns-in_err-copy-in-Some-clause-own g c entry = residual_of c.from_residual.result halt.Memory (IsHonestHalt entry (g.S.Source.stands c.args.src.now)) c.from_residual.ensures.1 tt
-
-pub returns-in_ok-copy-in-Some-clause-own : goal.returns-in_ok-copy-in-Some-clause-own
-returns-in_ok-copy-in-Some-clause-own g c entry = tt
-
-pub returns-in-None-clause-own : goal.returns-in-None-clause-own
-returns-in-None-clause-own g c = c.store_and_confirm.ensures.own
-
-pub returns-in_err-copy-in-Some-clause-most : goal.returns-in_err-copy-in-Some-clause-most
-returns-in_err-copy-in-Some-clause-most g c tell entry s closed =
-    leaves_most _ g.S.Source.may_leave c.args.src.now c.args.report.now.chunks entry.history (λ left may. others_leave_few_marks entry s.stage c.args.work.now left.history c.args.report.now.chunks c.args.report.now.chunks s.work_is s.going closed (same_most c.args.report.now.chunks)
-    (left_rests s.stage.history (state_at_stage s.stage) left s.going.reading.fit.rising refl (g.met.S.Source.only c.args.src.now (state_at_stage s.stage) left s.source_is may)))
-
-pub returns-in_ok-copy-in-Some-clause-most : goal.returns-in_ok-copy-in-Some-clause-most
-returns-in_ok-copy-in-Some-clause-most g c tell entry s closed left may =
-    others_leave_few_marks entry s.stage c.args.work.now left.history c.args.report.now.chunks c.args.report.now.chunks s.work_is s.going closed (same_most c.args.report.now.chunks)
-    (left_rests s.stage.history (state_at_stage s.stage) left s.going.reading.fit.rising refl (g.met.S.Source.only c.args.src.now (state_at_stage s.stage) left s.source_is may))
-
-pub returns-in-None-clause-most : goal.returns-in-None-clause-most
-returns-in-None-clause-most g c = c.store_and_confirm.ensures.most
-
-pub returns-in-None-clause-quiet : goal.returns-in-None-clause-quiet
-returns-in-None-clause-quiet g c = c.store_and_confirm.ensures.quiet
-
-pub returns-in_err-copy-in-Some-clause-content : goal.returns-in_err-copy-in-Some-clause-content
-returns-in_err-copy-in-Some-clause-content g c entry s faithful = residual_of c.from_residual.result halt.Memory (IsFaithfulHalt entry c.args.store.now.offset c.args.report.now (g.S.Source.stands c.args.src.now) (g.K.Sink.holds c.args.sink.now)) c.from_residual.ensures.1 tt
-
-pub returns-in_ok-copy-in-Some-clause-content : goal.returns-in_ok-copy-in-Some-clause-content
-returns-in_ok-copy-in-Some-clause-content g c entry s faithful = tt
-
-pub returns-in-None-clause-content : goal.returns-in-None-clause-content
-returns-in-None-clause-content g c = c.store_and_confirm.ensures.content
-
--- ---- what the store holds
-
-pub returns-in_err-copy-in-Some-clause-held : goal.returns-in_err-copy-in-Some-clause-held
-returns-in_err-copy-in-Some-clause-held g c held other = held
-
-pub returns-in_ok-copy-in-Some-clause-held : goal.returns-in_ok-copy-in-Some-clause-held
-returns-in_ok-copy-in-Some-clause-held g c held other = held
-
-pub returns-in-None-clause-held : goal.returns-in-None-clause-held
-returns-in-None-clause-held g c = c.store_and_confirm.ensures.held
+pub returns-in-None-clause-stops : goal.returns-in-None-clause-stops
+returns-in-None-clause-stops g c = record {
+  unmissed = λ absent. c.store_and_confirm.ensures.stops.never;
+  reads = c.store_and_confirm.ensures.stops.reads;
+  sink = search rules;
+}
 
 -- ---- whose fault it is
 
-pub returns-in_err-copy-in-Some-clause-source : goal.returns-in_err-copy-in-Some-clause-source
-returns-in_err-copy-in-Some-clause-source g c = record { later = le_refl _; cause = λ is. absurd (err_at c.from_residual.result _ OfNone (residual_of c.from_residual.result halt.Memory OfNone c.from_residual.ensures.1 tt) is) }
+pub returns-in_err-copy-in-Some-clause-store : goal.returns-in_err-copy-in-Some-clause-store
+returns-in_err-copy-in-Some-clause-store g c = record {
+  live = search rules;
+  comes = search rules;
+  cause = record { later = le_refl _; cause = λ is. absurd (err_at c.from_residual.result _ OfNone (residual_of c.from_residual.result halt.Memory OfNone c.from_residual.ensures.1 tt) is) };
+}
 
-pub returns-in_err-copy-in-Some-clause-offsets : goal.returns-in_err-copy-in-Some-clause-offsets
-returns-in_err-copy-in-Some-clause-offsets g c = record { later = le_refl _; cause = λ is. absurd (err_at c.from_residual.result _ OfNone (residual_of c.from_residual.result halt.Memory OfNone c.from_residual.ensures.1 tt) is) }
-
-pub returns-in_ok-copy-in-Some-clause-source : goal.returns-in_ok-copy-in-Some-clause-source
-returns-in_ok-copy-in-Some-clause-source g c = record { later = le_refl _; cause = λ is. absurd (let i = is in cc) }
-
-pub returns-in_ok-copy-in-Some-clause-offsets : goal.returns-in_ok-copy-in-Some-clause-offsets
-returns-in_ok-copy-in-Some-clause-offsets g c = record { later = le_refl _; cause = λ is. absurd (let i = is in cc) }
+pub returns-in_ok-copy-in-Some-clause-store : goal.returns-in_ok-copy-in-Some-clause-store
+returns-in_ok-copy-in-Some-clause-store g c = record {
+  live = search rules;
+  comes = search rules;
+  cause = record { later = le_refl _; cause = λ is. absurd (let i = is in cc) };
+}
 
 pub returns-in-None-clause-source : goal.returns-in-None-clause-source
-returns-in-None-clause-source g c = c.store_and_confirm.ensures.source
+returns-in-None-clause-source g c = record {
+  live = search rules;
+  honest = search rules;
+  comes = search rules;
+  cause = c.store_and_confirm.ensures.source.cause;
+}
 
-pub returns-in-None-clause-offsets : goal.returns-in-None-clause-offsets
-returns-in-None-clause-offsets g c = c.store_and_confirm.ensures.offsets
+pub returns-in-None-clause-store : goal.returns-in-None-clause-store
+returns-in-None-clause-store g c = record {
+  live = search rules;
+  comes = search rules;
+  cause = c.store_and_confirm.ensures.store.cause;
+}

@@ -1,4 +1,4 @@
-use Rattle.std.proofs.Common.{◌≡◌, ◌∙◌, ◌⊎◌, Err, Option, Some, subst, inl, inr, refl, sym, ap, le_refl}
+use Rattle.std.proofs.Common.{◌≡◌, ◌∙◌, ◌⊎◌, Err, Option, Some, subst, inl, inr, refl, sym, ap, le_refl, rules}
 use Rattle.dbl_source.specs.SourceModel.Calls.{IsConfirmed}
 use Rattle.dbl_source.specs.SourceModel.Leaves.{MayFollowConfirm}
 use Rattle.dbl_offset_content.specs.declared.offset.Offset.{Offset}
@@ -37,236 +37,298 @@ use Rattle.dbl_capture_laws.specs.HasState.{IsHaltStanding}
 use Rattle.dbl_capture.proofs.settle.store_and_confirm.Goals as goal
 
 -- nothing was asked of the three yet
-pub returns-in_err-offset-clause-left : goal.returns-in_err-offset-clause-left
-returns-in_err-offset-clause-left g c tell entry s honest =
-    on_err _ _ (rests s _ (g.met.S.Source.only _) (g.met.S.Source.may _) (g.met.K.Sink.only _) (g.met.K.Sink.may _) honest (λ h l is. g.met.S.Source.fit _ l is h) (some_chunk s))
+pub returns-in_err-offset-clause-session : goal.returns-in_err-offset-clause-session
+returns-in_err-offset-clause-session g c = record {
+  next = search rules;
+  whole = search rules;
+  left = λ tell entry s honest.
+      on_err _ _ (rests s _ (g.met.S.Source.only _) (g.met.S.Source.may _) (g.met.K.Sink.only _) (g.met.K.Sink.may _) honest (λ h l is. g.met.S.Source.fit _ l is h) (some_chunk s));
+  own = λ entry. residual_of c.from_residual.result halt.Memory (IsHonestHalt entry (g.S.Source.stands c.args.src.now)) c.from_residual.ensures.1 tt;
+  most = λ tell entry s closed.
+      leaves_most _ g.S.Source.may_leave c.args.src.now c.args.report.now.chunks entry.history (λ left may. others_leave_few_marks entry s.stage c.args.work.now left.history c.args.report.now.chunks c.args.report.now.chunks s.work_is s.going closed (same_most c.args.report.now.chunks)
+      (left_rests s.stage.history (state_at_stage s.stage) left s.going.reading.fit.rising refl (g.met.S.Source.only c.args.src.now (state_at_stage s.stage) left s.source_is may)));
+  content = λ entry s faithful. residual_of c.from_residual.result halt.Memory (IsFaithfulHalt entry c.args.store.now.offset c.args.report.now (g.S.Source.stands c.args.src.now) (g.K.Sink.holds c.args.sink.now)) c.from_residual.ensures.1 tt;
+}
 
 -- the store failed
-pub returns-in_err-put_offset-clause-left : goal.returns-in_err-put_offset-clause-left
-returns-in_err-put_offset-clause-left g c tell entry s honest =
-    on_err _ _
-    (store_fails s c.put_offset.new.store _
-    (λ t. subst (λ (o : Offset). LeavesOffset g.D.Disk (disk_of c.put_offset.new.store) (λ left. (left ≡ Some s.stage.stored) ⊎ (left ≡ Some o))) c.in_ok-offset.ensures.next (c.put_offset.ensures.left (Some s.stage.stored) (s.store_is t)))
-    (g.met.S.Source.only _) (g.met.S.Source.may _) honest (λ h l is. g.met.S.Source.fit _ l is h)
-    (λ t groups is. g.met.K.Sink.only _ s.stage.groups groups (s.sink_is t) is) (λ t. (s.stage.groups, g.met.K.Sink.may _ s.stage.groups (s.sink_is t))))
+pub returns-in_err-put_offset-clause-session : goal.returns-in_err-put_offset-clause-session
+returns-in_err-put_offset-clause-session g c = record {
+  next = search rules;
+  whole = search rules;
+  left = λ tell entry s honest.
+      on_err _ _
+      (store_fails s c.put_offset.new.store _
+      (λ t. subst (λ (o : Offset). LeavesOffset g.D.Disk (disk_of c.put_offset.new.store) (λ left. (left ≡ Some s.stage.stored) ⊎ (left ≡ Some o))) c.in_ok-offset.ensures.next (c.put_offset.ensures.left (Some s.stage.stored) (s.store_is t)))
+      (g.met.S.Source.only _) (g.met.S.Source.may _) honest (λ h l is. g.met.S.Source.fit _ l is h)
+      (λ t groups is. g.met.K.Sink.only _ s.stage.groups groups (s.sink_is t) is) (λ t. (s.stage.groups, g.met.K.Sink.may _ s.stage.groups (s.sink_is t))));
+  own = λ entry.
+      residual_of c.from_residual-in_err-put_offset.result _ (IsHonestHalt entry (g.S.Source.stands c.args.src.now)) c.from_residual-in_err-put_offset.ensures.1 (store_honest entry (g.S.Source.stands c.args.src.now) _ _ c.in_err-put_offset.ensures.halt);
+  most = λ tell entry s closed.
+      leaves_most _ g.S.Source.may_leave c.args.src.now c.args.report.now.chunks entry.history (λ left may. others_leave_few_marks entry s.stage c.args.work.now left.history c.args.report.now.chunks c.args.report.now.chunks s.work_is s.going closed (same_most c.args.report.now.chunks)
+      (left_rests s.stage.history (state_at_stage s.stage) left s.going.reading.fit.rising refl (g.met.S.Source.only c.args.src.now (state_at_stage s.stage) left s.source_is may)));
+  content = λ entry s faithful.
+      residual_of c.from_residual-in_err-put_offset.result _ (IsFaithfulHalt entry c.put_offset.new.store.offset c.args.report.now (g.S.Source.stands c.args.src.now) (g.K.Sink.holds c.args.sink.now)) c.from_residual-in_err-put_offset.ensures.1
+      (store_own s faithful c.put_offset.new.store.offset c.args.report.now _ (subst (λ (o : Offset). (c.in_err-put_offset.field-0.0 ≡ halt.Memory) ⊎ ((c.in_err-put_offset.field-0.0 ≡ halt.Offsets) ⊎ IsTooLong o c.in_err-put_offset.field-0.0)) c.in_ok-offset.ensures.next c.in_err-put_offset.ensures.halt));
+}
 
 -- the confirm after it failed
-pub returns-in_err-confirm-clause-left : goal.returns-in_err-confirm-clause-left
-returns-in_err-confirm-clause-left g c tell entry s honest =
-    on_err _ _
-    (settle_fails s c.confirm.new.self c.put_offset.new.store
-    (λ t. subst (λ (o : Offset). HoldsOffset g.D.Disk c.put_offset.new.store (Some o)) c.in_ok-offset.ensures.next (c.in_ok-put_offset.ensures.stored (Some s.stage.stored) (s.store_is t)))
-    (λ left is. subst (λ (o : Offset). MayFollowConfirm o.lsn (state_at_stage s.stage) left) c.in_ok-offset.ensures.next (c.confirm.ensures.left (state_at_stage s.stage) left s.source_is is))
-    (λ left is. g.met.S.Source.fit _ left is honest)
-    (λ t groups is. g.met.K.Sink.only _ s.stage.groups groups (s.sink_is t) is)
-    (c.confirm.ensures.some (state_at_stage s.stage) s.source_is) (λ t. (s.stage.groups, g.met.K.Sink.may _ s.stage.groups (s.sink_is t))))
+pub returns-in_err-confirm-clause-session : goal.returns-in_err-confirm-clause-session
+returns-in_err-confirm-clause-session g c = record {
+  next = search rules;
+  whole = search rules;
+  left = λ tell entry s honest.
+      on_err _ _
+      (settle_fails s c.confirm.new.self c.put_offset.new.store
+      (λ t. subst (λ (o : Offset). HoldsOffset g.D.Disk c.put_offset.new.store (Some o)) c.in_ok-offset.ensures.next (c.in_ok-put_offset.ensures.stored (Some s.stage.stored) (s.store_is t)))
+      (λ left is. subst (λ (o : Offset). MayFollowConfirm o.lsn (state_at_stage s.stage) left) c.in_ok-offset.ensures.next (c.confirm.ensures.left (state_at_stage s.stage) left s.source_is is))
+      (λ left is. g.met.S.Source.fit _ left is honest)
+      (λ t groups is. g.met.K.Sink.only _ s.stage.groups groups (s.sink_is t) is)
+      (c.confirm.ensures.some (state_at_stage s.stage) s.source_is) (λ t. (s.stage.groups, g.met.K.Sink.may _ s.stage.groups (s.sink_is t))));
+  own = λ entry.
+      residual_of c.from_residual-in_err-confirm.result _ (IsHonestHalt entry (g.S.Source.stands c.confirm.new.self)) c.from_residual-in_err-confirm.ensures.1 (source_honest entry (g.S.Source.stands c.confirm.new.self) c.in_err-confirm.field-0.0);
+  most = λ tell entry s closed.
+      leaves_most _ g.S.Source.may_leave c.confirm.new.self c.args.report.now.chunks entry.history (λ left may. others_leave_few_marks entry s.stage c.args.work.now left.history c.args.report.now.chunks c.args.report.now.chunks s.work_is s.going closed (same_most c.args.report.now.chunks) (c.confirm.ensures.left (state_at_stage s.stage) left s.source_is may).grows);
+  content = λ entry s faithful.
+      residual_of c.from_residual-in_err-confirm.result _ (IsFaithfulHalt entry c.put_offset.new.store.offset (record c.args.report.now { position = c.in_ok-offset.offset.lsn.0 }) (g.S.Source.stands c.confirm.new.self) (g.K.Sink.holds c.args.sink.now)) c.from_residual-in_err-confirm.ensures.1
+      (free_own entry c.put_offset.new.store.offset (record c.args.report.now { position = c.in_ok-offset.offset.lsn.0 }) (g.S.Source.stands c.confirm.new.self) (g.K.Sink.holds c.args.sink.now) _ (source_free c.in_err-confirm.field-0.0));
+}
 
 -- both were answered
-pub returns-clause-settled : goal.returns-clause-settled
-returns-clause-settled g c tell entry s honest =
-    let stood = c.in_ok-confirm.ensures.confirmed (state_at_stage s.stage) s.source_is in
-    settled_on s c.confirm.new.self c.put_offset.new.store stood.standing
-    (λ t. subst (λ (o : Offset). HoldsOffset g.D.Disk c.put_offset.new.store (Some o)) c.in_ok-offset.ensures.next (c.in_ok-put_offset.ensures.stored (Some s.stage.stored) (s.store_is t)))
-    stood.is (subst (λ (o : Offset). IsConfirmed o.lsn (state_at_stage s.stage) stood.standing) c.in_ok-offset.ensures.next stood.holds)
-    (g.met.S.Source.fit _ _ (g.met.S.Source.may _ stood.standing stood.is) honest)
-
-pub returns-clause-whole : goal.returns-clause-whole
-returns-clause-whole g c tell entry h honest =
-    let stood = c.in_ok-confirm.ensures.confirmed (state_at_stage h.is.stage) h.is.source_is in
-    settled_whole h c.confirm.new.self c.put_offset.new.store stood.standing
-    (λ t. subst (λ (o : Offset). HoldsOffset g.D.Disk c.put_offset.new.store (Some o)) c.in_ok-offset.ensures.next (c.in_ok-put_offset.ensures.stored (Some h.is.stage.stored) (h.is.store_is t)))
-    stood.is (subst (λ (o : Offset). IsConfirmed o.lsn (state_at_stage h.is.stage) stood.standing) c.in_ok-offset.ensures.next stood.holds)
-    (g.met.S.Source.fit _ _ (g.met.S.Source.may _ stood.standing stood.is) honest)
+pub returns-clause-session : goal.returns-clause-session
+returns-clause-session g c = record {
+  next = λ tell entry s honest.
+      let stood = c.in_ok-confirm.ensures.confirmed (state_at_stage s.stage) s.source_is in
+      settled_on s c.confirm.new.self c.put_offset.new.store stood.standing
+      (λ t. subst (λ (o : Offset). HoldsOffset g.D.Disk c.put_offset.new.store (Some o)) c.in_ok-offset.ensures.next (c.in_ok-put_offset.ensures.stored (Some s.stage.stored) (s.store_is t)))
+      stood.is (subst (λ (o : Offset). IsConfirmed o.lsn (state_at_stage s.stage) stood.standing) c.in_ok-offset.ensures.next stood.holds)
+      (g.met.S.Source.fit _ _ (g.met.S.Source.may _ stood.standing stood.is) honest);
+  whole = λ tell entry h honest.
+      let stood = c.in_ok-confirm.ensures.confirmed (state_at_stage h.is.stage) h.is.source_is in
+      settled_whole h c.confirm.new.self c.put_offset.new.store stood.standing
+      (λ t. subst (λ (o : Offset). HoldsOffset g.D.Disk c.put_offset.new.store (Some o)) c.in_ok-offset.ensures.next (c.in_ok-put_offset.ensures.stored (Some h.is.stage.stored) (h.is.store_is t)))
+      stood.is (subst (λ (o : Offset). IsConfirmed o.lsn (state_at_stage h.is.stage) stood.standing) c.in_ok-offset.ensures.next stood.holds)
+      (g.met.S.Source.fit _ _ (g.met.S.Source.may _ stood.standing stood.is) honest);
+  left = search rules;
+  own = search rules;
+  most = search rules;
+  content = search rules;
+}
 
 -- ---- counts, and what no call undoes
 
-pub returns-in_err-offset-clause-source_comes : goal.returns-in_err-offset-clause-source_comes
-returns-in_err-offset-clause-source_comes g c = g.met.S.Source.comes_self _
+pub returns-in_err-offset-clause-source : goal.returns-in_err-offset-clause-source
+returns-in_err-offset-clause-source g c = record {
+  live = search rules;
+  honest = search rules;
+  comes = g.met.S.Source.comes_self _;
+  cause = record { later = le_refl _; cause = λ is. absurd (err_at c.from_residual.result _ OfNone (residual_of c.from_residual.result halt.Memory OfNone c.from_residual.ensures.1 tt) is) };
+}
 
-pub returns-in_err-put_offset-clause-source_comes : goal.returns-in_err-put_offset-clause-source_comes
-returns-in_err-put_offset-clause-source_comes g c = g.met.S.Source.comes_self _
+pub returns-in_err-put_offset-clause-source : goal.returns-in_err-put_offset-clause-source
+returns-in_err-put_offset-clause-source g c = record {
+  live = search rules;
+  honest = search rules;
+  comes = g.met.S.Source.comes_self _;
+  cause = record { later = le_refl _; cause = λ is. absurd (err_at c.from_residual-in_err-put_offset.result _ OfStore (residual_of c.from_residual-in_err-put_offset.result _ OfStore c.from_residual-in_err-put_offset.ensures.1 (store_of _ _ c.in_err-put_offset.ensures.halt)) is) };
+}
 
-pub returns-in_err-offset-clause-sink : goal.returns-in_err-offset-clause-sink
-returns-in_err-offset-clause-sink g c is = err_at c.from_residual.result _ OfNone (residual_of c.from_residual.result halt.Memory OfNone c.from_residual.ensures.1 tt) is
+pub returns-in_err-offset-clause-stops : goal.returns-in_err-offset-clause-stops
+returns-in_err-offset-clause-stops g c = record {
+  never = λ value at is. err_at c.from_residual.result _ OfNone (residual_of c.from_residual.result halt.Memory OfNone c.from_residual.ensures.1 tt) is;
+  reads = residual_of c.from_residual.result halt.Memory IsNotGone c.from_residual.ensures.1 tt;
+  sink = λ is. err_at c.from_residual.result _ OfNone (residual_of c.from_residual.result halt.Memory OfNone c.from_residual.ensures.1 tt) is;
+}
+
+pub returns-in_err-offset-clause-state : goal.returns-in_err-offset-clause-state
+returns-in_err-offset-clause-state g c = record {
+  same = search rules;
+  held = λ held other. held;
+  still = search rules;
+  reading = search rules;
+  quiet = search rules;
+  reported =
+      let p = err_from_is_err_and c.from_residual.result c.from_residual.ensures.1 in
+      report_err c.from_residual.result p.0 c.args.store.now.offset c.args.store.now.offset c.args.work.now c.args.report.now c.args.report.now p.1 (inl (refl, refl));
+}
+
+pub returns-in_err-put_offset-clause-stops : goal.returns-in_err-put_offset-clause-stops
+returns-in_err-put_offset-clause-stops g c = record {
+  never = λ value at is. err_at c.from_residual-in_err-put_offset.result _ OfStore (residual_of c.from_residual-in_err-put_offset.result _ OfStore c.from_residual-in_err-put_offset.ensures.1 (store_of _ _ c.in_err-put_offset.ensures.halt)) is;
+  reads = residual_of c.from_residual-in_err-put_offset.result _ IsNotGone c.from_residual-in_err-put_offset.ensures.1 (store_reads _ _ c.in_err-put_offset.ensures.halt);
+  sink = λ is. err_at c.from_residual-in_err-put_offset.result _ OfStore (residual_of c.from_residual-in_err-put_offset.result _ OfStore c.from_residual-in_err-put_offset.ensures.1 (store_of _ _ c.in_err-put_offset.ensures.halt)) is;
+}
+
+pub returns-in_err-put_offset-clause-state : goal.returns-in_err-put_offset-clause-state
+returns-in_err-put_offset-clause-state g c = record {
+  same = search rules;
+  held = λ held other.
+      held_same g.D.Disk c.args.store.now c.put_offset.new.store
+      (c.in_err-put_offset.ensures.kept (λ is. other (residual_on c.put_offset.result c.from_residual-in_err-put_offset.result _ halt.Offsets (c.in_err-put_offset.was ∙ is) c.in_err-put_offset.was c.from_residual-in_err-put_offset.ensures.1))) held;
+  still = search rules;
+  reading = search rules;
+  quiet = search rules;
+  reported =
+      let p = err_from_is_err_and c.from_residual-in_err-put_offset.result c.from_residual-in_err-put_offset.ensures.1 in
+      report_err c.from_residual-in_err-put_offset.result p.0 c.args.store.now.offset c.put_offset.new.store.offset c.args.work.now c.args.report.now c.args.report.now p.1 (inl (c.in_err-put_offset.ensures.keeps, refl));
+}
+
+pub returns-in_err-confirm-clause-stops : goal.returns-in_err-confirm-clause-stops
+returns-in_err-confirm-clause-stops g c = record {
+  never = λ value at is. err_at c.from_residual-in_err-confirm.result _ OfSource (residual_of c.from_residual-in_err-confirm.result _ OfSource c.from_residual-in_err-confirm.ensures.1 (source_of c.in_err-confirm.field-0.0)) is;
+  reads = residual_of c.from_residual-in_err-confirm.result _ IsNotGone c.from_residual-in_err-confirm.ensures.1 (source_reads c.in_err-confirm.field-0.0);
+  sink = λ is. err_at c.from_residual-in_err-confirm.result _ OfSource (residual_of c.from_residual-in_err-confirm.result _ OfSource c.from_residual-in_err-confirm.ensures.1 (source_of c.in_err-confirm.field-0.0)) is;
+}
+
+pub returns-in_err-confirm-clause-state : goal.returns-in_err-confirm-clause-state
+returns-in_err-confirm-clause-state g c = record {
+  same = search rules;
+  held = λ held other. held_stored g.D.Disk c.put_offset.new.store c.in_ok-offset.offset c.in_ok-put_offset.ensures.loads (c.in_ok-put_offset.ensures.stored c.args.store.now.offset held);
+  still = search rules;
+  reading = search rules;
+  quiet = search rules;
+  reported =
+      let p = err_from_is_err_and c.from_residual-in_err-confirm.result c.from_residual-in_err-confirm.ensures.1 in
+      report_err c.from_residual-in_err-confirm.result p.0 c.args.store.now.offset c.put_offset.new.store.offset c.args.work.now c.args.report.now (record c.args.report.now { position = c.in_ok-offset.offset.lsn.0 }) p.1 (inr (c.in_ok-put_offset.ensures.loads ∙ ap (λ (o : Offset). Some o) c.in_ok-offset.ensures.next, ap (λ (o : Offset). record c.args.report.now { position = o.lsn.0 }) c.in_ok-offset.ensures.next));
+}
+
+pub returns-clause-state : goal.returns-clause-state
+returns-clause-state g c = record {
+  same = search rules;
+  held = λ held other. held_stored g.D.Disk c.put_offset.new.store c.in_ok-offset.offset c.in_ok-put_offset.ensures.loads (c.in_ok-put_offset.ensures.stored c.args.store.now.offset held);
+  still = search rules;
+  reading = search rules;
+  quiet = done_quiet (g.S.Source.told c.confirm.new.self) c.in_ok-confirm.ensures.told;
+  reported = (c.in_ok-put_offset.ensures.loads ∙ ap (λ (o : Offset). Some o) c.in_ok-offset.ensures.next, ap (λ (o : Offset). record c.args.report.now { position = o.lsn.0 }) c.in_ok-offset.ensures.next);
+}
+
+pub returns-clause-stops : goal.returns-clause-stops
+returns-clause-stops g c = record {
+  never = λ value at is. cc;
+  reads = search rules;
+  sink = search rules;
+}
 
 pub returns-in_err-offset-clause-report : goal.returns-in_err-offset-clause-report
-returns-in_err-offset-clause-report g c =
-    let p = err_from_is_err_and c.from_residual.result c.from_residual.ensures.1 in
-    report_err c.from_residual.result p.0 c.args.store.now.offset c.args.store.now.offset c.args.work.now c.args.report.now c.args.report.now p.1 (inl (refl, refl))
-
-pub returns-in_err-put_offset-clause-sink : goal.returns-in_err-put_offset-clause-sink
-returns-in_err-put_offset-clause-sink g c is = err_at c.from_residual-in_err-put_offset.result _ OfStore (residual_of c.from_residual-in_err-put_offset.result _ OfStore c.from_residual-in_err-put_offset.ensures.1 (store_of _ _ c.in_err-put_offset.ensures.halt)) is
+returns-in_err-offset-clause-report g c = record {
+  all = search rules;
+  halted = λ at found b u quiet.
+      residual_of c.from_residual.result halt.Memory (Halts g.S.Source at found b.config b.now b.held c.args.store.now.offset c.args.report.now c.args.src.now) c.from_residual.ensures.1
+      (record { halted = halts_between g.S.Source at found b c.args.store.now.offset c.args.store.now.offset c.args.work.now c.args.report.now c.args.report.now c.args.src.now c.args.src.now halt.Memory u (none_taken (g.S.Source.told c.args.src.now)) (λ s t was now. ap (λ (x : SourceState). x.reading) (g.met.S.Source.one c.args.src.now t s now was)) memory_left refl refl (inl refl); stood = λ s first. memory_stood b.config b.now b.held c.args.store.now.offset c.args.report.now (g.S.Source.stands c.args.src.now) halt.Memory refl; cause = memory_caused b.config b.now b.held c.args.store.now.offset c.args.report.now (g.S.Source.told c.args.src.now) halt.Memory refl; must = quiet_asks b u.messages c.args.store.now.offset c.args.work.now c.args.report.now c.args.report.now found (g.S.Source.told c.args.src.now) c.args.store.now.offset (Err halt.Memory) u.is u.tells quiet (inl refl) });
+  awaits = search rules;
+}
 
 pub returns-in_err-put_offset-clause-report : goal.returns-in_err-put_offset-clause-report
-returns-in_err-put_offset-clause-report g c =
-    let p = err_from_is_err_and c.from_residual-in_err-put_offset.result c.from_residual-in_err-put_offset.ensures.1 in
-    report_err c.from_residual-in_err-put_offset.result p.0 c.args.store.now.offset c.put_offset.new.store.offset c.args.work.now c.args.report.now c.args.report.now p.1 (inl (c.in_err-put_offset.ensures.keeps, refl))
-
-pub returns-in_err-confirm-clause-sink : goal.returns-in_err-confirm-clause-sink
-returns-in_err-confirm-clause-sink g c is = err_at c.from_residual-in_err-confirm.result _ OfSource (residual_of c.from_residual-in_err-confirm.result _ OfSource c.from_residual-in_err-confirm.ensures.1 (source_of c.in_err-confirm.field-0.0)) is
+returns-in_err-put_offset-clause-report g c = record {
+  all = search rules;
+  halted = λ at found b u quiet.
+      residual_of c.from_residual-in_err-put_offset.result _ (Halts g.S.Source at found b.config b.now b.held c.put_offset.new.store.offset c.args.report.now c.args.src.now) c.from_residual-in_err-put_offset.ensures.1
+      (record { halted = halts_between g.S.Source at found b c.args.store.now.offset c.put_offset.new.store.offset c.args.work.now c.args.report.now c.args.report.now c.args.src.now c.args.src.now _ u (none_taken (g.S.Source.told c.args.src.now)) (λ s t was now. ap (λ (x : SourceState). x.reading) (g.met.S.Source.one c.args.src.now t s now was)) (store_left _ _ c.in_err-put_offset.ensures.halt) refl refl (inl c.in_err-put_offset.ensures.keeps); stood = λ s first. subst (λ (o : Option Offset). IsHaltStanding b.config b.now b.held o c.args.report.now (g.S.Source.stands c.args.src.now) c.in_err-put_offset.field-0.0) (sym c.in_err-put_offset.ensures.keeps) (offsets_stood g.S.Source at found b c.args.store.now.offset c.args.work.now c.args.src.now c.args.src.now c.args.report.now c.in_err-put_offset.field-0.0 u (subst IsOffset c.in_ok-offset.ensures.next c.in_ok-offset.ensures.asked) (subst (λ (o : Offset). (c.in_err-put_offset.field-0.0 ≡ halt.Memory) ⊎ ((c.in_err-put_offset.field-0.0 ≡ halt.Offsets) ⊎ IsTooLong o c.in_err-put_offset.field-0.0)) c.in_ok-offset.ensures.next c.in_err-put_offset.ensures.halt) s first); cause = subst (λ (o : Option Offset). IsHalt b.config b.now b.held o c.args.report.now (g.S.Source.told c.args.src.now) c.in_err-put_offset.field-0.0) (sym c.in_err-put_offset.ensures.keeps) (store_caused b u.messages c.args.store.now.offset c.args.work.now c.args.report.now found (g.S.Source.told c.args.src.now) _ u.is u.tells (subst IsOffset c.in_ok-offset.ensures.next c.in_ok-offset.ensures.asked) (subst (λ (o : Offset). (c.in_err-put_offset.field-0.0 ≡ halt.Memory) ⊎ ((c.in_err-put_offset.field-0.0 ≡ halt.Offsets) ⊎ IsTooLong o c.in_err-put_offset.field-0.0)) c.in_ok-offset.ensures.next c.in_err-put_offset.ensures.halt)); must = quiet_asks b u.messages c.args.store.now.offset c.args.work.now c.args.report.now c.args.report.now found (g.S.Source.told c.args.src.now) c.put_offset.new.store.offset (Err c.in_err-put_offset.field-0.0) u.is u.tells quiet (inl c.in_err-put_offset.ensures.keeps) });
+  awaits = search rules;
+}
 
 pub returns-in_err-confirm-clause-report : goal.returns-in_err-confirm-clause-report
-returns-in_err-confirm-clause-report g c =
-    let p = err_from_is_err_and c.from_residual-in_err-confirm.result c.from_residual-in_err-confirm.ensures.1 in
-    report_err c.from_residual-in_err-confirm.result p.0 c.args.store.now.offset c.put_offset.new.store.offset c.args.work.now c.args.report.now (record c.args.report.now { position = c.in_ok-offset.offset.lsn.0 }) p.1 (inr (c.in_ok-put_offset.ensures.loads ∙ ap (λ (o : Offset). Some o) c.in_ok-offset.ensures.next, ap (λ (o : Offset). record c.args.report.now { position = o.lsn.0 }) c.in_ok-offset.ensures.next))
+returns-in_err-confirm-clause-report g c = record {
+  all = search rules;
+  halted = λ at found b u quiet.
+      residual_of c.from_residual-in_err-confirm.result _ (Halts g.S.Source at found b.config b.now b.held c.put_offset.new.store.offset (record c.args.report.now { position = c.in_ok-offset.offset.lsn.0 }) c.confirm.new.self) c.from_residual-in_err-confirm.ensures.1
+      (record {
+        halted = halts_between g.S.Source at found b c.args.store.now.offset c.put_offset.new.store.offset c.args.work.now c.args.report.now (record c.args.report.now { position = c.in_ok-offset.offset.lsn.0 }) c.args.src.now c.confirm.new.self _ u c.confirm.ensures.taken
+            (λ s t was now. absurd (dead_source (g.S.Source.is_live c.confirm.new.self) (g.met.S.Source.lives c.confirm.new.self t now) c.in_err-confirm.ensures.dead)) (source_left c.in_err-confirm.field-0.0) refl refl (inr (c.in_ok-put_offset.ensures.loads ∙ ap (λ (o : Offset). Some o) c.in_ok-offset.ensures.next));
+        stood = λ s first. source_stood b.config b.now b.held c.put_offset.new.store.offset (record c.args.report.now { position = c.in_ok-offset.offset.lsn.0 }) (g.S.Source.stands c.confirm.new.self) c.in_err-confirm.field-0.0;
+        cause = source_caused b.config b.now b.held c.put_offset.new.store.offset (record c.args.report.now { position = c.in_ok-offset.offset.lsn.0 }) (g.S.Source.told c.confirm.new.self) c.in_err-confirm.field-0.0;
+        must = failure_asks b u.messages c.args.store.now.offset c.args.work.now c.args.report.now (record c.args.report.now { position = c.in_ok-offset.offset.lsn.0 }) found (g.S.Source.told c.args.src.now) (g.S.Source.told c.confirm.new.self) c.put_offset.new.store.offset _ u.is u.tells c.confirm.ensures.taken (source_fails c.in_err-confirm.field-0.0) (inr (c.in_ok-put_offset.ensures.loads ∙ ap (λ (o : Offset). Some o) c.in_ok-offset.ensures.next));
+      });
+  awaits = search rules;
+}
 
 pub returns-clause-report : goal.returns-clause-report
-returns-clause-report g c = (c.in_ok-put_offset.ensures.loads ∙ ap (λ (o : Offset). Some o) c.in_ok-offset.ensures.next, ap (λ (o : Offset). record c.args.report.now { position = o.lsn.0 }) c.in_ok-offset.ensures.next)
+returns-clause-report g c = record {
+  all = λ at found b u.
+      settles_on g.S.Source at found b c.args.store.now.offset c.put_offset.new.store.offset c.args.work.now (record c.args.work.now { since = 0 }) c.args.report.now (record c.args.report.now { position = c.in_ok-offset.offset.lsn.0 }) c.args.src.now c.confirm.new.self u (c.in_ok-put_offset.ensures.loads ∙ ap (λ (o : Offset). Some o) c.in_ok-offset.ensures.next) refl refl c.confirm.ensures.taken
+      (λ s is. subst (λ (o : Offset). HasState g.S.Source.stands c.confirm.new.self (IsConfirmed o.lsn s)) c.in_ok-offset.ensures.next (c.in_ok-confirm.ensures.confirmed s is));
+  halted = search rules;
+  awaits = λ a.
+      let t = c.in_ok-confirm.ensures.confirmed a.standing a.is in
+      awaits_still g.S.Source c.args.work.now (record c.args.work.now { since = 0 }) c.args.src.now c.confirm.new.self a t.standing t.is t.holds.grows t.holds.reading refl refl;
+}
 
-pub returns-in_err-offset-clause-never : goal.returns-in_err-offset-clause-never
-returns-in_err-offset-clause-never g c value at is = err_at c.from_residual.result _ OfNone (residual_of c.from_residual.result halt.Memory OfNone c.from_residual.ensures.1 tt) is
+pub returns-in_err-offset-clause-puts : goal.returns-in_err-offset-clause-puts
+returns-in_err-offset-clause-puts g c = record {
+  putting = search rules;
+  put = λ groups at found b u.
+      residual_of c.from_residual.result halt.Memory (HasHaltedPut g.S.Source g.K.Sink groups at b.config b.now b.held c.args.store.now.offset c.args.report.now c.args.src.now c.args.sink.now) c.from_residual.ensures.1
+      (halts_put_nothing g.S.Source g.K.Sink groups at found b c.args.store.now.offset c.args.store.now.offset c.args.work.now c.args.report.now c.args.report.now c.args.src.now c.args.src.now c.args.sink.now halt.Memory u (g.met.K.Sink.only c.args.sink.now) (none_other halt.Memory tt) refl refl refl (inl refl)
+      memory_left refl refl (none_taken (g.S.Source.told c.args.src.now)) (λ s t was now. ap (λ (x : SourceState). x.reading) (g.met.S.Source.one c.args.src.now t s now was)));
+}
 
-pub returns-in_err-put_offset-clause-never : goal.returns-in_err-put_offset-clause-never
-returns-in_err-put_offset-clause-never g c value at is = err_at c.from_residual-in_err-put_offset.result _ OfStore (residual_of c.from_residual-in_err-put_offset.result _ OfStore c.from_residual-in_err-put_offset.ensures.1 (store_of _ _ c.in_err-put_offset.ensures.halt)) is
+pub returns-in_err-put_offset-clause-puts : goal.returns-in_err-put_offset-clause-puts
+returns-in_err-put_offset-clause-puts g c = record {
+  putting = search rules;
+  put = λ groups at found b u.
+      residual_of c.from_residual-in_err-put_offset.result _ (HasHaltedPut g.S.Source g.K.Sink groups at b.config b.now b.held c.put_offset.new.store.offset c.args.report.now c.args.src.now c.args.sink.now) c.from_residual-in_err-put_offset.ensures.1
+      (halts_put_nothing g.S.Source g.K.Sink groups at found b c.args.store.now.offset c.put_offset.new.store.offset c.args.work.now c.args.report.now c.args.report.now c.args.src.now c.args.src.now c.args.sink.now _ u (g.met.K.Sink.only c.args.sink.now) (store_other _ (store_of _ _ c.in_err-put_offset.ensures.halt)) refl refl refl (inl c.in_err-put_offset.ensures.keeps)
+      (store_left _ _ c.in_err-put_offset.ensures.halt) refl refl (none_taken (g.S.Source.told c.args.src.now)) (λ s t was now. ap (λ (x : SourceState). x.reading) (g.met.S.Source.one c.args.src.now t s now was)));
+}
 
-pub returns-in_err-confirm-clause-never : goal.returns-in_err-confirm-clause-never
-returns-in_err-confirm-clause-never g c value at is = err_at c.from_residual-in_err-confirm.result _ OfSource (residual_of c.from_residual-in_err-confirm.result _ OfSource c.from_residual-in_err-confirm.ensures.1 (source_of c.in_err-confirm.field-0.0)) is
+pub returns-in_err-confirm-clause-puts : goal.returns-in_err-confirm-clause-puts
+returns-in_err-confirm-clause-puts g c = record {
+  putting = search rules;
+  put = λ groups at found b u.
+      residual_of c.from_residual-in_err-confirm.result _ (HasHaltedPut g.S.Source g.K.Sink groups at b.config b.now b.held c.put_offset.new.store.offset (record c.args.report.now { position = c.in_ok-offset.offset.lsn.0 }) c.confirm.new.self c.args.sink.now) c.from_residual-in_err-confirm.ensures.1
+      (halts_put_nothing g.S.Source g.K.Sink groups at found b c.args.store.now.offset c.put_offset.new.store.offset c.args.work.now c.args.report.now (record c.args.report.now { position = c.in_ok-offset.offset.lsn.0 }) c.args.src.now c.confirm.new.self c.args.sink.now _ u (g.met.K.Sink.only c.args.sink.now) (source_other _ (source_of c.in_err-confirm.field-0.0)) refl refl refl (inr (c.in_ok-put_offset.ensures.loads ∙ ap (λ (o : Offset). Some o) c.in_ok-offset.ensures.next))
+      (source_left c.in_err-confirm.field-0.0) refl refl c.confirm.ensures.taken (λ s t was now. absurd (dead_source (g.S.Source.is_live c.confirm.new.self) (g.met.S.Source.lives c.confirm.new.self t now) c.in_err-confirm.ensures.dead)));
+}
 
-pub returns-clause-never : goal.returns-clause-never
-returns-clause-never g c value at is = cc
-
-pub returns-in_err-offset-clause-halted : goal.returns-in_err-offset-clause-halted
-returns-in_err-offset-clause-halted g c at found b u quiet =
-    residual_of c.from_residual.result halt.Memory (Halts g.S.Source at found b.config b.now b.held c.args.store.now.offset c.args.report.now c.args.src.now) c.from_residual.ensures.1
-    (record { halted = halts_between g.S.Source at found b c.args.store.now.offset c.args.store.now.offset c.args.work.now c.args.report.now c.args.report.now c.args.src.now c.args.src.now halt.Memory u (none_taken (g.S.Source.told c.args.src.now)) (λ s t was now. ap (λ (x : SourceState). x.reading) (g.met.S.Source.one c.args.src.now t s now was)) memory_left refl refl (inl refl); stood = λ s first. memory_stood b.config b.now b.held c.args.store.now.offset c.args.report.now (g.S.Source.stands c.args.src.now) halt.Memory refl; cause = memory_caused b.config b.now b.held c.args.store.now.offset c.args.report.now (g.S.Source.told c.args.src.now) halt.Memory refl; must = quiet_asks b u.messages c.args.store.now.offset c.args.work.now c.args.report.now c.args.report.now found (g.S.Source.told c.args.src.now) c.args.store.now.offset (Err halt.Memory) u.is u.tells quiet (inl refl) })
-
-pub returns-in_err-put_offset-clause-halted : goal.returns-in_err-put_offset-clause-halted
-returns-in_err-put_offset-clause-halted g c at found b u quiet =
-    residual_of c.from_residual-in_err-put_offset.result _ (Halts g.S.Source at found b.config b.now b.held c.put_offset.new.store.offset c.args.report.now c.args.src.now) c.from_residual-in_err-put_offset.ensures.1
-    (record { halted = halts_between g.S.Source at found b c.args.store.now.offset c.put_offset.new.store.offset c.args.work.now c.args.report.now c.args.report.now c.args.src.now c.args.src.now _ u (none_taken (g.S.Source.told c.args.src.now)) (λ s t was now. ap (λ (x : SourceState). x.reading) (g.met.S.Source.one c.args.src.now t s now was)) (store_left _ _ c.in_err-put_offset.ensures.halt) refl refl (inl c.in_err-put_offset.ensures.keeps); stood = λ s first. subst (λ (o : Option Offset). IsHaltStanding b.config b.now b.held o c.args.report.now (g.S.Source.stands c.args.src.now) c.in_err-put_offset.field-0.0) (sym c.in_err-put_offset.ensures.keeps) (offsets_stood g.S.Source at found b c.args.store.now.offset c.args.work.now c.args.src.now c.args.src.now c.args.report.now c.in_err-put_offset.field-0.0 u (subst IsOffset c.in_ok-offset.ensures.next c.in_ok-offset.ensures.asked) (subst (λ (o : Offset). (c.in_err-put_offset.field-0.0 ≡ halt.Memory) ⊎ ((c.in_err-put_offset.field-0.0 ≡ halt.Offsets) ⊎ IsTooLong o c.in_err-put_offset.field-0.0)) c.in_ok-offset.ensures.next c.in_err-put_offset.ensures.halt) s first); cause = subst (λ (o : Option Offset). IsHalt b.config b.now b.held o c.args.report.now (g.S.Source.told c.args.src.now) c.in_err-put_offset.field-0.0) (sym c.in_err-put_offset.ensures.keeps) (store_caused b u.messages c.args.store.now.offset c.args.work.now c.args.report.now found (g.S.Source.told c.args.src.now) _ u.is u.tells (subst IsOffset c.in_ok-offset.ensures.next c.in_ok-offset.ensures.asked) (subst (λ (o : Offset). (c.in_err-put_offset.field-0.0 ≡ halt.Memory) ⊎ ((c.in_err-put_offset.field-0.0 ≡ halt.Offsets) ⊎ IsTooLong o c.in_err-put_offset.field-0.0)) c.in_ok-offset.ensures.next c.in_err-put_offset.ensures.halt)); must = quiet_asks b u.messages c.args.store.now.offset c.args.work.now c.args.report.now c.args.report.now found (g.S.Source.told c.args.src.now) c.put_offset.new.store.offset (Err c.in_err-put_offset.field-0.0) u.is u.tells quiet (inl c.in_err-put_offset.ensures.keeps) })
-
-pub returns-in_err-confirm-clause-halted : goal.returns-in_err-confirm-clause-halted
-returns-in_err-confirm-clause-halted g c at found b u quiet =
-    residual_of c.from_residual-in_err-confirm.result _ (Halts g.S.Source at found b.config b.now b.held c.put_offset.new.store.offset (record c.args.report.now { position = c.in_ok-offset.offset.lsn.0 }) c.confirm.new.self) c.from_residual-in_err-confirm.ensures.1
-    (record {
-      halted = halts_between g.S.Source at found b c.args.store.now.offset c.put_offset.new.store.offset c.args.work.now c.args.report.now (record c.args.report.now { position = c.in_ok-offset.offset.lsn.0 }) c.args.src.now c.confirm.new.self _ u c.confirm.ensures.taken
-          (λ s t was now. absurd (dead_source (g.S.Source.is_live c.confirm.new.self) (g.met.S.Source.lives c.confirm.new.self t now) c.in_err-confirm.ensures.dead)) (source_left c.in_err-confirm.field-0.0) refl refl (inr (c.in_ok-put_offset.ensures.loads ∙ ap (λ (o : Offset). Some o) c.in_ok-offset.ensures.next));
-      stood = λ s first. source_stood b.config b.now b.held c.put_offset.new.store.offset (record c.args.report.now { position = c.in_ok-offset.offset.lsn.0 }) (g.S.Source.stands c.confirm.new.self) c.in_err-confirm.field-0.0;
-      cause = source_caused b.config b.now b.held c.put_offset.new.store.offset (record c.args.report.now { position = c.in_ok-offset.offset.lsn.0 }) (g.S.Source.told c.confirm.new.self) c.in_err-confirm.field-0.0;
-      must = failure_asks b u.messages c.args.store.now.offset c.args.work.now c.args.report.now (record c.args.report.now { position = c.in_ok-offset.offset.lsn.0 }) found (g.S.Source.told c.args.src.now) (g.S.Source.told c.confirm.new.self) c.put_offset.new.store.offset _ u.is u.tells c.confirm.ensures.taken (source_fails c.in_err-confirm.field-0.0) (inr (c.in_ok-put_offset.ensures.loads ∙ ap (λ (o : Offset). Some o) c.in_ok-offset.ensures.next));
-    })
-
-pub returns-clause-all : goal.returns-clause-all
-returns-clause-all g c at found b u =
-    settles_on g.S.Source at found b c.args.store.now.offset c.put_offset.new.store.offset c.args.work.now (record c.args.work.now { since = 0 }) c.args.report.now (record c.args.report.now { position = c.in_ok-offset.offset.lsn.0 }) c.args.src.now c.confirm.new.self u (c.in_ok-put_offset.ensures.loads ∙ ap (λ (o : Offset). Some o) c.in_ok-offset.ensures.next) refl refl c.confirm.ensures.taken
-    (λ s is. subst (λ (o : Offset). HasState g.S.Source.stands c.confirm.new.self (IsConfirmed o.lsn s)) c.in_ok-offset.ensures.next (c.in_ok-confirm.ensures.confirmed s is))
-
-pub returns-in_err-offset-clause-put : goal.returns-in_err-offset-clause-put
-returns-in_err-offset-clause-put g c groups at found b u =
-    residual_of c.from_residual.result halt.Memory (HasHaltedPut g.S.Source g.K.Sink groups at b.config b.now b.held c.args.store.now.offset c.args.report.now c.args.src.now c.args.sink.now) c.from_residual.ensures.1
-    (halts_put_nothing g.S.Source g.K.Sink groups at found b c.args.store.now.offset c.args.store.now.offset c.args.work.now c.args.report.now c.args.report.now c.args.src.now c.args.src.now c.args.sink.now halt.Memory u (g.met.K.Sink.only c.args.sink.now) (none_other halt.Memory tt) refl refl refl (inl refl)
-    memory_left refl refl (none_taken (g.S.Source.told c.args.src.now)) (λ s t was now. ap (λ (x : SourceState). x.reading) (g.met.S.Source.one c.args.src.now t s now was)))
-
-pub returns-in_err-put_offset-clause-put : goal.returns-in_err-put_offset-clause-put
-returns-in_err-put_offset-clause-put g c groups at found b u =
-    residual_of c.from_residual-in_err-put_offset.result _ (HasHaltedPut g.S.Source g.K.Sink groups at b.config b.now b.held c.put_offset.new.store.offset c.args.report.now c.args.src.now c.args.sink.now) c.from_residual-in_err-put_offset.ensures.1
-    (halts_put_nothing g.S.Source g.K.Sink groups at found b c.args.store.now.offset c.put_offset.new.store.offset c.args.work.now c.args.report.now c.args.report.now c.args.src.now c.args.src.now c.args.sink.now _ u (g.met.K.Sink.only c.args.sink.now) (store_other _ (store_of _ _ c.in_err-put_offset.ensures.halt)) refl refl refl (inl c.in_err-put_offset.ensures.keeps)
-    (store_left _ _ c.in_err-put_offset.ensures.halt) refl refl (none_taken (g.S.Source.told c.args.src.now)) (λ s t was now. ap (λ (x : SourceState). x.reading) (g.met.S.Source.one c.args.src.now t s now was)))
-
-pub returns-in_err-confirm-clause-put : goal.returns-in_err-confirm-clause-put
-returns-in_err-confirm-clause-put g c groups at found b u =
-    residual_of c.from_residual-in_err-confirm.result _ (HasHaltedPut g.S.Source g.K.Sink groups at b.config b.now b.held c.put_offset.new.store.offset (record c.args.report.now { position = c.in_ok-offset.offset.lsn.0 }) c.confirm.new.self c.args.sink.now) c.from_residual-in_err-confirm.ensures.1
-    (halts_put_nothing g.S.Source g.K.Sink groups at found b c.args.store.now.offset c.put_offset.new.store.offset c.args.work.now c.args.report.now (record c.args.report.now { position = c.in_ok-offset.offset.lsn.0 }) c.args.src.now c.confirm.new.self c.args.sink.now _ u (g.met.K.Sink.only c.args.sink.now) (source_other _ (source_of c.in_err-confirm.field-0.0)) refl refl refl (inr (c.in_ok-put_offset.ensures.loads ∙ ap (λ (o : Offset). Some o) c.in_ok-offset.ensures.next))
-    (source_left c.in_err-confirm.field-0.0) refl refl c.confirm.ensures.taken (λ s t was now. absurd (dead_source (g.S.Source.is_live c.confirm.new.self) (g.met.S.Source.lives c.confirm.new.self t now) c.in_err-confirm.ensures.dead)))
-
-pub returns-clause-putting : goal.returns-clause-putting
-returns-clause-putting g c groups at found b u =
-    stores_put_nothing g.S.Source g.K.Sink groups at found b c.args.store.now.offset c.args.src.now c.confirm.new.self c.args.sink.now c.put_offset.new.store.offset c.args.work.now (record c.args.work.now { since = 0 }) c.args.report.now (record c.args.report.now { position = c.in_ok-offset.offset.lsn.0 }) u (c.in_ok-put_offset.ensures.loads ∙ ap (λ (o : Offset). Some o) c.in_ok-offset.ensures.next) refl refl c.confirm.ensures.taken
-    (λ s is. subst (λ (o : Offset). HasState g.S.Source.stands c.confirm.new.self (IsConfirmed o.lsn s)) c.in_ok-offset.ensures.next (c.in_ok-confirm.ensures.confirmed s is))
-
-pub returns-in_err-offset-clause-reads : goal.returns-in_err-offset-clause-reads
-returns-in_err-offset-clause-reads g c = residual_of c.from_residual.result halt.Memory IsNotGone c.from_residual.ensures.1 tt
-
-pub returns-in_err-put_offset-clause-reads : goal.returns-in_err-put_offset-clause-reads
-returns-in_err-put_offset-clause-reads g c = residual_of c.from_residual-in_err-put_offset.result _ IsNotGone c.from_residual-in_err-put_offset.ensures.1 (store_reads _ _ c.in_err-put_offset.ensures.halt)
-
-pub returns-in_err-confirm-clause-reads : goal.returns-in_err-confirm-clause-reads
-returns-in_err-confirm-clause-reads g c = residual_of c.from_residual-in_err-confirm.result _ IsNotGone c.from_residual-in_err-confirm.ensures.1 (source_reads c.in_err-confirm.field-0.0)
-
-pub returns-in_err-offset-clause-own : goal.returns-in_err-offset-clause-own
-returns-in_err-offset-clause-own g c entry = residual_of c.from_residual.result halt.Memory (IsHonestHalt entry (g.S.Source.stands c.args.src.now)) c.from_residual.ensures.1 tt
-
-pub returns-in_err-put_offset-clause-own : goal.returns-in_err-put_offset-clause-own
-returns-in_err-put_offset-clause-own g c entry =
-    residual_of c.from_residual-in_err-put_offset.result _ (IsHonestHalt entry (g.S.Source.stands c.args.src.now)) c.from_residual-in_err-put_offset.ensures.1 (store_honest entry (g.S.Source.stands c.args.src.now) _ _ c.in_err-put_offset.ensures.halt)
-
-pub returns-in_err-confirm-clause-own : goal.returns-in_err-confirm-clause-own
-returns-in_err-confirm-clause-own g c entry =
-    residual_of c.from_residual-in_err-confirm.result _ (IsHonestHalt entry (g.S.Source.stands c.confirm.new.self)) c.from_residual-in_err-confirm.ensures.1 (source_honest entry (g.S.Source.stands c.confirm.new.self) c.in_err-confirm.field-0.0)
-
-pub returns-in_err-offset-clause-most : goal.returns-in_err-offset-clause-most
-returns-in_err-offset-clause-most g c tell entry s closed =
-    leaves_most _ g.S.Source.may_leave c.args.src.now c.args.report.now.chunks entry.history (λ left may. others_leave_few_marks entry s.stage c.args.work.now left.history c.args.report.now.chunks c.args.report.now.chunks s.work_is s.going closed (same_most c.args.report.now.chunks)
-    (left_rests s.stage.history (state_at_stage s.stage) left s.going.reading.fit.rising refl (g.met.S.Source.only c.args.src.now (state_at_stage s.stage) left s.source_is may)))
-
-pub returns-in_err-put_offset-clause-most : goal.returns-in_err-put_offset-clause-most
-returns-in_err-put_offset-clause-most g c tell entry s closed =
-    leaves_most _ g.S.Source.may_leave c.args.src.now c.args.report.now.chunks entry.history (λ left may. others_leave_few_marks entry s.stage c.args.work.now left.history c.args.report.now.chunks c.args.report.now.chunks s.work_is s.going closed (same_most c.args.report.now.chunks)
-    (left_rests s.stage.history (state_at_stage s.stage) left s.going.reading.fit.rising refl (g.met.S.Source.only c.args.src.now (state_at_stage s.stage) left s.source_is may)))
-
-pub returns-in_err-confirm-clause-most : goal.returns-in_err-confirm-clause-most
-returns-in_err-confirm-clause-most g c tell entry s closed =
-    leaves_most _ g.S.Source.may_leave c.confirm.new.self c.args.report.now.chunks entry.history (λ left may. others_leave_few_marks entry s.stage c.args.work.now left.history c.args.report.now.chunks c.args.report.now.chunks s.work_is s.going closed (same_most c.args.report.now.chunks) (c.confirm.ensures.left (state_at_stage s.stage) left s.source_is may).grows)
-
-pub returns-clause-quiet : goal.returns-clause-quiet
-returns-clause-quiet g c = done_quiet (g.S.Source.told c.confirm.new.self) c.in_ok-confirm.ensures.told
-
-pub returns-in_err-offset-clause-content : goal.returns-in_err-offset-clause-content
-returns-in_err-offset-clause-content g c entry s faithful = residual_of c.from_residual.result halt.Memory (IsFaithfulHalt entry c.args.store.now.offset c.args.report.now (g.S.Source.stands c.args.src.now) (g.K.Sink.holds c.args.sink.now)) c.from_residual.ensures.1 tt
-
-pub returns-in_err-put_offset-clause-content : goal.returns-in_err-put_offset-clause-content
-returns-in_err-put_offset-clause-content g c entry s faithful =
-    residual_of c.from_residual-in_err-put_offset.result _ (IsFaithfulHalt entry c.put_offset.new.store.offset c.args.report.now (g.S.Source.stands c.args.src.now) (g.K.Sink.holds c.args.sink.now)) c.from_residual-in_err-put_offset.ensures.1
-    (store_own s faithful c.put_offset.new.store.offset c.args.report.now _ (subst (λ (o : Offset). (c.in_err-put_offset.field-0.0 ≡ halt.Memory) ⊎ ((c.in_err-put_offset.field-0.0 ≡ halt.Offsets) ⊎ IsTooLong o c.in_err-put_offset.field-0.0)) c.in_ok-offset.ensures.next c.in_err-put_offset.ensures.halt))
-
-pub returns-in_err-confirm-clause-content : goal.returns-in_err-confirm-clause-content
-returns-in_err-confirm-clause-content g c entry s faithful =
-    residual_of c.from_residual-in_err-confirm.result _ (IsFaithfulHalt entry c.put_offset.new.store.offset (record c.args.report.now { position = c.in_ok-offset.offset.lsn.0 }) (g.S.Source.stands c.confirm.new.self) (g.K.Sink.holds c.args.sink.now)) c.from_residual-in_err-confirm.ensures.1
-    (free_own entry c.put_offset.new.store.offset (record c.args.report.now { position = c.in_ok-offset.offset.lsn.0 }) (g.S.Source.stands c.confirm.new.self) (g.K.Sink.holds c.args.sink.now) _ (source_free c.in_err-confirm.field-0.0))
-
-pub returns-clause-awaits : goal.returns-clause-awaits
-returns-clause-awaits g c a =
-    let t = c.in_ok-confirm.ensures.confirmed a.standing a.is in
-    awaits_still g.S.Source c.args.work.now (record c.args.work.now { since = 0 }) c.args.src.now c.confirm.new.self a t.standing t.is t.holds.grows t.holds.reading refl refl
-
--- ---- what the store holds
-
-pub returns-in_err-offset-clause-held : goal.returns-in_err-offset-clause-held
-returns-in_err-offset-clause-held g c held other = held
-
-pub returns-in_err-put_offset-clause-held : goal.returns-in_err-put_offset-clause-held
-returns-in_err-put_offset-clause-held g c held other =
-    held_same g.D.Disk c.args.store.now c.put_offset.new.store
-    (c.in_err-put_offset.ensures.kept (λ is. other (residual_on c.put_offset.result c.from_residual-in_err-put_offset.result _ halt.Offsets (c.in_err-put_offset.was ∙ is) c.in_err-put_offset.was c.from_residual-in_err-put_offset.ensures.1))) held
-
-pub returns-in_err-confirm-clause-held : goal.returns-in_err-confirm-clause-held
-returns-in_err-confirm-clause-held g c held other = held_stored g.D.Disk c.put_offset.new.store c.in_ok-offset.offset c.in_ok-put_offset.ensures.loads (c.in_ok-put_offset.ensures.stored c.args.store.now.offset held)
-
-pub returns-clause-held : goal.returns-clause-held
-returns-clause-held g c held other = held_stored g.D.Disk c.put_offset.new.store c.in_ok-offset.offset c.in_ok-put_offset.ensures.loads (c.in_ok-put_offset.ensures.stored c.args.store.now.offset held)
+pub returns-clause-puts : goal.returns-clause-puts
+returns-clause-puts g c = record {
+  putting = λ groups at found b u.
+      stores_put_nothing g.S.Source g.K.Sink groups at found b c.args.store.now.offset c.args.src.now c.confirm.new.self c.args.sink.now c.put_offset.new.store.offset c.args.work.now (record c.args.work.now { since = 0 }) c.args.report.now (record c.args.report.now { position = c.in_ok-offset.offset.lsn.0 }) u (c.in_ok-put_offset.ensures.loads ∙ ap (λ (o : Offset). Some o) c.in_ok-offset.ensures.next) refl refl c.confirm.ensures.taken
+      (λ s is. subst (λ (o : Offset). HasState g.S.Source.stands c.confirm.new.self (IsConfirmed o.lsn s)) c.in_ok-offset.ensures.next (c.in_ok-confirm.ensures.confirmed s is));
+  put = search rules;
+}
 
 -- ---- whose fault it is
 
-pub returns-in_err-offset-clause-source : goal.returns-in_err-offset-clause-source
-returns-in_err-offset-clause-source g c = record { later = le_refl _; cause = λ is. absurd (err_at c.from_residual.result _ OfNone (residual_of c.from_residual.result halt.Memory OfNone c.from_residual.ensures.1 tt) is) }
+pub returns-in_err-offset-clause-store : goal.returns-in_err-offset-clause-store
+returns-in_err-offset-clause-store g c = record {
+  live = search rules;
+  comes = search rules;
+  cause = record { later = le_refl _; cause = λ is. absurd (err_at c.from_residual.result _ OfNone (residual_of c.from_residual.result halt.Memory OfNone c.from_residual.ensures.1 tt) is) };
+}
 
-pub returns-in_err-offset-clause-offsets : goal.returns-in_err-offset-clause-offsets
-returns-in_err-offset-clause-offsets g c = record { later = le_refl _; cause = λ is. absurd (err_at c.from_residual.result _ OfNone (residual_of c.from_residual.result halt.Memory OfNone c.from_residual.ensures.1 tt) is) }
-
-pub returns-in_err-put_offset-clause-source : goal.returns-in_err-put_offset-clause-source
-returns-in_err-put_offset-clause-source g c = record { later = le_refl _; cause = λ is. absurd (err_at c.from_residual-in_err-put_offset.result _ OfStore (residual_of c.from_residual-in_err-put_offset.result _ OfStore c.from_residual-in_err-put_offset.ensures.1 (store_of _ _ c.in_err-put_offset.ensures.halt)) is) }
-
-pub returns-in_err-put_offset-clause-offsets : goal.returns-in_err-put_offset-clause-offsets
-returns-in_err-put_offset-clause-offsets g c = record { later = c.put_offset.ensures.cause.later; cause = λ is. c.put_offset.ensures.cause.cause (residual_is c.from_residual-in_err-put_offset.result c.put_offset.result _ _ c.in_err-put_offset.was c.from_residual-in_err-put_offset.ensures.1 is) }
+pub returns-in_err-put_offset-clause-store : goal.returns-in_err-put_offset-clause-store
+returns-in_err-put_offset-clause-store g c = record {
+  live = search rules;
+  comes = search rules;
+  cause = record { later = c.put_offset.ensures.store.cause.later; cause = λ is. c.put_offset.ensures.store.cause.cause (residual_is c.from_residual-in_err-put_offset.result c.put_offset.result _ _ c.in_err-put_offset.was c.from_residual-in_err-put_offset.ensures.1 is) };
+}
 
 pub returns-in_err-confirm-clause-source : goal.returns-in_err-confirm-clause-source
-returns-in_err-confirm-clause-source g c = record { later = c.confirm.ensures.cause.later; cause = λ is. c.confirm.ensures.cause.cause (residual_source c.from_residual-in_err-confirm.result c.confirm.result _ c.in_err-confirm.was c.from_residual-in_err-confirm.ensures.1 is) }
+returns-in_err-confirm-clause-source g c = record {
+  live = search rules;
+  honest = search rules;
+  comes = search rules;
+  cause = record { later = c.confirm.ensures.cause.later; cause = λ is. c.confirm.ensures.cause.cause (residual_source c.from_residual-in_err-confirm.result c.confirm.result _ c.in_err-confirm.was c.from_residual-in_err-confirm.ensures.1 is) };
+}
 
-pub returns-in_err-confirm-clause-offsets : goal.returns-in_err-confirm-clause-offsets
-returns-in_err-confirm-clause-offsets g c = record { later = c.put_offset.ensures.cause.later; cause = λ is. absurd (err_at c.from_residual-in_err-confirm.result _ OfSource (residual_of c.from_residual-in_err-confirm.result _ OfSource c.from_residual-in_err-confirm.ensures.1 (source_of c.in_err-confirm.field-0.0)) is) }
+pub returns-in_err-confirm-clause-store : goal.returns-in_err-confirm-clause-store
+returns-in_err-confirm-clause-store g c = record {
+  live = search rules;
+  comes = search rules;
+  cause = record { later = c.put_offset.ensures.store.cause.later; cause = λ is. absurd (err_at c.from_residual-in_err-confirm.result _ OfSource (residual_of c.from_residual-in_err-confirm.result _ OfSource c.from_residual-in_err-confirm.ensures.1 (source_of c.in_err-confirm.field-0.0)) is) };
+}
 
 pub returns-clause-source : goal.returns-clause-source
-returns-clause-source g c = record { later = c.confirm.ensures.cause.later; cause = λ is. absurd (let i = is in cc) }
+returns-clause-source g c = record {
+  live = search rules;
+  honest = search rules;
+  comes = search rules;
+  cause = record { later = c.confirm.ensures.cause.later; cause = λ is. absurd (let i = is in cc) };
+}
 
-pub returns-clause-offsets : goal.returns-clause-offsets
-returns-clause-offsets g c = record { later = c.put_offset.ensures.cause.later; cause = λ is. absurd (let i = is in cc) }
+pub returns-clause-store : goal.returns-clause-store
+returns-clause-store g c = record {
+  live = search rules;
+  comes = search rules;
+  cause = record { later = c.put_offset.ensures.store.cause.later; cause = λ is. absurd (let i = is in cc) };
+}

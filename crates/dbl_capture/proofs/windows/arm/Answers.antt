@@ -2,7 +2,7 @@ use Rattle.dbl_capture_laws.specs.Sessions.{state_at_stage}
 use Rattle.dbl_capture_laws.proofs.Arms.{arm_left, plan_captured, plan_here, plan_parts, window_on}
 use Rattle.dbl_capture_laws.proofs.StepCauses.{OfSource, chunk_of, err_at, err_then}
 use Rattle.dbl_capture_laws.proofs.Keeping.{capturing, ok_then, on_err}
-use Rattle.std.proofs.Common.{inl, refl}
+use Rattle.std.proofs.Common.{inl, refl, rules}
 use Rattle.dbl_capture_laws.specs.Caused.{Halts, IsNotGone}
 use Rattle.dbl_capture_laws.proofs.Sources.{arms_on, at_rest, halts_between}
 use Rattle.dbl_capture_laws.proofs.Telling.{chunk_left, ok_both}
@@ -24,83 +24,77 @@ use Rattle.dbl_capture_laws.proofs.HasState.{chunk_stood}
 use Rattle.dbl_capture_laws.proofs.Awaited.{awaits_armed}
 use Rattle.dbl_capture.proofs.windows.arm.Goals as goal
 
-pub returns-clause-armed : goal.returns-clause-armed
-returns-clause-armed g c tell entry s honest =
-    ok_then c.read_window.result _ _ (c.read_window.ensures.windowed (state_at_stage s.stage) s.source_is)
-    (λ w. window_on s c.args.table c.read_window.new.work c.read_window.new.src honest w c.requires.table c.requires.number c.requires.absent
-    (λ t is. g.met.S.Source.fit _ _ (g.met.S.Source.may _ t is) honest))
+pub returns-clause-session : goal.returns-clause-session
+returns-clause-session g c = record {
+  next = λ tell entry s honest.
+      ok_then c.read_window.result _ _ (c.read_window.ensures.windowed (state_at_stage s.stage) s.source_is)
+      (λ w. window_on s c.args.table c.read_window.new.work c.read_window.new.src honest w c.requires.is_open c.requires.number c.requires.absent
+      (λ t is. g.met.S.Source.fit _ _ (g.met.S.Source.may _ t is) honest));
+  left = λ tell entry s honest.
+      let planned = plan_here c.args.work.now c.args.table c.requires.ready c.requires.is_open in
+      on_err _ _
+      (arm_left s c.args.table planned.0 (plan_parts c.args.work.now c.args.table planned.0 planned.1) c.requires.is_open c.requires.number c.read_window.new.src c.requires.absent
+      (λ left is. c.read_window.ensures.left planned.0 planned.1 (state_at_stage s.stage) left s.source_is is)
+      (λ left is. g.met.S.Source.fit _ left is honest)
+      (λ t groups is. g.met.K.Sink.only _ s.stage.groups groups (s.sink_is t) is)
+      (c.read_window.ensures.some (state_at_stage s.stage) s.source_is)
+      (λ t. (s.stage.groups, g.met.K.Sink.may _ s.stage.groups (s.sink_is t))));
+  own = λ tell entry s honest.
+      let planned = plan_here c.args.work.now c.args.table c.requires.ready c.requires.is_open in
+      let here = plan_captured s c.args.table planned.0 (plan_parts c.args.work.now c.args.table planned.0 planned.1) c.requires.is_open c.requires.number in
+      err_then c.read_window.result _ (IsHonestHalt entry (g.S.Source.stands c.read_window.new.src))
+      (c.read_window.ensures.never (state_at_stage s.stage) s.stage.first.infos planned.0 s.source_is honest planned.1 (record { are = s.going.reading.infos; here = here }))
+      (λ h fault. window_honest entry (g.S.Source.stands c.read_window.new.src) planned.0 s.stage.first.infos h (capturing s)
+      (λ t is. record {
+        are = captured_stays s.stage.history t.history s.stage.first.infos (c.read_window.ensures.left planned.0 planned.1 (state_at_stage s.stage) (left_of t) s.source_is (g.met.S.Source.may c.read_window.new.src t is)).grown.tables s.going.reading.infos;
+        here = here;
+      }) fault);
+  most = λ tell entry chunks s closed.
+      let planned = plan_here c.args.work.now c.args.table c.requires.ready c.requires.is_open in
+      leaves_most _ g.S.Source.may_leave c.read_window.new.src chunks entry.history (λ left may. windows_leave_few_marks entry s.stage c.args.work.now planned.0 left chunks s.work_is s.going closed c.requires.absent (c.read_window.ensures.left planned.0 planned.1 (state_at_stage s.stage) left s.source_is may));
+}
 
-pub returns-clause-left : goal.returns-clause-left
-returns-clause-left g c tell entry s honest =
-    let planned = plan_here c.args.work.now c.args.table c.requires.ready c.requires.table in
-    on_err _ _
-    (arm_left s c.args.table planned.0 (plan_parts c.args.work.now c.args.table planned.0 planned.1) c.requires.table c.requires.number c.read_window.new.src c.requires.absent
-    (λ left is. c.read_window.ensures.left planned.0 planned.1 (state_at_stage s.stage) left s.source_is is)
-    (λ left is. g.met.S.Source.fit _ left is honest)
-    (λ t groups is. g.met.K.Sink.only _ s.stage.groups groups (s.sink_is t) is)
-    (c.read_window.ensures.some (state_at_stage s.stage) s.source_is)
-    (λ t. (s.stage.groups, g.met.K.Sink.may _ s.stage.groups (s.sink_is t))))
+pub returns-clause-stops : goal.returns-clause-stops
+returns-clause-stops g c = record {
+  others =
+      let of = err_then c.read_window.result _ OfSource c.read_window.ensures.halt (λ h is. chunk_of c.args.work.now c.args.table _ h is) in (
+        λ is. err_at c.read_window.result _ OfSource of is,
+        λ is. err_at c.read_window.result _ OfSource of is,
+      );
+  never = λ value at is. err_at c.read_window.result _ OfSource (err_then c.read_window.result _ OfSource c.read_window.ensures.halt (λ h is. chunk_of c.args.work.now c.args.table _ h is)) is;
+  reads = err_then c.read_window.result _ IsNotGone c.read_window.ensures.halt (λ h is. chunk_reads c.args.work.now c.args.table _ h is);
+  free = err_then c.read_window.result _ IsContentFree c.read_window.ensures.halt (λ h is. chunk_free c.args.work.now c.args.table (g.S.Source.told c.read_window.new.src) h is);
+}
 
-pub returns-clause-others : goal.returns-clause-others
-returns-clause-others g c =
-    let of = err_then c.read_window.result _ OfSource c.read_window.ensures.halt (λ h is. chunk_of c.args.work.now c.args.table _ h is) in (
-      λ is. err_at c.read_window.result _ OfSource of is,
-      λ is. err_at c.read_window.result _ OfSource of is,
-    )
+pub returns-clause-report : goal.returns-clause-report
+returns-clause-report g c = record {
+  under_way = λ at found b report u.
+      ok_both c.read_window.result _ _ (g.S.Source.stands c.args.src.now) _ c.read_window.ensures.same c.read_window.ensures.windowed
+      (λ armed windowed. arms_on g.S.Source at found b c.args.store.now.offset c.args.src.now c.read_window.new.src c.args.work.now c.read_window.new.work c.args.table report u c.requires.absent c.requires.is_open armed c.read_window.ensures.taken
+      (λ s is. let w = windowed s is in record { standing = w.stood.standing; is = w.stood.is; holds = w.stood.holds.looked.reading }));
+  halted = λ at found b report u.
+      err_then c.read_window.result _ (Halts g.S.Source at found b.config b.now b.held c.args.store.now.offset report c.read_window.new.src) c.read_window.ensures.halt
+      (λ h chunk. record { halted = halts_between g.S.Source at found b c.args.store.now.offset c.args.store.now.offset c.args.work.now report report c.args.src.now c.read_window.new.src h (at_rest g.S.Source at found b c.args.store.now.offset c.args.work.now report c.args.src.now u) c.read_window.ensures.taken c.read_window.ensures.still (chunk_left c.args.work.now c.args.table _ h chunk) refl refl (inl refl); stood = λ s first. chunk_stood b.config b.now b.held c.args.store.now.offset report (g.S.Source.stands c.read_window.new.src) c.args.work.now c.args.table (g.S.Source.told c.read_window.new.src) h chunk; cause = chunk_caused b u.messages c.args.store.now.offset c.args.work.now report c.args.table (g.S.Source.told c.read_window.new.src) h u.is c.requires.absent c.requires.is_open chunk; must = chunk_asks b u.messages c.args.store.now.offset c.args.work.now report c.args.table found (g.S.Source.told c.args.src.now) (g.S.Source.told c.read_window.new.src) h u.is u.tells c.read_window.ensures.taken c.requires.absent c.requires.is_open chunk });
+  awaits = λ a.
+      ok_then c.read_window.result _ _ (c.read_window.ensures.windowed a.standing a.is)
+      (λ w. awaits_armed g.S.Source c.args.table c.args.work.now c.read_window.new.work c.args.src.now c.read_window.new.src a w);
+}
 
-pub returns-clause-never : goal.returns-clause-never
-returns-clause-never g c value at is = err_at c.read_window.result _ OfSource (err_then c.read_window.result _ OfSource c.read_window.ensures.halt (λ h is. chunk_of c.args.work.now c.args.table _ h is)) is
+pub returns-clause-puts : goal.returns-clause-puts
+returns-clause-puts g c = record {
+  putting = λ groups at found b report u.
+      ok_both c.read_window.result _ _ (g.S.Source.stands c.args.src.now) _ c.read_window.ensures.same c.read_window.ensures.windowed
+      (λ armed windowed. windows_put_nothing g.S.Source g.K.Sink groups at found b c.args.store.now.offset c.args.src.now c.read_window.new.src c.args.sink.now c.args.work.now c.read_window.new.work c.args.table report u c.requires.absent c.requires.is_open armed c.read_window.ensures.taken
+      (λ s is. let w = windowed s is in record { standing = w.stood.standing; is = w.stood.is; holds = w.stood.holds.looked.reading }));
+  put = λ groups at found b report u.
+      err_then c.read_window.result _ (HasHaltedPut g.S.Source g.K.Sink groups at b.config b.now b.held c.args.store.now.offset report c.read_window.new.src c.args.sink.now) c.read_window.ensures.halt
+      (λ h chunk. halts_put_nothing g.S.Source g.K.Sink groups at found b c.args.store.now.offset c.args.store.now.offset c.args.work.now report report c.args.src.now c.read_window.new.src c.args.sink.now h (rests_put g.S.Source g.K.Sink groups at found b c.args.store.now.offset c.args.work.now report c.args.src.now c.args.sink.now u) (g.met.K.Sink.only c.args.sink.now) (source_other h (chunk_of c.args.work.now c.args.table _ h chunk)) refl refl refl (inl refl)
+      (chunk_left c.args.work.now c.args.table _ h chunk) refl refl c.read_window.ensures.taken c.read_window.ensures.still);
+}
 
-pub returns-clause-under_way : goal.returns-clause-under_way
-returns-clause-under_way g c at found b report u =
-    ok_both c.read_window.result _ _ (g.S.Source.stands c.args.src.now) _ c.read_window.ensures.same c.read_window.ensures.windowed
-    (λ armed windowed. arms_on g.S.Source at found b c.args.store.now.offset c.args.src.now c.read_window.new.src c.args.work.now c.read_window.new.work c.args.table report u c.requires.absent c.requires.table armed c.read_window.ensures.taken
-    (λ s is. let w = windowed s is in record { standing = w.stood.standing; is = w.stood.is; holds = w.stood.holds.looked.reading }))
-
-pub returns-clause-halted : goal.returns-clause-halted
-returns-clause-halted g c at found b report u =
-    err_then c.read_window.result _ (Halts g.S.Source at found b.config b.now b.held c.args.store.now.offset report c.read_window.new.src) c.read_window.ensures.halt
-    (λ h chunk. record { halted = halts_between g.S.Source at found b c.args.store.now.offset c.args.store.now.offset c.args.work.now report report c.args.src.now c.read_window.new.src h (at_rest g.S.Source at found b c.args.store.now.offset c.args.work.now report c.args.src.now u) c.read_window.ensures.taken c.read_window.ensures.still (chunk_left c.args.work.now c.args.table _ h chunk) refl refl (inl refl); stood = λ s first. chunk_stood b.config b.now b.held c.args.store.now.offset report (g.S.Source.stands c.read_window.new.src) c.args.work.now c.args.table (g.S.Source.told c.read_window.new.src) h chunk; cause = chunk_caused b u.messages c.args.store.now.offset c.args.work.now report c.args.table (g.S.Source.told c.read_window.new.src) h u.is c.requires.absent c.requires.table chunk; must = chunk_asks b u.messages c.args.store.now.offset c.args.work.now report c.args.table found (g.S.Source.told c.args.src.now) (g.S.Source.told c.read_window.new.src) h u.is u.tells c.read_window.ensures.taken c.requires.absent c.requires.table chunk })
-
-pub returns-clause-putting : goal.returns-clause-putting
-returns-clause-putting g c groups at found b report u =
-    ok_both c.read_window.result _ _ (g.S.Source.stands c.args.src.now) _ c.read_window.ensures.same c.read_window.ensures.windowed
-    (λ armed windowed. windows_put_nothing g.S.Source g.K.Sink groups at found b c.args.store.now.offset c.args.src.now c.read_window.new.src c.args.sink.now c.args.work.now c.read_window.new.work c.args.table report u c.requires.absent c.requires.table armed c.read_window.ensures.taken
-    (λ s is. let w = windowed s is in record { standing = w.stood.standing; is = w.stood.is; holds = w.stood.holds.looked.reading }))
-
-pub returns-clause-put : goal.returns-clause-put
-returns-clause-put g c groups at found b report u =
-    err_then c.read_window.result _ (HasHaltedPut g.S.Source g.K.Sink groups at b.config b.now b.held c.args.store.now.offset report c.read_window.new.src c.args.sink.now) c.read_window.ensures.halt
-    (λ h chunk. halts_put_nothing g.S.Source g.K.Sink groups at found b c.args.store.now.offset c.args.store.now.offset c.args.work.now report report c.args.src.now c.read_window.new.src c.args.sink.now h (rests_put g.S.Source g.K.Sink groups at found b c.args.store.now.offset c.args.work.now report c.args.src.now c.args.sink.now u) (g.met.K.Sink.only c.args.sink.now) (source_other h (chunk_of c.args.work.now c.args.table _ h chunk)) refl refl refl (inl refl)
-    (chunk_left c.args.work.now c.args.table _ h chunk) refl refl c.read_window.ensures.taken c.read_window.ensures.still)
-
-pub returns-clause-reads : goal.returns-clause-reads
-returns-clause-reads g c = err_then c.read_window.result _ IsNotGone c.read_window.ensures.halt (λ h is. chunk_reads c.args.work.now c.args.table _ h is)
-
-pub returns-clause-own : goal.returns-clause-own
-returns-clause-own g c tell entry s honest =
-    let planned = plan_here c.args.work.now c.args.table c.requires.ready c.requires.table in
-    let here = plan_captured s c.args.table planned.0 (plan_parts c.args.work.now c.args.table planned.0 planned.1) c.requires.table c.requires.number in
-    err_then c.read_window.result _ (IsHonestHalt entry (g.S.Source.stands c.read_window.new.src))
-    (c.read_window.ensures.never (state_at_stage s.stage) s.stage.first.infos planned.0 s.source_is honest planned.1 (record { are = s.going.reading.infos; here = here }))
-    (λ h fault. window_honest entry (g.S.Source.stands c.read_window.new.src) planned.0 s.stage.first.infos h (capturing s)
-    (λ t is. record {
-      are = captured_stays s.stage.history t.history s.stage.first.infos (c.read_window.ensures.left planned.0 planned.1 (state_at_stage s.stage) (left_of t) s.source_is (g.met.S.Source.may c.read_window.new.src t is)).grown.tables s.going.reading.infos;
-      here = here;
-    }) fault)
-
-pub returns-clause-most : goal.returns-clause-most
-returns-clause-most g c tell entry chunks s closed =
-    let planned = plan_here c.args.work.now c.args.table c.requires.ready c.requires.table in
-    leaves_most _ g.S.Source.may_leave c.read_window.new.src chunks entry.history (λ left may. windows_leave_few_marks entry s.stage c.args.work.now planned.0 left chunks s.work_is s.going closed c.requires.absent (c.read_window.ensures.left planned.0 planned.1 (state_at_stage s.stage) left s.source_is may))
-
-pub returns-clause-quiet : goal.returns-clause-quiet
-returns-clause-quiet g c = ok_done c.read_window.result (g.S.Source.told c.read_window.new.src) c.read_window.ensures.told
-
-pub returns-clause-free : goal.returns-clause-free
-returns-clause-free g c = err_then c.read_window.result _ IsContentFree c.read_window.ensures.halt (λ h is. chunk_free c.args.work.now c.args.table (g.S.Source.told c.read_window.new.src) h is)
-
-pub returns-clause-awaits : goal.returns-clause-awaits
-returns-clause-awaits g c a =
-    ok_then c.read_window.result _ _ (c.read_window.ensures.windowed a.standing a.is)
-    (λ w. awaits_armed g.S.Source c.args.table c.args.work.now c.read_window.new.work c.args.src.now c.read_window.new.src a w)
+pub returns-clause-state : goal.returns-clause-state
+returns-clause-state g c = record {
+  same = search rules;
+  reading = search rules;
+  quiet = ok_done c.read_window.result (g.S.Source.told c.read_window.new.src) c.read_window.ensures.answered.done;
+}

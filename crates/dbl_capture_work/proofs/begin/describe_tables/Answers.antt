@@ -1,4 +1,4 @@
-use Rattle.std.proofs.Common.{◌≡◌, ◌∙◌, inl, inr, ◌<◌, List, [], ◌∷◌, ◌++◌, length, map, get_or, sym, ap, subst, le_refl}
+use Rattle.std.proofs.Common.{◌≡◌, ◌∙◌, inl, inr, ◌<◌, List, [], ◌∷◌, ◌++◌, length, map, get_or, sym, ap, subst, le_refl, rules}
 use Rattle.std.specs.Prelude.{Err}
 use Rattle.std.proofs.lemmas.Result.{err_from_is_err_and}
 use Rattle.dbl_model_table.specs.declared.table.TableInfo.{TableInfo}
@@ -11,8 +11,13 @@ use Rattle.dbl_capture_work.proofs.Exits.{later_on, moved_on, none_taken, rose_b
 use Rattle.dbl_capture_work.proofs.Describing.{absent_next, described_more, moved_none, name_among, named_push, rest_on}
 use Rattle.dbl_capture_work.proofs.begin.describe_tables.Goals as goal
 
-pub returns-in_err-infos-clause-taken : goal.returns-in_err-infos-clause-taken
-returns-in_err-infos-clause-taken g c = none_taken (g.S.Source.told c.args.src.now)
+pub returns-in_err-infos-clause-rests : goal.returns-in_err-infos-clause-rests
+returns-in_err-infos-clause-rests g c = record {
+  left = search rules;
+  some = search rules;
+  still = search rules;
+  taken = none_taken (g.S.Source.told c.args.src.now);
+}
 
 pub tables-init : goal.tables-init
 tables-init g c = record {
@@ -55,26 +60,35 @@ returns-in_err-describe_table-clause-absent g c s stands =
     rw (p.1, p.2) (absent_next s stood.standing c.tables.infos.items names i name c.in_err-describe_table.field-0.0 lt is stood.holds.0 stood.holds.1 c.tables.invariant.named
     (c.in_err-describe_table.ensures.absent stood.standing stood.is))
 
-pub returns-in_err-describe_table-clause-left : goal.returns-in_err-describe_table-clause-left
-returns-in_err-describe_table-clause-left g c s l stands may =
-    let stood = c.tables.invariant.described s stands in
-    rest_on s stood.standing l stood.holds.0 (c.describe_table.ensures.left stood.standing l stood.is may)
+pub returns-in_err-describe_table-clause-rests : goal.returns-in_err-describe_table-clause-rests
+returns-in_err-describe_table-clause-rests g c = record {
+  left = λ s l stands may.
+      let stood = c.tables.invariant.described s stands in
+      rest_on s stood.standing l stood.holds.0 (c.describe_table.ensures.rests.left stood.standing l stood.is may);
+  some = search rules;
+  still = search rules;
+  taken =
+      taken_on (g.S.Source.told c.args.src.now) (g.S.Source.told c.tables.src) (g.S.Source.told c.describe_table.new.src) c.tables.invariant.taken c.describe_table.ensures.rests.taken;
+}
 
-pub returns-in_err-describe_table-clause-taken : goal.returns-in_err-describe_table-clause-taken
-returns-in_err-describe_table-clause-taken g c =
-    taken_on (g.S.Source.told c.args.src.now) (g.S.Source.told c.tables.src) (g.S.Source.told c.describe_table.new.src) c.tables.invariant.taken c.describe_table.ensures.taken
+pub returns-in_err-describe_table-clause-source : goal.returns-in_err-describe_table-clause-source
+returns-in_err-describe_table-clause-source g c = record {
+  live = search rules;
+  honest = search rules;
+  comes = search rules;
+  cause = record { later = later_on (g.S.Source.faults c.args.src.now) (g.S.Source.faults c.tables.src) (g.S.Source.faults c.describe_table.new.src) c.tables.invariant.later c.describe_table.ensures.source.cause.later; cause = λ is. let p = err_from_is_err_and c.from_residual-in_err-describe_table.result c.from_residual-in_err-describe_table.ensures.1 in let both : Err p.0 ≡ Err halt.Source = sym p.1 ∙ is in let halted : p.0 ≡ halt.Source = cc in rose_behind (g.S.Source.faults c.args.src.now) (g.S.Source.faults c.tables.src) (g.S.Source.faults c.describe_table.new.src) c.tables.invariant.later (c.in_err-describe_table.ensures.source.cause.cause (ap (λ (h : Halt). Err h) (sym p.2 ∙ halted))) };
+}
 
-pub returns-in_err-describe_table-clause-cause : goal.returns-in_err-describe_table-clause-cause
-returns-in_err-describe_table-clause-cause g c = record { later = later_on (g.S.Source.faults c.args.src.now) (g.S.Source.faults c.tables.src) (g.S.Source.faults c.describe_table.new.src) c.tables.invariant.later c.describe_table.ensures.cause.later; cause = λ is. let p = err_from_is_err_and c.from_residual-in_err-describe_table.result c.from_residual-in_err-describe_table.ensures.1 in let both : Err p.0 ≡ Err halt.Source = sym p.1 ∙ is in let halted : p.0 ≡ halt.Source = cc in rose_behind (g.S.Source.faults c.args.src.now) (g.S.Source.faults c.tables.src) (g.S.Source.faults c.describe_table.new.src) c.tables.invariant.later (c.in_err-describe_table.ensures.cause.cause (ap (λ (h : Halt). Err h) (sym p.2 ∙ halted))) }
-
-pub returns-in_err-push-clause-left : goal.returns-in_err-push-clause-left
-returns-in_err-push-clause-left g c s l stands may =
-    let stood = c.tables.invariant.described s stands in
-    rest_on s stood.standing l stood.holds.0 (c.describe_table.ensures.left stood.standing l stood.is may)
-
-pub returns-in_err-push-clause-taken : goal.returns-in_err-push-clause-taken
-returns-in_err-push-clause-taken g c =
-    taken_on (g.S.Source.told c.args.src.now) (g.S.Source.told c.tables.src) (g.S.Source.told c.describe_table.new.src) c.tables.invariant.taken c.describe_table.ensures.taken
+pub returns-in_err-push-clause-rests : goal.returns-in_err-push-clause-rests
+returns-in_err-push-clause-rests g c = record {
+  left = λ s l stands may.
+      let stood = c.tables.invariant.described s stands in
+      rest_on s stood.standing l stood.holds.0 (c.describe_table.ensures.rests.left stood.standing l stood.is may);
+  some = search rules;
+  still = search rules;
+  taken =
+      taken_on (g.S.Source.told c.args.src.now) (g.S.Source.told c.tables.src) (g.S.Source.told c.describe_table.new.src) c.tables.invariant.taken c.describe_table.ensures.rests.taken;
+}
 
 pub tables-preserved : goal.tables-preserved
 tables-preserved g c =
@@ -106,15 +120,13 @@ tables-preserved g c =
       named = ap (map (λ (x : TableInfo). x.name)) pushed ∙ named_push infos info names i name lt inv.named c.in_ok-describe_table.ensures.named is;
       left = λ s l stands may. (
           let stood = inv.described s stands in
-          rest_on s stood.standing l stood.holds.0 (c.describe_table.ensures.left stood.standing l stood.is may));
+          rest_on s stood.standing l stood.holds.0 (c.describe_table.ensures.rests.left stood.standing l stood.is may));
       some = λ s stands. (
           let stood = inv.described s stands in
-          c.describe_table.ensures.some stood.standing stood.is);
-      taken = taken_on (g.S.Source.told old) (g.S.Source.told mid) (g.S.Source.told new) inv.taken c.describe_table.ensures.taken;
-      is_live = c.in_ok-describe_table.ensures.live;
-      was_honest = λ honest. inv.was_honest (c.describe_table.ensures.honest honest);
-      comes = g.met.S.Source.comes_on old mid new inv.comes c.describe_table.ensures.comes;
-      later = later_on (g.S.Source.faults old) (g.S.Source.faults mid) (g.S.Source.faults new) inv.later c.describe_table.ensures.cause.later;
+          c.describe_table.ensures.rests.some stood.standing stood.is);
+      taken = taken_on (g.S.Source.told old) (g.S.Source.told mid) (g.S.Source.told new) inv.taken c.describe_table.ensures.rests.taken;
+      is_live = c.in_ok-describe_table.ensures.source.live;
+      was_honest = λ honest. inv.was_honest (c.describe_table.ensures.source.honest honest);
+      comes = g.met.S.Source.comes_on old mid new inv.comes c.describe_table.ensures.source.comes;
+      later = later_on (g.S.Source.faults old) (g.S.Source.faults mid) (g.S.Source.faults new) inv.later c.describe_table.ensures.source.cause.later;
     }
-
--- ---- each was

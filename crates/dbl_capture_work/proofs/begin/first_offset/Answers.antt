@@ -1,4 +1,4 @@
-use Rattle.std.proofs.Common.{◌≡◌, ◌∙◌, inl, inr, IsTrue, List, sym, ap, subst}
+use Rattle.std.proofs.Common.{◌≡◌, ◌∙◌, inl, inr, IsTrue, List, sym, ap, subst, rules}
 use Rattle.std.specs.Prelude.{Contains, Err, map}
 use Rattle.std.proofs.lemmas.Result.{err_from_is_err_and}
 use Rattle.dbl_base.specs.declared.lsn.Lsn.{Lsn}
@@ -33,26 +33,35 @@ returns-in_err-head-clause-absent g c s stands =
     let p = err_from_is_err_and c.from_residual-in_err-head.result c.from_residual-in_err-head.ensures.1 in
     rw (p.1, p.2) (source_absent c.args.config.now.tables s.history c.in_err-head.field-0.0)
 
-pub returns-in_err-head-clause-left : goal.returns-in_err-head-clause-left
-returns-in_err-head-clause-left g c s l stands may =
-    let stood = c.in_ok-infos.ensures.described s stands in
-    rest_on s stood.standing l stood.holds.0 (c.head.ensures.left stood.standing l stood.is may)
+pub returns-in_err-head-clause-rests : goal.returns-in_err-head-clause-rests
+returns-in_err-head-clause-rests g c = record {
+  left = λ s l stands may.
+      let stood = c.in_ok-infos.ensures.described s stands in
+      rest_on s stood.standing l stood.holds.0 (c.head.ensures.left stood.standing l stood.is may);
+  some = search rules;
+  still = search rules;
+  taken =
+      taken_on (g.S.Source.told c.args.src.now) (g.S.Source.told c.describe_tables.new.src) (g.S.Source.told c.head.new.self) c.describe_tables.ensures.rests.taken c.head.ensures.taken;
+}
 
-pub returns-in_err-head-clause-taken : goal.returns-in_err-head-clause-taken
-returns-in_err-head-clause-taken g c =
-    taken_on (g.S.Source.told c.args.src.now) (g.S.Source.told c.describe_tables.new.src) (g.S.Source.told c.head.new.self) c.describe_tables.ensures.taken c.head.ensures.taken
+pub returns-in_err-head-clause-source : goal.returns-in_err-head-clause-source
+returns-in_err-head-clause-source g c = record {
+  live = search rules;
+  honest = search rules;
+  comes = search rules;
+  cause = record { later = later_on (g.S.Source.faults c.args.src.now) (g.S.Source.faults c.describe_tables.new.src) (g.S.Source.faults c.head.new.self) c.describe_tables.ensures.source.cause.later c.head.ensures.cause.later; cause = λ is. let p = err_from_is_err_and c.from_residual-in_err-head.result c.from_residual-in_err-head.ensures.1 in let both : Err p.0 ≡ Err halt.Source = sym p.1 ∙ is in let halted : p.0 ≡ halt.Source = cc in let failed = source_failed c.in_err-head.field-0.0 (sym p.2 ∙ halted) in rose_behind (g.S.Source.faults c.args.src.now) (g.S.Source.faults c.describe_tables.new.src) (g.S.Source.faults c.head.new.self) c.describe_tables.ensures.source.cause.later (c.head.ensures.cause.cause (c.in_err-head.was ∙ ap (λ (e : SourceError). Err e) failed)) };
+}
 
-pub returns-in_err-head-clause-cause : goal.returns-in_err-head-clause-cause
-returns-in_err-head-clause-cause g c = record { later = later_on (g.S.Source.faults c.args.src.now) (g.S.Source.faults c.describe_tables.new.src) (g.S.Source.faults c.head.new.self) c.describe_tables.ensures.cause.later c.head.ensures.cause.later; cause = λ is. let p = err_from_is_err_and c.from_residual-in_err-head.result c.from_residual-in_err-head.ensures.1 in let both : Err p.0 ≡ Err halt.Source = sym p.1 ∙ is in let halted : p.0 ≡ halt.Source = cc in let failed = source_failed c.in_err-head.field-0.0 (sym p.2 ∙ halted) in rose_behind (g.S.Source.faults c.args.src.now) (g.S.Source.faults c.describe_tables.new.src) (g.S.Source.faults c.head.new.self) c.describe_tables.ensures.cause.later (c.head.ensures.cause.cause (c.in_err-head.was ∙ ap (λ (e : SourceError). Err e) failed)) }
-
-pub returns-in_err-offset_at-clause-left : goal.returns-in_err-offset_at-clause-left
-returns-in_err-offset_at-clause-left g c s l stands may =
-    let stood = c.in_ok-infos.ensures.described s stands in
-    rest_on s stood.standing l stood.holds.0 (c.head.ensures.left stood.standing l stood.is may)
-
-pub returns-in_err-offset_at-clause-taken : goal.returns-in_err-offset_at-clause-taken
-returns-in_err-offset_at-clause-taken g c =
-    taken_on (g.S.Source.told c.args.src.now) (g.S.Source.told c.describe_tables.new.src) (g.S.Source.told c.head.new.self) c.describe_tables.ensures.taken c.head.ensures.taken
+pub returns-in_err-offset_at-clause-rests : goal.returns-in_err-offset_at-clause-rests
+returns-in_err-offset_at-clause-rests g c = record {
+  left = λ s l stands may.
+      let stood = c.in_ok-infos.ensures.described s stands in
+      rest_on s stood.standing l stood.holds.0 (c.head.ensures.left stood.standing l stood.is may);
+  some = search rules;
+  still = search rules;
+  taken =
+      taken_on (g.S.Source.told c.args.src.now) (g.S.Source.told c.describe_tables.new.src) (g.S.Source.told c.head.new.self) c.describe_tables.ensures.rests.taken c.head.ensures.taken;
+}
 
 pub returns-clause-first : goal.returns-clause-first
 returns-clause-first g c s stands =
@@ -87,17 +96,16 @@ returns-clause-asked g c =
 pub returns-clause-headed : goal.returns-clause-headed
 returns-clause-headed g c = subst (λ (lsn : Lsn). LastAnswerIs (g.S.Source.told c.head.new.self) (Head lsn)) (sym c.in_ok-offset_at.ensures.start) c.in_ok-head.ensures.told
 
-pub returns-clause-left : goal.returns-clause-left
-returns-clause-left g c s l stands may =
-    let stood = c.in_ok-infos.ensures.described s stands in
-    rest_on s stood.standing l stood.holds.0 (c.head.ensures.left stood.standing l stood.is may)
-
-pub returns-clause-taken : goal.returns-clause-taken
-returns-clause-taken g c =
-    taken_on (g.S.Source.told c.args.src.now) (g.S.Source.told c.describe_tables.new.src) (g.S.Source.told c.head.new.self) c.describe_tables.ensures.taken c.head.ensures.taken
-
-pub returns-clause-still : goal.returns-clause-still
-returns-clause-still g c s t old new =
-    let stood = c.in_ok-infos.ensures.described s old in
-    let headed = c.in_ok-head.ensures.headed stood.standing stood.is in
-    ap (λ (x : SourceState). x.reading) (g.met.S.Source.one c.head.new.self t headed.standing new headed.is) ∙ (headed.holds.0.reading ∙ stood.holds.0.reading)
+pub returns-clause-rests : goal.returns-clause-rests
+returns-clause-rests g c = record {
+  left = λ s l stands may.
+      let stood = c.in_ok-infos.ensures.described s stands in
+      rest_on s stood.standing l stood.holds.0 (c.head.ensures.left stood.standing l stood.is may);
+  some = search rules;
+  still = λ s t old new.
+      let stood = c.in_ok-infos.ensures.described s old in
+      let headed = c.in_ok-head.ensures.headed stood.standing stood.is in
+      ap (λ (x : SourceState). x.reading) (g.met.S.Source.one c.head.new.self t headed.standing new headed.is) ∙ (headed.holds.0.reading ∙ stood.holds.0.reading);
+  taken =
+      taken_on (g.S.Source.told c.args.src.now) (g.S.Source.told c.describe_tables.new.src) (g.S.Source.told c.head.new.self) c.describe_tables.ensures.rests.taken c.head.ensures.taken;
+}

@@ -1,4 +1,4 @@
-use Rattle.std.proofs.Common.{◌≡◌, ◌∙◌, inl, inr, List, [], ◌∷◌, ◌++◌, refl, sym, ap, subst, arith, le_refl}
+use Rattle.std.proofs.Common.{◌≡◌, ◌∙◌, inl, inr, List, [], ◌∷◌, ◌++◌, refl, sym, ap, subst, arith, le_refl, rules}
 use Rattle.std.specs.Prelude.{Err}
 use Rattle.std.specs.Vec.Iter.{into_iter_items}
 use Rattle.std.proofs.lemmas.Result.{err_from_is_err_and}
@@ -51,37 +51,37 @@ pub returns-in_err-put_group-clause-left : goal.returns-in_err-put_group-clause-
 returns-in_err-put_group-clause-left g c groups left held may =
     let here = put_at _ _ _ _ _ _ _ _ _ _ c.in-Some-item.ensures.steps.0 c.records.invariant.put in
     left_cut groups _ _ _ left (next_begins _ _ _ _ _ _ _ _ _ _ (sym c.needs_new_batch.ensures ∙ c.if-needs_new_batch.true) here)
-    (c.put_group.ensures.left (groups ++ here.put) left (here.held groups held) may)
+    (c.put_group.ensures.group.left (groups ++ here.put) left (here.held groups held) may)
 
 pub returns-in_err-put_group-clause-some : goal.returns-in_err-put_group-clause-some
 returns-in_err-put_group-clause-some g c groups held =
     let here = c.records.invariant.put in
-    c.put_group.ensures.some (groups ++ here.put) (here.held groups held)
+    c.put_group.ensures.group.some (groups ++ here.put) (here.held groups held)
 
 pub returns-in_err-put_group-clause-noted : goal.returns-in_err-put_group-clause-noted
 returns-in_err-put_group-clause-noted g c lasts =
-    subst (λ (r : Report). WerePut c.args.snapshot c.args.records.items c.args.report.now r) (sym c.in_err-put_group.ensures.unnoted) (were_put _ _ _ _ _ _ _ _ _ c.records.invariant.put lasts)
+    subst (λ (r : Report). WerePut c.args.snapshot c.args.records.items c.args.report.now r) (sym c.in_err-put_group.ensures.counts.unnoted) (were_put _ _ _ _ _ _ _ _ _ c.records.invariant.put lasts)
 
 pub returns-in_err-put_group-clause-kept : goal.returns-in_err-put_group-clause-kept
 returns-in_err-put_group-clause-kept g c groups held lasts =
     let p = err_from_is_err_and c.from_residual-in_err-put_group.result c.from_residual-in_err-put_group.ensures.1 in
     let is = c.in_err-put_group.ensures in
     rw (p.1, p.2) (λ other. holds_put _ _ groups _ _ _ _ c.put_group.new.sink _ _ (put_kept _ _ _ _ _ _ _ c.put_group.new.sink _ _ _ c.records.invariant.put
-    (λ held_groups h. is.kept held_groups h (λ failed. let is : c.in_err-put_group.field-0.0 ≡ halt.Sink = cc in other (ap (λ (x : Halt). Err x) is))) is.unnoted) held lasts)
+    (λ held_groups h. is.group.kept held_groups h (λ failed. let is : c.in_err-put_group.field-0.0 ≡ halt.Sink = cc in other (ap (λ (x : Halt). Err x) is))) is.counts.unnoted) held lasts)
 
 pub returns-in_err-put_group-clause-torn : goal.returns-in_err-put_group-clause-torn
 returns-in_err-put_group-clause-torn g c groups held lasts is =
     let here = put_at _ _ _ _ _ _ _ _ _ _ c.in-Some-item.ensures.steps.0 c.records.invariant.put in
-    torn_put _ _ g.K.Sink.may_leave groups _ _ _ _ _ _ c.put_group.new.sink _ _ c.put_group.new.report here (next_begins _ _ _ _ _ _ _ _ _ _ (sym c.needs_new_batch.ensures ∙ c.if-needs_new_batch.true) here) lasts c.in_err-put_group.ensures.unnoted
-    (λ found may. c.put_group.ensures.left (groups ++ here.put) found (here.held groups held) may)
+    torn_put _ _ g.K.Sink.may_leave groups _ _ _ _ _ _ c.put_group.new.sink _ _ c.put_group.new.report here (next_begins _ _ _ _ _ _ _ _ _ _ (sym c.needs_new_batch.ensures ∙ c.if-needs_new_batch.true) here) lasts c.in_err-put_group.ensures.counts.unnoted
+    (λ found may. c.put_group.ensures.group.left (groups ++ here.put) found (here.held groups held) may)
 
 pub returns-in_err-put_group-clause-before : goal.returns-in_err-put_group-clause-before
 returns-in_err-put_group-clause-before g c groups held lasts len is =
     let p = err_from_is_err_and c.from_residual-in_err-put_group.result c.from_residual-in_err-put_group.ensures.1 in
     let same : c.in_err-put_group.field-0.0 ≡ halt.RecordTooLong len = sym p.2 ∙ same_error _ _ _ p.1 is in
     let here = put_at _ _ _ _ _ _ _ _ _ _ c.in-Some-item.ensures.steps.0 c.records.invariant.put in
-    long_put _ _ groups _ _ _ _ _ _ c.put_group.new.sink _ _ c.put_group.new.report len here (next_begins _ _ _ _ _ _ _ _ _ _ (sym c.needs_new_batch.ensures ∙ c.if-needs_new_batch.true) here) lasts c.in_err-put_group.ensures.unnoted
-    (c.in_err-put_group.ensures.kept (groups ++ here.put) (here.held groups held) (λ failed. let wrong : halt.RecordTooLong len ≡ halt.Sink = cc in cc))
+    long_put _ _ groups _ _ _ _ _ _ c.put_group.new.sink _ _ c.put_group.new.report len here (next_begins _ _ _ _ _ _ _ _ _ _ (sym c.needs_new_batch.ensures ∙ c.if-needs_new_batch.true) here) lasts c.in_err-put_group.ensures.counts.unnoted
+    (c.in_err-put_group.ensures.group.kept (groups ++ here.put) (here.held groups held) (λ failed. let wrong : halt.RecordTooLong len ≡ halt.Sink = cc in cc))
     (subst (IsGroupHalt c.records.gathered.items.items) same c.in_err-put_group.ensures.halt)
 
 pub returns-in_err-put_group-clause-halt : goal.returns-in_err-put_group-clause-halt
@@ -94,13 +94,17 @@ returns-in_err-put_group-clause-halt g c =
       | inr (inr long) ↦ inr (inr (long_group _ _ _ c.in_err-put_group.field-0.0 (next_begins _ _ _ _ _ _ _ _ _ _ (sym c.needs_new_batch.ensures ∙ c.if-needs_new_batch.true) here) here.short long.0 long.1))
     ])
 
-pub returns-in_err-put_group-clause-cause : goal.returns-in_err-put_group-clause-cause
-returns-in_err-put_group-clause-cause g c = record { later = later_on (g.K.Sink.faults c.args.sink.now) (g.K.Sink.faults c.records.sink) (g.K.Sink.faults c.put_group.new.sink) c.records.invariant.later c.put_group.ensures.cause.later; cause = λ is. let p = err_from_is_err_and c.from_residual-in_err-put_group.result c.from_residual-in_err-put_group.ensures.1 in rose_behind (g.K.Sink.faults c.args.sink.now) (g.K.Sink.faults c.records.sink) (g.K.Sink.faults c.put_group.new.sink) c.records.invariant.later (c.in_err-put_group.ensures.cause.cause (ap (λ (x : Halt). Err x) (sym p.2 ∙ same_error _ _ _ p.1 is))) }
+pub returns-in_err-put_group-clause-sink : goal.returns-in_err-put_group-clause-sink
+returns-in_err-put_group-clause-sink g c = record {
+  live = search rules;
+  comes = g.met.K.Sink.comes_on c.args.sink.now c.records.sink c.put_group.new.sink c.records.invariant.comes c.put_group.ensures.sink.comes;
+  cause = record { later = later_on (g.K.Sink.faults c.args.sink.now) (g.K.Sink.faults c.records.sink) (g.K.Sink.faults c.put_group.new.sink) c.records.invariant.later c.put_group.ensures.sink.cause.later; cause = λ is. let p = err_from_is_err_and c.from_residual-in_err-put_group.result c.from_residual-in_err-put_group.ensures.1 in rose_behind (g.K.Sink.faults c.args.sink.now) (g.K.Sink.faults c.records.sink) (g.K.Sink.faults c.put_group.new.sink) c.records.invariant.later (c.in_err-put_group.ensures.sink.cause.cause (ap (λ (x : Halt). Err x) (sym p.2 ∙ same_error _ _ _ p.1 is))) };
+}
 
 pub returns-in_err-gathered-2-clause-left : goal.returns-in_err-gathered-2-clause-left
 returns-in_err-gathered-2-clause-left g c groups left held may =
     let here = put_at _ _ _ _ _ _ _ _ _ _ c.in-Some-item.ensures.steps.0 c.records.invariant.put in
-    let more = put_more g.K.Sink.holds c.args.snapshot c.records.gathered.items.items c.records.sink c.put_group.new.sink c.records.report c.put_group.new.report c.in_ok-put_group.ensures.put c.in_ok-put_group.ensures.noted c.in_ok-put_group.ensures.long in
+    let more = put_more g.K.Sink.holds c.args.snapshot c.records.gathered.items.items c.records.sink c.put_group.new.sink c.records.report c.put_group.new.report c.in_ok-put_group.ensures.group.put c.in_ok-put_group.ensures.counts.noted c.in_ok-put_group.ensures.long in
     let there = put_on _ _ _ _ _ _ _ _ _ _ _ _ (sym c.needs_new_batch.ensures ∙ c.if-needs_new_batch.true) here more in
     left_still _ _ groups left _ _ _ _ _ _ _ there (g.met.K.Sink.only c.put_group.new.sink (groups ++ there.put) left (there.held groups held) may)
 
@@ -108,41 +112,41 @@ pub returns-in_err-gathered-2-clause-some : goal.returns-in_err-gathered-2-claus
 returns-in_err-gathered-2-clause-some g c groups held =
     let here = c.records.invariant.put in
     let group = c.records.gathered.items.items in
-    let there = c.in_ok-put_group.ensures.put (groups ++ here.put) (here.held groups held) in
+    let there = c.in_ok-put_group.ensures.group.put (groups ++ here.put) (here.held groups held) in
     ((groups ++ here.put) ++ group ∷ [], g.met.K.Sink.may c.put_group.new.sink ((groups ++ here.put) ++ group ∷ []) there)
 
 pub returns-in_err-gathered-2-clause-noted : goal.returns-in_err-gathered-2-clause-noted
 returns-in_err-gathered-2-clause-noted g c lasts =
     let here = put_at _ _ _ _ _ _ _ _ _ _ c.in-Some-item.ensures.steps.0 c.records.invariant.put in
-    let more = put_more g.K.Sink.holds c.args.snapshot c.records.gathered.items.items c.records.sink c.put_group.new.sink c.records.report c.put_group.new.report c.in_ok-put_group.ensures.put c.in_ok-put_group.ensures.noted c.in_ok-put_group.ensures.long in
+    let more = put_more g.K.Sink.holds c.args.snapshot c.records.gathered.items.items c.records.sink c.put_group.new.sink c.records.report c.put_group.new.report c.in_ok-put_group.ensures.group.put c.in_ok-put_group.ensures.counts.noted c.in_ok-put_group.ensures.long in
     were_put _ _ _ _ _ _ _ _ _ (put_on _ _ _ _ _ _ _ _ _ _ _ _ (sym c.needs_new_batch.ensures ∙ c.if-needs_new_batch.true) here more) lasts
 
 pub returns-in_err-gathered-2-clause-kept : goal.returns-in_err-gathered-2-clause-kept
 returns-in_err-gathered-2-clause-kept g c groups held lasts =
     let p = err_from_is_err_and c.from_residual-in_err-gathered-2.result c.from_residual-in_err-gathered-2.ensures.1 in
     let here = put_at _ _ _ _ _ _ _ _ _ _ c.in-Some-item.ensures.steps.0 c.records.invariant.put in
-    let more = put_more g.K.Sink.holds c.args.snapshot c.records.gathered.items.items c.records.sink c.put_group.new.sink c.records.report c.put_group.new.report c.in_ok-put_group.ensures.put c.in_ok-put_group.ensures.noted c.in_ok-put_group.ensures.long in
+    let more = put_more g.K.Sink.holds c.args.snapshot c.records.gathered.items.items c.records.sink c.put_group.new.sink c.records.report c.put_group.new.report c.in_ok-put_group.ensures.group.put c.in_ok-put_group.ensures.counts.noted c.in_ok-put_group.ensures.long in
     rw p.1 (λ other. holds_put _ _ groups _ _ _ _ _ _ _ (put_on _ _ _ _ _ _ _ _ _ _ _ _ (sym c.needs_new_batch.ensures ∙ c.if-needs_new_batch.true) here more) held lasts)
 
 pub returns-in_err-gathered-2-clause-counts : goal.returns-in_err-gathered-2-clause-counts
 returns-in_err-gathered-2-clause-counts g c lasts =
     let p = err_from_is_err_and c.from_residual-in_err-gathered-2.result c.from_residual-in_err-gathered-2.ensures.1 in
     let here = put_at _ _ _ _ _ _ _ _ _ _ c.in-Some-item.ensures.steps.0 c.records.invariant.put in
-    let more = put_more g.K.Sink.holds c.args.snapshot c.records.gathered.items.items c.records.sink c.put_group.new.sink c.records.report c.put_group.new.report c.in_ok-put_group.ensures.put c.in_ok-put_group.ensures.noted c.in_ok-put_group.ensures.long in
+    let more = put_more g.K.Sink.holds c.args.snapshot c.records.gathered.items.items c.records.sink c.put_group.new.sink c.records.report c.put_group.new.report c.in_ok-put_group.ensures.group.put c.in_ok-put_group.ensures.counts.noted c.in_ok-put_group.ensures.long in
     rw p.1 (counts_stay _ _ _ _ _ _ _ _ _ (omega arith) (put_on _ _ _ _ _ _ _ _ _ _ _ _ (sym c.needs_new_batch.ensures ∙ c.if-needs_new_batch.true) here more) lasts)
 
 pub records-preserved-then-needs_new_batch : goal.records-preserved-then-needs_new_batch
 records-preserved-then-needs_new_batch g c =
     let here = put_at _ _ _ _ _ _ _ _ _ _ c.in-Some-item.ensures.steps.0 c.records.invariant.put in
-    let more = put_more g.K.Sink.holds c.args.snapshot c.records.gathered.items.items c.records.sink c.put_group.new.sink c.records.report c.put_group.new.report c.in_ok-put_group.ensures.put c.in_ok-put_group.ensures.noted c.in_ok-put_group.ensures.long in
+    let more = put_more g.K.Sink.holds c.args.snapshot c.records.gathered.items.items c.records.sink c.put_group.new.sink c.records.report c.put_group.new.report c.in_ok-put_group.ensures.group.put c.in_ok-put_group.ensures.counts.noted c.in_ok-put_group.ensures.long in
     let there = put_on _ _ _ _ _ _ _ _ _ _ _ _ (sym c.needs_new_batch.ensures ∙ c.if-needs_new_batch.true) here more in
     record {
       is_gathered = c.in_ok-gathered-2.ensures.gathered;
       put = subst (λ (l : List Record). IsPut g.K.Sink.holds c.args.snapshot c.args.records.items l (into_iter_items c.next-in-records.new.self) c.args.sink.now c.put_group.new.sink c.args.report.now c.put_group.new.report) (sym c.in_ok-gathered-2.ensures.items) there;
       counts = counts_stay _ _ _ _ _ _ _ _ _ (omega arith) there;
-      is_live = c.in_ok-put_group.ensures.live;
-      comes = g.met.K.Sink.comes_on c.args.sink.now c.records.sink c.put_group.new.sink c.records.invariant.comes c.put_group.ensures.comes;
-      later = later_on (g.K.Sink.faults c.args.sink.now) (g.K.Sink.faults c.records.sink) (g.K.Sink.faults c.put_group.new.sink) c.records.invariant.later c.put_group.ensures.cause.later;
+      is_live = c.in_ok-put_group.ensures.sink.live;
+      comes = g.met.K.Sink.comes_on c.args.sink.now c.records.sink c.put_group.new.sink c.records.invariant.comes c.put_group.ensures.sink.comes;
+      later = later_on (g.K.Sink.faults c.args.sink.now) (g.K.Sink.faults c.records.sink) (g.K.Sink.faults c.put_group.new.sink) c.records.invariant.later c.put_group.ensures.sink.cause.later;
     }
 
 pub returns-in_err-gather-clause-left : goal.returns-in_err-gather-clause-left
@@ -190,30 +194,30 @@ returns-in_err-put_group-2-clause-left g c groups left held may =
     let none : into_iter_items c.records.item-iterator ≡ [] = no_items (into_iter_items c.records.item-iterator) (omega (arith, c.in-None.ensures.steps.0, c.records.item-iterator.rest.ok)) in
     let here = put_at _ _ _ _ _ _ _ _ _ _ none c.records.invariant.put in
     left_cut groups _ _ _ left (last_group _ _ _ _ _ _ _ _ here)
-    (c.put_group-2.ensures.left (groups ++ here.put) left (here.held groups held) may)
+    (c.put_group-2.ensures.group.left (groups ++ here.put) left (here.held groups held) may)
 
 pub returns-in_err-put_group-2-clause-some : goal.returns-in_err-put_group-2-clause-some
 returns-in_err-put_group-2-clause-some g c groups held =
     let here = c.records.invariant.put in
-    c.put_group-2.ensures.some (groups ++ here.put) (here.held groups held)
+    c.put_group-2.ensures.group.some (groups ++ here.put) (here.held groups held)
 
 pub returns-in_err-put_group-2-clause-noted : goal.returns-in_err-put_group-2-clause-noted
 returns-in_err-put_group-2-clause-noted g c lasts =
-    subst (λ (r : Report). WerePut c.args.snapshot c.args.records.items c.args.report.now r) (sym c.in_err-put_group-2.ensures.unnoted) (were_put _ _ _ _ _ _ _ _ _ c.records.invariant.put lasts)
+    subst (λ (r : Report). WerePut c.args.snapshot c.args.records.items c.args.report.now r) (sym c.in_err-put_group-2.ensures.counts.unnoted) (were_put _ _ _ _ _ _ _ _ _ c.records.invariant.put lasts)
 
 pub returns-in_err-put_group-2-clause-kept : goal.returns-in_err-put_group-2-clause-kept
 returns-in_err-put_group-2-clause-kept g c groups held lasts =
     let p = err_from_is_err_and c.from_residual-in_err-put_group-2.result c.from_residual-in_err-put_group-2.ensures.1 in
     let is = c.in_err-put_group-2.ensures in
     rw (p.1, p.2) (λ other. holds_put _ _ groups _ _ _ _ c.put_group-2.new.sink _ _ (put_kept _ _ _ _ _ _ _ c.put_group-2.new.sink _ _ _ c.records.invariant.put
-    (λ held_groups h. is.kept held_groups h (λ failed. let is : c.in_err-put_group-2.field-0.0 ≡ halt.Sink = cc in other (ap (λ (x : Halt). Err x) is))) is.unnoted) held lasts)
+    (λ held_groups h. is.group.kept held_groups h (λ failed. let is : c.in_err-put_group-2.field-0.0 ≡ halt.Sink = cc in other (ap (λ (x : Halt). Err x) is))) is.counts.unnoted) held lasts)
 
 pub returns-in_err-put_group-2-clause-torn : goal.returns-in_err-put_group-2-clause-torn
 returns-in_err-put_group-2-clause-torn g c groups held lasts is =
     let none : into_iter_items c.records.item-iterator ≡ [] = no_items (into_iter_items c.records.item-iterator) (omega (arith, c.in-None.ensures.steps.0, c.records.item-iterator.rest.ok)) in
     let here = put_at _ _ _ _ _ _ _ _ _ _ none c.records.invariant.put in
-    torn_put _ _ g.K.Sink.may_leave groups _ _ _ _ _ _ c.put_group-2.new.sink _ _ c.put_group-2.new.report here (last_group _ _ _ _ _ _ _ _ here) lasts c.in_err-put_group-2.ensures.unnoted
-    (λ found may. c.put_group-2.ensures.left (groups ++ here.put) found (here.held groups held) may)
+    torn_put _ _ g.K.Sink.may_leave groups _ _ _ _ _ _ c.put_group-2.new.sink _ _ c.put_group-2.new.report here (last_group _ _ _ _ _ _ _ _ here) lasts c.in_err-put_group-2.ensures.counts.unnoted
+    (λ found may. c.put_group-2.ensures.group.left (groups ++ here.put) found (here.held groups held) may)
 
 pub returns-in_err-put_group-2-clause-before : goal.returns-in_err-put_group-2-clause-before
 returns-in_err-put_group-2-clause-before g c groups held lasts len is =
@@ -221,8 +225,8 @@ returns-in_err-put_group-2-clause-before g c groups held lasts len is =
     let same : c.in_err-put_group-2.field-0.0 ≡ halt.RecordTooLong len = sym p.2 ∙ same_error _ _ _ p.1 is in
     let none : into_iter_items c.records.item-iterator ≡ [] = no_items (into_iter_items c.records.item-iterator) (omega (arith, c.in-None.ensures.steps.0, c.records.item-iterator.rest.ok)) in
     let here = put_at _ _ _ _ _ _ _ _ _ _ none c.records.invariant.put in
-    long_put _ _ groups _ _ _ _ _ _ c.put_group-2.new.sink _ _ c.put_group-2.new.report len here (last_group _ _ _ _ _ _ _ _ here) lasts c.in_err-put_group-2.ensures.unnoted
-    (c.in_err-put_group-2.ensures.kept (groups ++ here.put) (here.held groups held) (λ failed. let wrong : halt.RecordTooLong len ≡ halt.Sink = cc in cc))
+    long_put _ _ groups _ _ _ _ _ _ c.put_group-2.new.sink _ _ c.put_group-2.new.report len here (last_group _ _ _ _ _ _ _ _ here) lasts c.in_err-put_group-2.ensures.counts.unnoted
+    (c.in_err-put_group-2.ensures.group.kept (groups ++ here.put) (here.held groups held) (λ failed. let wrong : halt.RecordTooLong len ≡ halt.Sink = cc in cc))
     (subst (IsGroupHalt c.records.gathered.items.items) same c.in_err-put_group-2.ensures.halt)
 
 pub returns-in_err-put_group-2-clause-halt : goal.returns-in_err-put_group-2-clause-halt
@@ -236,14 +240,18 @@ returns-in_err-put_group-2-clause-halt g c =
       | inr (inr long) ↦ inr (inr (long_group _ _ _ c.in_err-put_group-2.field-0.0 (last_group _ _ _ _ _ _ _ _ here) here.short long.0 long.1))
     ])
 
-pub returns-in_err-put_group-2-clause-cause : goal.returns-in_err-put_group-2-clause-cause
-returns-in_err-put_group-2-clause-cause g c = record { later = later_on (g.K.Sink.faults c.args.sink.now) (g.K.Sink.faults c.records.sink) (g.K.Sink.faults c.put_group-2.new.sink) c.records.invariant.later c.put_group-2.ensures.cause.later; cause = λ is. let p = err_from_is_err_and c.from_residual-in_err-put_group-2.result c.from_residual-in_err-put_group-2.ensures.1 in rose_behind (g.K.Sink.faults c.args.sink.now) (g.K.Sink.faults c.records.sink) (g.K.Sink.faults c.put_group-2.new.sink) c.records.invariant.later (c.in_err-put_group-2.ensures.cause.cause (ap (λ (x : Halt). Err x) (sym p.2 ∙ same_error _ _ _ p.1 is))) }
+pub returns-in_err-put_group-2-clause-sink : goal.returns-in_err-put_group-2-clause-sink
+returns-in_err-put_group-2-clause-sink g c = record {
+  live = search rules;
+  comes = search rules;
+  cause = record { later = later_on (g.K.Sink.faults c.args.sink.now) (g.K.Sink.faults c.records.sink) (g.K.Sink.faults c.put_group-2.new.sink) c.records.invariant.later c.put_group-2.ensures.sink.cause.later; cause = λ is. let p = err_from_is_err_and c.from_residual-in_err-put_group-2.result c.from_residual-in_err-put_group-2.ensures.1 in rose_behind (g.K.Sink.faults c.args.sink.now) (g.K.Sink.faults c.records.sink) (g.K.Sink.faults c.put_group-2.new.sink) c.records.invariant.later (c.in_err-put_group-2.ensures.sink.cause.cause (ap (λ (x : Halt). Err x) (sym p.2 ∙ same_error _ _ _ p.1 is))) };
+}
 
 pub returns-clause-put : goal.returns-clause-put
 returns-clause-put g c groups held =
     let none : into_iter_items c.records.item-iterator ≡ [] = no_items (into_iter_items c.records.item-iterator) (omega (arith, c.in-None.ensures.steps.0, c.records.item-iterator.rest.ok)) in
     let here = put_at _ _ _ _ _ _ _ _ _ _ none c.records.invariant.put in
-    let more = put_more g.K.Sink.holds c.args.snapshot c.records.gathered.items.items c.records.sink c.put_group-2.new.sink c.records.report c.put_group-2.new.report c.in_ok-put_group-2.ensures.put c.in_ok-put_group-2.ensures.noted c.in_ok-put_group-2.ensures.long in
+    let more = put_more g.K.Sink.holds c.args.snapshot c.records.gathered.items.items c.records.sink c.put_group-2.new.sink c.records.report c.put_group-2.new.report c.in_ok-put_group-2.ensures.group.put c.in_ok-put_group-2.ensures.counts.noted c.in_ok-put_group-2.ensures.long in
     all_held _ _ groups _ _ _ _ _ _ _ _ here more held
 
 pub returns-clause-left : goal.returns-clause-left
@@ -251,36 +259,37 @@ returns-clause-left g c groups left held may =
     let none : into_iter_items c.records.item-iterator ≡ [] = no_items (into_iter_items c.records.item-iterator) (omega (arith, c.in-None.ensures.steps.0, c.records.item-iterator.rest.ok)) in
     let here = put_at _ _ _ _ _ _ _ _ _ _ none c.records.invariant.put in
     left_cut groups _ _ _ left (last_group _ _ _ _ _ _ _ _ here)
-    (c.put_group-2.ensures.left (groups ++ here.put) left (here.held groups held) may)
+    (c.put_group-2.ensures.group.left (groups ++ here.put) left (here.held groups held) may)
 
 pub returns-clause-some : goal.returns-clause-some
 returns-clause-some g c groups held =
     let here = c.records.invariant.put in
-    c.put_group-2.ensures.some (groups ++ here.put) (here.held groups held)
+    c.put_group-2.ensures.group.some (groups ++ here.put) (here.held groups held)
 
 pub returns-clause-whole : goal.returns-clause-whole
 returns-clause-whole g c lasts =
     let none : into_iter_items c.records.item-iterator ≡ [] = no_items (into_iter_items c.records.item-iterator) (omega (arith, c.in-None.ensures.steps.0, c.records.item-iterator.rest.ok)) in
     let here = put_at _ _ _ _ _ _ _ _ _ _ none c.records.invariant.put in
-    let more = put_more g.K.Sink.holds c.args.snapshot c.records.gathered.items.items c.records.sink c.put_group-2.new.sink c.records.report c.put_group-2.new.report c.in_ok-put_group-2.ensures.put c.in_ok-put_group-2.ensures.noted c.in_ok-put_group-2.ensures.long in
+    let more = put_more g.K.Sink.holds c.args.snapshot c.records.gathered.items.items c.records.sink c.put_group-2.new.sink c.records.report c.put_group-2.new.report c.in_ok-put_group-2.ensures.group.put c.in_ok-put_group-2.ensures.counts.noted c.in_ok-put_group-2.ensures.long in
     all_counted _ _ _ _ _ _ _ _ _ _ here more lasts
 
 pub returns-clause-noted : goal.returns-clause-noted
 returns-clause-noted g c lasts =
     let none : into_iter_items c.records.item-iterator ≡ [] = no_items (into_iter_items c.records.item-iterator) (omega (arith, c.in-None.ensures.steps.0, c.records.item-iterator.rest.ok)) in
     let here = put_at _ _ _ _ _ _ _ _ _ _ none c.records.invariant.put in
-    let more = put_more g.K.Sink.holds c.args.snapshot c.records.gathered.items.items c.records.sink c.put_group-2.new.sink c.records.report c.put_group-2.new.report c.in_ok-put_group-2.ensures.put c.in_ok-put_group-2.ensures.noted c.in_ok-put_group-2.ensures.long in
+    let more = put_more g.K.Sink.holds c.args.snapshot c.records.gathered.items.items c.records.sink c.put_group-2.new.sink c.records.report c.put_group-2.new.report c.in_ok-put_group-2.ensures.group.put c.in_ok-put_group-2.ensures.counts.noted c.in_ok-put_group-2.ensures.long in
     all_put g.K.Sink.holds c.args.snapshot _ _ _ (all_counted _ _ _ _ _ _ _ _ _ _ here more lasts)
 
 pub returns-clause-long : goal.returns-clause-long
 returns-clause-long g c place item at long =
     let none : into_iter_items c.records.item-iterator ≡ [] = no_items (into_iter_items c.records.item-iterator) (omega (arith, c.in-None.ensures.steps.0, c.records.item-iterator.rest.ok)) in
     let here = put_at _ _ _ _ _ _ _ _ _ _ none c.records.invariant.put in
-    let more = put_more g.K.Sink.holds c.args.snapshot c.records.gathered.items.items c.records.sink c.put_group-2.new.sink c.records.report c.put_group-2.new.report c.in_ok-put_group-2.ensures.put c.in_ok-put_group-2.ensures.noted c.in_ok-put_group-2.ensures.long in
+    let more = put_more g.K.Sink.holds c.args.snapshot c.records.gathered.items.items c.records.sink c.put_group-2.new.sink c.records.report c.put_group-2.new.report c.in_ok-put_group-2.ensures.group.put c.in_ok-put_group-2.ensures.counts.noted c.in_ok-put_group-2.ensures.long in
     absurd (none_long _ (all_short _ _ _ _ _ _ _ _ _ _ here more) place item at long)
 
-pub returns-in_err-put_group-clause-comes : goal.returns-in_err-put_group-clause-comes
-returns-in_err-put_group-clause-comes g c = g.met.K.Sink.comes_on c.args.sink.now c.records.sink c.put_group.new.sink c.records.invariant.comes c.put_group.ensures.comes
-
-pub returns-in_err-gathered-2-clause-comes : goal.returns-in_err-gathered-2-clause-comes
-returns-in_err-gathered-2-clause-comes g c = g.met.K.Sink.comes_on c.args.sink.now c.records.sink c.put_group.new.sink c.records.invariant.comes c.put_group.ensures.comes
+pub returns-in_err-gathered-2-clause-sink : goal.returns-in_err-gathered-2-clause-sink
+returns-in_err-gathered-2-clause-sink g c = record {
+  live = search rules;
+  comes = g.met.K.Sink.comes_on c.args.sink.now c.records.sink c.put_group.new.sink c.records.invariant.comes c.put_group.ensures.sink.comes;
+  cause = search rules;
+}

@@ -50,8 +50,12 @@ returns-in_err-records-clause-sink g c is =
     let p = err_from_is_err_and c.from_residual.result c.from_residual.ensures.1 in
     absurd (follow_not_sink c.in_err-records.field-0.0 (sym p.2 ∙ same_error _ _ _ p.1 is))
 
-pub returns-in_err-records-clause-cause : goal.returns-in_err-records-clause-cause
-returns-in_err-records-clause-cause g c = record { later = omega arith; cause = λ is. let p = err_from_is_err_and c.from_residual.result c.from_residual.ensures.1 in absurd (follow_not_sink c.in_err-records.field-0.0 (sym p.2 ∙ same_error _ _ _ p.1 is)) }
+pub returns-in_err-records-clause-device : goal.returns-in_err-records-clause-device
+returns-in_err-records-clause-device g c = record {
+  live = search rules;
+  comes = search rules;
+  cause = record { later = omega arith; cause = λ is. let p = err_from_is_err_and c.from_residual.result c.from_residual.ensures.1 in absurd (follow_not_sink c.in_err-records.field-0.0 (sym p.2 ∙ same_error _ _ _ p.1 is)) };
+}
 
 pub returns-in_err-put_all-clause-left : goal.returns-in_err-put_all-clause-left
 returns-in_err-put_all-clause-left g c groups left held may =

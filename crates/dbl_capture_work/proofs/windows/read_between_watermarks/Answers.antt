@@ -1,4 +1,4 @@
-use Rattle.std.proofs.Common.{◌≡◌, ◌⊎◌, [], ◌∷◌, sym, subst}
+use Rattle.std.proofs.Common.{◌≡◌, ◌⊎◌, [], ◌∷◌, sym, subst, rules}
 use Rattle.std.proofs.lemmas.Result.{IfErr-weaker, IfOk-weaker, err_from_is_err_and}
 use Rattle.dbl_source_model.specs.Standings.{HasState}
 use Rattle.dbl_window.specs.declared.error.WindowError.{WindowError}
@@ -23,9 +23,14 @@ returns-in_err-marked-clause-never g c s infos stands honest captured =
     let p = err_from_is_err_and c.from_residual.result c.from_residual.ensures.1 in
     rw (p.1, p.2) (mark_honest c.args.idle (g.S.Source.stands c.low.new.src) infos c.in_err-marked.field-0.0 c.in_err-marked.ensures.errors)
 
-pub returns-in_err-marked-clause-left : goal.returns-in_err-marked-clause-left
-returns-in_err-marked-clause-left g c s l stands may =
-    mark_left (low_text c.args.idle) (high_text c.args.idle ∷ []) s l (c.low.ensures.left s l stands may)
+pub returns-in_err-marked-clause-rests : goal.returns-in_err-marked-clause-rests
+returns-in_err-marked-clause-rests g c = record {
+  left = λ s l stands may.
+      mark_left (low_text c.args.idle) (high_text c.args.idle ∷ []) s l (c.low.ensures.rests.left s l stands may);
+  some = search rules;
+  still = search rules;
+  taken = search rules;
+}
 
 pub returns-clause-windowed : goal.returns-clause-windowed
 returns-clause-windowed g c s stands =
@@ -62,15 +67,22 @@ returns-clause-never g c s infos stands honest captured =
     IfErr-weaker c.select_and_mark_high.result (IsHonestFault marked stood infos) (IsHonestFault c.args.idle stood infos) (λ e fault. subst (λ (p : Plan). IsHonestFault p stood infos e) same fault)
     (c.select_and_mark_high.ensures.never low.standing infos low.is honest here)
 
-pub returns-clause-left : goal.returns-clause-left
-returns-clause-left g c s l stands may =
-    let low = c.in_ok-marked.ensures.marks s stands in
-    let idle = c.args.idle in
-    marked_left (low_text idle) (high_text idle ∷ []) s low.standing l low.holds
-    (subst (λ (p : Plan). MayHaveMarks (high_text p ∷ []) low.standing l) c.in_ok-marked.ensures.same (c.select_and_mark_high.ensures.left low.standing l low.is may))
+pub returns-clause-rests : goal.returns-clause-rests
+returns-clause-rests g c = record {
+  left = λ s l stands may.
+      let low = c.in_ok-marked.ensures.marks s stands in
+      let idle = c.args.idle in
+      marked_left (low_text idle) (high_text idle ∷ []) s low.standing l low.holds
+      (subst (λ (p : Plan). MayHaveMarks (high_text p ∷ []) low.standing l) c.in_ok-marked.ensures.same (c.select_and_mark_high.ensures.rests.left low.standing l low.is may));
+  some = search rules;
+  still = search rules;
+  taken = taken_on (g.S.Source.told c.args.src.now) (g.S.Source.told c.low.new.src) (g.S.Source.told c.select_and_mark_high.new.src) c.low.ensures.rests.taken c.select_and_mark_high.ensures.rests.taken;
+}
 
-pub returns-clause-taken : goal.returns-clause-taken
-returns-clause-taken g c = taken_on (g.S.Source.told c.args.src.now) (g.S.Source.told c.low.new.src) (g.S.Source.told c.select_and_mark_high.new.src) c.low.ensures.taken c.select_and_mark_high.ensures.taken
-
-pub returns-clause-cause : goal.returns-clause-cause
-returns-clause-cause g c = record { later = later_on (g.S.Source.faults c.args.src.now) (g.S.Source.faults c.low.new.src) (g.S.Source.faults c.select_and_mark_high.new.src) c.low.ensures.cause.later c.select_and_mark_high.ensures.cause.later; cause = λ is. rose_behind (g.S.Source.faults c.args.src.now) (g.S.Source.faults c.low.new.src) (g.S.Source.faults c.select_and_mark_high.new.src) c.low.ensures.cause.later (c.select_and_mark_high.ensures.cause.cause is) }
+pub returns-clause-source : goal.returns-clause-source
+returns-clause-source g c = record {
+  live = search rules;
+  honest = search rules;
+  comes = search rules;
+  cause = record { later = later_on (g.S.Source.faults c.args.src.now) (g.S.Source.faults c.low.new.src) (g.S.Source.faults c.select_and_mark_high.new.src) c.low.ensures.source.cause.later c.select_and_mark_high.ensures.source.cause.later; cause = λ is. rose_behind (g.S.Source.faults c.args.src.now) (g.S.Source.faults c.low.new.src) (g.S.Source.faults c.select_and_mark_high.new.src) c.low.ensures.source.cause.later (c.select_and_mark_high.ensures.source.cause.cause is) };
+}

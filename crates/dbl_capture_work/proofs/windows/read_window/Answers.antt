@@ -1,4 +1,4 @@
-use Rattle.std.proofs.Common.{◌≡◌, ◌∙◌, ◌+◌, ◌<◌, inl, Some, List, length, refl, sym, ap, subst}
+use Rattle.std.proofs.Common.{◌≡◌, ◌∙◌, ◌+◌, ◌<◌, inl, Some, List, length, refl, sym, ap, subst, rules}
 use Rattle.std.specs.Prelude.{Err, slice_get}
 use Rattle.std.proofs.lemmas.Option.{slice_get_read}
 use Rattle.std.proofs.lemmas.Result.{err_from_is_err_and}
@@ -77,7 +77,7 @@ pub returns-in-Ok-clause-left : goal.returns-in-Ok-clause-left
 returns-in-Ok-clause-left g c plan planned s l stands may =
     let both : Some c.in_ok-idle.idle ≡ Some plan = sym c.in_ok-idle.ensures ∙ planned in
     let same : c.in_ok-idle.idle ≡ plan = cc in
-    subst (λ (p : Plan). MayHaveMarks (own_marks p) s l) same (c.read_between_watermarks.ensures.left s l stands may)
+    subst (λ (p : Plan). MayHaveMarks (own_marks p) s l) same (c.read_between_watermarks.ensures.rests.left s l stands may)
 
 pub returns-in-Err-clause-halt : goal.returns-in-Err-clause-halt
 returns-in-Err-clause-halt g c =
@@ -106,11 +106,16 @@ returns-in-Err-clause-never g c s infos plan stands honest planned captured =
     honest_halt plan stood infos info.name c.halt_of.result c.in-Err.error (ap (λ (i : TableInfo). i.name) (sym (plan_info work c.args.table info plan here planned))) c.halt_of.ensures
     (subst (λ (p : Plan). IsHonestFault p stood infos c.in-Err.error) same (c.in-Err.ensures.never s infos stands honest (subst (IsCaptured infos s.history) (sym same) captured)))
 
-pub returns-in-Err-clause-cause : goal.returns-in-Err-clause-cause
-returns-in-Err-clause-cause g c = record { later = c.read_between_watermarks.ensures.cause.later; cause = λ is. let halted : c.halt_of.result ≡ halt.Source = cc in let failed = halt_failed c.index-info.result.now.name c.halt_of.result c.in-Err.error c.halt_of.ensures halted in c.read_between_watermarks.ensures.cause.cause (c.in-Err.is ∙ ap (λ (e : WindowError). Err e) failed) }
+pub returns-in-Err-clause-source : goal.returns-in-Err-clause-source
+returns-in-Err-clause-source g c = record {
+  live = search rules;
+  honest = search rules;
+  comes = search rules;
+  cause = record { later = c.read_between_watermarks.ensures.source.cause.later; cause = λ is. let halted : c.halt_of.result ≡ halt.Source = cc in let failed = halt_failed c.index-info.result.now.name c.halt_of.result c.in-Err.error c.halt_of.ensures halted in c.read_between_watermarks.ensures.source.cause.cause (c.in-Err.is ∙ ap (λ (e : WindowError). Err e) failed) };
+}
 
 pub returns-in-Err-clause-left : goal.returns-in-Err-clause-left
 returns-in-Err-clause-left g c plan planned s l stands may =
     let both : Some c.in_ok-idle.idle ≡ Some plan = sym c.in_ok-idle.ensures ∙ planned in
     let same : c.in_ok-idle.idle ≡ plan = cc in
-    subst (λ (p : Plan). MayHaveMarks (own_marks p) s l) same (c.read_between_watermarks.ensures.left s l stands may)
+    subst (λ (p : Plan). MayHaveMarks (own_marks p) s l) same (c.read_between_watermarks.ensures.rests.left s l stands may)

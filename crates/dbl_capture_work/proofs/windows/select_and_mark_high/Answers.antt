@@ -1,4 +1,4 @@
-use Rattle.std.proofs.Common.{◌≡◌, ◌⊎◌, [], ◌∷◌, inr, sym, ap, subst}
+use Rattle.std.proofs.Common.{◌≡◌, ◌⊎◌, [], ◌∷◌, inr, sym, ap, subst, rules}
 use Rattle.std.specs.Prelude.{Err}
 use Rattle.std.proofs.lemmas.Result.{IfErr-weaker, IfOk-weaker, err_from_is_err_and}
 use Rattle.dbl_source_model.specs.Calls.{IsMarked}
@@ -26,8 +26,13 @@ returns-in_err-held-clause-never g c s infos stands honest captured =
     (λ row is. c.in_err-held.ensures.never s infos row stands honest captured (ap (λ (e : WindowError). Err e) is))
     (λ name error is. c.in_err-held.ensures.cell s infos name error stands honest captured (ap (λ (e : WindowError). Err e) is)))
 
-pub returns-in_err-held-clause-left : goal.returns-in_err-held-clause-left
-returns-in_err-held-clause-left g c s l stands may = others_left (high_text c.args.marked ∷ []) s l (c.select.ensures.left s l stands may)
+pub returns-in_err-held-clause-rests : goal.returns-in_err-held-clause-rests
+returns-in_err-held-clause-rests g c = record {
+  left = λ s l stands may. others_left (high_text c.args.marked ∷ []) s l (c.select.ensures.rests.left s l stands may);
+  some = search rules;
+  still = search rules;
+  taken = search rules;
+}
 
 pub returns-clause-looked : goal.returns-clause-looked
 returns-clause-looked g c s stands =
@@ -40,7 +45,7 @@ returns-clause-looked g c s stands =
     (λ armed marked same. record {
       standing = marked.standing;
       is = marked.is;
-      holds = was_looked honest (g.S.Source.honest c.select.new.src) c.args.marked held armed s mid marked.standing c.high.ensures.honest same c.in_ok-held.ensures.same stood.holds.0 stood.holds.1 marked.holds;
+      holds = was_looked honest (g.S.Source.honest c.select.new.src) c.args.marked held armed s mid marked.standing c.high.ensures.source.honest same c.in_ok-held.ensures.same stood.holds.0 stood.holds.1 marked.holds;
     }) (c.high.ensures.marks mid stood.is) c.high.ensures.same
 
 pub returns-clause-chunk : goal.returns-clause-chunk
@@ -59,19 +64,29 @@ returns-clause-never g c s infos stands honest captured =
     let stood = g.S.Source.stands c.high.new.src in
     IfErr-weaker c.high.result (λ (e : WindowError). (e ≡ window.Failed) ⊎ (e ≡ window.Memory)) (IsHonestFault c.args.marked stood infos) (mark_honest c.args.marked stood infos) c.high.ensures.errors
 
-pub returns-clause-left : goal.returns-clause-left
-returns-clause-left g c s l stands may =
-    let stood = c.in_ok-held.ensures.held s stands in
-    let held = c.in_ok-held.held in
-    let values = high_text c.args.marked ∷ [] in
-    moved_left values s stood.standing l stood.holds.0
-    (subst (λ (p : Plan). MayHaveMarks (high_text p ∷ []) stood.standing l) c.in_ok-held.ensures.same (mark_left (high_text held.plan) [] stood.standing l (inr (c.high.ensures.left stood.standing l stood.is may))))
+pub returns-clause-rests : goal.returns-clause-rests
+returns-clause-rests g c = record {
+  left = λ s l stands may.
+      let stood = c.in_ok-held.ensures.held s stands in
+      let held = c.in_ok-held.held in
+      let values = high_text c.args.marked ∷ [] in
+      moved_left values s stood.standing l stood.holds.0
+      (subst (λ (p : Plan). MayHaveMarks (high_text p ∷ []) stood.standing l) c.in_ok-held.ensures.same (mark_left (high_text held.plan) [] stood.standing l (inr (c.high.ensures.rests.left stood.standing l stood.is may))));
+  some = search rules;
+  still = search rules;
+  taken = taken_on (g.S.Source.told c.args.src.now) (g.S.Source.told c.select.new.src) (g.S.Source.told c.high.new.src) c.select.ensures.rests.taken c.high.ensures.rests.taken;
+}
 
-pub returns-clause-taken : goal.returns-clause-taken
-returns-clause-taken g c = taken_on (g.S.Source.told c.args.src.now) (g.S.Source.told c.select.new.src) (g.S.Source.told c.high.new.src) c.select.ensures.taken c.high.ensures.taken
+pub returns-clause-answered : goal.returns-clause-answered
+returns-clause-answered g c = record {
+  done = c.high.ensures.answered.done;
+  reading = search rules;
+}
 
-pub returns-clause-told : goal.returns-clause-told
-returns-clause-told g c = c.high.ensures.told
-
-pub returns-clause-cause : goal.returns-clause-cause
-returns-clause-cause g c = record { later = later_on (g.S.Source.faults c.args.src.now) (g.S.Source.faults c.select.new.src) (g.S.Source.faults c.high.new.src) c.select.ensures.cause.later c.high.ensures.cause.later; cause = λ is. rose_behind (g.S.Source.faults c.args.src.now) (g.S.Source.faults c.select.new.src) (g.S.Source.faults c.high.new.src) c.select.ensures.cause.later (c.high.ensures.cause.cause is) }
+pub returns-clause-source : goal.returns-clause-source
+returns-clause-source g c = record {
+  live = search rules;
+  honest = search rules;
+  comes = search rules;
+  cause = record { later = later_on (g.S.Source.faults c.args.src.now) (g.S.Source.faults c.select.new.src) (g.S.Source.faults c.high.new.src) c.select.ensures.source.cause.later c.high.ensures.source.cause.later; cause = λ is. rose_behind (g.S.Source.faults c.args.src.now) (g.S.Source.faults c.select.new.src) (g.S.Source.faults c.high.new.src) c.select.ensures.source.cause.later (c.high.ensures.source.cause.cause is) };
+}

@@ -87,44 +87,44 @@ returns-in_err-ending-clause-answers g c =
     residual c.from_residual-in_err-ending.result _ (λ (r : ConnectEnd). AnswersConnect g.W.Disk g.T.Disk g.F.Disk c.args.asked c.args.now_ms (disks_of c.args.source.now.journal.disk c.args.log.now.disk (disk_of c.args.store.now)) (disks_of c.session.new.src.journal.disk c.session.new.sink.disk (disk_of c.session.new.offsets)) r) c.from_residual-in_err-ending.ensures.1
     (answers_err g.W.Disk g.T.Disk g.F.Disk g.met.W.Disk.seen_may_be_left g.met.T.Disk.seen_may_be_left g.met.F.Disk.seen_may_be_left c.args.source.now c.args.log.now c.args.store.now c.requires.source_opened c.requires.log_opened c.requires.store_opened c.args.asked c.in_ok-config.config c.args.now_ms c.session.new.src c.session.new.sink c.session.new.offsets c.session.new.report c.session.result
     (renow g.W.Disk g.T.Disk g.F.Disk c.in_ok-config.config _ c.args.now_ms c.args.source.now c.session.new.src c.args.log.now c.session.new.sink c.args.store.now c.session.new.offsets c.session.new.report c.session.result (to_z-of_z c.ranges.now_ms) (record {
-      faithful = λ entry is found had. c.session.ensures.faithful entry is found tt had;
-      complete = λ entry is found had. c.session.ensures.complete entry is found tt had;
-      held = c.session.ensures.holds;
-      marks = λ s is had. c.session.ensures.marks s is tt had;
-      most = λ s is had. c.session.ensures.most s is tt had;
-      exactly = λ s is had. c.session.ensures.exactly s is tt had;
+      faithful = λ entry is found had. c.session.ensures.faithful.faithful entry is found tt had;
+      complete = λ entry is found had. c.session.ensures.faithful.complete entry is found tt had;
+      held = c.session.ensures.stores.holds;
+      marks = λ s is had. c.session.ensures.marks.marks s is tt had;
+      most = λ s is had. c.session.ensures.marks.most s is tt had;
+      exactly = λ s is had. c.session.ensures.marks.exactly s is tt had;
       unclosed = λ entry is found. c.session.ensures.unclosed entry is found tt;
-      stores = c.session.ensures.stores;
-      firsts = c.session.ensures.firsts;
-      few = λ is. (c.session.ensures.done is).3;
-      done = λ is. done_by c.session.new.offsets.offset (c.session.ensures.done is).0 (c.session.ensures.done is).1 (c.session.ensures.done is).2;
-      bounded = c.session.ensures.bounded;
-      ended = c.session.ensures.ended;
-      exhausted = c.session.ensures.exhausted;
-      must_absent = c.session.ensures.must_absent;
-      captures = c.session.ensures.captures;
-      spent = c.session.ensures.spent;
-      settled = c.session.ensures.settled;
-      position = c.session.ensures.position;
-      halt_is = c.session.ensures.halt;
-      halt_stood = c.session.ensures.halt_stood;
-      absent = c.session.ensures.absent;
-      gone = c.session.ensures.gone;
-      gone_stood = c.session.ensures.gone_stood;
-      missing = λ s is. c.session.ensures.missing s is tt;
-      own = λ s is. c.session.ensures.own s is tt;
+      stores = c.session.ensures.stores.stores;
+      firsts = c.session.ensures.stores.firsts;
+      few = λ is. (c.session.ensures.ends.done is).3;
+      done = λ is. done_by c.session.new.offsets.offset (c.session.ensures.ends.done is).0 (c.session.ensures.ends.done is).1 (c.session.ensures.ends.done is).2;
+      bounded = c.session.ensures.counts.bounded;
+      ended = c.session.ensures.ends.ended;
+      exhausted = c.session.ensures.halt.exhausted;
+      must_absent = c.session.ensures.halt_by_state.must_absent;
+      captures = c.session.ensures.halt_by_state.captures;
+      spent = c.session.ensures.ends.spent;
+      settled = c.session.ensures.by_state.settled;
+      position = c.session.ensures.counts.position;
+      halt_is = c.session.ensures.halt.halt;
+      halt_stood = c.session.ensures.halt_by_state.halt_stood;
+      absent = c.session.ensures.halt_by_state.absent;
+      gone = c.session.ensures.halt_by_state.gone;
+      gone_stood = c.session.ensures.halt_by_state.gone_stood;
+      missing = λ s is. c.session.ensures.own.missing s is tt;
+      own = λ s is. c.session.ensures.own.own s is tt;
       content = λ entry is found. c.session.ensures.content entry is found tt;
-      long = c.session.ensures.long;
-      grouped = c.session.ensures.grouped;
-      ungained = c.session.ensures.ungained;
-      counted = c.session.ensures.counted;
-      followed = c.session.ensures.followed;
-      stood = c.session.ensures.stood;
-      tallied = c.session.ensures.tallied_stood;
-      source_live = c.session.ensures.source_live;
-      source_comes = c.session.ensures.source_comes;
-      sink_comes = c.session.ensures.sink_comes;
-      store_comes = c.session.ensures.store_comes;
+      long = c.session.ensures.halt_by_state.long;
+      grouped = c.session.ensures.gains.grouped;
+      ungained = c.session.ensures.gains.ungained;
+      counted = c.session.ensures.tallies.counted;
+      followed = c.session.ensures.by_trace.followed;
+      stood = c.session.ensures.by_state.stood;
+      tallied = c.session.ensures.tallies.tallied_stood;
+      source_live = c.session.ensures.source.live;
+      source_comes = c.session.ensures.source.comes;
+      sink_comes = c.session.ensures.sink.comes;
+      store_comes = c.session.ensures.store.comes;
     }))
     (asks_same c.args.asked c.args.source.now.names c.args.store.now.offset _ _ c.in_ok-config.config c.table_names.ensures c.load.ensures.offset c.in_ok-config.ensures.asks) _ c.in_err-ending.was)
 
@@ -150,34 +150,34 @@ pub returns-in_err-ending-clause-source_counts : goal.returns-in_err-ending-clau
 returns-in_err-ending-clause-source_counts g c =
     residual c.from_residual-in_err-ending.result _ (λ (r : ConnectEnd). CountsFaults g.W.Disk store.Wal r c.args.source.now.journal.disk c.session.new.src.journal.disk) c.from_residual-in_err-ending.ensures.1
     (record {
-      later = c.session.ensures.source.later;
-      cause = λ is. c.session.ensures.source.cause (c.in_err-ending.was ∙ ap (λ (h : Halt). Err h) (halt_fails _ store.Wal (let i = is in cc)));
+      later = c.session.ensures.source.cause.later;
+      cause = λ is. c.session.ensures.source.cause.cause (c.in_err-ending.was ∙ ap (λ (h : Halt). Err h) (halt_fails _ store.Wal (let i = is in cc)));
     })
 
 pub returns-in_err-ending-clause-log_counts : goal.returns-in_err-ending-clause-log_counts
 returns-in_err-ending-clause-log_counts g c =
     residual c.from_residual-in_err-ending.result _ (λ (r : ConnectEnd). CountsFaults g.T.Disk store.Topics r c.args.log.now.disk c.session.new.sink.disk) c.from_residual-in_err-ending.ensures.1
     (record {
-      later = c.session.ensures.sink.later;
-      cause = λ is. c.session.ensures.sink.cause (c.in_err-ending.was ∙ ap (λ (h : Halt). Err h) (halt_fails _ store.Topics (let i = is in cc)));
+      later = c.session.ensures.sink.cause.later;
+      cause = λ is. c.session.ensures.sink.cause.cause (c.in_err-ending.was ∙ ap (λ (h : Halt). Err h) (halt_fails _ store.Topics (let i = is in cc)));
     })
 
 pub returns-in_err-ending-clause-store_counts : goal.returns-in_err-ending-clause-store_counts
 returns-in_err-ending-clause-store_counts g c =
     residual c.from_residual-in_err-ending.result _ (λ (r : ConnectEnd). CountsFaults g.F.Disk store.Offsets r (disk_of c.args.store.now) (disk_of c.session.new.offsets)) c.from_residual-in_err-ending.ensures.1
     (record {
-      later = c.session.ensures.offsets.later;
-      cause = λ is. c.session.ensures.offsets.cause (c.in_err-ending.was ∙ ap (λ (h : Halt). Err h) (halt_fails _ store.Offsets (let i = is in cc)));
+      later = c.session.ensures.store.cause.later;
+      cause = λ is. c.session.ensures.store.cause.cause (c.in_err-ending.was ∙ ap (λ (h : Halt). Err h) (halt_fails _ store.Offsets (let i = is in cc)));
     })
 
 pub returns-in_err-ending-clause-source_bounded : goal.returns-in_err-ending-clause-source_bounded
-returns-in_err-ending-clause-source_bounded g c = source_bounded g.W.Disk g.T.Disk g.F.Disk c.args.source.now c.args.log.now c.args.store.now c.requires.source_opened c.requires.log_opened c.requires.store_opened c.session.new.src c.session.ensures.source_comes
+returns-in_err-ending-clause-source_bounded g c = source_bounded g.W.Disk g.T.Disk g.F.Disk c.args.source.now c.args.log.now c.args.store.now c.requires.source_opened c.requires.log_opened c.requires.store_opened c.session.new.src c.session.ensures.source.comes
 
 pub returns-in_err-ending-clause-log_bounded : goal.returns-in_err-ending-clause-log_bounded
-returns-in_err-ending-clause-log_bounded g c = log_bounded g.W.Disk g.T.Disk g.F.Disk c.args.source.now c.args.log.now c.args.store.now c.requires.source_opened c.requires.log_opened c.requires.store_opened c.session.new.sink c.session.ensures.sink_comes
+returns-in_err-ending-clause-log_bounded g c = log_bounded g.W.Disk g.T.Disk g.F.Disk c.args.source.now c.args.log.now c.args.store.now c.requires.source_opened c.requires.log_opened c.requires.store_opened c.session.new.sink c.session.ensures.sink.comes
 
 pub returns-in_err-ending-clause-store_bounded : goal.returns-in_err-ending-clause-store_bounded
-returns-in_err-ending-clause-store_bounded g c = store_bounded g.W.Disk g.T.Disk g.F.Disk c.args.source.now c.args.log.now c.args.store.now c.requires.source_opened c.requires.log_opened c.requires.store_opened c.session.new.offsets c.session.ensures.store_comes
+returns-in_err-ending-clause-store_bounded g c = store_bounded g.W.Disk g.T.Disk g.F.Disk c.args.source.now c.args.log.now c.args.store.now c.requires.source_opened c.requires.log_opened c.requires.store_opened c.session.new.offsets c.session.ensures.store.comes
 
 -- ---- it ended normally
 
@@ -185,66 +185,66 @@ pub returns-clause-answers : goal.returns-clause-answers
 returns-clause-answers g c =
     answers_ok g.W.Disk g.T.Disk g.F.Disk g.met.W.Disk.seen_may_be_left g.met.T.Disk.seen_may_be_left g.met.F.Disk.seen_may_be_left c.args.source.now c.args.log.now c.args.store.now c.requires.source_opened c.requires.log_opened c.requires.store_opened c.args.asked c.in_ok-config.config c.args.now_ms c.session.new.src c.session.new.sink c.session.new.offsets c.session.new.report c.session.result
     (renow g.W.Disk g.T.Disk g.F.Disk c.in_ok-config.config _ c.args.now_ms c.args.source.now c.session.new.src c.args.log.now c.session.new.sink c.args.store.now c.session.new.offsets c.session.new.report c.session.result (to_z-of_z c.ranges.now_ms) (record {
-      faithful = λ entry is found had. c.session.ensures.faithful entry is found tt had;
-      complete = λ entry is found had. c.session.ensures.complete entry is found tt had;
-      held = c.session.ensures.holds;
-      marks = λ s is had. c.session.ensures.marks s is tt had;
-      most = λ s is had. c.session.ensures.most s is tt had;
-      exactly = λ s is had. c.session.ensures.exactly s is tt had;
+      faithful = λ entry is found had. c.session.ensures.faithful.faithful entry is found tt had;
+      complete = λ entry is found had. c.session.ensures.faithful.complete entry is found tt had;
+      held = c.session.ensures.stores.holds;
+      marks = λ s is had. c.session.ensures.marks.marks s is tt had;
+      most = λ s is had. c.session.ensures.marks.most s is tt had;
+      exactly = λ s is had. c.session.ensures.marks.exactly s is tt had;
       unclosed = λ entry is found. c.session.ensures.unclosed entry is found tt;
-      stores = c.session.ensures.stores;
-      firsts = c.session.ensures.firsts;
-      few = λ is. (c.session.ensures.done is).3;
-      done = λ is. done_by c.session.new.offsets.offset (c.session.ensures.done is).0 (c.session.ensures.done is).1 (c.session.ensures.done is).2;
-      bounded = c.session.ensures.bounded;
-      ended = c.session.ensures.ended;
-      exhausted = c.session.ensures.exhausted;
-      must_absent = c.session.ensures.must_absent;
-      captures = c.session.ensures.captures;
-      spent = c.session.ensures.spent;
-      settled = c.session.ensures.settled;
-      position = c.session.ensures.position;
-      halt_is = c.session.ensures.halt;
-      halt_stood = c.session.ensures.halt_stood;
-      absent = c.session.ensures.absent;
-      gone = c.session.ensures.gone;
-      gone_stood = c.session.ensures.gone_stood;
-      missing = λ s is. c.session.ensures.missing s is tt;
-      own = λ s is. c.session.ensures.own s is tt;
+      stores = c.session.ensures.stores.stores;
+      firsts = c.session.ensures.stores.firsts;
+      few = λ is. (c.session.ensures.ends.done is).3;
+      done = λ is. done_by c.session.new.offsets.offset (c.session.ensures.ends.done is).0 (c.session.ensures.ends.done is).1 (c.session.ensures.ends.done is).2;
+      bounded = c.session.ensures.counts.bounded;
+      ended = c.session.ensures.ends.ended;
+      exhausted = c.session.ensures.halt.exhausted;
+      must_absent = c.session.ensures.halt_by_state.must_absent;
+      captures = c.session.ensures.halt_by_state.captures;
+      spent = c.session.ensures.ends.spent;
+      settled = c.session.ensures.by_state.settled;
+      position = c.session.ensures.counts.position;
+      halt_is = c.session.ensures.halt.halt;
+      halt_stood = c.session.ensures.halt_by_state.halt_stood;
+      absent = c.session.ensures.halt_by_state.absent;
+      gone = c.session.ensures.halt_by_state.gone;
+      gone_stood = c.session.ensures.halt_by_state.gone_stood;
+      missing = λ s is. c.session.ensures.own.missing s is tt;
+      own = λ s is. c.session.ensures.own.own s is tt;
       content = λ entry is found. c.session.ensures.content entry is found tt;
-      long = c.session.ensures.long;
-      grouped = c.session.ensures.grouped;
-      ungained = c.session.ensures.ungained;
-      counted = c.session.ensures.counted;
-      followed = c.session.ensures.followed;
-      stood = c.session.ensures.stood;
-      tallied = c.session.ensures.tallied_stood;
-      source_live = c.session.ensures.source_live;
-      source_comes = c.session.ensures.source_comes;
-      sink_comes = c.session.ensures.sink_comes;
-      store_comes = c.session.ensures.store_comes;
+      long = c.session.ensures.halt_by_state.long;
+      grouped = c.session.ensures.gains.grouped;
+      ungained = c.session.ensures.gains.ungained;
+      counted = c.session.ensures.tallies.counted;
+      followed = c.session.ensures.by_trace.followed;
+      stood = c.session.ensures.by_state.stood;
+      tallied = c.session.ensures.tallies.tallied_stood;
+      source_live = c.session.ensures.source.live;
+      source_comes = c.session.ensures.source.comes;
+      sink_comes = c.session.ensures.sink.comes;
+      store_comes = c.session.ensures.store.comes;
     }))
     (asks_same c.args.asked c.args.source.now.names c.args.store.now.offset _ _ c.in_ok-config.config c.table_names.ensures c.load.ensures.offset c.in_ok-config.ensures.asks) c.in_ok-ending.ending c.in_ok-ending.was
 
 pub returns-clause-spent : goal.returns-clause-spent
 returns-clause-spent g c =
     spent_of (budget_of c.args.asked) c.in_ok-config.config c.in_ok-ending.ending c.session.new.report (asks_budget c.args.asked c.args.source.now.names c.args.store.now.offset c.in_ok-config.config (asks_same c.args.asked c.args.source.now.names c.args.store.now.offset _ _ c.in_ok-config.config c.table_names.ensures c.load.ensures.offset c.in_ok-config.ensures.asks))
-    (λ is. (c.session.ensures.done (c.in_ok-ending.was ∙ ap (λ (e : Ending). Ok e) is)).3) (λ is. c.session.ensures.spent (c.in_ok-ending.was ∙ ap (λ (e : Ending). Ok e) is)) c.session.ensures.commits
+    (λ is. (c.session.ensures.ends.done (c.in_ok-ending.was ∙ ap (λ (e : Ending). Ok e) is)).3) (λ is. c.session.ensures.ends.spent (c.in_ok-ending.was ∙ ap (λ (e : Ending). Ok e) is)) c.session.ensures.counts.commits
 
 pub returns-clause-source_counts : goal.returns-clause-source_counts
-returns-clause-source_counts g c = record { later = c.session.ensures.source.later; cause = λ is. absurd (let i = is in cc) }
+returns-clause-source_counts g c = record { later = c.session.ensures.source.cause.later; cause = λ is. absurd (let i = is in cc) }
 
 pub returns-clause-log_counts : goal.returns-clause-log_counts
-returns-clause-log_counts g c = record { later = c.session.ensures.sink.later; cause = λ is. absurd (let i = is in cc) }
+returns-clause-log_counts g c = record { later = c.session.ensures.sink.cause.later; cause = λ is. absurd (let i = is in cc) }
 
 pub returns-clause-store_counts : goal.returns-clause-store_counts
-returns-clause-store_counts g c = record { later = c.session.ensures.offsets.later; cause = λ is. absurd (let i = is in cc) }
+returns-clause-store_counts g c = record { later = c.session.ensures.store.cause.later; cause = λ is. absurd (let i = is in cc) }
 
 pub returns-clause-source_bounded : goal.returns-clause-source_bounded
-returns-clause-source_bounded g c = source_bounded g.W.Disk g.T.Disk g.F.Disk c.args.source.now c.args.log.now c.args.store.now c.requires.source_opened c.requires.log_opened c.requires.store_opened c.session.new.src c.session.ensures.source_comes
+returns-clause-source_bounded g c = source_bounded g.W.Disk g.T.Disk g.F.Disk c.args.source.now c.args.log.now c.args.store.now c.requires.source_opened c.requires.log_opened c.requires.store_opened c.session.new.src c.session.ensures.source.comes
 
 pub returns-clause-log_bounded : goal.returns-clause-log_bounded
-returns-clause-log_bounded g c = log_bounded g.W.Disk g.T.Disk g.F.Disk c.args.source.now c.args.log.now c.args.store.now c.requires.source_opened c.requires.log_opened c.requires.store_opened c.session.new.sink c.session.ensures.sink_comes
+returns-clause-log_bounded g c = log_bounded g.W.Disk g.T.Disk g.F.Disk c.args.source.now c.args.log.now c.args.store.now c.requires.source_opened c.requires.log_opened c.requires.store_opened c.session.new.sink c.session.ensures.sink.comes
 
 pub returns-clause-store_bounded : goal.returns-clause-store_bounded
-returns-clause-store_bounded g c = store_bounded g.W.Disk g.T.Disk g.F.Disk c.args.source.now c.args.log.now c.args.store.now c.requires.source_opened c.requires.log_opened c.requires.store_opened c.session.new.offsets c.session.ensures.store_comes
+returns-clause-store_bounded g c = store_bounded g.W.Disk g.T.Disk g.F.Disk c.args.source.now c.args.log.now c.args.store.now c.requires.source_opened c.requires.log_opened c.requires.store_opened c.session.new.offsets c.session.ensures.store.comes

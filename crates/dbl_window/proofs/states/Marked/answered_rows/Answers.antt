@@ -1,4 +1,4 @@
-use Rattle.std.proofs.Common.{Option, subst}
+use Rattle.std.proofs.Common.{Option, subst, rules}
 use Rattle.dbl_model_table.specs.declared.row.Key.{Key}
 use Rattle.dbl_model_history.specs.Fit.{IsKeyOf}
 use Rattle.dbl_source.specs.SourceModel.Standings.{HasState}
@@ -21,8 +21,18 @@ returns-clause-selected g c s stands =
 pub returns-clause-starts : goal.returns-clause-starts
 returns-clause-starts g c = subst (λ (p : Plan). IfSome p.above (IsKeyOf p.info)) c.self.view_is c.self.invariant.is.start
 
-pub returns-in_err-select-clause-still : goal.returns-in_err-select-clause-still
-returns-in_err-select-clause-still g c s t before after = still_dead g.S.Source.stands g.S.Source.is_live c.select.new.self s t (g.met.S.Source.lives c.select.new.self) c.in_err-select.ensures.dead after
+pub returns-in_err-select-clause-rests : goal.returns-in_err-select-clause-rests
+returns-in_err-select-clause-rests g c = record {
+  left = search rules;
+  some = search rules;
+  still = λ s t before after. still_dead g.S.Source.stands g.S.Source.is_live c.select.new.self s t (g.met.S.Source.lives c.select.new.self) c.in_err-select.ensures.dead after;
+  taken = search rules;
+}
 
-pub returns-clause-still : goal.returns-clause-still
-returns-clause-still g c s t before after = still_led g.S.Source.stands c.select.new.self _ s t (g.met.S.Source.one c.select.new.self) (c.in_ok-select.ensures.selected s before) (λ u selected. selected.0.reading) after
+pub returns-clause-rests : goal.returns-clause-rests
+returns-clause-rests g c = record {
+  left = search rules;
+  some = search rules;
+  still = λ s t before after. still_led g.S.Source.stands c.select.new.self _ s t (g.met.S.Source.one c.select.new.self) (c.in_ok-select.ensures.selected s before) (λ u selected. selected.0.reading) after;
+  taken = search rules;
+}

@@ -37,29 +37,21 @@ returns-clause-cell g c s infos column error stands honest captured is =
 
 -- what the rows' call tells
 
-pub returns-clause-left : goal.returns-clause-left
-returns-clause-left g c = c.answered_rows.ensures.left
-
-pub returns-clause-some : goal.returns-clause-some
-returns-clause-some g c = c.answered_rows.ensures.some
-
-pub returns-clause-taken : goal.returns-clause-taken
-returns-clause-taken g c = c.answered_rows.ensures.taken
-
-pub returns-clause-still : goal.returns-clause-still
-returns-clause-still g c = c.answered_rows.ensures.still
+pub returns-clause-rests : goal.returns-clause-rests
+returns-clause-rests g c = record {
+  left = c.answered_rows.ensures.rests.left;
+  some = c.answered_rows.ensures.rests.some;
+  still = c.answered_rows.ensures.rests.still;
+  taken = c.answered_rows.ensures.rests.taken;
+}
 
 pub returns-clause-reading : goal.returns-clause-reading
 returns-clause-reading g c = c.answered_rows.ensures.reading
 
-pub returns-clause-honest : goal.returns-clause-honest
-returns-clause-honest g c = c.answered_rows.ensures.honest
-
-pub returns-clause-comes : goal.returns-clause-comes
-returns-clause-comes g c = c.answered_rows.ensures.comes
-
-pub returns-clause-cause : goal.returns-clause-cause
-returns-clause-cause g c = record { later = c.answered_rows.ensures.cause.later; cause = λ is. absurd (c.holding.ensures.no_failure is) }
-
-pub returns-clause-live : goal.returns-clause-live
-returns-clause-live g c = on_ok c.holding.result c.in_ok-rows.ensures.live
+pub returns-clause-source : goal.returns-clause-source
+returns-clause-source g c = record {
+  live = on_ok c.holding.result c.in_ok-rows.ensures.source.live;
+  honest = c.answered_rows.ensures.source.honest;
+  comes = c.answered_rows.ensures.source.comes;
+  cause = record { later = c.answered_rows.ensures.source.cause.later; cause = λ is. absurd (c.holding.ensures.no_failure is) };
+}

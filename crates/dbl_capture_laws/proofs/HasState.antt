@@ -37,6 +37,7 @@ use Rattle.dbl_capture_laws.specs.Sources.{HasCommitted, IsUnderWay}
 use Rattle.dbl_capture_laws.proofs.Causes.{missed, sources_stood_at_halts, sources_stood_at_offsets}
 use Rattle.dbl_capture_laws.proofs.Ended.{stands_behind}
 use Rattle.dbl_capture_laws.proofs.Halting.{was_stood}
+use Rattle.dbl_capture_laws.proofs.Honest.{spelled_bytes_never_halt}
 use Rattle.dbl_capture_laws.specs.HasState.{IsHaltStanding, IsNotOffsetTooLong, IsShortOr}
 
 -- ---- halts that aren't told by messages
@@ -47,6 +48,7 @@ module _ (config : Config) (now : ℤ) (held stored : Option Offset) (report : R
 
   -- by what it represents
   pub stands_so : (t : SourceState) → stands t → (h : Halt) → IsHaltOfStood config now held stored report t h → Causes h
+  stands_so t is (halt.Message number error) cause = cause
   stands_so t is (halt.Txn number error) cause = (t, is, cause)
   stands_so t is (halt.Clash table column) cause = (t, is, cause)
   stands_so t is (halt.RecordTooLong len) cause = (t, is, cause)
@@ -146,7 +148,7 @@ module _ (b : Beginning) (ms : List Message) (stored : Option Offset) (work : Se
       → (h ≡ halt.Memory) ⊎ (IsMessageHalt (before.messages + 1) bytes h ⊎ IsTxnHalt (before.messages + 1) b.first.lsn ms bytes work h)
       → IsHaltOfStood b.config b.now b.held stored (record before { messages = before.messages + 1 }) t h
   message_stood before m bytes h r at spells (inl memory) = subst (IsHaltOfStood b.config b.now b.held stored (record before { messages = before.messages + 1 }) t) (sym memory) tt
-  message_stood before m bytes h r at spells (inr (inl message)) = subst (IsHaltOfStood b.config b.now b.held stored (record before { messages = before.messages + 1 }) t) (sym message.is) tt
+  message_stood before m bytes h r at spells (inr (inl message)) = absurd (spelled_bytes_never_halt (before.messages + 1) bytes m h spells message)
   message_stood before m bytes h r at spells (inr (inr txn)) =
       newest_stood before (record before { messages = before.messages + 1 }) m bytes h r at spells refl refl (inl txn)
 

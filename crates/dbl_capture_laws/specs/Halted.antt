@@ -245,8 +245,10 @@ IsLongStood config old new report t h =
     ⊎ ((reading : Reading) × (was : WasStood config old new report t reading) × (offset : Offset)
     × IsNextOffset was.stored.offset reading offset × IsTooLong offset h)
 
--- The cause of each error that depends on the messages, by the source's state.
+-- The cause of each error that depends on the messages, by the source's state. What was read of a source with a state are messages, so no
+-- bytes are malformed.
 abbrev pub IsHaltOfStood : Config → ℤ → Option Offset → Option Offset → Report → SourceState → Halt → Type 0
+IsHaltOfStood config now old new report t (halt.Message number error) = ⊥
 IsHaltOfStood config now old new report t (halt.Txn number error) = IsStoodHalt config now old new report t (halt.Txn number error)
 IsHaltOfStood config now old new report t (halt.Clash table column) = IsStoodHalt config now old new report t (halt.Clash table column)
 IsHaltOfStood config now old new report t (halt.RecordTooLong len) = IsStoodHalt config now old new report t (halt.RecordTooLong len)

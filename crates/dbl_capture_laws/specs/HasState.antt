@@ -13,8 +13,10 @@ use Rattle.dbl_capture_laws.specs.Halted.{IsHaltOfStood}
 abbrev pub IsHaltAt : Config → ℤ → Option Offset → Option Offset → Report → (SourceState → Type 0) → Halt → Type 0
 IsHaltAt config now old new report stands h = (t : SourceState) × stands t × IsHaltOfStood config now old new report t h
 
--- The cause of each error that depends on the messages, by a state of the source; other errors have no condition here.
+-- The cause of each error that depends on the messages, by a state of the source: no message is malformed. Other errors have no condition
+-- here.
 abbrev pub IsHaltStanding : Config → ℤ → Option Offset → Option Offset → Report → (SourceState → Type 0) → Halt → Type 0
+IsHaltStanding config now old new report stands (halt.Message number error) = ⊥
 IsHaltStanding config now old new report stands (halt.Txn number error) = IsHaltAt config now old new report stands (halt.Txn number error)
 IsHaltStanding config now old new report stands (halt.Clash table column) =
     IsHaltAt config now old new report stands (halt.Clash table column)

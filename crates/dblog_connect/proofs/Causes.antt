@@ -154,7 +154,7 @@ module _ (config : Config) (now : ℤ) (old : Contents) (new : Option Offset) (r
   cause_of halt.Sink over = tt
   cause_of halt.Offsets over = tt
   cause_of halt.Memory over = tt
-  cause_of (halt.Message number error) over = over.own
+  cause_of (halt.Message number error) over = over.stood
   cause_of (halt.Txn number error) over = (at_halt (halt.Txn number error) over.stood, λ own. own_txn number error (over.own own))
   cause_of (halt.Chunk table row) over = over.own
   cause_of (halt.Cell table column error) over = λ own. (

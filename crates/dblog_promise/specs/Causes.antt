@@ -114,10 +114,10 @@ IsCellHalt config old history (halt.Cell table column error) =
     (infos : List TableInfo) × Captures config (history_at old) old.offset infos × IsOwnCell infos history table column error
 IsCellHalt config old history h = Unit {0}
 
--- The cause of a session's error over any disks with known contents. If the offset captures the catalogue's tables, no message or row is
--- malformed, a transaction is invalid only by its content, and a cell that encodes no value existed in the history.
+-- The cause of a session's error over any disks with known contents: no message is malformed. If the offset captures the catalogue's
+-- tables, no row is malformed, a transaction is invalid only by its content, and a cell that encodes no value existed in the history.
 abbrev pub IsCauseOf : Config → ℤ → Contents → Option Offset → Report → Wal → Halt → Type 0
-IsCauseOf config now old stored report wal (halt.Message number error) = HasOwnTables old → ⊥
+IsCauseOf config now old stored report wal (halt.Message number error) = ⊥
 IsCauseOf config now old stored report wal (halt.Txn number error) =
     IsHaltByLog config now old.offset stored report wal (halt.Txn number error) × (HasOwnTables old → IsOwnTxn config old wal number error)
 IsCauseOf config now old stored report wal (halt.Chunk table row) = HasOwnTables old → ⊥

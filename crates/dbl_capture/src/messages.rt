@@ -12,12 +12,11 @@ use dbl_offset::OffsetStore;
 use dbl_source::Source;
 use dbl_topic::Sink;
 
-// Whether the offset is to be stored now.
+// Whether the offset is to be stored now: a window was closed, or enough commits were followed.
 fn is_due(work: &SessionState, closed: bool) -> bool
     requires { work.now.since ≤ work.now.every }
-    ensures due { ((result ≡ false) × (work.now.since < work.now.every))
-        ⊎ ((result ≡ true) × (work.now.since ≤ work.now.every)) }
-    ensures open { result ≡ false → closed ≡ false }
+    ensures due { result ≡ true → (closed ≡ true) ⊎ (work.now.every ≤ work.now.since) }
+    ensures open { result ≡ false → (closed ≡ false) × (work.now.since < work.now.every) }
 {
     closed || work.since >= work.every
 }

@@ -66,6 +66,7 @@ pub mod Owned
 pub mod Nevers
 pub mod Lasting
 pub mod Reporting
+pub mod Due
 pub mod StepCauses
 pub mod Telling
 pub mod StepHalting

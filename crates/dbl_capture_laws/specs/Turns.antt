@@ -1,5 +1,5 @@
 -- What reading and processing the next message returns.
-use Rattle.std.specs.Prelude.{◌≡◌, ◌⊎◌, ◌+◌, ◌<◌, ◌≤◌, Bool, true, false, Option, Some, None, Result, Ok, Err, List, ◌++◌}
+use Rattle.std.specs.Prelude.{◌≡◌, ◌≢◌, ◌⊎◌, ◌+◌, ◌<◌, ◌≤◌, Bool, true, false, Option, Some, None, Result, Ok, Err, List, ◌++◌}
 use Rattle.dbl_record.specs.declared.record.Record.{Record}
 use Rattle.dbl_model_table.specs.declared.change.Commit.{Commit}
 use Rattle.dbl_topic.specs.Model.{SinkModel}
@@ -13,6 +13,7 @@ use Rattle.dbl_capture_work.specs.CaptureModel.Stages.{read_at, next_offset}
 use Rattle.dbl_capture_work.specs.declared.halt.Halt.{Halt}
 use Rattle.dbl_capture_work.specs.declared.report.Report.{Report}
 use Rattle.dbl_capture_work.specs.declared.work.SessionState.{SessionState}
+use Rattle.dbl_capture_work.specs.Follow.declared.window.Window.TheVariants.{Absent}
 use Rattle.dbl_capture_laws.specs.Sessions.{InSession}
 
 -- ---- the next message
@@ -33,11 +34,16 @@ pub record IsNextOf (old new : SessionState) : Type 0 where
   pub every_is : new.every ≡ old.every
   pub now_is : new.now_ms ≡ old.now_ms
 
--- The offset is due only after at most `every` commits since the last store; if it isn't, fewer were followed.
+-- A window waited for its watermarks, and none does now.
+abbrev pub HasClosed : SessionState → SessionState → Type 0
+HasClosed old new = (old.follower.window ≢ Absent) × (new.follower.window ≡ Absent)
+
+-- The offset is due if and only if a window was closed, or `every` commits were followed since the last store; never were more.
 abbrev pub IsDue : SessionState → SessionState → Option Bool → Type 0
 IsDue old new None = new ≡ old
 IsDue old new (Some due) =
-    ((due ≡ false) × (new.since < new.every)) ⊎ ((due ≡ true) × (new.since ≤ new.every))
+    ((due ≡ false) × (new.since < new.every) × (HasClosed old new → ⊥))
+    ⊎ ((due ≡ true) × (new.since ≤ new.every) × (HasClosed old new ⊎ (new.every ≤ new.since)))
 
 -- ---- the end
 

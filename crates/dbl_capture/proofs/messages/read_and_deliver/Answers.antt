@@ -17,6 +17,7 @@ use Rattle.dbl_capture_work.specs.declared.halt.Halt.{Halt}
 use Rattle.dbl_capture_work.proofs.Exits.{dead_source}
 use Rattle.dbl_capture_laws.specs.Caused.{Halts, IsNotGone}
 use Rattle.dbl_capture_laws.proofs.Sources.{at_rest, follows_at_rest, follows_on, halts_at, halts_between, rests_on, takes_on}
+use Rattle.dbl_capture_laws.proofs.Due.{due_so, none_closed}
 use Rattle.dbl_capture_laws.proofs.Telling.{follow_cause, goes_due, source_left, taken_cause, torn_counts}
 use Rattle.dbl_capture_laws.proofs.StepHalting.{follow_caused, source_caused, taken_caused}
 use Rattle.dbl_source.specs.SourceModel.Trace.{Read, LastAnswerIs}
@@ -148,7 +149,10 @@ pub returns-in-Some-2-clause-state : goal.returns-in-Some-2-clause-state
 returns-in-Some-2-clause-state g c = record {
   ready = stepped_ready c.requires.ready.after c.requires.ready.messages c.in-Some.bytes c.in-Some-2.commit c.args.work.now c.take_message.new.work c.deliver_commit.new.work c.requires.ready.is (subst (WasTaken c.requires.ready.after c.requires.ready.messages c.in-Some.bytes c.args.work.now c.take_message.new.work) c.in-Some-2.is (c.in_ok-commit-in-Some.ensures.taken c.requires.ready.after c.requires.ready.messages c.requires.ready.is)) c.in_ok-closed-in-Some-2.ensures.stepped c.in_ok-closed-in-Some-2.ensures.long;
   is_next = stepped_next c.in-Some-2.commit c.args.work.now c.take_message.new.work c.deliver_commit.new.work c.take_message.ensures.same c.in_ok-closed-in-Some-2.ensures.stepped;
-  due = c.is_due.ensures.due;
+  due =
+      due_so c.in-Some-2.commit c.args.work.now c.take_message.new.work c.deliver_commit.new.work c.take_message.ensures.same c.in_ok-closed-in-Some-2.ensures.stepped _ c.is_due.result c.in_ok-closed-in-Some-2.ensures.closes
+      (stepped_since c.in-Some-2.commit c.args.work.now c.take_message.new.work c.deliver_commit.new.work c.take_message.ensures.same c.in_ok-closed-in-Some-2.ensures.stepped c.requires.since)
+      c.is_due.ensures.due c.is_due.ensures.open;
   counts =
       let st = step_counts c.in-Some-2.commit c.take_message.new.work (record c.args.report.now { messages = c.args.report.now.messages + 1 }) c.deliver_commit.new.report true c.in_ok-closed-in-Some-2.ensures.noted in
       (st.messages, omega (arith, st.commits), st.position);
@@ -162,7 +166,7 @@ pub returns-in-Some-clause-state : goal.returns-in-Some-clause-state
 returns-in-Some-clause-state g c = record {
   ready = taken_ready c.requires.ready.after c.requires.ready.messages c.in-Some.bytes c.args.work.now c.take_message.new.work c.requires.ready.is (subst (WasTaken c.requires.ready.after c.requires.ready.messages c.in-Some.bytes c.args.work.now c.take_message.new.work) c.in-None-2.is (c.in_ok-commit-in-Some.ensures.taken c.requires.ready.after c.requires.ready.messages c.requires.ready.is));
   is_next = taken_next c.args.work.now c.take_message.new.work c.take_message.ensures.same;
-  due = inl (refl, subst (λ (w : SessionState). w.since < w.every) (sym c.take_message.ensures.same) c.requires.since);
+  due = inl (refl, subst (λ (w : SessionState). w.since < w.every) (sym c.take_message.ensures.same) c.requires.since, none_closed c.args.work.now c.take_message.new.work c.take_message.ensures.same);
   counts = search rules;
   ended = search rules;
   nothing = search rules;
@@ -364,7 +368,7 @@ returns-in-Some-2-clause-report g c = record {
   under_way = λ at found b u.
       goes_due g.S.Source at found b c.args.store.now.offset c.deliver_commit.new.work c.deliver_commit.new.report c.read.new.self c.is_due.result
       (λ due. follows_on g.S.Source at found b c.args.store.now.offset c.args.src.now c.read.new.self c.args.work.now c.take_message.new.work c.deliver_commit.new.work c.args.report.now c.deliver_commit.new.report u c.in-Some.bytes c.in-Some-2.commit (subst (WasTaken b.first.lsn u.messages c.in-Some.bytes c.args.work.now c.take_message.new.work) c.in-Some-2.is (c.in_ok-commit-in-Some.ensures.taken b.first.lsn u.messages u.is.is.is)) c.in_ok-closed-in-Some-2.ensures.stepped c.in_ok-closed-in-Some-2.ensures.long c.requires.number c.in_ok-closed-in-Some-2.ensures.noted (some_read _ _ _ _ c.in-Some.is c.in_ok-bytes.ensures.taken) (λ s is. some_read _ _ _ _ c.in-Some.is (c.in_ok-bytes.ensures.took s is)))
-      (λ due. follows_at_rest g.S.Source at found b c.args.store.now.offset c.args.src.now c.read.new.self c.args.work.now c.take_message.new.work c.deliver_commit.new.work c.args.report.now c.deliver_commit.new.report u c.in-Some.bytes c.in-Some-2.commit (subst (WasTaken b.first.lsn u.messages c.in-Some.bytes c.args.work.now c.take_message.new.work) c.in-Some-2.is (c.in_ok-commit-in-Some.ensures.taken b.first.lsn u.messages u.is.is.is)) c.in_ok-closed-in-Some-2.ensures.stepped c.in_ok-closed-in-Some-2.ensures.long c.requires.number c.in_ok-closed-in-Some-2.ensures.noted (some_read _ _ _ _ c.in-Some.is c.in_ok-bytes.ensures.taken) (λ s is. some_read _ _ _ _ c.in-Some.is (c.in_ok-bytes.ensures.took s is)) (sym c.in_ok-closed-in-Some-2.ensures.closes ∙ c.is_due.ensures.open due));
+      (λ due. follows_at_rest g.S.Source at found b c.args.store.now.offset c.args.src.now c.read.new.self c.args.work.now c.take_message.new.work c.deliver_commit.new.work c.args.report.now c.deliver_commit.new.report u c.in-Some.bytes c.in-Some-2.commit (subst (WasTaken b.first.lsn u.messages c.in-Some.bytes c.args.work.now c.take_message.new.work) c.in-Some-2.is (c.in_ok-commit-in-Some.ensures.taken b.first.lsn u.messages u.is.is.is)) c.in_ok-closed-in-Some-2.ensures.stepped c.in_ok-closed-in-Some-2.ensures.long c.requires.number c.in_ok-closed-in-Some-2.ensures.noted (some_read _ _ _ _ c.in-Some.is c.in_ok-bytes.ensures.taken) (λ s is. some_read _ _ _ _ c.in-Some.is (c.in_ok-bytes.ensures.took s is)) (sym c.in_ok-closed-in-Some-2.ensures.closes ∙ (c.is_due.ensures.open due).0));
   halted = search rules;
   awaits = λ at found b u s first honest a.
       let own = (work_at g.S.Source at found b c.args.store.now.offset c.args.work.now c.args.report.now c.args.src.now u (g.met.S.Source.one c.args.src.now) s first a) in
@@ -438,7 +442,7 @@ returns-in-Some-2-clause-puts g c = record {
   putting = λ groups at found b u.
       puts_due g.S.Source g.K.Sink groups at found b c.args.store.now.offset c.deliver_commit.new.work c.deliver_commit.new.report c.read.new.self c.deliver_commit.new.sink c.is_due.result
       (λ due. commits_put g.S.Source g.K.Sink groups at found b c.args.store.now.offset c.args.src.now c.read.new.self c.args.sink.now c.deliver_commit.new.sink c.args.work.now c.take_message.new.work c.deliver_commit.new.work c.args.report.now c.deliver_commit.new.report u c.in-Some.bytes c.in-Some-2.commit (subst (WasTaken b.first.lsn u.way.messages c.in-Some.bytes c.args.work.now c.take_message.new.work) c.in-Some-2.is (c.in_ok-commit-in-Some.ensures.taken b.first.lsn u.way.messages u.way.is.is.is)) c.in_ok-closed-in-Some-2.ensures.stepped c.in_ok-closed-in-Some-2.ensures.long c.requires.number (few_taken (length u.way.messages) c.args.report.now.messages u.way.is.is.many c.requires.messages) c.requires.time c.in_ok-closed-in-Some-2.ensures.noted (c.in_ok-closed-in-Some-2.ensures.put (groups ++ cut u.put.records) u.put.held) (some_read _ _ _ _ c.in-Some.is c.in_ok-bytes.ensures.taken) (λ s is. some_read _ _ _ _ c.in-Some.is (c.in_ok-bytes.ensures.took s is)))
-      (λ due. commits_put_at_rest g.S.Source g.K.Sink groups at found b c.args.store.now.offset c.args.src.now c.read.new.self c.args.sink.now c.deliver_commit.new.sink c.args.work.now c.take_message.new.work c.deliver_commit.new.work c.args.report.now c.deliver_commit.new.report u c.in-Some.bytes c.in-Some-2.commit (subst (WasTaken b.first.lsn u.way.messages c.in-Some.bytes c.args.work.now c.take_message.new.work) c.in-Some-2.is (c.in_ok-commit-in-Some.ensures.taken b.first.lsn u.way.messages u.way.is.is.is)) c.in_ok-closed-in-Some-2.ensures.stepped c.in_ok-closed-in-Some-2.ensures.long c.requires.number (few_taken (length u.way.messages) c.args.report.now.messages u.way.is.is.many c.requires.messages) c.requires.time c.in_ok-closed-in-Some-2.ensures.noted (c.in_ok-closed-in-Some-2.ensures.put (groups ++ cut u.put.records) u.put.held) (some_read _ _ _ _ c.in-Some.is c.in_ok-bytes.ensures.taken) (λ s is. some_read _ _ _ _ c.in-Some.is (c.in_ok-bytes.ensures.took s is)) (sym c.in_ok-closed-in-Some-2.ensures.closes ∙ c.is_due.ensures.open due));
+      (λ due. commits_put_at_rest g.S.Source g.K.Sink groups at found b c.args.store.now.offset c.args.src.now c.read.new.self c.args.sink.now c.deliver_commit.new.sink c.args.work.now c.take_message.new.work c.deliver_commit.new.work c.args.report.now c.deliver_commit.new.report u c.in-Some.bytes c.in-Some-2.commit (subst (WasTaken b.first.lsn u.way.messages c.in-Some.bytes c.args.work.now c.take_message.new.work) c.in-Some-2.is (c.in_ok-commit-in-Some.ensures.taken b.first.lsn u.way.messages u.way.is.is.is)) c.in_ok-closed-in-Some-2.ensures.stepped c.in_ok-closed-in-Some-2.ensures.long c.requires.number (few_taken (length u.way.messages) c.args.report.now.messages u.way.is.is.many c.requires.messages) c.requires.time c.in_ok-closed-in-Some-2.ensures.noted (c.in_ok-closed-in-Some-2.ensures.put (groups ++ cut u.put.records) u.put.held) (some_read _ _ _ _ c.in-Some.is c.in_ok-bytes.ensures.taken) (λ s is. some_read _ _ _ _ c.in-Some.is (c.in_ok-bytes.ensures.took s is)) (sym c.in_ok-closed-in-Some-2.ensures.closes ∙ (c.is_due.ensures.open due).0));
   put = search rules;
 }
 

@@ -90,6 +90,14 @@ returns-in_err-push-clause-rests g c = record {
       taken_on (g.S.Source.told c.args.src.now) (g.S.Source.told c.tables.src) (g.S.Source.told c.describe_table.new.src) c.tables.invariant.taken c.describe_table.ensures.rests.taken;
 }
 
+pub returns-in_err-push-clause-source : goal.returns-in_err-push-clause-source
+returns-in_err-push-clause-source g c = record {
+  live = search rules;
+  honest = λ honest. c.tables.invariant.was_honest (c.describe_table.ensures.source.honest honest);
+  comes = g.met.S.Source.comes_on c.args.src.now c.tables.src c.describe_table.new.src c.tables.invariant.comes c.describe_table.ensures.source.comes;
+  cause = record { later = later_on (g.S.Source.faults c.args.src.now) (g.S.Source.faults c.tables.src) (g.S.Source.faults c.describe_table.new.src) c.tables.invariant.later c.describe_table.ensures.source.cause.later; cause = λ is. let p = err_from_is_err_and c.from_residual-in_err-push.result c.from_residual-in_err-push.ensures.1 in let both : Err p.0 ≡ Err halt.Source = sym p.1 ∙ is in let halted : p.0 ≡ halt.Source = cc in let wrong : halt.Memory ≡ halt.Source = sym p.2 ∙ halted in cc };
+}
+
 pub tables-preserved : goal.tables-preserved
 tables-preserved g c =
     let inv = c.tables.invariant in

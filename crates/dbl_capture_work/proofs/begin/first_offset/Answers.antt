@@ -58,7 +58,10 @@ returns-in_err-offset_at-clause-rests g c = record {
       let stood = c.in_ok-infos.ensures.described s stands in
       rest_on s stood.standing l stood.holds.0 (c.head.ensures.left stood.standing l stood.is may);
   some = search rules;
-  still = search rules;
+  still = λ s t old new.
+      let stood = c.in_ok-infos.ensures.described s old in
+      let headed = c.in_ok-head.ensures.headed stood.standing stood.is in
+      ap (λ (x : SourceState). x.reading) (g.met.S.Source.one c.head.new.self t headed.standing new headed.is) ∙ (headed.holds.0.reading ∙ stood.holds.0.reading);
   taken =
       taken_on (g.S.Source.told c.args.src.now) (g.S.Source.told c.describe_tables.new.src) (g.S.Source.told c.head.new.self) c.describe_tables.ensures.rests.taken c.head.ensures.taken;
 }

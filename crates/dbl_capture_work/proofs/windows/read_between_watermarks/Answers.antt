@@ -83,6 +83,6 @@ pub returns-clause-source : goal.returns-clause-source
 returns-clause-source g c = record {
   live = search rules;
   honest = search rules;
-  comes = search rules;
+  comes = g.met.S.Source.comes_on c.args.src.now c.low.new.src c.select_and_mark_high.new.src c.low.ensures.source.comes c.select_and_mark_high.ensures.source.comes;
   cause = record { later = later_on (g.S.Source.faults c.args.src.now) (g.S.Source.faults c.low.new.src) (g.S.Source.faults c.select_and_mark_high.new.src) c.low.ensures.source.cause.later c.select_and_mark_high.ensures.source.cause.later; cause = λ is. rose_behind (g.S.Source.faults c.args.src.now) (g.S.Source.faults c.low.new.src) (g.S.Source.faults c.select_and_mark_high.new.src) c.low.ensures.source.cause.later (c.select_and_mark_high.ensures.source.cause.cause is) };
 }

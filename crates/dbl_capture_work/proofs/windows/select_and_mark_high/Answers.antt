@@ -87,6 +87,6 @@ pub returns-clause-source : goal.returns-clause-source
 returns-clause-source g c = record {
   live = search rules;
   honest = search rules;
-  comes = search rules;
+  comes = g.met.S.Source.comes_on c.args.src.now c.select.new.src c.high.new.src c.select.ensures.source.comes c.high.ensures.source.comes;
   cause = record { later = later_on (g.S.Source.faults c.args.src.now) (g.S.Source.faults c.select.new.src) (g.S.Source.faults c.high.new.src) c.select.ensures.source.cause.later c.high.ensures.source.cause.later; cause = λ is. rose_behind (g.S.Source.faults c.args.src.now) (g.S.Source.faults c.select.new.src) (g.S.Source.faults c.high.new.src) c.select.ensures.source.cause.later (c.high.ensures.source.cause.cause is) };
 }

@@ -56,8 +56,11 @@ impl<M: Drop> Pending<M> {
         ensures { OnOk result (messages.new.items ≡ messages.old.items ++ remaining_in self) }
     {
         let Pending { buffer, aborts } = self;
-        for (index, item) in buffer.into_iter().enumerate() {
-            append_unless_lost(&aborts, index, item, messages)?;
+        for numbered in buffer.into_iter().enumerate() {
+            match append_unless_lost(&aborts, numbered, messages) {
+                Ok(()) => {}
+                Err(error) => return Err(error),
+            }
         }
         Ok(())
     }
@@ -73,16 +76,17 @@ fn is_lost(aborts: &BTreeMap<u32, usize>, xid: u32, index: usize) -> bool
     }
 }
 
+// Appends the message of an item, which has its index before it, unless it was rolled back.
 fn append_unless_lost<M: Drop>(
     aborts: &BTreeMap<u32, usize>,
-    index: usize,
-    item: (u32, M),
+    numbered: (usize, (u32, M)),
     messages: &mut Vec<M>,
 ) -> Result<(), AllocError>
     ensures { OnOk result (messages.new.items ≡ messages.old.items ++
-        item_left (nat_lt index (unwrap_or (get nat_cmp aborts.now item.0) 0)) item) }
+        item_left (nat_lt numbered.0 (unwrap_or (get nat_cmp aborts.now numbered.1.0) 0))
+        numbered.1) }
 {
-    let (xid, message) = item;
+    let (index, (xid, message)) = numbered;
     if is_lost(aborts, xid, index) {
         return Ok(());
     }

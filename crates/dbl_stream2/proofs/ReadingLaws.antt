@@ -14,7 +14,7 @@ use Rattle.dbl_pgmsg.specs.declared.error.MsgError.TheVariants.{Truncated, Trail
 use Rattle.dbl_pgmsg.specs.declared.messages.Message.{Message}
 use Rattle.dbl_pgmsg.specs.declared.messages.Message.TheVariants as old
 use Rattle.dbl_pgmsg.specs.Grammar.{int32, int64, signed64, spelling, Spells}
-use Rattle.dbl_pgmsg.specs.Reading.{Gives, whole}
+use Rattle.dbl_pgmsg.specs.Reading.{Gives, Fails, whole}
 use Rattle.dbl_pgmsg.specs.Faults.{IsFault, AreBytes}
 use Rattle.dbl_pgmsg.proofs.FieldLaws.{IsBytes, IsBytes-rest, IsBytes-drop, IsBytes-take}
 use Rattle.dbl_pgmsg.proofs.RowLaws.{chosen}
@@ -311,6 +311,11 @@ pub kind_read : (inside : Bool) (bytes : List ℕ) (tag width : ℕ) (m : Stream
     → by_width inside bytes (width_of bytes) ≡ done m
 kind_read inside bytes tag width m le is wide exact same = ap (by_width inside bytes) (width_at bytes tag width le is wide) ∙ exact
     ∙ ap (λ (y : StreamMessage). done y) same
+
+pub kind_refused : (inside : Bool) (bytes : List ℕ) (tag width : ℕ) (e : MsgError) → 1 ≤ length bytes → get_or bytes 0 0 ≡ tag → width_by tag ≡ Some width
+    → with_width width bytes ≡ failed e
+    → Fails e (by_width inside bytes (width_of bytes))
+kind_refused inside bytes tag width e le is wide fault = inr (ap (by_width inside bytes) (width_at bytes tag width le is wide) ∙ fault)
 
 pub fixed_start : (bytes : List ℕ) → get_or bytes 0 0 ≡ 83 → fixed bytes ≡ Start (number4 1 bytes) (get_or bytes 5 0)
 unfolding fixed

@@ -146,24 +146,27 @@ fn read_short(alloc: Global, inside: bool, bytes: &[u8]) -> Result<StreamMessage
     ensures { Gives (λ m. m) result (by_width inside bytes.now (width_of bytes.now)) }
 {
     match bytes {
-        [b'S', ..] => {
-            check_width(bytes, 6)?;
-            Ok(read_start(bytes))
-        }
-        [b'E', ..] => {
-            check_width(bytes, 1)?;
-            Ok(StreamMessage::Stop)
-        }
-        [b'c', ..] => {
-            check_width(bytes, 30)?;
-            Ok(read_commit(bytes))
-        }
-        [b'A', ..] => {
-            check_width(bytes, 9)?;
-            Ok(read_abort(bytes))
-        }
+        [b'S', ..] => match check_width(bytes, 6) {
+            Ok(()) => Ok(read_start(bytes)),
+            Err(error) => Err(error),
+        },
+        [b'E', ..] => match check_width(bytes, 1) {
+            Ok(()) => Ok(StreamMessage::Stop),
+            Err(error) => Err(error),
+        },
+        [b'c', ..] => match check_width(bytes, 30) {
+            Ok(()) => Ok(read_commit(bytes)),
+            Err(error) => Err(error),
+        },
+        [b'A', ..] => match check_width(bytes, 9) {
+            Ok(()) => Ok(read_abort(bytes)),
+            Err(error) => Err(error),
+        },
         [tag, rest @ ..] if inside && has_xid(*tag) => read_carried(alloc, *tag, rest),
-        _ => Ok(StreamMessage::Plain(read_plain(alloc, bytes)?)),
+        _ => match read_plain(alloc, bytes) {
+            Ok(message) => Ok(StreamMessage::Plain(message)),
+            Err(error) => Err(error),
+        },
     }
 }
 

@@ -150,9 +150,7 @@ pub(crate) fn put_streamed<O: Output>(
             Err(error) => return Err(error),
         }
     }
-    if unstream.inside() {
-        return Ok(Some(LogFault::Unfinished));
-    }
-    let inside = replayer.inside();
-    Ok(unfinished_fault(inside))
+    let in_block = unstream.inside();
+    let in_transaction = replayer.inside();
+    Ok(unfinished_fault(in_block | in_transaction))
 }

@@ -1,4 +1,4 @@
-use Rattle.std.proofs.Common.{◌≡◌, Option, Some, None, List, [], ◌∷◌, length, sym, subst, arith, rules}
+use Rattle.std.proofs.Common.{◌≡◌, Option, Some, None, List, [], ◌∷◌, sym, subst, arith}
 use Rattle.std.specs.List.{AllByRecursion}
 use Rattle.dbl_pgmsg.specs.declared.messages.Message.{Message}
 use Rattle.dbl_pgmsg.specs.Grammar.{FitsFields}
@@ -21,12 +21,12 @@ messages-init g c =
 
 pub put_message-requires-clause-fits : goal.put_message-requires-clause-fits
 put_message-requires-clause-fits g c =
-    let split : c.messages.message-iterator.rest.items ≡ c.in-Some.message ∷ c.next.new.self.rest.items = search rules in
+    let split : c.messages.message-iterator.rest.items ≡ c.in-Some.message ∷ c.next.new.self.rest.items = c.in-Some.ensures.steps.0 in
     (subst (λ (l : List Message). AllByRecursion FitsFields l) split c.messages.invariant.2).0
 
 pub messages-preserved : goal.messages-preserved
 messages-preserved g c =
-    let split : c.messages.message-iterator.rest.items ≡ c.in-Some.message ∷ c.next.new.self.rest.items = search rules in
+    let split : c.messages.message-iterator.rest.items ≡ c.in-Some.message ∷ c.next.new.self.rest.items = c.in-Some.ensures.steps.0 in
     let f = c.messages.invariant.1 in
     let on = stepping_same f.options c.args.now_ms.now f.ms c.args.number c.in-Some.message _ _ c.put_message.new.replayer c.in-Ok-None.field-0 None _ _
     (c.in-Ok-None.ensures.steps f.options f.ms f.follows) c.in-Ok-None.field-0-is in (
@@ -43,7 +43,7 @@ messages-preserved g c =
 pub returns-in-Ok-Some-clause-puts : goal.returns-in-Ok-Some-clause-puts
 returns-in-Ok-Some-clause-puts g c = λ options ms follows.
     let so_far = c.messages.invariant.0 options ms follows in
-    let split : c.messages.message-iterator.rest.items ≡ c.in-Some.message ∷ c.next.new.self.rest.items = search rules in
+    let split : c.messages.message-iterator.rest.items ≡ c.in-Some.message ∷ c.next.new.self.rest.items = c.in-Some.ensures.steps.0 in
     adding_stops _ _ _ _ _ _ _ _ _ _ _ _ _ _ _ c.put_message.new.replayer so_far split c.in-Ok-Some.fault
     (stepping_same options c.args.now_ms.now so_far.put.last c.args.number c.in-Some.message _ _ c.put_message.new.replayer c.in-Ok-Some.field-0
     (Some c.in-Ok-Some.fault) _ _ (c.in-Ok-Some.ensures.steps options so_far.put.last so_far.put.follows) c.in-Ok-Some.field-0-is)
@@ -51,7 +51,7 @@ returns-in-Ok-Some-clause-puts g c = λ options ms follows.
 pub returns-in-Err-clause-puts : goal.returns-in-Err-clause-puts
 returns-in-Err-clause-puts g c = λ options ms follows.
     let so_far = c.messages.invariant.0 options ms follows in
-    let split : c.messages.message-iterator.rest.items ≡ c.in-Some.message ∷ c.next.new.self.rest.items = search rules in
+    let split : c.messages.message-iterator.rest.items ≡ c.in-Some.message ∷ c.next.new.self.rest.items = c.in-Some.ensures.steps.0 in
     adding_fails _ _ _ _ _ _ _ _ _ _ c.put_message.new.lines _ _ _ _ c.put_message.new.replayer so_far split c.in-Err.error
     (c.in-Err.ensures.steps options so_far.put.last so_far.put.follows)
 

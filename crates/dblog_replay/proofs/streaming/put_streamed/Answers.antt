@@ -1,6 +1,5 @@
-use Rattle.std.proofs.Common.{◌≡◌, ℕ, ◌+◌, Bool, true, false, Option, Some, None, List, [], ◌∷◌, length, sym, ap, ◌∙◌, subst, arith, rules}
-use Rattle.std.specs.Prelude.{◌||◌, is_some}
-use Rattle.dbl_model_commit.specs.Past.{begin_of}
+use Rattle.std.proofs.Common.{◌≡◌, ℕ, ◌+◌, Bool, Option, Some, None, List, [], ◌∷◌, length, sym, ap, ◌∙◌, subst, arith}
+use Rattle.std.specs.Prelude.{◌||◌}
 use Rattle.dbl_stream2.specs.Flat.{is_inside}
 use Rattle.dblog_replay.specs.Log.{end_fault}
 use Rattle.dblog_replay.proofs.FollowLemmas.{empty_is}
@@ -26,7 +25,7 @@ strings-init g c =
 
 pub strings-preserved : goal.strings-preserved
 strings-preserved g c =
-    let split : c.strings.bytes-iterator.rest.items ≡ c.in-Some.bytes ∷ c.next.new.self.rest.items = search rules in
+    let split : c.strings.bytes-iterator.rest.items ≡ c.in-Some.bytes ∷ c.next.new.self.rest.items = c.in-Some.ensures.steps.0 in
     let u = c.strings.invariant.1 in
     let f = c.strings.invariant.2 in
     let on = streaming_same f.options c.args.now_ms.now u.past f.ms (c.strings.number + 1) c.in-Some.bytes c.put_received.new.unstream _ _
@@ -47,7 +46,7 @@ strings-preserved g c =
 pub returns-in-Ok-Some-clause-puts : goal.returns-in-Ok-Some-clause-puts
 returns-in-Ok-Some-clause-puts g c = λ options pieces follows read.
     let so_far = c.strings.invariant.0 options pieces follows read in
-    let split : c.strings.bytes-iterator.rest.items ≡ c.in-Some.bytes ∷ c.next.new.self.rest.items = search rules in
+    let split : c.strings.bytes-iterator.rest.items ≡ c.in-Some.bytes ∷ c.next.new.self.rest.items = c.in-Some.ensures.steps.0 in
     stream_stops _ _ _ _ _ _ _ _ _ _ _ _ _ _ _ _ _ so_far split c.in-Ok-Some.fault
     (streaming_same options c.args.now_ms.now so_far.past so_far.ms (c.strings.number + 1) c.in-Some.bytes c.put_received.new.unstream _ _
     c.put_received.new.replayer c.in-Ok-Some.field-0 (Some c.in-Ok-Some.fault) _ _
@@ -56,27 +55,19 @@ returns-in-Ok-Some-clause-puts g c = λ options pieces follows read.
 pub returns-in-Err-clause-puts : goal.returns-in-Err-clause-puts
 returns-in-Err-clause-puts g c = λ options pieces follows read.
     let so_far = c.strings.invariant.0 options pieces follows read in
-    let split : c.strings.bytes-iterator.rest.items ≡ c.in-Some.bytes ∷ c.next.new.self.rest.items = search rules in
+    let split : c.strings.bytes-iterator.rest.items ≡ c.in-Some.bytes ∷ c.next.new.self.rest.items = c.in-Some.ensures.steps.0 in
     stream_fails _ _ _ _ _ _ _ _ _ _ _ _ _ _ _ _ _ so_far split c.in-Err.error
     (c.in-Err.ensures.steps options so_far.past so_far.ms so_far.receiving so_far.follows)
-
-pub returns-then-inside-clause-puts : goal.returns-then-inside-clause-puts
-returns-then-inside-clause-puts g c = λ options pieces follows read.
-    let so_far = c.strings.invariant.0 options pieces follows read in
-    let none : c.strings.bytes-iterator.rest.items ≡ [] =
-    empty_is c.strings.bytes-iterator.rest.items (omega (arith, c.in-None.ensures.steps.0, c.strings.bytes-iterator.rest.ok)) in
-    let in_block : true ≡ is_inside so_far.past = sym c.if-inside.true ∙ c.inside.ensures so_far.past so_far.receiving.received in
-    stream_ends _ _ _ _ _ _ _ _ _ _ _ so_far _ none (ap (λ (b : Bool). end_fault (b || is_some (begin_of so_far.ms))) in_block)
 
 pub returns-clause-puts : goal.returns-clause-puts
 returns-clause-puts g c = λ options pieces follows read.
     let so_far = c.strings.invariant.0 options pieces follows read in
     let none : c.strings.bytes-iterator.rest.items ≡ [] =
     empty_is c.strings.bytes-iterator.rest.items (omega (arith, c.in-None.ensures.steps.0, c.strings.bytes-iterator.rest.ok)) in
-    let outside : false ≡ is_inside so_far.past = sym c.if-inside.false ∙ c.inside.ensures so_far.past so_far.receiving.received in
     stream_ends _ _ _ _ _ _ _ _ _ _ _ so_far _ none
-    (c.unfinished_fault.ensures ∙ ap end_fault (c.inside-inside.ensures options so_far.ms so_far.follows)
-    ∙ ap (λ (b : Bool). end_fault (b || is_some (begin_of so_far.ms))) outside)
+    (c.unfinished_fault.ensures
+    ∙ ap (λ (b : Bool). end_fault (b || c.inside-in_transaction.result)) (c.inside-in_block.ensures so_far.past so_far.receiving.received)
+    ∙ ap (λ (b : Bool). end_fault (is_inside so_far.past || b)) (c.inside-in_transaction.ensures options so_far.ms so_far.follows))
 
 pub overflow_add-number : goal.overflow_add-number
 overflow_add-number g c = omega (arith, c.strings.invariant.3, c.args.strings.ok)

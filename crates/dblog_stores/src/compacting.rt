@@ -51,6 +51,16 @@ fn begin_marking(alloc: Global, placeholder: &Text) -> Result<Marking, CommandEr
     }
 }
 
+fn push_mark(marks: &mut Marks, mark: bool) -> Result<(), CommandError>
+    ensures pushed { OnOk result (marks.new ≡ mark ∷ marks.old) }
+    ensures memory { IfErr result (λ error. error ≡ CommandError.Memory) }
+{
+    match marks.push(mark) {
+        Ok(()) => Ok(()),
+        Err(_) => Err(CommandError::Memory),
+    }
+}
+
 // Marks the record before those that were marked.
 fn mark_record(marking: &mut Marking, item: &Record, number: u64) -> Result<(), CommandError>
     ensures marked { (placeholder : List ℕ) (part : List Record) (groups : List (List Record)) →
@@ -59,18 +69,13 @@ fn mark_record(marking: &mut Marking, item: &Record, number: u64) -> Result<(), 
     ensures memory { IfErr result (λ error. error ≡ CommandError.Memory) }
 {
     match marking.compactor.read(item) {
-        Ok(mark) => match marking.marks.push(mark) {
-            Ok(()) => Ok(()),
-            Err(_) => Err(CommandError::Memory),
-        },
+        Ok(mark) => push_mark(&mut marking.marks, mark),
         Err(ConsumeError::Memory) => Err(CommandError::Memory),
-        Err(_) => match marking.marks.push(false) {
-            Ok(()) => {
-                marking.refused = Some(number);
-                Ok(())
-            }
-            Err(_) => Err(CommandError::Memory),
-        },
+        Err(error) => {
+            drop(error);
+            marking.refused = Some(number);
+            push_mark(&mut marking.marks, false)
+        }
     }
 }
 
@@ -122,6 +127,18 @@ fn mark_groups<D: Disk>(
     Ok(())
 }
 
+fn marks_of(marking: Marking) -> Marks
+    ensures { result ≡ marking.marks }
+{
+    let Marking {
+        compactor,
+        marks,
+        ..
+    } = marking;
+    drop(compactor);
+    marks
+}
+
 // The marks of the records of a topic log, or the first group with one that a consumer refuses.
 fn mark_log<D: Disk>(
     alloc: Global,
@@ -146,13 +163,19 @@ fn mark_log<D: Disk>(
     };
     match mark_groups(log, &mut marking, placeholder) {
         Ok(()) => match marking.refused {
-            Some(index) => Err(CommandError::BadEntry {
-                store: Store::Topics,
-                index,
-            }),
-            None => Ok(marking.marks),
+            Some(index) => {
+                drop(marking);
+                Err(CommandError::BadEntry {
+                    store: Store::Topics,
+                    index,
+                })
+            }
+            None => Ok(marks_of(marking)),
         },
-        Err(error) => Err(error),
+        Err(error) => {
+            drop(marking);
+            Err(error)
+        }
     }
 }
 

@@ -24,39 +24,84 @@ fn placeholder(alloc: Global) -> Result<Text> {
     Ok(Text::of(alloc, "__debezium_unavailable_value")?)
 }
 
+fn null(alloc: Global) -> Result<Text> {
+    Ok(Text::of(alloc, "null")?)
+}
+
 // A text, or `null` if it is absent.
-fn text_or_null(alloc: Global, text: &Option<Text>) -> Result<Text> {
+fn text_or<'a>(text: &'a Option<Text>, null: &'a Text) -> &'a Text {
     match text {
-        Some(text) => Ok(text.copy(alloc)?),
-        None => Ok(Text::of(alloc, "null")?),
+        Some(text) => text,
+        None => null,
     }
 }
 
 // The kind of each record's effect, or why it is refused.
 fn show_kinds(alloc: Global, shown: &mut String, records: &Vec<Record>) -> Result<()> {
     let placeholder = placeholder(alloc)?;
+    let end = show_effects(alloc, shown, &placeholder, records);
+    drop(placeholder);
+    end
+}
+
+fn show_effects(
+    alloc: Global,
+    shown: &mut String,
+    placeholder: &Text,
+    records: &Vec<Record>,
+) -> Result<()> {
+    let null = null(alloc)?;
     for record in records {
-        if !shown.is_empty() {
-            words::add(shown, ", ")?;
-        }
-        let key = text_or_null(alloc, &record.key)?;
-        let value = text_or_null(alloc, &record.value)?;
-        match kind(alloc, &placeholder, &record.topic, &key, &value) {
-            Ok(kind) => show_kind(shown, &kind)?,
-            Err(error) => words::said(shown, &error)?,
+        match show_effect(alloc, shown, placeholder, &null, record) {
+            Ok(()) => {}
+            Err(error) => {
+                drop(null);
+                return Err(error);
+            }
         }
     }
+    drop(null);
     Ok(())
+}
+
+fn show_effect(
+    alloc: Global,
+    shown: &mut String,
+    placeholder: &Text,
+    null: &Text,
+    record: &Record,
+) -> Result<()> {
+    if !shown.is_empty() {
+        words::add(shown, ", ")?;
+    }
+    let key = text_or(&record.key, null);
+    let value = text_or(&record.value, null);
+    match kind(alloc, placeholder, &record.topic, key, value) {
+        Ok(kind) => {
+            let end = show_kind(shown, &kind);
+            drop(kind);
+            end
+        }
+        Err(error) => {
+            let end = words::said(shown, &error);
+            drop(error);
+            end
+        }
+    }
 }
 
 fn show_kind(shown: &mut String, kind: &Kind) -> Result<()> {
     match kind {
-        Kind::Nothing => words::add(shown, "nothing")?,
-        Kind::Wipe => words::add(shown, "wipe")?,
-        Kind::Remove { key } => write!(shown, "remove {key}")?,
-        Kind::Set { key, whole: true } => write!(shown, "set {key} whole")?,
-        Kind::Set { key, whole: false } => write!(shown, "set {key} in part")?,
+        Kind::Nothing => words::add(shown, "nothing"),
+        Kind::Wipe => words::add(shown, "wipe"),
+        Kind::Remove { key } => show_key(shown, "remove", key, ""),
+        Kind::Set { key, whole: true } => show_key(shown, "set", key, " whole"),
+        Kind::Set { key, whole: false } => show_key(shown, "set", key, " in part"),
     }
+}
+
+fn show_key(shown: &mut String, before: &str, key: &Text, after: &str) -> Result<()> {
+    write!(shown, "{before} {key}{after}")?;
     Ok(())
 }
 
@@ -81,7 +126,23 @@ fn show_compacted(
         write!(shown, " {}/{}", record.position, record.ordinal)?;
     }
     words::add(shown, ", the same rows: ")?;
-    words::said(shown, &(rows(alloc, records)? == rows(alloc, kept)?))
+    let all = rows(alloc, records)?;
+    let end = show_same_rows(alloc, shown, &all, kept);
+    drop(all);
+    end
+}
+
+// Whether a consumer of the kept records has these rows.
+fn show_same_rows(
+    alloc: Global,
+    shown: &mut String,
+    all: &String,
+    kept: &Vec<Record>,
+) -> Result<()> {
+    let left = rows(alloc, kept)?;
+    let end = words::said(shown, &(*all == left));
+    drop(left);
+    end
 }
 
 // The rows of a consumer of the records, as they are printed.
@@ -93,12 +154,32 @@ fn rows(alloc: Global, records: &Vec<Record>) -> Result<String> {
 }
 
 fn rows_of(alloc: Global, records: &Vec<Record>, consumer: &mut Consumer) -> Result<String> {
-    for record in records {
-        let key = text_or_null(alloc, &record.key)?;
-        let value = text_or_null(alloc, &record.value)?;
-        consumer.apply(&record.topic, &key, &value)?;
+    let null = null(alloc)?;
+    let end = apply(records, consumer, &null);
+    drop(null);
+    match end {
+        Ok(()) => printed(alloc, consumer),
+        Err(error) => Err(error),
     }
+}
+
+fn printed(alloc: Global, consumer: &Consumer) -> Result<String> {
     let mut output = MemOutput::make(alloc, Vec::new(alloc));
-    consumer.print(&mut output)?;
+    let rows = print_to(alloc, consumer, &mut output);
+    drop(output);
+    rows
+}
+
+fn print_to(alloc: Global, consumer: &Consumer, output: &mut MemOutput) -> Result<String> {
+    consumer.print(output)?;
     Ok(String::from_str(alloc, str::from_utf8(output.bytes())?)?)
+}
+
+fn apply(records: &Vec<Record>, consumer: &mut Consumer, null: &Text) -> Result<()> {
+    for record in records {
+        let key = text_or(&record.key, null);
+        let value = text_or(&record.value, null);
+        consumer.apply(&record.topic, key, value)?;
+    }
+    Ok(())
 }

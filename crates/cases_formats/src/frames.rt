@@ -58,14 +58,20 @@ pub fn answer(alloc: Global, shown: &mut String, call: &str, arguments: &str) ->
 // What a reader answers to each piece, a line each.
 fn show_pieces(alloc: Global, shown: &mut String, pieces: &Vec<Text>) -> Result<()> {
     let mut feeding = Feeding::make(alloc);
+    let end = feed_pieces(alloc, shown, &mut feeding, pieces);
+    drop(feeding);
+    end
+}
+
+fn feed_pieces(
+    alloc: Global,
+    shown: &mut String,
+    feeding: &mut Feeding,
+    pieces: &Vec<Text>,
+) -> Result<()> {
     for piece in pieces {
         words::line(shown)?;
-        show_piece(
-            alloc,
-            shown,
-            &mut feeding,
-            &hex::decode(alloc, piece.as_str())?,
-        )?;
+        show_piece(alloc, shown, feeding, &hex::decode(alloc, piece.as_str())?)?;
     }
     Ok(())
 }
@@ -130,14 +136,27 @@ fn show_payload(alloc: Global, shown: &mut String, bytes: &[u8]) -> Result<()> {
 fn show_bytes(alloc: Global, shown: &mut String, bytes: &[u8]) -> Result<()> {
     let mut feeding = Feeding::make(alloc);
     let mut out = Vec::new(alloc);
+    let end = feed_bytes(alloc, shown, &mut feeding, bytes, &mut out);
+    drop(feeding);
+    drop(out);
+    end
+}
+
+fn feed_bytes(
+    alloc: Global,
+    shown: &mut String,
+    feeding: &mut Feeding,
+    bytes: &[u8],
+    out: &mut Vec<Frame>,
+) -> Result<()> {
     for (at, byte) in bytes.iter().enumerate() {
-        if let Some(error) = feeding.feed(&[*byte], &mut out)? {
-            show_frames(alloc, shown, &out)?;
+        if let Some(error) = feeding.feed(&[*byte], out)? {
+            show_frames(alloc, shown, out)?;
             write!(shown, "byte {at}: {error}")?;
             return Ok(());
         }
     }
-    show_frames(alloc, shown, &out)?;
+    show_frames(alloc, shown, out)?;
     show_rest(shown, &feeding.frames)
 }
 

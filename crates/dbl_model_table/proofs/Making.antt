@@ -361,10 +361,10 @@ pub stays_apart : (names key : List (List ℕ)) (i : ℕ) (name : List ℕ) (pla
 stays_apart names key i name place lt is left apart = ap (are_distinct bytes_eq) (key_more key i name lt is) ∙ distinct-push (take i key) name apart left.0
 
 abbrev entry : TableName → List RawColumn → List (List ℕ) → RawTable
-entry name columns key = record { name = name; columns = columns; key = key }
+entry name columns key = record { name = name; columns = columns; key = key; version = 1 }
 
 pub entry_made : (raw : RawTable) (name : TableName) (columns : List Column) (places : List ℕ) → name ≡ raw.name → map raw_column columns ≡ raw.columns → map (place_of (raw_names raw.columns)) raw.key ≡ map Some places
-    → entry name (map raw_column columns) (map (name_at columns) places) ≡ raw
+    → entry name (map raw_column columns) (map (name_at columns) places) ≡ record raw { version = 1 }
 entry_made raw name columns places names cs at =
     let same : column_names columns ≡ raw_names raw.columns = names_made columns raw.columns cs in
     let key : map (name_at columns) places ≡ raw.key = names_placed columns raw.key places (ap (λ (l : List (List ℕ)). map (place_of l) raw.key) same ∙ at) in

@@ -31,13 +31,13 @@ key_names info = map (name_at info.columns) info.key
 abbrev pub key_types : TableInfo → List PgType
 key_types info = map (type_at info.columns) info.key
 
--- The catalogue's entry of a captured table.
+-- The catalogue's entry of a captured table, with version 1: a description has no version.
 abbrev pub catalogue_of : TableInfo → RawTable
-catalogue_of info = record { name = info.name; columns = map raw_column info.columns; key = key_names info }
+catalogue_of info = record { name = info.name; columns = map raw_column info.columns; key = key_names info; version = 1 }
 
--- Whether the description is of the table with this catalogue entry: of its name, its columns and its key.
+-- Whether the description is of the table with this catalogue entry: of its name, its columns and its key, whatever its version.
 abbrev pub IsInfoOf : RawTable → TableInfo → Type 0
-IsInfoOf raw info = catalogue_of info ≡ raw
+IsInfoOf raw info = catalogue_of info ≡ record raw { version = 1 }
 
 -- The index of the column with this name.
 abbrev pub column_of : List Column → List ℕ → Option ℕ

@@ -24,6 +24,7 @@ impl RawTable {
             name: self.name.copy(alloc)?,
             columns: self.columns.copy(alloc)?,
             key: self.key.copy(alloc)?,
+            version: self.version,
         })
     }
 }

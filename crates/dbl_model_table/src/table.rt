@@ -94,11 +94,13 @@ pub struct RawColumn {
 }
 
 /// A table as in the source's catalogue. `key` names the columns of its primary key, in key order.
+/// `version` counts the table's definitions from 1.
 #[derive(Debug, Drop)]
 pub struct RawTable {
     pub name: TableName,
     pub columns: Seq<RawColumn>,
     pub key: Seq<Text>,
+    pub version: u64,
 }
 
 /// A table's key as specified by a user: the names of its columns, in key order.

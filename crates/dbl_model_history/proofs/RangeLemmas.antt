@@ -164,8 +164,9 @@ info_in_range : (history : History) (info : TableInfo) → HasRanges history →
 info_in_range history info h of =
     let entry = some_and (entry_of history info.name) (λ entry. IsInfoOf entry info) of in
     let is : IsEntryInRange entry.0 = found IsEntryInRange (λ entry. same_name entry.name info.name) history.tables entry.0 h.tables entry.1 in
-    let own : IsEntryInRange (catalogue_of info) = subst IsEntryInRange (sym entry.2) is in
-    record { name = own.name; columns = columns_in_range info.columns own.columns }
+    let name : IsNameInRange info.name = subst IsNameInRange (sym (ap (λ (raw : RawTable). raw.name) entry.2)) is.name in
+    let columns : AllByRecursion IsColumnInRange (map raw_column info.columns) = subst (AllByRecursion IsColumnInRange) (sym (ap (λ (raw : RawTable). raw.columns) entry.2)) is.columns in
+    record { name = name; columns = columns_in_range info.columns columns }
 
 each_in_range : (history : History) (infos : List TableInfo) → HasRanges history → AllByRecursion (λ info. IsSomeAnd (entry_of history info.name) (λ entry. IsInfoOf entry info)) infos → AllByRecursion IsInfoInRange infos
 each_in_range history [] h each = tt

@@ -85,6 +85,8 @@ pub record IsFitHistory (history : History) : Type 0 where
   pub rising : IsRising history
   -- The catalogue has at most one entry for a table.
   pub distinct : IsTrue (are_distinct same_name (map (λ raw. raw.name) history.tables))
+  -- No table's definition changes, so that each has version 1.
+  pub opening : AllByRecursion (λ raw. raw.version ≡ 1) history.tables
   -- Each change is of a table of the catalogue.
   pub known : AllByRecursion (λ commit. AllByRecursion (λ change. IsSome (entry_of history (name_of change))) (raw_changes_of commit.body))
       history.commits

@@ -1,6 +1,6 @@
 -- The ranges of numbers and texts in PostgreSQL's types and protocol (PostgreSQL "Logical Replication Message Formats"). An LSN is unsigned
 -- of 64 bits, a time signed of 64 bits, a transaction id and an OID unsigned of 32 bits, and each text is UTF-8.
-use Rattle.std.specs.Prelude.{ℕ, ℤ, ◌<◌, ◌^◌, FitsSigned, Option, IfSome, List, length}
+use Rattle.std.specs.Prelude.{ℕ, ℤ, ◌<◌, ◌≤◌, ◌^◌, FitsSigned, Option, IfSome, List, length}
 use Rattle.std.specs.List.{AllByRecursion}
 use Rattle.std.specs.Str.{IsUtf8}
 use Rattle.std.specs.Int.{w32, w64}
@@ -36,11 +36,12 @@ pub record IsColumnInRange (column : RawColumn) : Type 0 where
   pub name : IsUtf8 column.name
   pub oid : column.oid < 2 ^ 32
 
--- Whether a catalogue entry's texts and numbers are in range.
+-- Whether a catalogue entry's texts and numbers are in range. Versions are counted from 1 and have 64 bits.
 pub record IsEntryInRange (raw : RawTable) : Type 0 where
   pub name : IsNameInRange raw.name
   pub columns : AllByRecursion IsColumnInRange raw.columns
   pub key : AllByRecursion IsUtf8 raw.key
+  pub version : (1 ≤ raw.version) × (raw.version < 2 ^ 64)
 
 -- Whether each text is null or UTF-8.
 abbrev pub AreTextsInRange : List (Option (List ℕ)) → Type 0

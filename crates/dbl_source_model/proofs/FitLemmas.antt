@@ -44,6 +44,7 @@ module _ (tables : List RawTable) (xs ys : List RawCommit) where
   pub fit_front : IsFitHistory new → IsFitHistory old
   fit_front fit = record {
     ranges = record { tables = fit.ranges.tables; commits = all_front IsRawCommitInRange xs ys fit.ranges.commits };
+    opening = fit.opening;
     rising = rising_front 0 xs ys fit.rising;
     distinct = fit.distinct;
     known = all_front (λ (commit : RawCommit). AllByRecursion (λ (change : RawChange). IsSome (entry_of old (name_of change))) (raw_changes_of commit.body)) xs ys fit.known;

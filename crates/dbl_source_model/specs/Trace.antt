@@ -2,7 +2,7 @@
 use Rattle.std.specs.Prelude.{◌≡◌, ℕ, Bool, true, false, Option, Some, None, List, [], ◌++◌}
 use Rattle.dbl_base.specs.declared.lsn.Lsn.{Lsn}
 use Rattle.dbl_model_commit.specs.ModelTable.declared.table.RawTable.{RawTable}
-use Rattle.dbl_model_commit.specs.ModelTable.declared.table.RawRow.{RawRow}
+use Rattle.dbl_source_model.specs.declared.selected.Selected.{Selected}
 use Rattle.dbl_source_model.specs.declared.started.Started.{Started}
 use Rattle.dbl_source_model.specs.declared.started.Started.TheVariants.{Ready, Gone}
 
@@ -12,7 +12,7 @@ pub data Answer : Type 0 where
   Head : Lsn → Answer
   Began : Started → Answer
   Read : Option (List ℕ) → Answer
-  Selected : List RawRow → Answer
+  RowsSelected : Selected → Answer
   Done : Answer
 
 -- The last answer, and the bytes of all messages since the last start, the newest first. After an error the last answer has no meaning.

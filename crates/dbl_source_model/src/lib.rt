@@ -2,6 +2,7 @@
 #![tactic(auto)]
 
 mod laws;
+mod selected;
 mod started;
 
 pub use laws::{
@@ -11,4 +12,5 @@ pub use laws::{
     read_messages_are_blocks, readers_go_on, rows_of_no_place_are_unanswered, rows_up_to_are_rows,
     standing_rows_are_answered,
 };
+pub use selected::Selected;
 pub use started::Started;

@@ -163,6 +163,7 @@ fit_histories tables log fit =
     let few : 1 + length log < 2 ^ 41 = let short = fit.short in omega arith in
     record {
       ranges = record { tables = fit.ranges; commits = commits_in_range tables log 1 no_text_rows few fit.entries };
+      opening = fit.opening;
       rising = is_rising tables log;
       distinct = catalogue_distinct tables fit.distinct;
       known = known_from tables log 1 no_text_rows fit.entries;

@@ -70,6 +70,7 @@ module _ (tables : List LogTable) (log : List Logged) (value : List ℕ) where
         };
         rising = subst IsRising marked_is (is_rising tables marked_log);
         distinct = fit.distinct;
+        opening = fit.opening;
         known = all_behind (λ (commit : RawCommit). AllByRecursion (λ (change : RawChange). IsSome (entry_of (history_of tables log) (name_of change))) (raw_changes_of commit.body)) commits mark fit.known tt;
         fit = λ infos captured. subst (AreFit infos no_rows) (sym (same_changes infos)) (fit.fit infos (captured_before infos captured));
       })

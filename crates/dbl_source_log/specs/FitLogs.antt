@@ -74,10 +74,11 @@ abbrev pub AreFitEntries : List LogTable → TextRows → List Logged → Type 0
 AreFitEntries tables rows [] = Unit {0}
 AreFitEntries tables rows (entry ∷ log) = IsFitEntry tables rows entry × AreFitEntries tables (text_rows_at tables rows entry) log
 
--- Whether a log is valid: short enough, with tables in range and distinct, and with valid commits.
+-- Whether a log is valid: short enough, with tables in range, distinct and of version 1, and with valid commits.
 pub record AreFitLog (tables : List LogTable) (log : List Logged) : Type 0 where
   -- Its LSNs have 64 bits.
   pub short : length log < commit_limit
   pub ranges : AllByRecursion IsEntryInRange (catalogue tables)
+  pub opening : AllByRecursion (λ raw. raw.version ≡ 1) (catalogue tables)
   pub distinct : IsTrue (are_distinct same_name (map (λ table. table.raw.name) tables))
   pub entries : AreFitEntries tables no_text_rows log

@@ -14,6 +14,7 @@ use Rattle.dbl_source_model.specs.declared.started.Started.{Started}
 use Rattle.dbl_source_model.specs.declared.started.Started.TheVariants.{Ready, Gone}
 use Rattle.dbl_source_model.specs.Standings.{Reading, SourceState, CrashState, HasState}
 use Rattle.dbl_source_model.specs.Selected.{Selects}
+use Rattle.dbl_source_model.specs.Answered.{IsSelectAnswer}
 use Rattle.dbl_source_model.specs.Calls.{Moved, IsMarked, IsHead, Starts, HasReadOneMore, HasReadAll, IsConfirmed}
 use Rattle.dbl_source_model.specs.Leaves.{MayFollow, MayFollowMark, MayFollowConfirm}
 use Rattle.dbl_source_model.proofs.GrowthLemmas.{grown_length}
@@ -31,7 +32,7 @@ use Rattle.dbl_source_log.proofs.SentLemmas.{told_at-grown}
 use Rattle.dbl_source.specs.declared.asked.Asked.{Asked}
 use Rattle.dbl_source.specs.declared.asked.Last.{Last}
 use Rattle.dbl_source.specs.declared.asked.Last.TheVariants as answers
-use Rattle.dbl_source.specs.Played.{Played, played_messages, reading_at, played_state, standing_of, with_answer, with_mark, with_confirmed, started_at, place_of, with_start, with_head, next_rows, question_of, with_select}
+use Rattle.dbl_source.specs.Played.{Played, played_messages, reading_at, played_state, standing_of, with_answer, with_mark, with_confirmed, started_at, place_of, with_start, with_head, next_selected, question_of, with_select}
 use Rattle.dbl_source.specs.Steps.{KeepsPlayed, HasPlayedState, MayLeavePlayed, WasFair}
 use Rattle.dbl_source.proofs.PlayLemmas.{IsAtPlace, moved, marked_at, gone_behind, begun_after, read_all, is_head, selects_right, fair_same}
 
@@ -192,18 +193,18 @@ module _ (old mid : Played) (s : SourceState) (w : WentOn old mid) (kept : Keeps
 
   -- rows, and commits inside
   pub select_leads : (table : TableName) (above : Option Key) (limit : ℕ) (inside : List (List Message)) → HasState HasPlayedState (with_select table above limit (length old.log) inside mid)
-      (λ t. Moved s t × (WasFair (with_select table above limit (length old.log) inside mid) → Selects table above limit s.history t.history (next_rows mid)))
+      (IsSelectAnswer (WasFair (with_select table above limit (length old.log) inside mid)) table above limit (next_selected mid) s)
   select_leads table above limit inside =
       let new : Played = with_select table above limit (length old.log) inside mid in
       let more = moved mid.tables mid.log mid.confirmed inside mid.place (went_placed old mid w kept) in
       let question : Asked = question_of table above limit (length old.log) (length mid.log + length inside) in
       let log_is : length (mid.log ++ map Changes inside) ≡ length mid.log + length inside = omega (arith, length-append mid.log (map Changes inside), length-map inside Changes) in
-      stood new (λ t. Moved s t × (WasFair new → Selects table above limit s.history t.history (next_rows mid))) refl (
+      stood new (IsSelectAnswer (WasFair new) table above limit (next_selected mid) s) refl (
         moved_on s (standing_of mid) (standing_of new) before more,
         λ fair. (
             let rows = selects_right mid.tables old.log (mid.log ++ map Changes inside) mid.asked question mid.rows refl (sym log_is) fair in
             let was : history_of mid.tables old.log ≡ s.history = ap (λ (ts : List LogTable). history_of ts old.log) w.tables ∙ sym (ap (λ (t : SourceState). t.history) stands.1) in
-            subst (λ (h : History). Selects table above limit h (history_of mid.tables (mid.log ++ map Changes inside)) (next_rows mid)) was rows),
+            (rows.0, subst (λ (h : History). Selects table above limit h (history_of mid.tables (mid.log ++ map Changes inside)) (next_selected mid).rows) was rows.1)),
       )
 
   pub select_follows : (table : TableName) (above : Option Key) (limit : ℕ) (inside : List (List Message)) (l : CrashState) → MayLeavePlayed (with_select table above limit (length old.log) inside mid) l → MayFollow s l

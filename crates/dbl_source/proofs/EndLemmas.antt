@@ -7,20 +7,20 @@ use Rattle.dbl_pgmsg.specs.Grammar.{Spells, spelling}
 use Rattle.dbl_model_table.specs.declared.row.Key.{Key}
 use Rattle.dbl_model_table.specs.declared.table.TableName.{TableName}
 use Rattle.dbl_model_table.specs.declared.table.RawTable.{RawTable}
-use Rattle.dbl_model_table.specs.declared.table.RawRow.{RawRow}
+use Rattle.dbl_source_model.specs.declared.selected.Selected.{Selected}
 use Rattle.dbl_source_model.specs.ModelHistory.History.{entry_of}
 use Rattle.dbl_source_model.specs.declared.started.Started.{Started}
 use Rattle.dbl_source_model.specs.Standings.{SourceState, HasState}
 use Rattle.dbl_source_model.specs.Answered.{IsDescribed, IsHeaded, IsSelectAnswer}
 use Rattle.dbl_source_model.specs.Calls.{Moved, IsMarked, IsHead, Starts, HasReadOneMore, HasReadAll, IsConfirmed}
 use Rattle.dbl_source_model.specs.Leaves.{MayFollow, MayFollowMark, MayFollowConfirm}
-use Rattle.dbl_source_model.specs.Trace.{Answer, Described, Head, Began, Read, Selected, Done, LastAnswerIs, is_ready}
+use Rattle.dbl_source_model.specs.Trace.{Answer, Described, Head, Began, Read, RowsSelected, Done, LastAnswerIs, is_ready}
 use Rattle.dbl_source_log.specs.declared.reader_position.ReaderPosition.{ReaderPosition}
 use Rattle.dbl_source_log.specs.Numbers.{lsn_of}
 use Rattle.dbl_source_log.specs.Relations.{catalogue}
 use Rattle.dbl_source.specs.declared.asked.Last.{Last}
 use Rattle.dbl_source.specs.declared.asked.Last.TheVariants as answers
-use Rattle.dbl_source.specs.Played.{Played, played_messages, trace_of, inside_of, with_release, with_answer, with_mark, with_confirmed, started_at, with_start, with_head, with_select, before_of, next_rows}
+use Rattle.dbl_source.specs.Played.{Played, played_messages, trace_of, inside_of, with_release, with_answer, with_mark, with_confirmed, started_at, with_start, with_head, with_select, before_of, next_selected}
 use Rattle.dbl_source.specs.Steps.{KeepsPlayed, HasPlayedState, MayLeavePlayed, WasFair, IsAtEnd, IsUnfit}
 use Rattle.dbl_source.specs.Exits.{AnswersPlayedEntry, AnswersPlayedHead, AnswersPlayedStart, HasReadNext, last_read, with_read, AnswersRead, AnswersPlayedRows, Plays}
 use Rattle.dbl_source.proofs.CallLemmas.{WentOn, went_follows, went_fair, went_read, head_leads, describe_leads, confirm_leads, confirm_follows, mark_leads, mark_follows, start_leads, select_leads, select_follows, stood_to}
@@ -82,21 +82,21 @@ start_ends after old new started kept a =
       reading = ap (λ (p : Played). is_some p.place) a.is ∙ is_begun after (started_at after mid) ∙ ap is_ready (sym a.told);
     }
 
-pub select_ends : (table : TableName) (above : Option Key) (limit : ℕ) (old new : Played) (rows : List RawRow) → KeepsPlayed old → AnswersPlayedRows table above limit old rows new
-    → Ends (λ s. HasState HasPlayedState new (IsSelectAnswer (WasFair new) table above limit rows s)) MayFollow (Selected rows) (SameRead old new) (SameReader old new) old new
-select_ends table above limit old new rows kept a =
+pub select_ends : (table : TableName) (above : Option Key) (limit : ℕ) (old new : Played) (answer : Selected) → KeepsPlayed old → AnswersPlayedRows table above limit old answer new
+    → Ends (λ s. HasState HasPlayedState new (IsSelectAnswer (WasFair new) table above limit answer s)) MayFollow (RowsSelected answer) (SameRead old new) (SameReader old new) old new
+select_ends table above limit old new answer kept a =
     let mid : Played = with_release old in
     let w : WentOn old mid = went_released old in
     let from : ℕ = length old.log in
     let inside : List (List Message) = inside_of old in
     let after : Played = with_select table above limit from inside mid in
     record {
-      leads = λ s stands. subst (λ (n : Played). HasState HasPlayedState n (IsSelectAnswer (WasFair n) table above limit rows s)) (sym a.is)
-          (subst (λ (found : List RawRow). HasState HasPlayedState after (IsSelectAnswer (WasFair after) table above limit found s)) (sym a.told) (select_leads old mid s w kept stands table above limit inside));
+      leads = λ s stands. subst (λ (n : Played). HasState HasPlayedState n (IsSelectAnswer (WasFair n) table above limit answer s)) (sym a.is)
+          (subst (λ (found : Selected). HasState HasPlayedState after (IsSelectAnswer (WasFair after) table above limit found s)) (sym a.told) (select_leads old mid s w kept stands table above limit inside));
       left = λ s l stands may. select_follows old mid s w kept stands table above limit inside l (subst (λ (p : Played). MayLeavePlayed p l) a.is may);
       live = ap (λ (p : Played). p.live) a.is;
       honest = λ fair. went_fair old mid w kept (select_fair old mid table above limit from inside w kept (subst WasFair a.is fair));
-      told = tells new (Selected rows) (ap (λ (p : Played). (trace_of p).answer) a.is ∙ ap Selected (sym a.told));
+      told = tells new (RowsSelected answer) (ap (λ (p : Played). (trace_of p).answer) a.is ∙ ap RowsSelected (sym a.told));
       taken = ap (λ (p : Played). map spelling (played_messages p)) a.is ∙ ap (map spelling) (select_read old mid table above limit from inside w kept) ∙ went_read old mid w kept;
       reading = ap (λ (p : Played). is_some p.place) a.is;
     }
@@ -219,13 +219,13 @@ read_held old new r p =
     held (λ read s. Takes new read s) MayFollow Read (λ read. ReadBesides old new read) (λ read. SameReader old new) 0 (IsUnfit (with_release old)) (before_of old) (AnswersRead old) old new r p (λ s l may. may)
     (λ read kept a. read_ends old new read kept a)
 
-pub select_held : {T : Type 0} (items : T → List RawRow) (table : TableName) (above : Option Key) (limit : ℕ) (old new : Played) (r : Result T SourceError)
-    → Plays (length (inside_of old)) ⊥ (before_of old ++ inside_of old) (λ rows. AnswersPlayedRows table above limit old (items rows)) old new r
-    → Held (λ rows s. HasState HasPlayedState new (IsSelectAnswer (WasFair new) table above limit (items rows) s)) MayFollow (λ rows. Selected (items rows)) (λ rows. SameRead old new) (λ rows. SameReader old new) old new r
-select_held items table above limit old new r p =
-    held (λ rows s. HasState HasPlayedState new (IsSelectAnswer (WasFair new) table above limit (items rows) s)) MayFollow (λ rows. Selected (items rows)) (λ rows. SameRead old new) (λ rows. SameReader old new)
-    (length (inside_of old)) ⊥ (before_of old ++ inside_of old) (λ rows. AnswersPlayedRows table above limit old (items rows)) old new r p (λ s l may. may)
-    (λ rows kept a. select_ends table above limit old new (items rows) kept a)
+pub select_held : (table : TableName) (above : Option Key) (limit : ℕ) (old new : Played) (r : Result Selected SourceError)
+    → Plays (length (inside_of old)) ⊥ (before_of old ++ inside_of old) (λ answer. AnswersPlayedRows table above limit old answer) old new r
+    → Held (λ answer s. HasState HasPlayedState new (IsSelectAnswer (WasFair new) table above limit answer s)) MayFollow (λ answer. RowsSelected answer) (λ answer. SameRead old new) (λ answer. SameReader old new) old new r
+select_held table above limit old new r p =
+    held (λ answer s. HasState HasPlayedState new (IsSelectAnswer (WasFair new) table above limit answer s)) MayFollow (λ answer. RowsSelected answer) (λ answer. SameRead old new) (λ answer. SameReader old new)
+    (length (inside_of old)) ⊥ (before_of old ++ inside_of old) (λ answer. AnswersPlayedRows table above limit old answer) old new r p (λ s l may. may)
+    (λ answer kept a. select_ends table above limit old new answer kept a)
 
 pub mark_held : {T : Type 0} (value : List ℕ) (old new : Played) (r : Result T SourceError) → Plays 1 ⊥ (before_of old) (λ done n. n ≡ with_mark value (with_release old)) old new r
     → Held (λ done s. HasState HasPlayedState new (IsMarked value s)) (MayFollowMark value) (λ done. Done) (λ done. SameRead old new) (λ done. SameReader old new) old new r
@@ -255,10 +255,10 @@ pub read_none : (old new : Played) (r : Result (Option (List ℕ)) SourceError) 
 read_none old new (Ok read) p = ap (λ (q : Played). q.ended) p.played.is
 read_none old new (Err e) p = tt
 
-pub select_still : {T : Type 0} (items : T → List RawRow) (table : TableName) (above : Option Key) (limit : ℕ) (old new : Played) (r : Result T SourceError)
-    → Plays (length (inside_of old)) ⊥ (before_of old ++ inside_of old) (λ rows. AnswersPlayedRows table above limit old (items rows)) old new r → new.ended ≡ old.ended
-select_still items table above limit old new r p =
-    stays (length (inside_of old)) ⊥ (before_of old ++ inside_of old) (λ rows. AnswersPlayedRows table above limit old (items rows)) old new r p (λ rows a. ap (λ (q : Played). q.ended) a.is)
+pub select_still : (table : TableName) (above : Option Key) (limit : ℕ) (old new : Played) (r : Result Selected SourceError)
+    → Plays (length (inside_of old)) ⊥ (before_of old ++ inside_of old) (λ answer. AnswersPlayedRows table above limit old answer) old new r → new.ended ≡ old.ended
+select_still table above limit old new r p =
+    stays (length (inside_of old)) ⊥ (before_of old ++ inside_of old) (λ answer. AnswersPlayedRows table above limit old answer) old new r p (λ answer a. ap (λ (q : Played). q.ended) a.is)
 
 pub mark_still : {T : Type 0} (value : List ℕ) (old new : Played) (r : Result T SourceError) → Plays 1 ⊥ (before_of old) (λ done n. n ≡ with_mark value (with_release old)) old new r → new.ended ≡ old.ended
 mark_still value old new r p = stays 1 ⊥ (before_of old) (λ done n. n ≡ with_mark value (with_release old)) old new r p (λ done is. ap (λ (q : Played). q.ended) is)
@@ -296,8 +296,8 @@ pub read_ended : (old new : Played) (r : Result (Option (List ℕ)) SourceError)
 read_ended old new (Ok read) p = read_at_end old new read p.played
 read_ended old new (Err e) p = tt
 
-pub select_played : {T : Type 0} (items : T → List RawRow) (table : TableName) (above : Option Key) (limit : ℕ) (old new : Played) (r : Result T SourceError)
-    → Plays (length (inside_of old)) ⊥ (before_of old ++ inside_of old) (λ rows. AnswersPlayedRows table above limit old (items rows)) old new r
-    → IfOk r (λ rows. (items rows ≡ next_rows old) × (new ≡ with_select table above limit (length old.log) (inside_of old) (with_release old)))
-select_played items table above limit old new (Ok rows) p = (p.played.told, p.played.is)
-select_played items table above limit old new (Err e) p = tt
+pub select_played : (table : TableName) (above : Option Key) (limit : ℕ) (old new : Played) (r : Result Selected SourceError)
+    → Plays (length (inside_of old)) ⊥ (before_of old ++ inside_of old) (λ answer. AnswersPlayedRows table above limit old answer) old new r
+    → IfOk r (λ answer. (answer ≡ next_selected old) × (new ≡ with_select table above limit (length old.log) (inside_of old) (with_release old)))
+select_played table above limit old new (Ok answer) p = (p.played.told, p.played.is)
+select_played table above limit old new (Err e) p = tt

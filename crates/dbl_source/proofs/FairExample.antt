@@ -48,9 +48,10 @@ use Rattle.dbl_source_log.specs.Fair.{IsChangeOf, HasFewFaults, IsFairLog}
 use Rattle.dbl_source_log.proofs.FitLogLemmas.{fit_histories}
 use Rattle.dbl_source.specs.declared.asked.Asked.{Asked}
 use Rattle.dbl_source.specs.Played.{keyed_table, question_of}
-use Rattle.dbl_source.specs.Fairness.{IsAnswered}
+use Rattle.dbl_source_model.specs.declared.selected.Selected.{Selected}
+use Rattle.dbl_source.specs.Fairness.{IsAnswered, no_rows_selected}
 use Rattle.dbl_source.specs.Steps.{WasFair}
-use Rattle.dbl_source.specs.FairExample.{example_source_name, example_raw_table, inserting, row_of, read_example, first_example, last_example, stale_example, FairSourcesStand}
+use Rattle.dbl_source.specs.FairExample.{example_source_name, example_raw_table, first_version, inserting, row_of, read_example, first_example, last_example, stale_example, FairSourcesStand}
 
 -- ---- the source
 
@@ -135,7 +136,8 @@ fit_log : AreFitLog tables log
 unfolding type_of
 fit_log = record {
   short = omega arith;
-  ranges = (record { name = record { schema = plain_s; name = plain_t }; columns = (record { name = plain_k; oid = omega arith }, tt); key = (plain_k, tt) }, tt);
+  ranges = (record { name = record { schema = plain_s; name = plain_t }; columns = (record { name = plain_k; oid = omega arith }, tt); key = (plain_k, tt); version = (omega arith, omega arith) }, tt);
+  opening = (refl, tt);
   distinct = refl;
   entries = (
     record { ranges = IsUtf8-are_ascii (codes "1-1-L") refl; changes = tt },
@@ -292,19 +294,19 @@ at_place place rows low high first = record {
   ];
 }
 
-answered : (rows : List RawRow) (later : List (List RawRow)) → AreAnswered history 1 3 example_source_name None 10 rows → (n : ℕ) (question : Asked) → slice_get read_example.asked n ≡ Some question
-    → IsAnswered tables log question (slice_index_or (rows ∷ later) n [])
+answered : (rows : List RawRow) (later : List Selected) → AreAnswered history 1 3 example_source_name None 10 rows → (n : ℕ) (question : Asked) → slice_get read_example.asked n ≡ Some question
+    → IsAnswered tables log question (slice_index_or (first_version rows ∷ later) n no_rows_selected)
 answered rows later are zero question is =
     let found : Some (question_of example_source_name None 10 1 3) ≡ Some question = is in
     let same : question_of example_source_name None 10 1 3 ≡ question = cc in
-    subst (λ (q : Asked). IsAnswered tables log q rows) same are
+    subst (λ (q : Asked). IsAnswered tables log q (first_version rows)) same (refl, are)
 answered rows later are (suc n) question is = let none : None ≡ Some question = is in cc
 
 was_fair : WasFair read_example
 was_fair = record {
   fit = fit_histories tables log fit_log;
   changes = fair_log;
-  selects = answered (row_of (codes "a") ∷ []) ((row_of (codes "a") ∷ []) ∷ []) (at_place 2 (row_of (codes "a") ∷ []) (omega arith) (omega arith) first_row);
+  selects = answered (row_of (codes "a") ∷ []) (first_version (row_of (codes "a") ∷ []) ∷ []) (at_place 2 (row_of (codes "a") ∷ []) (omega arith) (omega arith) first_row);
 }
 
 was_fair_first : WasFair first_example
@@ -326,7 +328,7 @@ was_fair_last = record {
 is_stale : WasFair stale_example → ⊥
 is_stale fair =
     let infos : List TableInfo = info_of ∷ [] in
-    let rows : AreAnswered history 3 3 example_source_name None 10 (row_of (codes "a") ∷ []) = fair.selects 1 (question_of example_source_name None 10 3 3) refl in
+    let rows : AreAnswered history 3 3 example_source_name None 10 (row_of (codes "a") ∷ []) = (fair.selects 1 (question_of example_source_name None 10 3 3) refl).1 in
     let place : rows.place ≡ 3 = omega (arith, rows.not_before, rows.not_after) in
     let own : (info : TableInfo) × AreFirstOf infos 0 info (rows_up_to infos history rows.place) None 10 (row_of (codes "a") ∷ []) = rows.are infos itself in
     let there : Some info_of ≡ Some own.0 = own.1.captured in

@@ -8,6 +8,7 @@ use Rattle.std.proofs.lemmas.Option.{IfSome_then, slice_get_within, slice_get-ge
 use Rattle.dbl_model_table.specs.declared.row.Key.{Key}
 use Rattle.dbl_model_table.specs.declared.table.TableName.{TableName}
 use Rattle.dbl_model_table.specs.declared.table.RawRow.{RawRow}
+use Rattle.dbl_source_model.specs.declared.selected.Selected.{Selected}
 use Rattle.dbl_model_table.specs.declared.table.TableInfo.{TableInfo}
 use Rattle.dbl_model_table.specs.Infos.{number_of}
 use Rattle.dbl_model_table.specs.Rows.{Rows}
@@ -24,7 +25,7 @@ use Rattle.dbl_source_log.specs.Histories.{commits_from, text_rows_through, hist
 use Rattle.dbl_source_log.specs.Fair.{IsFairLog}
 use Rattle.dbl_source_log.proofs.LogLemmas.{history_grown, length-history}
 use Rattle.dbl_source.specs.declared.asked.Asked.{Asked}
-use Rattle.dbl_source.specs.Fairness.{IsAnswered, IsFair}
+use Rattle.dbl_source.specs.Fairness.{IsAnswered, IsFair, no_rows_selected}
 use Rattle.dbl_source.specs.Played.{question_of}
 use Rattle.dbl_source.specs.Laws.{CommitsKeepFair, SelectsKeepFair, SelectsHaveReturned}
 use Rattle.dbl_source.proofs.PlayLemmas.{WereAsked, asked_more}
@@ -50,28 +51,30 @@ module _ (tables : List LogTable) (log more : List Logged) where
       IfSome_then (number_of infos name) (are infos (captured_before infos captured))
       (λ table first. (first.0, subst (λ (at : Rows). AreFirstOf infos table first.0 at above limit rows) (sym (rows_front (catalogue tables) commits later infos place le)) first.1))
 
-  answered_grown : (question : Asked) (rows : List RawRow) → question.upto ≤ length log → IsAnswered tables log question rows → IsAnswered tables (log ++ more) question rows
-  answered_grown question rows le a =
-      subst (λ (h : History). AreAnswered h question.from question.upto question.table question.above question.limit rows) (sym longer_is) (record {
-        absent = a.absent;
-        place = a.place;
-        not_before = a.not_before;
-        not_after = a.not_after;
-        are = rows_grown a.place question.table question.above question.limit rows (omega (arith, a.not_after, le, length-history tables log)) a.are;
-      })
+  answered_grown : (question : Asked) (answer : Selected) → question.upto ≤ length log → IsAnswered tables log question answer → IsAnswered tables (log ++ more) question answer
+  answered_grown question answer le (version, a) = (
+    version,
+    subst (λ (h : History). AreAnswered h question.from question.upto question.table question.above question.limit answer.rows) (sym longer_is) (record {
+      absent = a.absent;
+      place = a.place;
+      not_before = a.not_before;
+      not_after = a.not_after;
+      are = rows_grown a.place question.table question.above question.limit answer.rows (omega (arith, a.not_after, le, length-history tables log)) a.are;
+    }),
+  )
 
-  grown_fair : (asked : List Asked) (rows : List (List RawRow)) → WereAsked asked log → IsFitHistory (history_of tables (log ++ more)) → IsFairLog tables (log ++ more) → IsFair tables log asked rows → IsFair tables (log ++ more) asked rows
+  grown_fair : (asked : List Asked) (rows : List Selected) → WereAsked asked log → IsFitHistory (history_of tables (log ++ more)) → IsFairLog tables (log ++ more) → IsFair tables log asked rows → IsFair tables (log ++ more) asked rows
   grown_fair asked rows returned fit changes fair = record {
     fit = fit;
     changes = changes;
-    selects = λ n question found. answered_grown question (slice_index_or rows n []) (returned n question found) (fair.selects n question found);
+    selects = λ n question found. answered_grown question (slice_index_or rows n no_rows_selected) (returned n question found) (fair.selects n question found);
   }
 
 pub commits_fair : CommitsKeepFair
 commits_fair commits s returned fit changes fair = grown_fair s.tables s.log (map Changes commits) s.asked s.rows returned fit changes fair
 
 -- one question more, that was answered right
-asked_fair : (tables : List LogTable) (log : List Logged) (asked : List Asked) (question : Asked) (rows : List (List RawRow)) → IsAnswered tables log question (slice_index_or rows (length asked) []) → IsFair tables log asked rows
+asked_fair : (tables : List LogTable) (log : List Logged) (asked : List Asked) (question : Asked) (rows : List Selected) → IsAnswered tables log question (slice_index_or rows (length asked) no_rows_selected) → IsFair tables log asked rows
     → IsFair tables log (asked ++ question ∷ []) rows
 asked_fair tables log asked question rows right fair = record {
   fit = fair.fit;
@@ -82,7 +85,7 @@ asked_fair tables log asked question rows right fair = record {
       elim (cases_eq n (length asked)) [
         | inl last ↦ (
             let same : question ≡ other = sym (get_or_at asked question [] other n (sym last)) ∙ read in
-            subst (λ (q : Asked). IsAnswered tables log q (slice_index_or rows n [])) same (subst (λ (k : ℕ). IsAnswered tables log question (slice_index_or rows k [])) (sym last) right))
+            subst (λ (q : Asked). IsAnswered tables log q (slice_index_or rows n no_rows_selected)) same (subst (λ (k : ℕ). IsAnswered tables log question (slice_index_or rows k no_rows_selected)) (sym last) right))
         | inr not_last ↦ (
             let inside : n < length asked = omega (arith, within, not_last) in
             fair.selects n other (slice_get-get_or asked n other inside ∙ ap Some (sym (get_or_append_left asked (question ∷ []) other n inside) ∙ read)))

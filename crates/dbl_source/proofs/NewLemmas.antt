@@ -5,7 +5,7 @@ use Rattle.std.specs.List.{AllByRecursion}
 use Rattle.dbl_pgmsg.specs.Grammar.{Fits}
 use Rattle.dbl_model_table.specs.declared.table.TableName.{TableName}
 use Rattle.dbl_model_table.specs.declared.table.RawTable.{RawTable}
-use Rattle.dbl_model_table.specs.declared.table.RawRow.{RawRow}
+use Rattle.dbl_source_model.specs.declared.selected.Selected.{Selected}
 use Rattle.dbl_model_table.specs.Tables.{same_name, are_distinct}
 use Rattle.dbl_source_model.specs.ModelHistory.Ranges.{IsEntryInRange}
 use Rattle.dbl_source_log.specs.declared.logged.Logged.{Logged}
@@ -18,12 +18,23 @@ use Rattle.dbl_source.specs.Played.{keyed_table}
 use Rattle.dbl_source.specs.Fairness.{IsFair}
 use Rattle.dbl_source.specs.Laws.{NewSourcesAreFair}
 
+-- the versions of the catalogue's tables
+opening_of : (raws : List RawTable) → AllByRecursion (λ (raw : RawTable). raw.version ≡ 1) raws → AllByRecursion (λ (raw : RawTable). raw.version ≡ 1) (catalogue (map keyed_table raws))
+opening_of [] first = tt
+opening_of (raw ∷ raws) first = by (is_watermark raw.name) (opening_of raws first.1)
+  where
+    by : (b : Bool) → AllByRecursion (λ (raw : RawTable). raw.version ≡ 1) (catalogue (map keyed_table raws))
+        → AllByRecursion (λ (raw : RawTable). raw.version ≡ 1) (cond (not b) (raw ∷ catalogue (map keyed_table raws)) (catalogue (map keyed_table raws)))
+    by true rest = rest
+    by false rest = (first.0, rest)
+
 pub new_fair : NewSourcesAreFair
-new_fair raws moves rows fails ranges named relations =
+new_fair raws moves rows fails versions ranges named relations =
     let tables : List LogTable = map keyed_table raws in
     record {
       fit = record {
         ranges = record { tables = ranges; commits = tt };
+        opening = opening_of raws versions;
         rising = tt;
         distinct = catalogue_distinct tables named.distinct;
         known = tt;
@@ -50,11 +61,11 @@ named_keyed raws distinct schemas = record {
 }
 
 -- the same of a source whose parts are told by equations
-pub made_fair : (raws : List RawTable) (tables : List LogTable) (log : List Logged) (asked : List Asked) (rows : List (List RawRow)) → tables ≡ map keyed_table raws → log ≡ [] → asked ≡ []
+pub made_fair : (raws : List RawTable) (tables : List LogTable) (log : List Logged) (asked : List Asked) (rows : List Selected) → tables ≡ map keyed_table raws → log ≡ [] → asked ≡ []
     → IsTrue (are_distinct same_name (map (λ (raw : RawTable). raw.name) raws)) → AllByRecursion (λ (raw : RawTable). raw.name.schema ≢ []) raws
-    → AllByRecursion IsEntryInRange (catalogue (map keyed_table raws)) → AllByRecursion Fits (all_relations (map keyed_table raws)) → IsFair tables log asked rows
-made_fair raws tables log asked rows keyed no_log none_asked distinct schemas ranges relations =
-    let fair : IsFair (map keyed_table raws) [] [] rows = new_fair raws [] rows [] ranges (named_keyed raws distinct schemas) relations in
+    → AllByRecursion (λ (raw : RawTable). raw.version ≡ 1) raws → AllByRecursion IsEntryInRange (catalogue (map keyed_table raws)) → AllByRecursion Fits (all_relations (map keyed_table raws)) → IsFair tables log asked rows
+made_fair raws tables log asked rows keyed no_log none_asked distinct schemas versions ranges relations =
+    let fair : IsFair (map keyed_table raws) [] [] rows = new_fair raws [] rows [] versions ranges (named_keyed raws distinct schemas) relations in
     subst (λ (ts : List LogTable). IsFair ts log asked rows) (sym keyed)
     (subst (λ (l : List Logged). IsFair (map keyed_table raws) l asked rows) (sym no_log)
     (subst (λ (qs : List Asked). IsFair (map keyed_table raws) [] qs rows) (sym none_asked) fair))

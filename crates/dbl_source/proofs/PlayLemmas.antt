@@ -7,7 +7,7 @@ use Rattle.std.proofs.lemmas.List.Elements.{filter-append}
 use Rattle.std.proofs.lemmas.Option.{slice_get_within, slice_get_past, slice_get-get_or, get_or_from_slice_get}
 use Rattle.dbl_base.specs.declared.lsn.Lsn.{Lsn}
 use Rattle.dbl_pgmsg.specs.declared.messages.Message.{Message}
-use Rattle.dbl_model_table.specs.declared.table.RawRow.{RawRow}
+use Rattle.dbl_source_model.specs.declared.selected.Selected.{Selected}
 use Rattle.dbl_source_model.specs.ModelHistory.History.{RawCommit, History}
 use Rattle.dbl_source_model.specs.Standings.{Reading, SourceState}
 use Rattle.dbl_source_model.specs.Growth.{Grows}
@@ -30,7 +30,7 @@ use Rattle.dbl_source_log.proofs.ReaderLemmas.{reads_all}
 use Rattle.dbl_source_log.proofs.PlaceLemmas.{told_waiting}
 use Rattle.dbl_source_log.proofs.FairLemmas.{fair_log_front, fit_log_front, answered_log_front}
 use Rattle.dbl_source.specs.declared.asked.Asked.{Asked}
-use Rattle.dbl_source.specs.Fairness.{IsFair}
+use Rattle.dbl_source.specs.Fairness.{IsAnswered, IsFair, no_rows_selected}
 use Rattle.dbl_source.specs.Played.{reading_at, played_state}
 
 -- the reader, where there is one, is at a place of the log
@@ -139,18 +139,18 @@ found_more xs ys n x is =
     let within : n < length xs = slice_get_within xs n x is in
     slice_get-get_or (xs ++ ys) n x (omega (arith, length-append xs ys)) ∙ ap Some (get_or_append_left xs ys x n within ∙ get_or_from_slice_get xs n x x is)
 
-module _ (tables : List LogTable) (log more : List Logged) (asked asked_more : List Asked) (rows : List (List RawRow)) where
+module _ (tables : List LogTable) (log more : List Logged) (asked asked_more : List Asked) (rows : List Selected) where
   -- a script that was fair up to now was fair before
   pub fair_front : WereAsked asked log → IsFair tables (log ++ more) (asked ++ asked_more) rows → IsFair tables log asked rows
   fair_front before fair = record {
     fit = fit_log_front tables log more fair.fit;
     changes = fair_log_front tables log more fair.changes;
-    selects = λ n question found. answered_log_front tables log more question.from question.upto question.table question.above question.limit (slice_index_or rows n []) (before n question found)
+    selects = λ n question found. answered_log_front tables log more question.from question.upto question.table question.above question.limit (slice_index_or rows n no_rows_selected) (before n question found)
         (fair.selects n question (found_more asked asked_more n question found));
   }
 
 -- the same of states whose parts are told by equations
-pub fair_before : (tables now_tables : List LogTable) (log more now : List Logged) (asked asked_more now_asked : List Asked) (rows now_rows : List (List RawRow)) → now_tables ≡ tables → now ≡ log ++ more → now_asked ≡ asked ++ asked_more → now_rows ≡ rows
+pub fair_before : (tables now_tables : List LogTable) (log more now : List Logged) (asked asked_more now_asked : List Asked) (rows now_rows : List Selected) → now_tables ≡ tables → now ≡ log ++ more → now_asked ≡ asked ++ asked_more → now_rows ≡ rows
     → WereAsked asked log → IsFair now_tables now now_asked now_rows → IsFair tables log asked rows
 fair_before tables now_tables log more now asked asked_more now_asked rows now_rows same_tables is asked_is same_rows before fair =
     let a : IsFair tables now now_asked now_rows = subst (λ (ts : List LogTable). IsFair ts now now_asked now_rows) same_tables fair in
@@ -158,7 +158,7 @@ fair_before tables now_tables log more now asked asked_more now_asked rows now_r
     let c : IsFair tables (log ++ more) (asked ++ asked_more) now_rows = subst (λ (qs : List Asked). IsFair tables (log ++ more) qs now_rows) asked_is b in
     fair_front tables log more asked asked_more rows before (subst (IsFair tables (log ++ more) (asked ++ asked_more)) same_rows c)
 
-pub fair_same : (tables now_tables : List LogTable) (log more now : List Logged) (asked now_asked : List Asked) (rows now_rows : List (List RawRow)) → now_tables ≡ tables → now ≡ log ++ more → now_asked ≡ asked → now_rows ≡ rows
+pub fair_same : (tables now_tables : List LogTable) (log more now : List Logged) (asked now_asked : List Asked) (rows now_rows : List Selected) → now_tables ≡ tables → now ≡ log ++ more → now_asked ≡ asked → now_rows ≡ rows
     → WereAsked asked log → IsFair now_tables now now_asked now_rows → IsFair tables log asked rows
 fair_same tables now_tables log more now asked now_asked rows now_rows same_tables is asked_is same_rows before fair =
     fair_before tables now_tables log more now asked [] now_asked rows now_rows same_tables is (asked_is ∙ sym (append-nil asked)) same_rows before fair
@@ -178,13 +178,15 @@ asked_more asked question log now upto longer before n other here =
     ]
 
 -- the rows that were answered last are right
-pub selects_right : (tables : List LogTable) (log now : List Logged) (asked : List Asked) (question : Asked) (rows : List (List RawRow)) → question.from ≡ length log → question.upto ≡ length now → IsFair tables now (asked ++ question ∷ []) rows
-    → Selects question.table question.above question.limit (history_of tables log) (history_of tables now) (slice_index_or rows (length asked) [])
+pub selects_right : (tables : List LogTable) (log now : List Logged) (asked : List Asked) (question : Asked) (rows : List Selected) → question.from ≡ length log → question.upto ≡ length now → IsFair tables now (asked ++ question ∷ []) rows
+    → ((slice_index_or rows (length asked) no_rows_selected).version ≡ 1) × Selects question.table question.above question.limit (history_of tables log) (history_of tables now) (slice_index_or rows (length asked) no_rows_selected).rows
 selects_right tables log now asked question rows from upto fair =
     let there : slice_get (asked ++ question ∷ []) (length asked) ≡ Some question =
     slice_get-get_or (asked ++ question ∷ []) (length asked) question (omega (arith, length-append asked (question ∷ []))) ∙ ap Some (get_or_at asked question [] question (length asked) refl) in
-    let found : List RawRow = slice_index_or rows (length asked) [] in
-    let a : AreAnswered (history_of tables now) question.from question.upto question.table question.above question.limit found = fair.selects (length asked) question there in
+    let answer : Selected = slice_index_or rows (length asked) no_rows_selected in
+    let right : IsAnswered tables now question answer = fair.selects (length asked) question there in
+    let found = answer.rows in
+    let a : AreAnswered (history_of tables now) question.from question.upto question.table question.above question.limit found = right.1 in
     let b : AreAnswered (history_of tables now) (length (history_of tables log).commits) question.upto question.table question.above question.limit found =
     subst (λ (n : ℕ). AreAnswered (history_of tables now) n question.upto question.table question.above question.limit found) (from ∙ sym (length-history tables log)) a in
-    subst (λ (n : ℕ). AreAnswered (history_of tables now) (length (history_of tables log).commits) n question.table question.above question.limit found) (upto ∙ sym (length-history tables now)) b
+    (right.0, subst (λ (n : ℕ). AreAnswered (history_of tables now) (length (history_of tables log).commits) n question.table question.above question.limit found) (upto ∙ sym (length-history tables now)) b)

@@ -5,8 +5,8 @@ use Rattle.dbl_pgmsg.specs.declared.messages.Message.{Message}
 use Rattle.dbl_model_table.specs.declared.row.Key.{Key}
 use Rattle.dbl_model_table.specs.declared.table.TableName.{TableName}
 use Rattle.dbl_model_table.specs.declared.table.RawTable.{RawTable}
-use Rattle.dbl_model_table.specs.declared.table.RawRow.{RawRow}
 use Rattle.dbl_source_model.specs.ModelHistory.History.{entry_of}
+use Rattle.dbl_source_model.specs.declared.selected.Selected.{Selected}
 use Rattle.dbl_source_model.specs.declared.started.Started.{Started}
 use Rattle.dbl_source_log.specs.Numbers.{lsn_of}
 use Rattle.dbl_source_log.specs.Histories.{history_of}
@@ -15,7 +15,7 @@ use Rattle.dbl_source.specs.declared.asked.Last.TheVariants as answers
 use Rattle.dbl_source_log.specs.declared.error.SourceError.{SourceError}
 use Rattle.dbl_source_log.specs.declared.error.SourceError.TheVariants.{Memory}
 use Rattle.dbl_source.specs.Played.{Played, entry_at, inside_of, past_move, with_release, FailsAsPlanned}
-use Rattle.dbl_source.specs.Played.{with_answer, started_at, with_start, with_head, next_rows, with_select}
+use Rattle.dbl_source.specs.Played.{with_answer, started_at, with_start, with_head, next_selected, with_select}
 use Rattle.dbl_source.specs.Steps.{KeepsPlayed, AddedFirst, IsReadBy, IsUnmoved}
 
 -- Whether a call fails as planned, has added some first ones of its commits if memory runs out, and otherwise relates its answer and the
@@ -66,8 +66,8 @@ pub record AnswersRead (old : Played) (read : Option (List ℕ)) (new : Played) 
   pub has : HasReadNext (with_release old) here read
   pub is : new ≡ with_read read here
 
--- Whether the answer has the script's rows for this select.
-pub record AnswersPlayedRows (table : TableName) (above : Option Key) (limit : ℕ) (old : Played) (rows : List RawRow)
+-- Whether the answer is the script's for this select.
+pub record AnswersPlayedRows (table : TableName) (above : Option Key) (limit : ℕ) (old : Played) (answer : Selected)
     (new : Played) : Type 0 where
-  pub told : rows ≡ next_rows old
+  pub told : answer ≡ next_selected old
   pub is : new ≡ with_select table above limit (length old.log) (inside_of old) (with_release old)

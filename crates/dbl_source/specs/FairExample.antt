@@ -7,6 +7,7 @@ use Rattle.dbl_pgmsg.specs.declared.messages.TupleCell.TheVariants.{Text}
 use Rattle.dbl_model_table.specs.declared.table.TableName.{TableName}
 use Rattle.dbl_model_table.specs.declared.table.RawTable.{RawTable}
 use Rattle.dbl_model_table.specs.declared.table.RawRow.{RawRow}
+use Rattle.dbl_source_model.specs.declared.selected.Selected.{Selected}
 use Rattle.dbl_source_log.specs.Relations.{first_oid}
 use Rattle.dbl_source.specs.declared.asked.Last.TheVariants as answers
 use Rattle.dbl_source.specs.declared.moves.Move.{Move}
@@ -19,7 +20,7 @@ example_source_name = record { schema = codes "s"; name = codes "t" }
 
 -- A table with one column of texts, which is the key.
 abbrev pub example_raw_table : RawTable
-example_raw_table = record { name = example_source_name; columns = record { name = codes "k"; oid = 25 } ∷ []; key = codes "k" ∷ [] }
+example_raw_table = record { name = example_source_name; columns = record { name = codes "k"; oid = 25 } ∷ []; key = codes "k" ∷ []; version = 1 }
 
 -- A commit that inserts a row.
 abbrev pub inserting : List ℕ → List Message
@@ -37,9 +38,13 @@ no_move = record { before = []; inside = [] }
 abbrev pub example_moves : List Move
 example_moves = no_move ∷ no_move ∷ record { before = inserting (codes "a") ∷ []; inside = inserting (codes "b") ∷ [] } ∷ []
 
+-- The answer with version 1 and these rows.
+abbrev pub first_version : List RawRow → Selected
+first_version rows = record { version = 1; rows = rows }
+
 -- Each select returns only the row a.
-abbrev pub example_rows : List (List RawRow)
-example_rows = (row_of (codes "a") ∷ []) ∷ (row_of (codes "a") ∷ []) ∷ []
+abbrev pub example_rows : List Selected
+example_rows = first_version (row_of (codes "a") ∷ []) ∷ first_version (row_of (codes "a") ∷ []) ∷ []
 
 -- The state after a select of all rows, at most ten.
 abbrev pub selected : Played → Played
@@ -65,7 +70,7 @@ read_example = with_answer answers.Nothing
 
 -- The state with other rows as the answer of the select: none, as the table was at the call, or both, as it was at the return.
 abbrev pub answered_by : List RawRow → Played
-answered_by rows = record read_example { rows = rows ∷ [] }
+answered_by rows = record read_example { rows = first_version rows ∷ [] }
 
 -- The state with the rows of the select's call.
 abbrev pub first_example : Played

@@ -1,5 +1,4 @@
 -- The fields of a `ScriptedSource`.
-use Rattle.std.specs.Prelude.{map}
 use Rattle.std.specs.Vec.Iter.{into_iter_items}
 use Rattle.dbl_source.specs.declared.scripted.ScriptedSource.TheInside.{Inside}
 use Rattle.dbl_source.specs.Played.{Played}
@@ -9,7 +8,7 @@ abbrev pub played_of : Inside → Played
 played_of i = record {
   tables = i.tables.items;
   moves = into_iter_items i.moves;
-  rows = map (λ rows. rows.items) i.rows.items;
+  rows = i.rows.items;
   asked = i.asked.items;
   log = i.log.items;
   confirmed = i.confirmed;

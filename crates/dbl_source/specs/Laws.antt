@@ -7,7 +7,7 @@ use Rattle.dbl_pgmsg.specs.Grammar.{Fits}
 use Rattle.dbl_model_table.specs.declared.row.Key.{Key}
 use Rattle.dbl_model_table.specs.declared.table.TableName.{TableName}
 use Rattle.dbl_model_table.specs.declared.table.RawTable.{RawTable}
-use Rattle.dbl_model_table.specs.declared.table.RawRow.{RawRow}
+use Rattle.dbl_source_model.specs.declared.selected.Selected.{Selected}
 use Rattle.dbl_source_model.specs.ModelHistory.Ranges.{IsEntryInRange}
 use Rattle.dbl_source_model.specs.ModelHistory.Fit.{IsFitHistory}
 use Rattle.dbl_source_log.specs.Relations.{catalogue, all_relations}
@@ -17,13 +17,14 @@ use Rattle.dbl_source.specs.declared.asked.Asked.{Asked}
 use Rattle.dbl_source.specs.declared.moves.Move.{Move}
 use Rattle.dbl_source_log.specs.Numbers.{commit_limit}
 use Rattle.dbl_source.specs.Fairness.{IsAnswered}
-use Rattle.dbl_source.specs.Played.{Played, keyed_table, new_played, committed, with_mark, next_rows, question_of, with_select}
+use Rattle.dbl_source.specs.Played.{Played, keyed_table, new_played, committed, with_mark, next_selected, question_of, with_select}
 use Rattle.dbl_source.specs.Steps.{WasFair, AddedFirst}
 
--- A source before its first call was fair so far, for any script, if its tables have distinct names and Relations with an encoding.
+-- A source before its first call was fair so far, for any script, if its tables have distinct names, version 1 and Relations with an
+-- encoding.
 abbrev pub NewSourcesAreFair : Type 0
-NewSourcesAreFair = (raws : List RawTable) (moves : List Move) (rows : List (List RawRow)) (fails : List ℕ)
-    → AllByRecursion IsEntryInRange (catalogue (map keyed_table raws)) → AreNamed (map keyed_table raws)
+NewSourcesAreFair = (raws : List RawTable) (moves : List Move) (rows : List Selected) (fails : List ℕ)
+    → AllByRecursion (λ raw. raw.version ≡ 1) raws → AllByRecursion IsEntryInRange (catalogue (map keyed_table raws)) → AreNamed (map keyed_table raws)
     → AllByRecursion Fits (all_relations (map keyed_table raws)) → WasFair (new_played raws moves rows fails)
 
 -- Whether each select so far returned when there were no more commits than now, as it has in every source that was made
@@ -53,12 +54,12 @@ CommitsKeepFair = (commits : List (List Message)) (s : Played) → HaveReturned 
 abbrev pub SelectsKeepFair : Type 0
 SelectsKeepFair = (table : TableName) (above : Option Key) (limit from : ℕ) (inside : List (List Message)) (s : Played) → HaveReturned s
     → IsFitHistory (history_of s.tables (committed inside s).log) → IsFairLog s.tables (committed inside s).log
-    → IsAnswered s.tables (committed inside s).log (question_of table above limit from (length s.log + length inside)) (next_rows s)
+    → IsAnswered s.tables (committed inside s).log (question_of table above limit from (length s.log + length inside)) (next_selected s)
     → WasFair s → WasFair (with_select table above limit from inside s)
 
 -- Each select has returned in a source before its first call, and after adding other clients' commits, a watermark or a select.
 pub record SelectsHaveReturned : Type 0 where
-  pub first : (raws : List RawTable) (moves : List Move) (rows : List (List RawRow)) (fails : List ℕ)
+  pub first : (raws : List RawTable) (moves : List Move) (rows : List Selected) (fails : List ℕ)
       → HaveReturned (new_played raws moves rows fails)
   pub commits : (commits : List (List Message)) (s : Played) → HaveReturned s → HaveReturned (committed commits s)
   pub mark : (value : List ℕ) (s : Played) → HaveReturned s → HaveReturned (with_mark value s)

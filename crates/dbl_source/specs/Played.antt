@@ -10,11 +10,11 @@ use Rattle.dbl_pgmsg.specs.Grammar.{spelling}
 use Rattle.dbl_model_table.specs.declared.row.Key.{Key}
 use Rattle.dbl_model_table.specs.declared.table.TableName.{TableName}
 use Rattle.dbl_model_table.specs.declared.table.RawTable.{RawTable}
-use Rattle.dbl_model_table.specs.declared.table.RawRow.{RawRow}
+use Rattle.dbl_source_model.specs.declared.selected.Selected.{Selected}
 use Rattle.dbl_source_model.specs.declared.started.Started.{Started}
 use Rattle.dbl_source_model.specs.declared.started.Started.TheVariants.{Ready, Gone}
 use Rattle.dbl_source_model.specs.Standings.{Reading, SourceState}
-use Rattle.dbl_source_model.specs.Trace.{Answer, Described, Head, Began, Read, Selected, Done, Trace}
+use Rattle.dbl_source_model.specs.Trace.{Answer, Described, Head, Began, Read, RowsSelected, Done, Trace}
 use Rattle.dbl_source_log.specs.declared.logged.LogTable.{LogTable}
 use Rattle.dbl_source_log.specs.declared.logged.Logged.{Logged}
 use Rattle.dbl_source_log.specs.declared.logged.Logged.TheVariants.{Changes, Mark}
@@ -26,6 +26,7 @@ use Rattle.dbl_source.specs.declared.asked.Asked.{Asked}
 use Rattle.dbl_source.specs.declared.asked.Last.{Last}
 use Rattle.dbl_source.specs.declared.asked.Last.TheVariants as answers
 use Rattle.dbl_source.specs.declared.moves.Move.{Move}
+use Rattle.dbl_source.specs.Fairness.{no_rows_selected}
 use Rattle.dbl_source_log.specs.declared.error.SourceError.{SourceError}
 use Rattle.dbl_source_log.specs.declared.error.SourceError.TheVariants.{Failed}
 use Rattle.dbl_source_log.specs.Numbers.{commit_limit}
@@ -35,7 +36,7 @@ use Rattle.dbl_source_log.specs.Numbers.{commit_limit}
 pub record Played : Type 0 where
   pub tables : List LogTable
   pub moves : List Move
-  pub rows : List (List RawRow)
+  pub rows : List Selected
   pub asked : List Asked
   pub log : List Logged
   pub confirmed : Lsn
@@ -50,7 +51,7 @@ abbrev pub keyed_table : RawTable → LogTable
 keyed_table raw = record { raw = raw; full = false }
 
 -- The state before the first call.
-abbrev pub new_played : List RawTable → List Move → List (List RawRow) → List ℕ → Played
+abbrev pub new_played : List RawTable → List Move → List Selected → List ℕ → Played
 new_played tables moves rows fails = record {
   tables = map keyed_table tables;
   moves = moves;
@@ -97,7 +98,7 @@ answer_of s (answers.Head lsn) = Head lsn
 answer_of s (answers.Began started) = Began started
 answer_of s answers.Nothing = Read None
 answer_of s answers.Message = Read (slice_get (map spelling (played_messages s)) 0)
-answer_of s (answers.Rows number) = Selected (slice_index_or s.rows number [])
+answer_of s (answers.Rows number) = RowsSelected (slice_index_or s.rows number no_rows_selected)
 answer_of s answers.Done = Done
 
 -- The last answer and the bytes of the messages read, as the source reports them.
@@ -191,9 +192,9 @@ with_start after s = with_answer (answers.Began (started_at after s))
 abbrev pub with_head : Played → Played
 with_head s = with_answer (answers.Head (lsn_of (length s.log))) s
 
--- The rows of the next select, none after the script's end.
-abbrev pub next_rows : Played → List RawRow
-next_rows s = slice_index_or s.rows (length s.asked) []
+-- The answer of the next select, version 1 and no rows after the script's end.
+abbrev pub next_selected : Played → Selected
+next_selected s = slice_index_or s.rows (length s.asked) no_rows_selected
 
 -- The arguments of a select, and the numbers of commits at its call and at its return.
 abbrev pub question_of : TableName → Option Key → ℕ → ℕ → ℕ → Asked

@@ -1,9 +1,10 @@
-ghost use Rattle.std.specs.Prelude.{◌≡◌, [], map, option_copied, IfOk, slice_index_or};
+ghost use Rattle.std.specs.Prelude.{◌≡◌, option_copied, IfOk, slice_index_or};
+ghost use Rattle.dbl_source.specs.Fairness.{no_rows_selected};
 ghost use Rattle.dbl_source.specs.Played.{question_of};
 
-use dbl_base::{Lsn, copy_items};
-use dbl_model_table::{Key, RawRow, TableName};
-use dbl_source_model::Started;
+use dbl_base::{Lsn, Seq};
+use dbl_model_table::{Key, TableName};
+use dbl_source_model::{Selected, Started};
 use std::alloc::{AllocError, Global};
 
 // The arguments of a select, and the numbers of commits at its call and at its return.
@@ -29,18 +30,24 @@ pub(crate) enum Last {
     Done,
 }
 
-/// The rows with this number in the script, none after its end.
-pub(crate) fn rows_at(
+/// The answer with this number in the script; after its end version 1 and no rows.
+pub(crate) fn selected_at(
     alloc: Global,
-    rows: &Vec<Vec<RawRow>>,
+    rows: &Vec<Selected>,
     number: usize,
-) -> Result<Vec<RawRow>, AllocError>
+) -> Result<Selected, AllocError>
     ensures { IfOk result (λ found.
-        found.items ≡ slice_index_or (map (λ rows. rows.items) rows.now.items) number []) }
+        found ≡ slice_index_or rows.now.items number no_rows_selected) }
 {
     match rows.get(number) {
-        Some(found) => copy_items(alloc, found.as_slice()),
-        None => Ok(Vec::new(alloc)),
+        Some(found) => Ok(Selected {
+            version: found.version,
+            rows: found.rows.copy(alloc)?,
+        }),
+        None => Ok(Selected {
+            version: 1,
+            rows: Seq::make(Vec::new(alloc)),
+        }),
     }
 }
 

@@ -11,7 +11,7 @@ mod scripted;
 mod source;
 
 pub use dbl_source_log::{SourceError, Step, next_step, remember};
-pub use dbl_source_model::Started;
+pub use dbl_source_model::{Selected, Started};
 pub use laws::{
     commits_keep_fair, fair_scripts_are_honest, fair_sources_stand, first_commits_are_fair,
     marks_keep_fair, new_sources_are_fair, selects_have_returned, selects_keep_fair,

@@ -16,19 +16,19 @@ ghost use Rattle.dbl_source.specs.Played.{entry_at, before_of, inside_of, IsPlan
 ghost use Rattle.dbl_source.specs.Played.{IsFullBy, past_move, with_counted_call, committed};
 ghost use Rattle.dbl_source.specs.Played.{with_release, with_fault, FailsAsPlanned};
 ghost use Rattle.dbl_source.specs.Played.{with_answer, with_mark, with_confirmed, started_at};
-ghost use Rattle.dbl_source.specs.Played.{place_of, next_rows, question_of};
+ghost use Rattle.dbl_source.specs.Played.{place_of, next_selected, question_of};
 ghost use Rattle.dbl_source.specs.Steps.{KeepsPlayed, HasPlayed, AddedFirst, HasFailed};
 ghost use Rattle.dbl_source.specs.Steps.{IsUnfit, ReadsNextMessage, IsReadBy, FailsToRead};
 
-use crate::asked::{Last, question, rows_at};
+use crate::asked::{Last, question, selected_at};
 use crate::catalogue::{entry_at, place_of};
 use crate::moves::{Move, append, has_room, no_move};
 use crate::{ScriptedSource, SourceError};
 use dbl_base::{Bytes, Lsn, Seq, Text};
-use dbl_model_table::{Key, RawRow, RawTable, TableName};
+use dbl_model_table::{Key, RawTable, TableName};
 use dbl_pgmsg::Message;
 use dbl_source_log::{Logged, ReaderPosition, Step, commits_upto, lsn_of, next_step, remember};
-use dbl_source_model::Started;
+use dbl_source_model::{Selected, Started};
 
 impl ScriptedSource {
     // ---- begin and end of a call
@@ -101,7 +101,7 @@ impl ScriptedSource {
         self.begin(before.into_items(), own)
     }
 
-    // Begins a select, which takes its rows from the script. Positions are numbers of commits, so
+    // Begins a select, which takes its answer from the script. Positions are numbers of commits, so
     // that rows may also be of positions after the commits inside of it.
     fn release_around(&mut self) -> Result<(), SourceError>
         ensures ok { OnOk result
@@ -255,12 +255,12 @@ impl ScriptedSource {
         self.asked.len()
     }
 
-    // The script's rows for the next select.
-    fn copy_rows(&self) -> Result<Vec<RawRow>, SourceError>
-        ensures ok { IfOk result (λ rows. rows.items ≡ next_rows self.now) }
+    // The script's answer to the next select.
+    fn copy_selected(&self) -> Result<Selected, SourceError>
+        ensures ok { IfOk result (λ answer. answer ≡ next_selected self.now) }
         ensures err { IfErr result (λ e. e ≡ Memory) }
     {
-        Ok(rows_at(self.alloc, &self.rows, self.asked.len())?)
+        Ok(selected_at(self.alloc, &self.rows, self.asked.len())?)
     }
 
     // Records the arguments. The select returns now, so that its last position is the log's end.
@@ -364,11 +364,10 @@ impl ScriptedSource {
         table: &TableName,
         above: Option<&Key>,
         limit: u32,
-    ) -> Result<Vec<RawRow>, SourceError>
+    ) -> Result<Selected, SourceError>
         ensures plays { Plays (length (inside_of self.old)) ⊥
             (before_of self.old ++ inside_of self.old)
-            (λ rows. AnswersPlayedRows table.now (option_copied above.entry) limit
-            self.old rows.items)
+            (AnswersPlayedRows table.now (option_copied above.entry) limit self.old)
             self.old self.new result }
         ensures listed { IsPlannedToFail self.old → result ≡ Err Memory
             → AddedFirst (before_of self.old) (past_move self.old) self.new }
@@ -376,10 +375,10 @@ impl ScriptedSource {
         let from = self.count();
         self.release_around()?;
         let number = self.number();
-        let rows = self.copy_rows()?;
+        let answer = self.copy_selected()?;
         self.ask(table, above, limit, from)?;
         self.answer(Last::Rows(number));
-        Ok(rows)
+        Ok(answer)
     }
 
     pub(crate) fn play_mark(&mut self, value: &Text) -> Result<(), SourceError>

@@ -13,7 +13,7 @@ ghost use Rattle.dbl_source_model.specs.Calls.{Moved, IsMarked, Starts, HasReadO
 ghost use Rattle.dbl_source_model.specs.Calls.{HasReadAll, IsConfirmed};
 ghost use Rattle.dbl_source_model.specs.Leaves.{Leaves, LeavesSome, MayFollow};
 ghost use Rattle.dbl_source_model.specs.Leaves.{MayFollowMark, MayFollowConfirm};
-ghost use Rattle.dbl_source_model.specs.Trace.{Described, Head, Began, Read, Selected, Done};
+ghost use Rattle.dbl_source_model.specs.Trace.{Described, Head, Began, Read, RowsSelected, Done};
 ghost use Rattle.dbl_source_model.specs.Trace.{IsTakenBy, IsTakenAnew, LastAnswerIs, is_ready};
 ghost use Rattle.dbl_source_log.specs.Relations.{catalogue, all_relations, oid_limit};
 ghost use Rattle.dbl_source.specs.declared.asked.Last.TheVariants as answers;
@@ -21,7 +21,7 @@ ghost use Rattle.dbl_source_log.specs.declared.error.SourceError.TheVariants.{Fa
 ghost use Rattle.dbl_source.specs.Played.{keyed_table, new_played, trace_of, before_of, inside_of};
 ghost use Rattle.dbl_source.specs.Played.{IsPlannedToFail, past_move, with_release, FailsAsPlanned};
 ghost use Rattle.dbl_source.specs.Played.{with_answer, with_mark, with_confirmed, started_at};
-ghost use Rattle.dbl_source.specs.Played.{with_start, with_head, next_rows, with_select};
+ghost use Rattle.dbl_source.specs.Played.{with_start, with_head, next_selected, with_select};
 ghost use Rattle.dbl_source.specs.Steps.{AddedFirst, HasPlayedState};
 ghost use Rattle.dbl_source.specs.Steps.{MayLeavePlayed, WasFair, IsUnfit, IsAtEnd};
 
@@ -30,17 +30,17 @@ use crate::catalogue::keyed_tables;
 use crate::moves::Move;
 use crate::{Source, SourceError};
 use dbl_base::{Bytes, FaultPlan, Lsn, Text};
-use dbl_model_table::{Key, RawRow, RawTable, TableName};
+use dbl_model_table::{Key, RawTable, TableName};
 use dbl_source_log::{LogTable, Logged, ReaderPosition};
-use dbl_source_model::Started;
+use dbl_source_model::{Selected, Started};
 use std::alloc::Global;
 use std::collections::BTreeSet;
 use std::marker::Model;
 use std::vec::IntoIter;
 
 /// A source that plays a script: other clients' commits before each call, and inside of each
-/// `select` between the rows that it takes and its return; rows for each `select`; and the calls
-/// that fail. Commits inside of another call can be scripted before that call or before the next
+/// `select` between the rows that it takes and its return; an answer for each `select`; and the
+/// calls that fail. Commits inside of another call can be scripted before that call or before the next
 /// one.
 ///
 /// It conforms if the script was fair so far: `fair_scripts_are_honest`.
@@ -49,7 +49,7 @@ pub struct ScriptedSource {
     pub(crate) alloc: Global,
     pub(crate) tables: Vec<LogTable>,
     pub(crate) moves: IntoIter<Move>,
-    pub(crate) rows: Vec<Vec<RawRow>>,
+    pub(crate) rows: Vec<Selected>,
     pub(crate) asked: Vec<Asked>,
     pub(crate) log: Vec<Logged>,
     pub(crate) confirmed: Lsn,
@@ -80,8 +80,8 @@ impl Model for ScriptedSource {
 impl ScriptedSource {
     /// A source with these tables, whose replica identity is their primary key, and no commit. Call
     /// number n, from 1, plays the n-th move, and fails if n is among `fails`; the n-th `select`
-    /// returns the n-th rows. Calls after the last move commit nothing, and after the last rows a
-    /// `select` returns none.
+    /// answers the n-th of `rows`. Calls after the last move commit nothing, and after the last of
+    /// `rows` a `select` answers version 1 and no rows.
     ///
     /// The messages of a move are sent as they are: they name table number n, from 0, by the OID
     /// 16384 + n. Any others are sent too, but then the source doesn't conform. Commit number n,
@@ -94,14 +94,15 @@ impl ScriptedSource {
         alloc: Global,
         tables: Vec<RawTable>,
         moves: Vec<Move>,
-        rows: Vec<Vec<RawRow>>,
+        rows: Vec<Selected>,
         fails: Vec<u64>,
     ) -> Result<ScriptedSource, SourceError>
         requires few { length tables.items < oid_limit }
         requires distinct { IsTrue (are_distinct same_name (map (λ raw. raw.name) tables.items)) }
         requires schemas { AllByRecursion (λ raw. raw.name.schema ≢ []) tables.items }
+        requires versions { AllByRecursion (λ raw. raw.version ≡ 1) tables.items }
         ensures made { IfOk result (λ source. source ≡ new_played
-            tables.items moves.items (map (λ rows. rows.items) rows.items) fails.items) }
+            tables.items moves.items rows.items fails.items) }
         ensures fair { AllByRecursion IsEntryInRange (catalogue (map keyed_table tables.items))
             → AllByRecursion Fits (all_relations (map keyed_table tables.items))
             → IfOk result WasFair }
@@ -300,16 +301,15 @@ impl Source for ScriptedSource {
         table: &TableName,
         above: Option<&Key>,
         limit: u32,
-    ) -> Result<Vec<RawRow>, SourceError>
+    ) -> Result<Selected, SourceError>
         requires live { IsTrue self.old.live }
         requires positive { 1 ≤ limit }
-        ensures selected { MovesTo HasPlayedState self.old self.new result (λ rows.
-            IsSelectAnswer (WasFair self.new) table.now (option_copied above.entry) limit
-            rows.items) }
+        ensures selected { MovesTo HasPlayedState self.old self.new result
+            (IsSelectAnswer (WasFair self.new) table.now (option_copied above.entry) limit) }
         ensures left { Leaves HasPlayedState MayLeavePlayed self.old self.new MayFollow }
         ensures some { LeavesSome HasPlayedState MayLeavePlayed self.old self.new }
         ensures told { IfOk result
-            (λ rows. LastAnswerIs (Some (trace_of self.new)) (Selected rows.items)) }
+            (λ answer. LastAnswerIs (Some (trace_of self.new)) (RowsSelected answer)) }
         ensures taken { IsTakenBy [] (Some (trace_of self.old)) (Some (trace_of self.new)) }
         ensures reading { is_some self.new.place ≡ is_some self.old.place }
         ensures ended { self.new.ended ≡ self.old.ended }
@@ -324,7 +324,7 @@ impl Source for ScriptedSource {
             → AddedFirst (before_of self.old ++ inside_of self.old) (past_move self.old) self.new }
         ensures listed { IsPlannedToFail self.old → result ≡ Err Memory
             → AddedFirst (before_of self.old) (past_move self.old) self.new }
-        ensures played { IfOk result (λ rows. (rows.items ≡ next_rows self.old)
+        ensures played { IfOk result (λ answer. (answer ≡ next_selected self.old)
             × (self.new ≡ with_select table.now (option_copied above.entry) limit
             (length self.old.log) (inside_of self.old) (with_release self.old))) }
     {

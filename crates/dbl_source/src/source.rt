@@ -15,13 +15,13 @@ ghost use Rattle.dbl_source_model.specs.Calls.{Moved, IsMarked, Starts, HasReadO
 ghost use Rattle.dbl_source_model.specs.Calls.{HasReadAll, IsConfirmed};
 ghost use Rattle.dbl_source_model.specs.Leaves.{Leaves, LeavesSome, MayFollow};
 ghost use Rattle.dbl_source_model.specs.Leaves.{MayFollowMark, MayFollowConfirm};
-ghost use Rattle.dbl_source_model.specs.Trace.{Described, Head, Began, Read, Selected, Done, Trace};
+ghost use Rattle.dbl_source_model.specs.Trace.{Described, Head, Began, Read, RowsSelected, Done, Trace};
 ghost use Rattle.dbl_source_model.specs.Trace.{IsTakenBy, IsTakenAnew, LastAnswerIs, is_ready};
 
 use crate::SourceError;
 use dbl_base::{Bytes, Lsn, Text};
-use dbl_model_table::{Key, RawRow, RawTable, TableName};
-use dbl_source_model::Started;
+use dbl_model_table::{Key, RawTable, TableName};
+use dbl_source_model::{Selected, Started};
 
 /// A database whose changes are captured: its catalogue, its log and its rows.
 ///
@@ -32,8 +32,8 @@ pub trait Source {
     ghost stands: { Self → SourceState → Type 0 };
 
     /// Whether its answers so far conform: its history is valid, the messages that were read state
-    /// it, and the rows of each select were those of one position. A source that conforms after a
-    /// call did so before it.
+    /// it, and each select answered version 1 and the rows of one position. A source that conforms
+    /// after a call did so before it.
     ghost honest: { Self → Type 0 };
 
     /// What a crash now may leave.
@@ -61,7 +61,7 @@ pub trait Source {
     ghost faults: { Self → ℕ };
 
     /// The catalogue's entry of the table of this name, which never changes; None if there is no
-    /// such table.
+    /// such table. Its version is 1 if the source conforms.
     fn describe(&mut self, name: &TableName) -> Result<Option<RawTable>, SourceError>
         requires { IsTrue (is_live self.old) }
         ensures described { MovesTo stands self.old self.new result (IsDescribed name.now) }
@@ -145,23 +145,22 @@ pub trait Source {
         ensures cause { FailsOnlyIfCounted (result ≡ Err Failed)
             (faults self.old) (faults self.new) };
 
-    /// The first `limit` rows of the table with a key above `above` (all if None), in key order, at
-    /// one position between the call and the return, if the source conforms. No row is above a key
-    /// of other types, and a missing table has none.
+    /// The version of the table, which is 1, and its first `limit` rows with a key above `above`
+    /// (all if None), in key order, at one position between the call and the return, if the source
+    /// conforms. No row is above a key of other types, and a missing table has none.
     fn select(
         &mut self,
         table: &TableName,
         above: Option<&Key>,
         limit: u32,
-    ) -> Result<Vec<RawRow>, SourceError>
+    ) -> Result<Selected, SourceError>
         requires live { IsTrue (is_live self.old) }
         requires positive { 1 ≤ limit }
-        ensures selected { MovesTo stands self.old self.new result (λ rows.
-            IsSelectAnswer (honest self.new) table.now (option_copied above.entry) limit
-            rows.items) }
+        ensures selected { MovesTo stands self.old self.new result
+            (IsSelectAnswer (honest self.new) table.now (option_copied above.entry) limit) }
         ensures left { Leaves stands may_leave self.old self.new MayFollow }
         ensures some { LeavesSome stands may_leave self.old self.new }
-        ensures told { IfOk result (λ rows. LastAnswerIs (told self.new) (Selected rows.items)) }
+        ensures told { IfOk result (λ answer. LastAnswerIs (told self.new) (RowsSelected answer)) }
         ensures taken { IsTakenBy [] (told self.old) (told self.new) }
         ensures reading { is_reading self.new ≡ is_reading self.old }
         ensures ended { has_ended self.new ≡ has_ended self.old }

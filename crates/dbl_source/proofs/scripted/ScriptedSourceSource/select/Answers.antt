@@ -6,7 +6,7 @@ use Rattle.dbl_source.proofs.scripted.ScriptedSourceSource.select.Goals as goal
 pub returns : goal.returns
 returns c =
     let plays = c.play_select.ensures.plays in
-    let held = select_held _ c.args.table.now (option_copied c.args.above) c.args.limit c.args.self.now c.play_select.new.self c.play_select.result plays in
+    let held = select_held c.args.table.now (option_copied c.args.above) c.args.limit c.args.self.now c.play_select.new.self c.play_select.result plays in
     record {
       selected = held.leads;
       left = held.left;
@@ -14,7 +14,7 @@ returns c =
       told = held.told;
       taken = both c.play_select.result held.taken held.untaken;
       reading = both c.play_select.result held.reading held.unread;
-      ended = select_still _ c.args.table.now (option_copied c.args.above) c.args.limit c.args.self.now c.play_select.new.self c.play_select.result plays;
+      ended = select_still c.args.table.now (option_copied c.args.above) c.args.limit c.args.self.now c.play_select.new.self c.play_select.result plays;
       live = held.live;
       dead = held.dead;
       honest = held.honest;
@@ -23,5 +23,5 @@ returns c =
       planned = plays.planned;
       memory = plays.memory;
       listed = c.play_select.ensures.listed;
-      played = select_played _ c.args.table.now (option_copied c.args.above) c.args.limit c.args.self.now c.play_select.new.self c.play_select.result plays;
+      played = select_played c.args.table.now (option_copied c.args.above) c.args.limit c.args.self.now c.play_select.new.self c.play_select.result plays;
     }

@@ -4,12 +4,16 @@ use Rattle.std.specs.Prelude.{IsTrue, Result, Ok, Err, IfOk, OnOk, IfSome, nat_l
 use Rattle.dbl_value.specs.declared.error.ValueError.{ValueError}
 use Rattle.dbl_model_table.specs.declared.table.RawRow.{RawRow}
 use Rattle.dbl_model_table.specs.declared.table.TableInfo.{TableInfo}
+use Rattle.dbl_model_table.specs.declared.table.TableName.{TableName}
+use Rattle.dbl_model_table.specs.declared.row.Key.{Key}
 use Rattle.dbl_model_history.specs.Fit.{IsKeyOf, IsFitHistory}
 use Rattle.dbl_model_history.specs.KeyedRows.{last_key}
 use Rattle.dbl_source.specs.SourceModel.Standings.{SourceState, HasState}
+use Rattle.dbl_source.specs.SourceModel.declared.selected.Selected.{Selected as SelectAnswer}
 use Rattle.dbl_source.specs.SourceModel.Selected.{Selects}
+use Rattle.dbl_source.specs.SourceModel.Answered.{IsSelectAnswer}
 use Rattle.dbl_source.specs.SourceModel.Calls.{Moved}
-use Rattle.dbl_source.specs.SourceModel.Trace.{Trace, Selected, IsTakenBy, LastAnswerIs}
+use Rattle.dbl_source.specs.SourceModel.Trace.{Trace, RowsSelected, IsTakenBy, LastAnswerIs}
 use Rattle.dbl_source.specs.SourceLog.declared.error.SourceError.{SourceError}
 use Rattle.dbl_source.specs.SourceLog.declared.error.SourceError.TheVariants as source
 use Rattle.dbl_window.specs.declared.error.WindowError.{WindowError}
@@ -47,6 +51,15 @@ still_dead stands is_live source s t lives dead is =
     let contra : false ≡ true = sym dead ∙ lives t is in
     absurd (cc)
 
+-- the rows of an answer, without its version
+pub with_rows : {S : Type 0} (stands : S → SourceState → Type 0) (source : S) (honest : Type 0) (name : TableName) (above : Option Key) (limit : ℕ) (s : SourceState) (answer : SelectAnswer)
+    → HasState stands source (IsSelectAnswer honest name above limit answer s) → HasState stands source (λ t. Moved s t × (honest → Selects name above limit s.history t.history answer.rows))
+with_rows stands source honest name above limit s answer stood = record {
+  standing = stood.standing;
+  is = stood.is;
+  holds = (stood.holds.0, λ conforms. (stood.holds.1 conforms).1);
+}
+
 -- what holds at any rate holds of an answer
 pub on_ok : {T E P : Type 0} (r : Result T E) → P → OnOk r P
 on_ok (Ok x) holds = holds
@@ -61,14 +74,14 @@ pub held_so : (plan : Plan) (rows : List RawRow) (Q : Chunk → Type 0) (result 
 held_so plan rows Q (Ok chunk) read same through done so = so chunk same read through done
 held_so plan rows Q (Err e) read same through done so = tt
 
-pub read_so : (plan : Plan) (told : Option Trace) (rows : List RawRow) (result : Result Chunk WindowError) → LastAnswerIs told (Selected rows) → IsReadAs plan rows result → IsChunkReadFrom plan told result
-read_so plan told rows (Ok chunk) tells read = record { rows = rows; told_so = tells; read_is = read }
-read_so plan told rows (Err e) tells read =
+pub read_so : (plan : Plan) (told : Option Trace) (answer : SelectAnswer) (result : Result Chunk WindowError) → LastAnswerIs told (RowsSelected answer) → IsReadAs plan answer.rows result → IsChunkReadFrom plan told result
+read_so plan told answer (Ok chunk) tells read = record { answer = answer; told_so = tells; read_is = read }
+read_so plan told answer (Err e) tells read =
     elim read [
       | inl failed ↦ inl failed
       | inr other ↦ elim other [
         | inl memory ↦ inr (inl memory)
-        | inr fault ↦ inr (inr (record { rows = rows; told_so = tells; read_is = fault }))
+        | inr fault ↦ inr (inr (record { answer = answer; told_so = tells; read_is = fault }))
       ]
     ]
 

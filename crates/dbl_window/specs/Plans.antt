@@ -11,7 +11,7 @@ use Rattle.dbl_window.specs.declared.frame.Frame.{Frame}
 use Rattle.dbl_window.specs.Changing.{FitsRow}
 
 -- The plan of a window: its table's description and index among the captured ones, the key after which the window begins, the limit of its
--- rows, and the two numbers of its watermarks.
+-- rows, the two numbers of its watermarks, and the version of the table that the description is of.
 pub record Plan : Type 0 where
   pub info : TableInfo
   pub table : ℕ
@@ -19,6 +19,7 @@ pub record Plan : Type 0 where
   pub limit : ℕ
   pub incarnation : ℕ
   pub number : ℕ
+  pub version : ℕ
 
 -- The rows of a window, in key order; the last key that it read, or the one after which it began if it read none; and whether it read its
 -- table to the end.
@@ -45,6 +46,7 @@ plan_of frame = record {
   limit = frame.limit;
   incarnation = frame.incarnation;
   number = frame.number;
+  version = frame.version;
 }
 
 -- For private clauses: whether a window is to read at least one row, after a key of the table's, and its numbers have 64 bits.

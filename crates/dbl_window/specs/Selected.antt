@@ -13,8 +13,9 @@ use Rattle.dbl_model_history.specs.History.{History}
 use Rattle.dbl_model_history.specs.Fit.{AreInfosOf}
 use Rattle.dbl_model_history.specs.KeyedRows.{AreFirst, last_key}
 use Rattle.dbl_source.specs.SourceModel.Standings.{SourceState}
+use Rattle.dbl_source.specs.SourceModel.declared.selected.Selected.{Selected as SelectAnswer}
 use Rattle.dbl_source.specs.SourceModel.Selected.{rows_up_to}
-use Rattle.dbl_source.specs.SourceModel.Trace.{Trace, Selected, LastAnswerIs}
+use Rattle.dbl_source.specs.SourceModel.Trace.{Trace, RowsSelected, LastAnswerIs}
 use Rattle.dbl_window.specs.declared.error.WindowError.{WindowError}
 use Rattle.dbl_window.specs.declared.error.WindowError.TheVariants.{Failed, Memory}
 use Rattle.dbl_window.specs.Plans.{Plan, Chunk}
@@ -64,11 +65,12 @@ IsReadAs plan rows result =
     MatchResult result (λ chunk. chunk_read plan rows ≡ Ok chunk.rows)
     (λ e. (e ≡ Failed) ⊎ ((e ≡ Memory) ⊎ (chunk_read plan rows ≡ Err e)))
 
--- Whether some rows are read as this, a chunk's rows or their first error, and a source that reports its answers answered these rows last.
+-- Whether the rows of some answer are read as this, a chunk's rows or their first error, and a source that reports its answers answered it
+-- last. The answer's version isn't looked at.
 pub record IsReadOf (plan : Plan) (told : Option Trace) (read : Result (List (Key × Row)) WindowError) : Type 0 where
-  pub rows : List RawRow
-  pub told_so : LastAnswerIs told (Selected rows)
-  pub read_is : chunk_read plan rows ≡ read
+  pub answer : SelectAnswer
+  pub told_so : LastAnswerIs told (RowsSelected answer)
+  pub read_is : chunk_read plan answer.rows ≡ read
 
 -- Whether, if the source reports its answers, the chunk has the answered rows as they are read, or the error is their first one, unless the
 -- source failed or memory ran out.

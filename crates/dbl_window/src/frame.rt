@@ -16,6 +16,8 @@ pub(crate) struct Frame {
     pub limit: u32,
     pub incarnation: u64,
     pub number: u64,
+    // the version of the table that `info` describes
+    pub version: u64,
 }
 
 impl Frame {

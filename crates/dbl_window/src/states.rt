@@ -15,7 +15,7 @@ ghost use Rattle.dbl_source.specs.SourceModel.Standings.{SourceState, HasState, 
 ghost use Rattle.dbl_source.specs.SourceModel.Calls.{Moved, IsMarked};
 ghost use Rattle.dbl_source.specs.SourceModel.Leaves.{Leaves, MayFollow, MayFollowMark};
 ghost use Rattle.dbl_source.specs.SourceModel.Selected.{Selects};
-ghost use Rattle.dbl_source.specs.SourceModel.Trace.{Selected, LastAnswerIs};
+ghost use Rattle.dbl_source.specs.SourceModel.Trace.{LastAnswerIs, RowsSelected};
 ghost use Rattle.dbl_window.specs.Plans.{Chunk, low_text, high_text, IsFitChunk};
 ghost use Rattle.dbl_window.specs.Changing.{FitsTableChange, IsLeftBy};
 ghost use Rattle.dbl_window.specs.Selected.{IsCaptured, SelectsChunk, HasUnreadable, IsReadAs};
@@ -31,7 +31,7 @@ use crate::{WindowError, marks};
 use dbl_base::Text;
 use dbl_model_event::{Closed, KeyedRows};
 use dbl_model_table::{Change, Key, RawRow, TableInfo};
-use dbl_source::Source;
+use dbl_source::{Selected, Source};
 use std::alloc::{AllocError, Global};
 use std::marker::Model;
 
@@ -133,8 +133,8 @@ pub enum Seen {
 }
 
 /// A window of a captured table, by its index, that reads at most `limit` rows after a key. Its
-/// watermarks have the session's incarnation and the window's number. Takes no memory; later calls
-/// use the allocator.
+/// watermarks have the session's incarnation and the window's number; `info` describes this version
+/// of the table. Takes no memory; later calls use the allocator.
 pub fn new(
     alloc: Global,
     info: TableInfo,
@@ -143,6 +143,7 @@ pub fn new(
     limit: u32,
     incarnation: u64,
     number: u64,
+    version: u64,
 ) -> Idle
     requires some { 1 ≤ limit }
     requires most { limit ≤ 100000 }
@@ -154,6 +155,7 @@ pub fn new(
       limit = limit;
       incarnation = incarnation;
       number = number;
+      version = version;
     } }
 {
     Idle {
@@ -165,6 +167,7 @@ pub fn new(
             limit,
             incarnation,
             number,
+            version,
         },
     }
 }
@@ -237,13 +240,13 @@ impl Marked {
         })
     }
 
-    // The rows that the source answers.
-    fn answered_rows<S: Source>(&self, src: &mut S) -> Result<Vec<RawRow>, WindowError>
+    // The version and the rows that the source answers.
+    fn answered_rows<S: Source>(&self, src: &mut S) -> Result<Selected, WindowError>
         requires { IsTrue (S.is_live src.old) }
-        ensures selected { MovesTo S.stands src.old src.new result (λ rows s t. Moved s t
+        ensures selected { MovesTo S.stands src.old src.new result (λ answer s t. Moved s t
             × (S.honest src.new → Selects self.now.info.name self.now.above self.now.limit
-            s.history t.history rows.items)) }
-        ensures told { IfOk result (λ rows. LastAnswerIs (S.told src.new) (Selected rows.items)) }
+            s.history t.history answer.rows)) }
+        ensures told { IfOk result (λ answer. LastAnswerIs (S.told src.new) (RowsSelected answer)) }
         ensures starts { IfSome self.now.above (IsKeyOf self.now.info) }
         ensures errors { IfErr result (λ e. (e ≡ WindowError.Failed) ⊎ (e ≡ WindowError.Memory)) }
         ensures reading { S.is_reading src.new ≡ S.is_reading src.old }
@@ -285,8 +288,8 @@ impl Marked {
         ensures rests { ReadsNothing S.Source src.old src.new MayFollow }
         ensures source { KeepsSource S.Source src.old src.new result WindowError.Failed }
     {
-        let rows = self.answered_rows(src)?;
-        self.holding(rows)
+        let answer = self.answered_rows(src)?;
+        self.holding(answer.rows.into_items())
     }
 }
 

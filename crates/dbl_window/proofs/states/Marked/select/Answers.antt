@@ -4,34 +4,34 @@ use Rattle.dbl_window.proofs.states.Marked.select.Goals as goal
 
 pub returns-clause-held : goal.returns-clause-held
 returns-clause-held g c s stands =
-    let stood = c.in_ok-rows.ensures.selected s stands in
+    let stood = c.in_ok-answer.ensures.selected s stands in
     let plan = c.args.self in
-    held_so plan c.in_ok-rows.rows.items _ c.holding.result c.holding.ensures.read c.holding.ensures.same c.holding.ensures.through c.holding.ensures.done
+    held_so plan c.in_ok-answer.answer.rows _ c.holding.result c.holding.ensures.read c.holding.ensures.same c.holding.ensures.through c.holding.ensures.done
     (λ chunk same read through done. record {
       standing = stood.standing;
       is = stood.is;
       holds = (
         stood.holds.0,
-        λ honest. selects_so plan c.in_ok-rows.rows.items chunk s stood.standing stood.holds.0 c.answered_rows.ensures.starts (stood.holds.1 honest) same read through done,
+        λ honest. selects_so plan c.in_ok-answer.answer.rows chunk s stood.standing stood.holds.0 c.answered_rows.ensures.starts (stood.holds.1 honest) same read through done,
       );
     })
 
 pub returns-clause-chunk : goal.returns-clause-chunk
-returns-clause-chunk g c = read_so c.args.self _ c.in_ok-rows.rows.items c.holding.result c.in_ok-rows.ensures.told c.holding.ensures.read
+returns-clause-chunk g c = read_so c.args.self _ c.in_ok-answer.answer c.holding.result c.in_ok-answer.ensures.told c.holding.ensures.read
 
 pub returns-clause-never : goal.returns-clause-never
 returns-clause-never g c s infos row stands honest captured is =
-    let stood = c.in_ok-rows.ensures.selected s stands in
-    never_so c.args.self c.in_ok-rows.rows.items c.holding.result s stood.standing infos row c.holding.ensures.read stood.holds.0
+    let stood = c.in_ok-answer.ensures.selected s stands in
+    never_so c.args.self c.in_ok-answer.answer.rows c.holding.result s stood.standing infos row c.holding.ensures.read stood.holds.0
     (g.met.S.Source.fit c.answered_rows.new.src (left_of stood.standing) (g.met.S.Source.may c.answered_rows.new.src stood.standing stood.is) honest) c.answered_rows.ensures.starts (stood.holds.1 honest) captured is
 
 pub returns-clause-cell : goal.returns-clause-cell
 returns-clause-cell g c s infos column error stands honest captured is =
-    let stood = c.in_ok-rows.ensures.selected s stands in
+    let stood = c.in_ok-answer.ensures.selected s stands in
     record {
       standing = stood.standing;
       is = stood.is;
-      holds = cell_so c.args.self c.in_ok-rows.rows.items c.holding.result s stood.standing infos column error c.holding.ensures.read stood.holds.0
+      holds = cell_so c.args.self c.in_ok-answer.answer.rows c.holding.result s stood.standing infos column error c.holding.ensures.read stood.holds.0
           (g.met.S.Source.fit c.answered_rows.new.src (left_of stood.standing) (g.met.S.Source.may c.answered_rows.new.src stood.standing stood.is) honest) c.answered_rows.ensures.starts (stood.holds.1 honest) captured is;
     }
 
@@ -50,7 +50,7 @@ returns-clause-reading g c = c.answered_rows.ensures.reading
 
 pub returns-clause-source : goal.returns-clause-source
 returns-clause-source g c = record {
-  live = on_ok c.holding.result c.in_ok-rows.ensures.source.live;
+  live = on_ok c.holding.result c.in_ok-answer.ensures.source.live;
   honest = c.answered_rows.ensures.source.honest;
   comes = c.answered_rows.ensures.source.comes;
   cause = record { later = c.answered_rows.ensures.source.cause.later; cause = λ is. absurd (c.holding.ensures.no_failure is) };

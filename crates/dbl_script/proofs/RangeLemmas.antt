@@ -203,7 +203,7 @@ parts_fit : (line : ℕ) (named : Option TableName) (full : Option Bool) (bytes 
   f ← full
   b ← bytes
   w ← words
-  Some (record { raw = record { name = n; columns = columns_in w; key = key_in w }; full = f; toast = b; line = line })) IsTableInRange
+  Some (record { raw = record { name = n; columns = columns_in w; key = key_in w; version = 1 }; full = f; toast = b; line = line })) IsTableInRange
 parts_fit line None full bytes words h k = tt
 parts_fit line (Some n) None bytes words h k = tt
 parts_fit line (Some n) (Some f) None words h k = tt

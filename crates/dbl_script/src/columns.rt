@@ -144,7 +144,12 @@ pub fn table(alloc: Global, line: u32, words: &mut Parts<'_>) -> Result<ScriptTa
     };
     let (columns, key) = columns(alloc, words)?;
     Ok(ScriptTable {
-        raw: RawTable { name, columns, key },
+        raw: RawTable {
+            name,
+            columns,
+            key,
+            version: 1,
+        },
         full,
         toast,
         line,

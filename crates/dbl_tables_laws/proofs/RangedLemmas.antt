@@ -221,6 +221,16 @@ entries_fit : (tables : List LogTable) (rows : TextRows) (log : List (List Messa
 entries_fit tables rows [] fit range = tt
 entries_fit tables rows (ms ∷ log) fit range = (record { ranges = range.0; changes = fit.0 }, entries_fit tables (text_rows_from tables rows ms) log fit.1 range.1)
 
+-- the versions of the catalogue's tables
+opening_of : (tables : List DemoTable) → AllByRecursion (λ (raw : RawTable). raw.version ≡ 1) (catalogue (log_tables tables))
+opening_of [] = tt
+opening_of (table ∷ tables) = by (is_watermark table.info.name) (opening_of tables)
+  where
+    by : (b : Bool) → AllByRecursion (λ (raw : RawTable). raw.version ≡ 1) (catalogue (log_tables tables))
+        → AllByRecursion (λ (raw : RawTable). raw.version ≡ 1) (cond (not b) (raw_of table ∷ catalogue (log_tables tables)) (catalogue (log_tables tables)))
+    by true rest = rest
+    by false rest = (refl, rest)
+
 pub runs_fit : SerialRunsAreFit
 runs_fit tables rows steps can entries rows_in steps_in short =
     let all : List Step = initial_steps rows ++ steps in
@@ -230,6 +240,7 @@ runs_fit tables rows steps can entries rows_in steps_in short =
     record {
       short = subst (λ (n : ℕ). n < 2 ^ 40) (sym long) short;
       ranges = entries;
+      opening = opening_of tables;
       distinct = names_distinct tables (acts_after tables [] all) can both.0.orderly;
       entries = entries_fit (log_tables tables) no_text_rows log both.0.fit.log both.1.log;
     }

@@ -98,7 +98,7 @@ module _ (tables : List DemoTable) (infos : List TableInfo) (captured : AreInfos
     fine_in change each n is =
         let h = here_at (log_tables tables) infos captured at.table.info.name n (not_marked at.table.info) (ap (number_of infos) (sym name_so) ∙ is) in
         let same : h.table ≡ log_table at.table = (let both : Some h.table ≡ Some (log_table at.table) = sym h.found ∙ own in cc) in
-        let of_it : catalogue_of h.info ≡ raw_of at.table = h.is_info ∙ ap (λ (t : LogTable). t.raw) same in
+        let of_it : catalogue_of h.info ≡ raw_of at.table = h.is_info ∙ ap (λ (t : LogTable). record t.raw { version = 1 }) same in
         subst (λ (o : Option TableInfo). IsMovedAtMost (err_of (in_table n o rel change))) (sym h.there) (then_moved (change_of n h.info rel change) (λ (c : Change). c ∷ []) (each h.info of_it n))
 
     -- what each captured table reads of the change, is read of it

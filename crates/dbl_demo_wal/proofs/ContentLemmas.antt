@@ -194,7 +194,7 @@ parts_short : (line : ℕ) (named : Option TableName) (full : Option Bool) (byte
   f ← full
   b ← bytes
   w ← words
-  Some (record { raw = record { name = n; columns = columns_in w; key = key_in w }; full = f; toast = b; line = line })) HasShortColumns
+  Some (record { raw = record { name = n; columns = columns_in w; key = key_in w; version = 1 }; full = f; toast = b; line = line })) HasShortColumns
 parts_short line None full bytes words h = tt
 parts_short line (Some n) None bytes words h = tt
 parts_short line (Some n) (Some f) None words h = tt

@@ -70,6 +70,7 @@ module _ (fit : SerialRunsAreFit) (fair : SerialRunsAreFair) (ranges : Workloads
       record {
         short = omega (arith, few_logged wal.entries, is.few);
         ranges = run.ranges;
+        opening = run.opening;
         distinct = run.distinct;
         entries = with_marks (tables_of wal) no_text_rows wal.entries is.are.fits run.entries;
       }

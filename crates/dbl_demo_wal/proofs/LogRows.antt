@@ -41,6 +41,7 @@ module _ (tables : List LogTable) where
   front_fit log more fit = record {
     short = (let short = fit.short in omega (arith, short, length-append log more));
     ranges = fit.ranges;
+    opening = fit.opening;
     distinct = fit.distinct;
     entries = front_entries log more no_text_rows fit.entries;
   }

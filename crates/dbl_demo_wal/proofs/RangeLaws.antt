@@ -121,7 +121,7 @@ record IsRangedTable (table : DemoTable) : Type 0 where
 
 ranged_table : (line : ScriptTable) (table : DemoTable) → IsTableOf line table → IsTableInRange line → HasShortColumns line → IsRangedTable table
 ranged_table line table of range short =
-    let back : line.raw ≡ raw_of table = sym of.info in
+    let back : record line.raw { version = 1 } ≡ raw_of table = sym of.info in
     record {
       schema = subst (λ (raw : RawTable). IsUtf8 raw.name.schema) back range.named.schema;
       name = subst (λ (raw : RawTable). IsUtf8 raw.name.name) back range.named.name;
@@ -141,6 +141,7 @@ entry_in_range table is = record {
   name = record { schema = is.schema; name = is.name };
   columns = columns_in_range (raw_of table).columns is.columns;
   key = named_texts table.info.columns table.info.key is.columns;
+  version = (omega arith, omega arith);
 }
 
 abbrev raw_in : LogTable → RawTable

@@ -99,7 +99,7 @@ module _ (tables : List LogTable) (log : List Logged) (fit : AreFitLog tables lo
             let read : typed_cells (column_types info) texts ≡ cells = (let some : Some (typed_cells (column_types info) texts) ≡ Some cells = told in cc) in
             let both : Some h.info ≡ Some info = sym h.there ∙ there in
             let same : h.info ≡ info = cc in
-            let entry : h.table.raw ≡ catalogue_of info = sym h.is_info ∙ ap catalogue_of same in
+            let entry : record h.table.raw { version = 1 } ≡ catalogue_of info = sym h.is_info ∙ ap catalogue_of same in
             let fine : AreSpelled (catalogue_of info).columns texts = subst (λ (r : RawTable). AreSpelled r.columns texts) entry (spelled info.name key texts h.table stands h.found) in
             cells_valid info.columns texts number column text (typed_columns info) fine at (ap (λ (vs : List Val). slice_get vs number) read ∙ is)
 

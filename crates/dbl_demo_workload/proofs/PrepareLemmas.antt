@@ -74,15 +74,15 @@ all_on P [] x all here = (here, tt)
 all_on P (y ∷ xs) x all here = (all.0, all_on P xs x all.1 here)
 
 pub one_read : (lines : List ScriptTable) (names : List TableName) (tables : List DemoTable) (log : List LogTable) (line : ScriptTable) (name : TableName) (table : DemoTable) → AreReadSoFar lines names tables log → IsTableOf line table → table_fault line.raw ≡ None
-    → name ≡ line.raw.name → AreReadSoFar (lines ++ line ∷ []) (names ++ name ∷ []) (tables ++ table ∷ []) (log ++ record { raw = line.raw; full = line.full } ∷ [])
+    → name ≡ line.raw.name → AreReadSoFar (lines ++ line ∷ []) (names ++ name ∷ []) (tables ++ table ∷ []) (log ++ record { raw = record line.raw { version = 1 }; full = line.full } ∷ [])
 one_read lines names tables log line name table so is none named =
     let same : name ≡ table.info.name = named ∙ ap (λ (raw : RawTable). raw.name) (sym is.info) in
-    let entry : record { raw = line.raw; full = line.full } ≡ log_table table = ap₂ (λ (raw : RawTable) (full : Bool). let t : LogTable = record { raw = raw; full = full } in t) (sym is.info) (sym is.full) in
+    let entry : record { raw = record line.raw { version = 1 }; full = line.full } ≡ log_table table = ap₂ (λ (raw : RawTable) (full : Bool). let t : LogTable = record { raw = raw; full = full } in t) (sym is.info) (sym is.full) in
     record {
       read = record {
         are = zip_on IsTableOf lines tables line table so.read.are is;
         named = ap (λ (l : List TableName). l ++ name ∷ []) so.read.named ∙ ap (λ (n : TableName). map (λ (t : DemoTable). t.info.name) tables ++ n ∷ []) same ∙ sym (map-append (λ (t : DemoTable). t.info.name) tables (table ∷ []));
-        log_is = ap (λ (l : List LogTable). l ++ record { raw = line.raw; full = line.full } ∷ []) so.read.log_is ∙ ap (λ (e : LogTable). log_tables tables ++ e ∷ []) entry ∙ sym (map-append log_table tables (table ∷ []));
+        log_is = ap (λ (l : List LogTable). l ++ record { raw = record line.raw { version = 1 }; full = line.full } ∷ []) so.read.log_is ∙ ap (λ (e : LogTable). log_tables tables ++ e ∷ []) entry ∙ sym (map-append log_table tables (table ∷ []));
       };
       good = all_on (λ (other : ScriptTable). table_fault other.raw ≡ None) lines line so.good none;
     }

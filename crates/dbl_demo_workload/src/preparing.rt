@@ -73,11 +73,12 @@ fn read_table(alloc: Global, read: &mut TablesRead, line: ScriptTable) -> Result
     read.names.push(line.raw.name.copy(alloc)?)?;
     read.demo.push(demo_table(alloc, &line)?)?;
     let ScriptTable {
-        raw,
+        mut raw,
         full,
         toast: _,
         line: _,
     } = line;
+    raw.version = 1;
     read.log.push(LogTable { raw, full })?;
     Ok(())
 }

@@ -5,10 +5,10 @@ use Rattle.dbl_base.specs.declared.lsn.Lsn.{Lsn}
 use Rattle.dbl_base.specs.Streams.{FaultCounted}
 use Rattle.dbl_disk.specs.Model.{DiskModel}
 use Rattle.dbl_model_table.specs.declared.row.Key.{Key}
-use Rattle.dbl_model_table.specs.declared.table.RawRow.{RawRow}
 use Rattle.dbl_model_table.specs.declared.table.RawTable.{RawTable}
 use Rattle.dbl_model_table.specs.declared.table.TableName.{TableName}
 use Rattle.dbl_source.specs.ModelHistory.History.{entry_of}
+use Rattle.dbl_source.specs.SourceModel.declared.selected.Selected.{Selected}
 use Rattle.dbl_source.specs.SourceModel.declared.started.Started.{Started}
 use Rattle.dbl_source.specs.SourceModel.declared.started.Started.TheVariants.{Ready, Gone}
 use Rattle.dbl_journal.specs.Growth as journals
@@ -67,12 +67,13 @@ pub record AnswersStart {D : Type 0} (after : Lsn) (old new : Demo D) (started :
   pub place : new.place ≡ place_after after started
   pub ended : new.ended ≡ false
 
--- A call returned the rows after the first group.
+-- A call answered version 1 and the rows after the first group.
 pub record AnswersRows {D : Type 0} (model : DiskModel D) (table : TableName) (above : Option Key) (limit : ℕ) (old new : Demo D)
-    (rows : List RawRow) : Type 0 where
+    (answer : Selected) : Type 0 where
   pub reader : IsReaderKept old new
+  pub version : answer.version ≡ 1
   pub are : (wal : Wal) → IsDemo model wal old
-      → AreRowsShown wal.workload.tables (acts_at wal.workload (next_end old)) table above limit rows
+      → AreRowsShown wal.workload.tables (acts_at wal.workload (next_end old)) table above limit answer.rows
 
 -- A call returned no value.
 pub record AnswersNothing {D : Type 0} (old new : Demo D) (done : Unit {0}) : Type 0 where

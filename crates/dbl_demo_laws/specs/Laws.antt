@@ -5,7 +5,7 @@ use Rattle.dbl_disk.specs.Model.{DiskModel}
 use Rattle.dbl_pgmsg.specs.declared.messages.Message.{Message}
 use Rattle.dbl_pgmsg.specs.Grammar.{Spells}
 use Rattle.dbl_model_table.specs.declared.row.Key.{Key}
-use Rattle.dbl_model_table.specs.declared.table.RawRow.{RawRow}
+use Rattle.dbl_source.specs.SourceModel.declared.selected.Selected.{Selected}
 use Rattle.dbl_model_table.specs.declared.table.RawTable.{RawTable}
 use Rattle.dbl_model_table.specs.declared.table.TableName.{TableName}
 use Rattle.dbl_source.specs.ModelHistory.History.{IsRising}
@@ -69,10 +69,10 @@ EntriesAreWrittenAsPromised {D} model =
 -- The rows that a select takes between two groups keep the contract of every source.
 abbrev pub SelectsAnswerAsPromised : {D : Type 0} → DiskModel D → Type 0
 SelectsAnswerAsPromised {D} model =
-    (old new : Demo D) (wal : Wal) (table : TableName) (above : Option Key) (limit : ℕ) (rows : List RawRow) (s : SourceState)
+    (old new : Demo D) (wal : Wal) (table : TableName) (above : Option Key) (limit : ℕ) (answer : Selected) (s : SourceState)
     → IsDemo model wal old → HasDemoState model old s → Released model wal (second_end old) [] old new
-    → AnswersRows model table above limit old new rows
-    → HasState (HasDemoState model) new (IsSelectAnswer (Unit {0}) table above limit rows s)
+    → AnswersRows model table above limit old new answer
+    → HasState (HasDemoState model) new (IsSelectAnswer (Unit {0}) table above limit answer s)
 
 -- The promised result of a read: nothing is left, or the next message was taken.
 abbrev pub IsReadAsPromised : {D : Type 0} → DiskModel D → Demo D → SourceState → Option (List ℕ) → Type 0

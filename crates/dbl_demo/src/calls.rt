@@ -13,7 +13,7 @@ ghost use Rattle.dbl_source_model.specs.Calls.{Moved, IsMarked, Starts, HasReadO
 ghost use Rattle.dbl_source_model.specs.Calls.{HasReadAll, IsConfirmed};
 ghost use Rattle.dbl_source_model.specs.Leaves.{Leaves, LeavesSome, MayFollow};
 ghost use Rattle.dbl_source_model.specs.Leaves.{MayFollowMark, MayFollowConfirm};
-ghost use Rattle.dbl_source_model.specs.Trace.{Described, Head, Began, Read, Selected, Done};
+ghost use Rattle.dbl_source_model.specs.Trace.{Described, Head, Began, Read, RowsSelected, Done};
 ghost use Rattle.dbl_source_model.specs.Trace.{IsTakenBy, IsTakenAnew, LastAnswerIs, is_ready};
 ghost use Rattle.dbl_source_log.specs.Numbers.{lsn_of};
 ghost use Rattle.dbl_demo_wal.specs.CrashState.{added_by, with_entries};
@@ -29,9 +29,9 @@ ghost use Rattle.dbl_demo_laws.specs.Demo.{ExtendsDemo, IsDemo, HasDemoState};
 use crate::DemoSource;
 use dbl_base::{Bytes, Lsn, Text};
 use dbl_disk::Disk;
-use dbl_model_table::{Key, RawRow, RawTable, TableName};
+use dbl_model_table::{Key, RawTable, TableName};
 use dbl_source::{Source, SourceError};
-use dbl_source_model::Started;
+use dbl_source_model::{Selected, Started};
 
 impl<D: Disk> Source for DemoSource<D> {
     ghost use Rattle.std.specs.Prelude.{None, is_some};
@@ -206,26 +206,26 @@ impl<D: Disk> Source for DemoSource<D> {
         self.answer_read()
     }
 
-    // The rows are those between the two groups.
+    // The rows are those between the two groups, and the version is 1.
     fn select(
         &mut self,
         table: &TableName,
         above: Option<&Key>,
         limit: u32,
-    ) -> Result<Vec<RawRow>, SourceError>
+    ) -> Result<Selected, SourceError>
         requires live { IsTrue self.old.live }
         requires positive { 1 ≤ limit }
-        ensures selected { MovesTo (HasDemoState D.Disk) self.old self.new result (λ rows.
-            IsSelectAnswer (Unit {0}) table.now (option_copied above.entry) limit rows.items) }
+        ensures selected { MovesTo (HasDemoState D.Disk) self.old self.new result
+            (IsSelectAnswer (Unit {0}) table.now (option_copied above.entry) limit) }
         ensures shown { (wal : Wal) → IsDemo D.Disk wal self.old
-            → IfOk result (λ rows. AreRowsShown wal.workload.tables
+            → IfOk result (λ answer. AreRowsShown wal.workload.tables
             (acts_at wal.workload (next_end self.old)) table.now
-            (option_copied above.entry) limit rows.items) }
+            (option_copied above.entry) limit answer.rows) }
         ensures left { Leaves (HasDemoState D.Disk)
             (λ source l. MayLeaveWal D.Disk source.journal.disk l) self.old self.new MayFollow }
         ensures some { LeavesSome (HasDemoState D.Disk)
             (λ source l. MayLeaveWal D.Disk source.journal.disk l) self.old self.new }
-        ensures told { IfOk result (λ rows. LastAnswerIs None (Selected rows.items)) }
+        ensures told { IfOk result (λ answer. LastAnswerIs None (RowsSelected answer)) }
         ensures taken { IsTakenBy [] None None }
         ensures reading { is_some self.new.place ≡ is_some self.old.place }
         ensures ended { self.new.ended ≡ self.old.ended }

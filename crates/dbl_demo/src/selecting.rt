@@ -12,51 +12,57 @@ ghost use Rattle.dbl_demo_laws.specs.Calls.{next_end, second_end};
 ghost use Rattle.dbl_demo_laws.specs.Demo.{IsDemo};
 
 use crate::DemoSource;
+use dbl_base::Seq;
 use dbl_disk::Disk;
-use dbl_model_table::{Key, RawRow, TableName};
-use dbl_source::SourceError;
+use dbl_model_table::{Key, TableName};
+use dbl_source::{Selected, SourceError};
 use dbl_tables_rows::StepError;
 
 impl<D: Disk> DemoSource<D> {
-    fn rows_above(
+    fn selected_above(
         &self,
         table: &TableName,
         above: Option<&Key>,
         limit: u32,
-    ) -> Result<Vec<RawRow>, SourceError>
+    ) -> Result<Selected, SourceError>
         ensures rows { (tables : List DemoTable) (past : List Accepted) →
             Stands tables past self.now.store →
-            IfOk result (λ rows. AreRowsShown tables past table.now
-            (option_copied above.entry) limit rows.items) }
+            IfOk result (λ answer. AreRowsShown tables past table.now
+            (option_copied above.entry) limit answer.rows) }
+        ensures version { IfOk result (λ answer. answer.version ≡ 1) }
         ensures memory { IfErr result (λ e. e ≡ SourceError.Memory) }
     {
         match self.store.select(table, above, limit) {
-            Ok(rows) => Ok(rows.into_items()),
-            Err(StepError::UnknownTable) => Ok(Vec::new(self.alloc)),
+            Ok(rows) => Ok(Selected { version: 1, rows }),
+            Err(StepError::UnknownTable) => Ok(Selected {
+                version: 1,
+                rows: Seq::make(Vec::new(self.alloc)),
+            }),
             Err(_) => Err(SourceError::Memory),
         }
     }
 
-    /// Selects the rows between two groups.
+    /// Selects the rows between two groups. The version is 1.
     pub(crate) fn answer_select(
         &mut self,
         table: &TableName,
         above: Option<&Key>,
         limit: u32,
-    ) -> Result<Vec<RawRow>, SourceError>
+    ) -> Result<Selected, SourceError>
         requires { IsTrue self.old.live }
         ensures added { RunsStepsAndWrites D.Disk (second_end self.old) []
-            (λ new rows. IsReaderKept self.old new) self.old self.new result }
+            (λ new answer. IsReaderKept self.old new) self.old self.new result }
         ensures shown { (wal : Wal) → IsDemo D.Disk wal self.old
-            → IfOk result (λ rows. AreRowsShown wal.workload.tables
+            → IfOk result (λ answer. AreRowsShown wal.workload.tables
             (acts_at wal.workload (next_end self.old)) table.now
-            (option_copied above.entry) limit rows.items) }
+            (option_copied above.entry) limit answer.rows) }
+        ensures version { IfOk result (λ answer. answer.version ≡ 1) }
     {
         self.live = false;
         self.run_to_tick()?;
-        let rows = self.rows_above(table, above, limit)?;
+        let answer = self.selected_above(table, above, limit)?;
         self.run_to_tick()?;
         self.live = true;
-        Ok(rows)
+        Ok(answer)
     }
 }

@@ -49,7 +49,7 @@ planned_at work table ready unread =
       info = here.0;
       info_is = here.1;
       within = slice_get-lt work.offset.infos table here.0 here.1;
-      plan = record { info = here.0; table = table; above = unread.cursor.last; limit = work.chunk; incarnation = work.offset.incarnation; number = work.number + 1 };
+      plan = record { info = here.0; table = table; above = unread.cursor.last; limit = work.chunk; incarnation = work.offset.incarnation; number = work.number + 1; version = 1 };
       plan_is = ap (λ (o : Option TableInfo). plan_with work table o (slice_get work.follower.cursors table)) here.1 ∙ ap (λ (o : Option Cursor). plan_with work table (Some here.0) o) unread.cursor_is;
     }
 
@@ -59,7 +59,7 @@ planned_with : (work : SessionState) (table : ℕ) (info : Option TableInfo) (cu
 planned_with work table None cursor plan here is = cc
 planned_with work table (Some info) None plan here is = cc
 planned_with work table (Some info) (Some cursor) plan here is =
-    let same : plan ≡ record { info = info; table = table; above = cursor.last; limit = work.chunk; incarnation = work.offset.incarnation; number = work.number + 1 } = cc in
+    let same : plan ≡ record { info = info; table = table; above = cursor.last; limit = work.chunk; incarnation = work.offset.incarnation; number = work.number + 1; version = 1 } = cc in
     subst (IsPlanOfCaptured work.offset.infos) (sym same) here
 
 pub plan_planned : (work : SessionState) (table : ℕ) (plan : Plan) → plan_at work table ≡ Some plan → IsPlanOfCaptured work.offset.infos plan
@@ -72,11 +72,11 @@ plan_info work table info plan here is = by (slice_get work.follower.cursors tab
     by : (cursor : Option Cursor) → plan_with work table (Some info) cursor ≡ Some plan → plan.info ≡ info
     by None is = cc
     by (Some cursor) is =
-        let same : plan ≡ record { info = info; table = table; above = cursor.last; limit = work.chunk; incarnation = work.offset.incarnation; number = work.number + 1 } = cc in
+        let same : plan ≡ record { info = info; table = table; above = cursor.last; limit = work.chunk; incarnation = work.offset.incarnation; number = work.number + 1; version = 1 } = cc in
         ap (λ (p : Plan). p.info) same
 
 pub plan_made : (work : SessionState) (table : ℕ) (info : TableInfo) (cursor : Cursor) (plan : Plan) → slice_get work.offset.infos table ≡ Some info → slice_get work.follower.cursors table ≡ Some cursor
-    → plan ≡ record { info = info; table = table; above = cursor.last; limit = work.chunk; incarnation = work.offset.incarnation; number = work.number + 1 } → plan_at work table ≡ Some plan
+    → plan ≡ record { info = info; table = table; above = cursor.last; limit = work.chunk; incarnation = work.offset.incarnation; number = work.number + 1; version = 1 } → plan_at work table ≡ Some plan
 plan_made work table info cursor plan here at is =
     ap (λ (o : Option TableInfo). plan_with work table o (slice_get work.follower.cursors table)) here
     ∙ (ap (λ (o : Option Cursor). plan_with work table (Some info) o) at ∙ ap (λ (p : Plan). Some p) (sym is))

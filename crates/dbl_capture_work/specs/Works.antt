@@ -113,6 +113,7 @@ plan_with work table (Some info) (Some cursor) = Some (record {
   limit = work.chunk;
   incarnation = work.offset.incarnation;
   number = work.number + 1;
+  version = 1;
 })
 
 -- The plan of the next window of a captured table.

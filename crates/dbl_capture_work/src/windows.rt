@@ -114,6 +114,7 @@ fn window_of(work: &SessionState, table: u32) -> Result<Idle, AllocError>
         work.chunk,
         work.offset.incarnation,
         work.number + 1,
+        1,
     ))
 }
 

@@ -49,4 +49,4 @@ returns c =
     let at : slice_get work.follower.cursors table ≡ Some c.index-2.result.now =
     ap (λ (l : List Cursor). slice_get l table) (sym c.cursors.ensures.cursors) ∙ slice_get_read cursors (length cursors) table c.index-2.result.now refl two c.index-2.ensures in
     plan_made work table c.index.result.now c.index-2.result.now c.new.result here at
-    (c.new.ensures ∙ (λ i. record { info = c.in_ok-info.ensures i; table = table; above = c.in_ok-above.ensures i; limit = work.chunk; incarnation = work.offset.incarnation; number = work.number + 1 }))
+    (c.new.ensures ∙ (λ i. record { info = c.in_ok-info.ensures i; table = table; above = c.in_ok-above.ensures i; limit = work.chunk; incarnation = work.offset.incarnation; number = work.number + 1; version = 1 }))

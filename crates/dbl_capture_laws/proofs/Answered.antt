@@ -11,14 +11,14 @@ use Rattle.dbl_model_table.specs.declared.config.Config.{Config}
 use Rattle.dbl_model_table.specs.declared.error.ModelError.{ModelError}
 use Rattle.dbl_model_table.specs.declared.row.Key.{Key}
 use Rattle.dbl_model_table.specs.declared.row.Row.{Row}
-use Rattle.dbl_model_table.specs.declared.table.RawRow.{RawRow}
 use Rattle.dbl_model_table.specs.declared.table.RawTable.{RawTable}
 use Rattle.dbl_model_table.specs.declared.table.TableInfo.{TableInfo}
 use Rattle.dbl_model_table.specs.declared.table.TableName.{TableName}
 use Rattle.dbl_model_table.specs.Made.{table_fault}
 use Rattle.dbl_capture_work.specs.ModelHistory.declared.cursor.Cursor.{Cursor}
+use Rattle.dbl_capture_work.specs.SourceModel.declared.selected.Selected.{Selected}
 use Rattle.dbl_capture_work.specs.SourceModel.declared.started.Started.TheVariants.{Gone}
-use Rattle.dbl_capture_work.specs.SourceModel.Trace.{Trace, Began, Described, Head, Read, Selected, LastAnswerIs}
+use Rattle.dbl_capture_work.specs.SourceModel.Trace.{Trace, Began, Described, Head, Read, RowsSelected, LastAnswerIs}
 use Rattle.dbl_capture_work.proofs.FaithfulItems.{first_some}
 use Rattle.dbl_capture_work.specs.Offset.declared.offset.Offset.{Offset}
 use Rattle.dbl_capture_work.specs.Window.declared.error.WindowError.{WindowError}
@@ -84,17 +84,18 @@ failures_excuse config held stored report t ms h spelled failed = record {
 -- ---- rows
 
 -- one window is next
-abbrev planned : TableInfo → ℕ → Option Key → ℕ → ℕ → ℕ → Plan
-planned info table above limit incarnation number = record { info = info; table = table; above = above; limit = limit; incarnation = incarnation; number = number }
+abbrev planned : TableInfo → ℕ → Option Key → ℕ → ℕ → ℕ → ℕ → Plan
+planned info table above limit incarnation number version = record { info = info; table = table; above = above; limit = limit; incarnation = incarnation; number = number; version = version }
 
 one_plan : (config : Config) (report : Report) (o : Offset) (p q : Plan) → IsNextPlan config report o p → IsNextPlan config report o q → p ≡ q
 one_plan config report o p q one two =
-    ap (λ (i : TableInfo). planned i p.table p.above p.limit p.incarnation p.number) same_info
-    ∙ (ap (λ (n : ℕ). planned q.info n p.above p.limit p.incarnation p.number) same_table
-    ∙ (ap (λ (k : Option Key). planned q.info q.table k p.limit p.incarnation p.number) (one.above ∙ (ap (λ (c : Cursor). c.last) same_cursor ∙ sym two.above))
-    ∙ (ap (λ (n : ℕ). planned q.info q.table q.above n p.incarnation p.number) (one.limit ∙ sym two.limit)
-    ∙ (ap (λ (n : ℕ). planned q.info q.table q.above q.limit n p.number) (one.incarnation ∙ sym two.incarnation)
-    ∙ ap (λ (n : ℕ). planned q.info q.table q.above q.limit q.incarnation n) (one.number ∙ sym two.number)))))
+    ap (λ (i : TableInfo). planned i p.table p.above p.limit p.incarnation p.number p.version) same_info
+    ∙ (ap (λ (n : ℕ). planned q.info n p.above p.limit p.incarnation p.number p.version) same_table
+    ∙ (ap (λ (k : Option Key). planned q.info q.table k p.limit p.incarnation p.number p.version) (one.above ∙ (ap (λ (c : Cursor). c.last) same_cursor ∙ sym two.above))
+    ∙ (ap (λ (n : ℕ). planned q.info q.table q.above n p.incarnation p.number p.version) (one.limit ∙ sym two.limit)
+    ∙ (ap (λ (n : ℕ). planned q.info q.table q.above q.limit n p.number p.version) (one.incarnation ∙ sym two.incarnation)
+    ∙ (ap (λ (n : ℕ). planned q.info q.table q.above q.limit q.incarnation n p.version) (one.number ∙ sym two.number)
+    ∙ ap (λ (n : ℕ). planned q.info q.table q.above q.limit q.incarnation q.number n) (one.version ∙ sym two.version))))))
   where
     same_table : p.table ≡ q.table
     same_table = first_some p.table q.table (sym one.table ∙ two.table)
@@ -105,13 +106,13 @@ one_plan config report o p q one two =
     same_cursor : one.cursor ≡ two.cursor
     same_cursor = first_some one.cursor two.cursor (sym one.cursor_is ∙ (ap (λ (n : ℕ). slice_get o.cursors n) same_table ∙ two.cursor_is))
 
-same_rows : (xs ys : List RawRow) → Selected xs ≡ Selected ys → xs ≡ ys
-same_rows xs ys is = cc
+same_answers : (x y : Selected) → RowsSelected x ≡ RowsSelected y → x ≡ y
+same_answers x y is = cc
 
 same_error : (d e : WindowError) (r : Result (List (Key × Row)) WindowError) → r ≡ Err d → r ≡ Err e → d ≡ e
 same_error d e r one two = cc
 
-no_rows_gone : (rows : List RawRow) (first : Lsn) → Selected rows ≡ Began (Gone first) → ⊥
+no_rows_gone : (rows : Selected) (first : Lsn) → RowsSelected rows ≡ Began (Gone first) → ⊥
 no_rows_gone rows first is = cc
 
 module _ (config : Config) (held : Option Offset) (stored : Offset) (report : Report) (t : Trace) (ms : List Message) (spelled : AreSpelled t.read ms) where
@@ -122,12 +123,12 @@ module _ (config : Config) (held : Option Offset) (stored : Offset) (report : Re
     rows = λ answered s plan error is next read.
         let same_stored : w.stored.offset ≡ s.offset = first_some w.stored.offset s.offset (sym w.stored.is ∙ s.is) in
         let same_plan : w.plan ≡ plan = one_plan config report s.offset w.plan plan (subst (λ (o : Offset). IsNextPlan config report o w.plan) same_stored w.next) next in
-        let same_answer : w.rows.rows ≡ answered = same_rows w.rows.rows answered (sym (w.rows.told_so t refl) ∙ is) in
-        let error_is : w.error ≡ error = same_error w.error error (chunk_read plan answered) (sym (ap₂ (λ (p : Plan) (l : List RawRow). chunk_read p l) same_plan same_answer) ∙ w.rows.read_is) read in
+        let same_answer : w.rows.answer ≡ answered = same_answers w.rows.answer answered (sym (w.rows.told_so t refl) ∙ is) in
+        let error_is : w.error ≡ error = same_error w.error error (chunk_read plan answered.rows) (sym (ap₂ (λ (p : Plan) (a : Selected). chunk_read p a.rows) same_plan same_answer) ∙ w.rows.read_is) read in
         inl (inl (ap (λ (x : Halt). Err x) (w.is ∙ ap₂ (λ (n : TableName) (e : WindowError). window_halt n e) (sym w.name ∙ ap (λ (p : Plan). p.info.name) same_plan) error_is)));
     described = λ raw error none none_new is fault. absurd (stored_none stored none_new);
     unknown = λ none none_new is. absurd (stored_none stored none_new);
-    gone = λ first s is. absurd (no_rows_gone w.rows.rows first (sym (w.rows.told_so t refl) ∙ is));
+    gone = λ first s is. absurd (no_rows_gone w.rows.answer first (sym (w.rows.told_so t refl) ∙ is));
   }
 
 pub rows_ask : RowsAsk
@@ -153,7 +154,7 @@ rows_ask config now held first stored work report table t ms h o b absent unread
 
 -- ---- the newest bytes
 
-no_read_rows : (bytes : List ℕ) (rows : List RawRow) → Read (Some bytes) ≡ Selected rows → ⊥
+no_read_rows : (bytes : List ℕ) (rows : Selected) → Read (Some bytes) ≡ RowsSelected rows → ⊥
 no_read_rows bytes rows is = cc
 
 no_read_gone : (bytes : List ℕ) (first : Lsn) → Read (Some bytes) ≡ Began (Gone first) → ⊥
@@ -190,7 +191,7 @@ same_entry d e is = cc
 same_first : (d e : Lsn) → Began (Gone d) ≡ Began (Gone e) → d ≡ e
 same_first d e is = cc
 
-no_gone_rows : (first : Lsn) (rows : List RawRow) → Began (Gone first) ≡ Selected rows → ⊥
+no_gone_rows : (first : Lsn) (rows : Selected) → Began (Gone first) ≡ RowsSelected rows → ⊥
 no_gone_rows first rows is = cc
 
 one_table : (names : List TableName) → 1 ≤ length names → (name : TableName) × Contains names name

@@ -43,7 +43,7 @@ pub record PlanIs (work : SessionState) (table : ℕ) (plan : Plan) : Type 0 whe
   pub info_is : slice_get work.offset.infos table ≡ Some info
   pub cursor : Cursor
   pub cursor_is : slice_get work.follower.cursors table ≡ Some cursor
-  pub is : plan ≡ record { info = info; table = table; above = cursor.last; limit = work.chunk; incarnation = work.offset.incarnation; number = work.number + 1 }
+  pub is : plan ≡ record { info = info; table = table; above = cursor.last; limit = work.chunk; incarnation = work.offset.incarnation; number = work.number + 1; version = 1 }
 
 pub plan_parts : (work : SessionState) (table : ℕ) (plan : Plan) → plan_at work table ≡ Some plan → PlanIs work table plan
 plan_parts work table plan is = by (slice_get work.offset.infos table) (slice_get work.follower.cursors table) refl refl is
@@ -56,7 +56,7 @@ plan_parts work table plan is = by (slice_get work.offset.infos table) (slice_ge
       info_is = one;
       cursor = cursor;
       cursor_is = two;
-      is = sym (first_some (record { info = info; table = table; above = cursor.last; limit = work.chunk; incarnation = work.offset.incarnation; number = work.number + 1 }) plan e);
+      is = sym (first_some (record { info = info; table = table; above = cursor.last; limit = work.chunk; incarnation = work.offset.incarnation; number = work.number + 1; version = 1 }) plan e);
     }
 
 -- the window is the session's last one
@@ -237,6 +237,6 @@ info_here (info ∷ infos) (c ∷ cursors) (suc table) cursor are at = info_here
 pub plan_here : (work : SessionState) (table : ℕ) → HasReadyWork work → IsOpenTable work table → (plan : Plan) × (plan_at work table ≡ Some plan)
 plan_here work table ready unread =
     let here = info_here work.offset.infos work.follower.cursors table unread.cursor ready.is.cursors unread.cursor_is in (
-      record { info = here.0; table = table; above = unread.cursor.last; limit = work.chunk; incarnation = work.offset.incarnation; number = work.number + 1 },
+      record { info = here.0; table = table; above = unread.cursor.last; limit = work.chunk; incarnation = work.offset.incarnation; number = work.number + 1; version = 1 },
       ap (λ (o : Option TableInfo). plan_with work table o (slice_get work.follower.cursors table)) here.1 ∙ ap (λ (o : Option Cursor). plan_with work table (Some here.0) o) unread.cursor_is,
     )

@@ -4,11 +4,11 @@ use Rattle.std.specs.Prelude.{Contains, OnOk}
 use Rattle.dbl_base.specs.declared.lsn.Lsn.{Lsn}
 use Rattle.dbl_pgmsg.specs.declared.messages.Message.{Message}
 use Rattle.dbl_model_table.specs.declared.config.Config.{Config}
-use Rattle.dbl_model_table.specs.declared.table.RawRow.{RawRow}
 use Rattle.dbl_model_table.specs.declared.table.RawTable.{RawTable}
 use Rattle.dbl_model_table.specs.declared.table.TableName.{TableName}
+use Rattle.dbl_capture_work.specs.SourceModel.declared.selected.Selected.{Selected}
 use Rattle.dbl_capture_work.specs.SourceModel.declared.started.Started.TheVariants.{Gone}
-use Rattle.dbl_capture_work.specs.SourceModel.Trace.{Trace, Began, Done, Head, IsTakenBy, Read, Selected, LastAnswerIs}
+use Rattle.dbl_capture_work.specs.SourceModel.Trace.{Trace, Began, Done, Head, IsTakenBy, Read, RowsSelected, LastAnswerIs}
 use Rattle.dbl_capture_work.specs.Offset.declared.offset.Offset.{Offset}
 use Rattle.dbl_capture_work.specs.Offset.Offsets.{IsOffset}
 use Rattle.dbl_capture_work.specs.SourceLog.declared.error.SourceError.{SourceError}
@@ -36,13 +36,13 @@ use Rattle.dbl_capture_laws.proofs.Telling.{again_begins, first_begins, store_be
 
 -- ---- what was answered last
 
-done_rows : (rows : List RawRow) → Done ≡ Selected rows → ⊥
+done_rows : (rows : Selected) → Done ≡ RowsSelected rows → ⊥
 done_rows rows is = cc
 
 done_gone : (first : Lsn) → Done ≡ Began (Gone first) → ⊥
 done_gone first is = cc
 
-read_rows : (read : Option (List ℕ)) (rows : List RawRow) → Read read ≡ Selected rows → ⊥
+read_rows : (read : Option (List ℕ)) (rows : Selected) → Read read ≡ RowsSelected rows → ⊥
 read_rows read rows is = cc
 
 read_gone : (read : Option (List ℕ)) (first : Lsn) → Read read ≡ Began (Gone first) → ⊥

@@ -106,7 +106,7 @@ module _ (config : Config) (now : ℤ) (held : Option Offset) (first stored : Of
       Halting h = IsHalt config now held (Some stored) report told h
 
       abbrev planned : ℕ → TableInfo → Cursor → Plan
-      planned table i c = record { info = i; table = table; above = c.last; limit = work.chunk; incarnation = work.offset.incarnation; number = work.number + 1 }
+      planned table i c = record { info = i; table = table; above = c.last; limit = work.chunk; incarnation = work.offset.incarnation; number = work.number + 1; version = 1 }
 
       next_plan : (table : ℕ) (plan : Plan) (i : Option TableInfo) (c : Option Cursor) → work.follower.window ≡ Absent → IsOpenTable work table → slice_get work.offset.infos table ≡ i → slice_get work.follower.cursors table ≡ c
           → plan_with work table i c ≡ Some plan → IsNextPlan config report stored plan
@@ -122,6 +122,7 @@ module _ (config : Config) (now : ℤ) (held : Option Offset) (first stored : Of
             limit = o.most;
             incarnation = incarnation_stored;
             number = ap (λ (n : ℕ). n + 1) (none_more work.number report.chunks (subst (λ (w : Window). work.number ≡ report.chunks + waiting w) absent b.windows));
+            version = refl;
           })
 
       window_halts : (name : TableName) (plan : Plan) (error : WindowError) → IsNextPlan config report stored plan → plan.info.name ≡ name → IsOfRows plan told error → Halting (window_halt name error)

@@ -3,9 +3,9 @@ use Rattle.std.specs.Prelude.{◌≡◌, ◌⊎◌, ℕ, ℤ, ◌≤◌, ◌∷�
 use Rattle.dbl_base.specs.declared.lsn.Lsn.{Lsn}
 use Rattle.dbl_pgmsg.specs.declared.messages.Message.{Message}
 use Rattle.dbl_model_table.specs.declared.config.Config.{Config}
-use Rattle.dbl_model_table.specs.declared.table.RawRow.{RawRow}
+use Rattle.dbl_capture_work.specs.SourceModel.declared.selected.Selected.{Selected}
 use Rattle.dbl_capture_work.specs.SourceModel.declared.started.Started.TheVariants.{Gone}
-use Rattle.dbl_capture_work.specs.SourceModel.Trace.{Trace, Began, Head, Read, Selected, LastAnswerIs}
+use Rattle.dbl_capture_work.specs.SourceModel.Trace.{Trace, Began, Head, Read, RowsSelected, LastAnswerIs}
 use Rattle.dbl_capture_work.specs.Offset.declared.offset.Offset.{Offset}
 use Rattle.dbl_capture_work.specs.Follow.declared.window.Window.TheVariants.{Absent}
 use Rattle.dbl_capture_work.specs.declared.halt.Halt.{Halt}
@@ -26,7 +26,7 @@ use Rattle.dbl_capture_laws.specs.Carried.{IsNewestCause}
 abbrev pub QuietAnswersAskNothing : Type 0
 QuietAnswersAskNothing = (config : Config) (held : Option Offset) (stored : Offset) (report : Report) (t : Trace) (ms : List Message)
     (result : Result Ending Halt)
-    → AreSpelled t.read ms → ((rows : List RawRow) → t.answer ≡ Selected rows → ⊥)
+    → AreSpelled t.read ms → ((answer : Selected) → t.answer ≡ RowsSelected answer → ⊥)
     → ((first : Lsn) → t.answer ≡ Began (Gone first) → ⊥)
     → MustHalt config held (Some stored) report t result
 

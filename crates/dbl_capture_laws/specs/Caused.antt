@@ -2,11 +2,11 @@
 use Rattle.std.specs.Prelude.{◌≡◌, ℤ, Option, Some, Err, List}
 use Rattle.dbl_base.specs.declared.lsn.Lsn.{Lsn}
 use Rattle.dbl_model_table.specs.declared.config.Config.{Config}
-use Rattle.dbl_model_table.specs.declared.table.RawRow.{RawRow}
 use Rattle.dbl_capture_work.specs.Source.Model.{SourceModel}
+use Rattle.dbl_capture_work.specs.SourceModel.declared.selected.Selected.{Selected}
 use Rattle.dbl_capture_work.specs.SourceModel.declared.started.Started.TheVariants.{Gone}
 use Rattle.dbl_capture_work.specs.SourceModel.Standings.{SourceState}
-use Rattle.dbl_capture_work.specs.SourceModel.Trace.{Trace, Began, Selected}
+use Rattle.dbl_capture_work.specs.SourceModel.Trace.{Trace, Began, RowsSelected}
 use Rattle.dbl_capture_work.specs.Offset.declared.offset.Offset.{Offset}
 use Rattle.dbl_capture_work.specs.declared.halt.Halt.{Halt}
 use Rattle.dbl_capture_work.specs.declared.halt.Halt.TheVariants as halt
@@ -23,7 +23,7 @@ IsNotGone h = Unit {0}
 
 -- The source's last answer, if known, is neither rows nor that the log is gone.
 abbrev pub IsQuiet : Option Trace → Type 0
-IsQuiet told = (t : Trace) → told ≡ Some t → ((rows : List RawRow) → t.answer ≡ Selected rows → ⊥)
+IsQuiet told = (t : Trace) → told ≡ Some t → ((answer : Selected) → t.answer ≡ RowsSelected answer → ⊥)
     × ((first : Lsn) → t.answer ≡ Began (Gone first) → ⊥)
 
 -- Before a message is read, the error is the one that the source's last answer requires.

@@ -89,7 +89,7 @@ pub record EndsCommit (infos : List TableInfo) (reading : Reading) (commit : Com
 
 -- ---- windows
 
--- The plan of the next window: of the first unfinished table, after its cursor, with at most `chunk` rows and the next number.
+-- The plan of the next window: of the first unfinished table, after its cursor, with at most `chunk` rows and the next number, of version 1.
 pub record IsNextPlan (config : Config) (report : Report) (offset : Offset) (plan : Plan) : Type 0 where
   pub table : position (λ cursor. not cursor.done) offset.cursors ≡ Some plan.table
   pub info : slice_get offset.infos plan.table ≡ Some plan.info
@@ -99,6 +99,7 @@ pub record IsNextPlan (config : Config) (report : Report) (offset : Offset) (pla
   pub limit : plan.limit ≡ config.chunk
   pub incarnation : plan.incarnation ≡ offset.incarnation
   pub number : plan.number ≡ report.chunks + 1
+  pub version : plan.version ≡ 1
 
 -- The error of the next window, by the rows that the source returned.
 pub record IsWindowHalt (config : Config) (old new : Option Offset) (report : Report) (told : Option Trace) (table : TableName)

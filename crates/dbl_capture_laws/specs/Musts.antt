@@ -10,7 +10,6 @@ use Rattle.dbl_model_table.specs.declared.error.ModelError.{ModelError}
 use Rattle.dbl_model_table.specs.declared.change.Body.TheVariants.{Changes}
 use Rattle.dbl_model_table.specs.declared.change.Change.{Change}
 use Rattle.dbl_model_table.specs.declared.change.Commit.{Commit}
-use Rattle.dbl_model_table.specs.declared.table.RawRow.{RawRow}
 use Rattle.dbl_model_table.specs.declared.table.RawTable.{RawTable}
 use Rattle.dbl_model_table.specs.declared.table.TableName.{TableName}
 use Rattle.dbl_model_table.specs.Made.{table_fault}
@@ -18,9 +17,10 @@ use Rattle.dbl_capture_work.specs.ModelCommit.declared.txn_error.TxnError.{TxnEr
 use Rattle.dbl_capture_work.specs.ModelEvent.Clashes.{Clash, clash_of}
 use Rattle.dbl_capture_work.specs.ModelEvent.EventJson.{envelopes}
 use Rattle.dbl_capture_work.specs.ModelHistory.History.{History}
+use Rattle.dbl_capture_work.specs.SourceModel.declared.selected.Selected.{Selected}
 use Rattle.dbl_capture_work.specs.SourceModel.Standings.{Reading, SourceState}
 use Rattle.dbl_capture_work.specs.SourceModel.declared.started.Started.TheVariants.{Gone}
-use Rattle.dbl_capture_work.specs.SourceModel.Trace.{Trace, Began, Described, Selected}
+use Rattle.dbl_capture_work.specs.SourceModel.Trace.{Trace, Began, Described, RowsSelected}
 use Rattle.dbl_capture_work.specs.Offset.declared.offset.Offset.{Offset}
 use Rattle.dbl_capture_work.specs.Window.declared.error.WindowError.{WindowError}
 use Rattle.dbl_capture_work.specs.Window.Plans.{Plan}
@@ -79,8 +79,8 @@ pub record MustHalt (config : Config) (old new : Option Offset) (report : Report
   pub message : (number : ℕ) (error : MsgError) → length t.read ≡ report.messages → IsMessageFault t.read number error
       → HaltsWith (halt.Message number error) result
   -- The rows of the next window require the error of their first fault.
-  pub rows : (answered : List RawRow) (stored : HasStored config old new) (plan : Plan) (error : WindowError)
-      → t.answer ≡ Selected answered → IsNextPlan config report stored.offset plan → chunk_read plan answered ≡ Err error
+  pub rows : (answered : Selected) (stored : HasStored config old new) (plan : Plan) (error : WindowError)
+      → t.answer ≡ RowsSelected answered → IsNextPlan config report stored.offset plan → chunk_read plan answered.rows ≡ Err error
       → HaltsOrFails (window_halt plan.info.name error) result
   pub described : (raw : RawTable) (error : ModelError) → old ≡ None → new ≡ None → t.answer ≡ Described (Some raw)
       → table_fault raw ≡ Some error → HaltsOrFails (halt.Model error) result

@@ -33,11 +33,12 @@ mark : (lsn : ℕ) → lsn < 2 ^ 64 → IsRawCommitInRange (example_raw_commit l
 mark lsn lt = record { lsn = lt; end_lsn = lt; time = at_zero; xid = omega arith; body = (marks_short 2 1 Low (omega arith) (omega arith)).0 }
 
 fit_one : IsFitHistory one_commit
-fit_one = record { ranges = record { tables = tt; commits = (quiet 1 (omega arith), tt) }; rising = (omega arith, tt); distinct = refl; known = (tt, tt); fit = λ infos are. tt }
+fit_one = record { ranges = record { tables = tt; commits = (quiet 1 (omega arith), tt) }; opening = tt; rising = (omega arith, tt); distinct = refl; known = (tt, tt); fit = λ infos are. tt }
 
 fit_two : IsFitHistory two_commits
 fit_two = record {
   ranges = record { tables = tt; commits = (quiet 1 (omega arith), (quiet 2 (omega arith), tt)) };
+  opening = tt;
   rising = (omega arith, (omega arith, tt));
   distinct = refl;
   known = (tt, (tt, tt));
@@ -47,6 +48,7 @@ fit_two = record {
 fit_marked : IsFitHistory marked
 fit_marked = record {
   ranges = record { tables = tt; commits = (quiet 1 (omega arith), (quiet 2 (omega arith), (mark 3 (omega arith), tt))) };
+  opening = tt;
   rising = (omega arith, (omega arith, (omega arith, tt)));
   distinct = refl;
   known = (tt, (tt, (tt, tt)));

@@ -14,7 +14,7 @@ use Rattle.dbl_model_table.specs.declared.table.TableInfo.{TableInfo}
 use Rattle.dbl_model_table.specs.declared.table.TableKey.{TableKey}
 use Rattle.dbl_model_table.specs.declared.table.TableName.{TableName}
 use Rattle.dbl_model_table.specs.Tables.{same_name, is_watermark}
-use Rattle.dbl_model_table.specs.Infos.{catalogue_of, IsInfoOf}
+use Rattle.dbl_model_table.specs.Infos.{catalogue_of}
 use Rattle.dbl_model_commit.specs.Past.{table_named, HasNoRelation}
 use Rattle.dbl_model_commit.specs.Stated.{list_of}
 use Rattle.dbl_model_table.proofs.InfoLemmas.{one_info}
@@ -110,7 +110,7 @@ pub captured_still : (keys : List TableKey) (m : Message) (ms : List Message) (i
 captured_still keys m ms infos captured none = captured ∙ sym (ap (λ (o : Option RawTable). tables_in keys ms ++ list_of o) none ∙ append-nil (tables_in keys ms))
 
 -- and one that describes one
-pub captured_more : (keys : List TableKey) (m : Message) (ms : List Message) (infos : List TableInfo) (info : TableInfo) (raw : RawTable) → AreCaptured keys ms infos → table_told keys (tables_in keys ms) m ≡ Some raw → IsInfoOf raw info
+pub captured_more : (keys : List TableKey) (m : Message) (ms : List Message) (infos : List TableInfo) (info : TableInfo) (raw : RawTable) → AreCaptured keys ms infos → table_told keys (tables_in keys ms) m ≡ Some raw → catalogue_of info ≡ raw
     → AreCaptured keys (m ∷ ms) (infos ++ info ∷ [])
 captured_more keys m ms infos info raw captured told is =
     map-append catalogue_of infos (info ∷ []) ∙ ap₂ (λ (a b : List RawTable). a ++ b) captured (ap (λ (r : RawTable). r ∷ []) is) ∙ sym (ap (λ (o : Option RawTable). tables_in keys ms ++ list_of o) told)

@@ -88,7 +88,7 @@ module _ (options : LogOptions) (ms : List Message) (r : Replayer) (oid identity
   pub learn_none : (entry : RawTable) (info : TableInfo) → test ≡ true → entry ≡ entry_of options.keys (record { schema = s; name = n }) columns → IsInfoOf entry info → HasNoRelation info.name ms
   learn_none entry info new entry_told info_told =
       let none = new_has_none options.keys ms follows.infos (table_named ns nm) test follows.captured (test_is s n ns nm items follows.infos test schema name same is) new in
-      subst (λ (t : RawTable). HasNoRelation t.name ms) (sym (info_told ∙ entry_is options.keys s n ns nm columns entry schema name entry_told)) none
+      subst (λ (t : RawTable). HasNoRelation t.name ms) (sym (info_told ∙ ap (λ (r : RawTable). record r { version = 1 }) (entry_is options.keys s n ns nm columns entry schema name entry_told))) none
 
   -- and it is captured now
   pub learn_more : (entry : RawTable) (count : ℕ) (info : TableInfo) (t : Replayer) → test ≡ true → entry ≡ entry_of options.keys (record { schema = s; name = n }) columns → count ≡ length items → IsInfoOf entry info
@@ -104,7 +104,7 @@ module _ (options : LogOptions) (ms : List Message) (r : Replayer) (oid identity
           capturable = ap (option_and_then (capture_fault (length (tables_in options.keys ms)))) told ∙ ap₂ capture_fault (sym count_told)
               (sym entry_same) ∙ clean;
           captured = captured_more options.keys (says.Relation oid ns nm identity columns) ms follows.infos info
-              (entry_of options.keys (table_named ns nm) columns) follows.captured told (info_told ∙ entry_same);
+              (entry_of options.keys (table_named ns nm) columns) follows.captured told (info_told ∙ ap (λ (r : RawTable). record r { version = 1 }) entry_same);
         };
       }
 

@@ -39,7 +39,7 @@ key_names_of (key ∷ keys) name columns = if same_name key.table name then key.
 
 -- The catalogue's entry that a Relation describes, with the keys of the options.
 abbrev pub entry_of : List TableKey → TableName → List RelationColumn → RawTable
-entry_of keys name columns = record { name = name; columns = map raw_column_of columns; key = key_names_of keys name columns }
+entry_of keys name columns = record { name = name; columns = map raw_column_of columns; key = key_names_of keys name columns; version = 1 }
 
 -- Whether a table of the list has this name.
 abbrev pub is_among : TableName → List RawTable → Bool

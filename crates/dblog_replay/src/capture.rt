@@ -115,6 +115,7 @@ pub fn entry_of(
         },
         columns: Seq::make(raw_columns),
         key: Seq::make(key),
+        version: 1,
     })
 }
 

@@ -48,7 +48,7 @@ text_public = IsUtf8-are_ascii (codes "public") refl
 
 ranges : HasRanges example_history
 ranges = record {
-  tables = (record { name = record { schema = text_public; name = text_t }; columns = (record { name = text_k; oid = omega arith }, tt); key = (text_k, tt) }, tt);
+  tables = (record { name = record { schema = text_public; name = text_t }; columns = (record { name = text_k; oid = omega arith }, tt); key = (text_k, tt); version = (omega arith, omega arith) }, tt);
   commits = (record { lsn = omega arith; end_lsn = omega arith; time = at_zero; xid = omega arith; body = (omega arith, ((record { schema = text_public; name = text_t }, (text_a, tt)), tt)) }, tt);
 }
 
@@ -77,6 +77,7 @@ fit_each (a ∷ b ∷ infos) distinct each =
 fit : IsFitHistory example_history
 fit = record {
   ranges = ranges;
+  opening = (refl, tt);
   rising = (omega arith, tt);
   distinct = refl;
   known = ((refl, tt), tt);

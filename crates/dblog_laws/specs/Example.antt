@@ -47,7 +47,7 @@ example_log = map spelling example_messages
 
 -- The example's table in the catalogue.
 abbrev pub example_entry : RawTable
-example_entry = record { name = example_name; columns = record { name = codes "k"; oid = 25 } ∷ []; key = codes "k" ∷ [] }
+example_entry = record { name = example_name; columns = record { name = codes "k"; oid = 25 } ∷ []; key = codes "k" ∷ []; version = 1 }
 
 -- The example's table as it is captured.
 abbrev pub example_table : TableInfo

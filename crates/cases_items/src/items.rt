@@ -56,6 +56,7 @@ pub fn raw_table(alloc: Global, fields: &str) -> Result<RawTable> {
         name,
         columns: Seq::make(columns),
         key: Seq::make(key),
+        version: 1,
     })
 }
 

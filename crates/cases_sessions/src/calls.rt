@@ -98,7 +98,8 @@ fn select<S: Source>(
     }
     let table = items::table_name(alloc, items::field(fields, 0))?;
     let above = above(alloc, items::field(fields, 1))?;
-    shown::rows(answers, &source.select(&table, above.as_ref(), limit)?)
+    let selected = source.select(&table, above.as_ref(), limit)?;
+    shown::rows(answers, selected.rows.items())
 }
 
 fn mark<S: Source>(alloc: Global, source: &mut S, word: &str, answers: &mut String) -> Result<()>

@@ -13,7 +13,7 @@ use cases_items::{items, messages, words};
 use dbl_base::Seq;
 use dbl_model_table::{RawRow, RawTable};
 use dbl_pgmsg::Message;
-use dbl_source::{Move, ScriptedSource};
+use dbl_source::{Move, ScriptedSource, Selected};
 use std::alloc::Global;
 
 // What an item has after a word, up to the words that may follow it.
@@ -88,13 +88,16 @@ fn rows(alloc: Global, words: &str) -> Result<Vec<RawRow>> {
     Ok(list)
 }
 
-// The rows of each select.
-fn selected_rows(alloc: Global, script: &str) -> Result<Vec<Vec<RawRow>>> {
+// The answer of each select, of version 1.
+fn selected_rows(alloc: Global, script: &str) -> Result<Vec<Selected>> {
     let mut list = Vec::new(alloc);
     for item in script.split(" | ") {
         if item.starts_with("select/") {
             let (_, words) = words::split(item, " rows ");
-            list.push(rows(alloc, words)?)?;
+            list.push(Selected {
+                version: 1,
+                rows: Seq::make(rows(alloc, words)?),
+            })?;
         }
     }
     Ok(list)
@@ -110,24 +113,29 @@ pub fn numbers(alloc: Global, asked: &str, kind: &str) -> Result<Vec<u64>> {
     Ok(list)
 }
 
-// A table of the catalogue has a schema.
+// A table of the catalogue has a schema, and version 1.
 fn table(alloc: Global, fields: &str) -> Result<RawTable>
-    ensures { IfOk result (λ raw. raw.name.schema ≢ []) }
+    ensures schema { IfOk result (λ raw. raw.name.schema ≢ []) }
+    ensures version { IfOk result (λ raw. raw.version ≡ 1) }
 {
-    let raw = items::raw_table(alloc, fields)?;
+    let mut raw = items::raw_table(alloc, fields)?;
     if raw.name.schema.as_str() == "" {
         bail!("no schema");
     }
+    raw.version = 1;
     Ok(raw)
 }
 
 fn one(alloc: Global, first: RawTable) -> Result<Vec<RawTable>>
-    requires { first.name.schema ≢ [] }
+    requires schema { first.name.schema ≢ [] }
+    requires version { first.version ≡ 1 }
     ensures few { IfOk result (λ tables. length tables.items < 2 ^ 31) }
     ensures distinct { IfOk result (λ tables.
         IsTrue (are_distinct same_name (map (λ raw. raw.name) tables.items))) }
     ensures schemas { IfOk result (λ tables.
         AllByRecursion (λ raw. raw.name.schema ≢ []) tables.items) }
+    ensures versions { IfOk result (λ tables.
+        AllByRecursion (λ raw. raw.version ≡ 1) tables.items) }
 {
     let mut list = Vec::new(alloc);
     list.push(first)?;
@@ -137,11 +145,15 @@ fn one(alloc: Global, first: RawTable) -> Result<Vec<RawTable>>
 fn two(alloc: Global, first: RawTable, other: RawTable) -> Result<Vec<RawTable>>
     requires first { first.name.schema ≢ [] }
     requires other { other.name.schema ≢ [] }
+    requires first_version { first.version ≡ 1 }
+    requires other_version { other.version ≡ 1 }
     ensures few { IfOk result (λ tables. length tables.items < 2 ^ 31) }
     ensures distinct { IfOk result (λ tables.
         IsTrue (are_distinct same_name (map (λ raw. raw.name) tables.items))) }
     ensures schemas { IfOk result (λ tables.
         AllByRecursion (λ raw. raw.name.schema ≢ []) tables.items) }
+    ensures versions { IfOk result (λ tables.
+        AllByRecursion (λ raw. raw.version ≡ 1) tables.items) }
 {
     if first.name == other.name {
         drop(first);
@@ -161,6 +173,8 @@ fn tables(alloc: Global, asked: &str) -> Result<Vec<RawTable>>
         IsTrue (are_distinct same_name (map (λ raw. raw.name) tables.items))) }
     ensures schemas { IfOk result (λ tables.
         AllByRecursion (λ raw. raw.name.schema ≢ []) tables.items) }
+    ensures versions { IfOk result (λ tables.
+        AllByRecursion (λ raw. raw.version ≡ 1) tables.items) }
 {
     let first = table(alloc, items::first_of(asked, "t/").unwrap_or(""))?;
     match items::first_of(asked, "u/") {

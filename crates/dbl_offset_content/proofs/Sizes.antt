@@ -1,11 +1,10 @@
 -- How long the parts of an entry are, and how a loop adds them up or writes them.
-use Rattle.std.proofs.Common.{◌≡◌, ℕ, ℤ, suc, ◌+◌, ◌*◌, ◌^◌, ◌<◌, ◌≤◌, List, [], ◌∷◌, ◌++◌, length, get_or, drop, Some, None, refl, sym, ap, subst, ◌∙◌, append_assoc, arith}
+use Rattle.std.proofs.Common.{◌≡◌, ℕ, ℤ, zero, suc, ◌+◌, ◌*◌, ◌^◌, ◌<◌, ◌≤◌, List, [], ◌∷◌, ◌++◌, length, get_or, drop, Some, None, refl, sym, ap, subst, ◌∙◌, append_assoc, arith}
 use Rattle.std.specs.Prelude.{FitsSigned}
 use Rattle.std.specs.Int.{w64, cast_unsigned}
-use Rattle.std.specs.List.{flat_map, zip, AllByRecursion}
+use Rattle.std.specs.List.{flat_map, AllByRecursion}
 use Rattle.std.proofs.lemmas.List.{length-append}
 use Rattle.std.proofs.lemmas.List.Elements.{All-from_recursion, All-get_or}
-use Rattle.std.proofs.lemmas.Slice.Zip.{get_or-zip, length-zip}
 use Rattle.dbl_value.specs.declared.value.Val.{Val}
 use Rattle.dbl_value.specs.declared.value.Val.TheVariants as val
 use Rattle.dbl_value.specs.Types.{oid_of}
@@ -16,8 +15,9 @@ use Rattle.dbl_model_table.specs.declared.table.TableInfo.{TableInfo}
 use Rattle.dbl_model_table.specs.declared.identity.Identity.{Identity}
 use Rattle.dbl_model_table.specs.declared.row.Key.{Key}
 use Rattle.dbl_model_history.specs.declared.cursor.Cursor.{Cursor}
+use Rattle.dbl_offset_content.specs.declared.entry.TableEntry.{TableEntry}
 use Rattle.dbl_offset_content.specs.declared.offset.Offset.{Offset}
-use Rattle.dbl_offset_content.specs.Entries.{counted, names, column, table, cell, last_key_form, cursor, entry, tables_with_cursors, offset_bytes_form, FitsNames, FitsTableColumn, FitsTable, FitsKeyCell, FitsCursor, FitsTableCursor, FitsOffset}
+use Rattle.dbl_offset_content.specs.Entries.{counted, names, column, version_form, table, cell, last_key_form, cursor, entry, entries_of, tables_with_cursors, bytes_in_format, FitsNames, FitsTableColumn, FitsTable, FitsKeyCell, FitsCursor, FitsTableCursor, FitsOffset}
 use Rattle.dbl_offset_content.specs.Measures.{capped, Measures}
 
 -- ---- sizes
@@ -38,9 +38,13 @@ pub places_size : (key : List ℕ) → length (flat_map number32 key) ≡ length
 places_size [] = refl
 places_size (place ∷ key) = omega (arith, number32_size place, places_size key, length-append (number32 place) (flat_map number32 key))
 
-pub table_size : (info : TableInfo) → length (table info) ≡ length (text_form info.name.schema) + length (text_form info.name.name) + (4 + length (flat_map column info.columns)) + length (counted number32 info.key)
+pub version_size : (version : ℕ) → length (version_form 2 version) ≡ 8
+unfolding version_form
+version_size version = number64_size version
+
+pub table_size : (info : TableInfo) (version : ℕ) → length (table 2 info version) ≡ length (text_form info.name.schema) + length (text_form info.name.name) + 8 + (4 + length (flat_map column info.columns)) + length (counted number32 info.key)
 unfolding table
-table_size info = simp (length-append, counted_size column info.columns) refl
+table_size info version = simp (length-append, version_size version, counted_size column info.columns) refl
 
 -- each column has some bytes, so there are no more columns than bytes
 pub columns_few : (columns : List Column) → length columns ≤ length (flat_map column columns)
@@ -111,18 +115,22 @@ pub key_measured : (before a c : ℕ) (x : Cursor) (key : Key) → x.last ≡ So
 unfolding cursor last_key_form
 key_measured before a c x key some h m = rw some (record { long = omega (arith, h, m.long); fits = m.fits })
 
-pub table_measured : (before schema name a columns c : ℕ) (info : TableInfo) → Measures before (length (text_form info.name.schema)) (IsStored info.name.schema) schema → Measures schema (length (text_form info.name.name)) (IsStored info.name.name) name
-    → a ≡ capped (name + 4) → Measures a (length (flat_map column info.columns)) (AllByRecursion FitsTableColumn info.columns) columns
-    → Measures columns (length (counted number32 info.key)) ((length info.key < 2 ^ 32) × AllByRecursion (λ place. place < 2 ^ 32) info.key) c → Measures before (length (table info)) (FitsTable info) c
-table_measured before schema name a columns c info of_schema of_name h of_columns of_key =
+pub version_measured : (before c version : ℕ) → version < 2 ^ 64 → c ≡ capped (before + 8) → Measures before (length (version_form 2 version)) (version < 2 ^ 64) c
+version_measured before c version small h = record { long = omega (arith, h, version_size version); fits = λ le. small }
+
+pub table_measured : (before schema name number a columns c : ℕ) (info : TableInfo) (version : ℕ) → Measures before (length (text_form info.name.schema)) (IsStored info.name.schema) schema → Measures schema (length (text_form info.name.name)) (IsStored info.name.name) name
+    → Measures name (length (version_form 2 version)) (version < 2 ^ 64) number → a ≡ capped (number + 4) → Measures a (length (flat_map column info.columns)) (AllByRecursion FitsTableColumn info.columns) columns
+    → Measures columns (length (counted number32 info.key)) ((length info.key < 2 ^ 32) × AllByRecursion (λ place. place < 2 ^ 32) info.key) c → Measures before (length (table 2 info version)) (FitsTable info) c
+table_measured before schema name number a columns c info version of_schema of_name of_version h of_columns of_key =
     let below : columns ≤ c = omega (arith, of_columns.long, of_key.long) in
-    let named : name ≤ columns = omega (arith, of_name.long, h, of_columns.long) in
+    let numbered : number ≤ columns = omega (arith, of_version.long, h, of_columns.long) in
+    let named : name ≤ number = omega (arith, of_name.long, of_version.long) in
     let first : schema ≤ name = omega (arith, of_schema.long, of_name.long) in
     record {
-      long = omega (arith, table_size info, of_schema.long, of_name.long, h, of_columns.long, of_key.long);
+      long = omega (arith, table_size info version, version_size version, of_schema.long, of_name.long, of_version.long, h, of_columns.long, of_key.long);
       fits = λ le. record {
-        schema = of_schema.fits (omega (arith, first, named, below, le));
-        name = of_name.fits (omega (arith, named, below, le));
+        schema = of_schema.fits (omega (arith, first, named, numbered, below, le));
+        name = of_name.fits (omega (arith, named, numbered, below, le));
         columns = omega (arith, columns_few info.columns, of_columns.long, below, le);
         each = of_columns.fits (omega (arith, below, le));
         key = (of_key.fits le).0;
@@ -130,19 +138,41 @@ table_measured before schema name a columns c info of_schema of_name h of_column
       };
     }
 
-pub zip_at : {A B : Type 0} (xs : List A) (ys : List B) (i : ℕ) (x : A) (y : B) → length ys ≡ length xs → i < length xs → x ≡ get_or xs i x → y ≡ get_or ys i y → (x, y) ≡ get_or (zip xs ys) i (x, y)
-zip_at xs ys i x y long lt first second = λ j. sym (get_or-zip xs ys i (x, y) lt (omega (arith, long)) ∙ (λ k. (sym first k, sym second k))) j
+-- a table with its version and its progress
+pub entry_measured : (before a c : ℕ) (t : TableEntry) → Measures before (length (table 2 t.info t.version)) (FitsTable t.info) a → Measures a (length (cursor t.cursor)) (FitsCursor t.cursor) c → Measures before (length (entry 2 t)) (FitsTableCursor t) c
+entry_measured before a c t of_table of_cursor =
+    weaker before _ _ c _ _ (sym (length-append (table 2 t.info t.version) (cursor t.cursor))) (λ p. p) (both before (length (table 2 t.info t.version)) a (length (cursor t.cursor)) c (FitsTable t.info) (FitsCursor t.cursor) of_table of_cursor)
 
-pub zip_long : {A B : Type 0} (xs : List A) (ys : List B) → length ys ≡ length xs → length (zip xs ys) ≡ length xs
-zip_long xs ys long = omega (arith, length-zip xs ys, long)
+pub entries_long : (infos : List TableInfo) (versions : List ℕ) (cursors : List Cursor) → length versions ≡ length infos → length cursors ≡ length infos → length (entries_of infos versions cursors) ≡ length infos
+entries_long [] versions cursors many long = refl
+entries_long (info ∷ infos) [] cursors many long = absurd (omega (arith, many))
+entries_long (info ∷ infos) (v ∷ versions) [] many long = absurd (omega (arith, long))
+entries_long (info ∷ infos) (v ∷ versions) (c ∷ cursors) many long = ap suc (entries_long infos versions cursors (omega (arith, many)) (omega (arith, long)))
+
+abbrev pub entry_made : TableInfo → ℕ → Cursor → TableEntry
+entry_made info version c = record { info = info; version = version; cursor = c }
+
+-- the entry at an index has what the lists have there
+entry_from : (infos : List TableInfo) (versions : List ℕ) (cursors : List Cursor) (i : ℕ) (info : TableInfo) (v : ℕ) (c : Cursor) → length versions ≡ length infos → length cursors ≡ length infos → i < length infos
+    → get_or (entries_of infos versions cursors) i (entry_made info v c) ≡ entry_made (get_or infos i info) (get_or versions i v) (get_or cursors i c)
+entry_from [] versions cursors i info v c many long lt = absurd (omega (arith, lt))
+entry_from (x ∷ infos) [] cursors i info v c many long lt = absurd (omega (arith, many))
+entry_from (x ∷ infos) (w ∷ versions) [] i info v c many long lt = absurd (omega (arith, long))
+entry_from (x ∷ infos) (w ∷ versions) (d ∷ cursors) zero info v c many long lt = refl
+entry_from (x ∷ infos) (w ∷ versions) (d ∷ cursors) (suc i) info v c many long lt = entry_from infos versions cursors i info v c (omega (arith, many)) (omega (arith, long)) (omega (arith, lt))
+
+pub entry_at : (infos : List TableInfo) (versions : List ℕ) (cursors : List Cursor) (i : ℕ) (info : TableInfo) (v : ℕ) (c : Cursor) → length versions ≡ length infos → length cursors ≡ length infos → i < length infos
+    → info ≡ get_or infos i info → v ≡ get_or versions i v → c ≡ get_or cursors i c → entry_made info v c ≡ get_or (entries_of infos versions cursors) i (entry_made info v c)
+entry_at infos versions cursors i info v c many long lt first second third =
+    sym (entry_from infos versions cursors i info v c many long lt ∙ (λ k. entry_made (sym first k) (sym second k) (sym third k)))
 
 -- the fields after the format's number
-pub spelling_size : (o : Offset) → length (offset_bytes_form o) ≡ 1 + length (names o.identity) + 36 + length (flat_map entry (tables_with_cursors o))
-unfolding offset_bytes_form
+pub spelling_size : (o : Offset) → length (bytes_in_format 2 o) ≡ 1 + length (names o.identity) + 36 + length (flat_map (entry 2) (tables_with_cursors o))
+unfolding bytes_in_format
 spelling_size o = simp (length-append, number64_size, counted_size) (omega arith)
 
 pub offset_measured : (a b c : ℕ) (o : Offset) → Measures 1 (length (names o.identity)) (FitsNames o.identity) a → Measures a 36 ((o.start.0 < 2 ^ 64) × (o.lsn.0 < 2 ^ 64) × (o.end_lsn.0 < 2 ^ 64)) b
-    → Measures b (length (flat_map entry (tables_with_cursors o))) (AllByRecursion FitsTableCursor (tables_with_cursors o)) c → Measures 0 (length (offset_bytes_form o)) (FitsOffset o) c
+    → Measures b (length (flat_map (entry 2) (tables_with_cursors o))) (AllByRecursion FitsTableCursor (tables_with_cursors o)) c → Measures 0 (length (bytes_in_format 2 o)) (FitsOffset o) c
 offset_measured a b c o of_names of_numbers of_tables =
     let below : b ≤ c = omega (arith, of_numbers.long, of_tables.long) in
     let first : a ≤ b = omega (arith, of_names.long, of_numbers.long) in
@@ -163,7 +193,7 @@ pub held_at : {A : Type 0} (P : A → Type 0) (xs : List A) (i : ℕ) (x : A) �
 held_at P xs i x all lt is = subst P (sym is) (All-get_or P xs i x lt (All-from_recursion P xs all))
 
 -- the parts of an offset, each written after the others and what stood there
-pub written_whole : (offset : Offset) (old a b c d e f g h : List ℕ) → a ≡ old ++ 1 ∷ [] → b ≡ a ++ names offset.identity → c ≡ b ++ number64 offset.incarnation → d ≡ c ++ number64 offset.start.0 → e ≡ d ++ number64 offset.lsn.0 → f ≡ e ++ number64 offset.end_lsn.0
-    → g ≡ f ++ number32 (length (tables_with_cursors offset)) → h ≡ g ++ flat_map entry (tables_with_cursors offset) → h ≡ old ++ offset_bytes_form offset
-unfolding offset_bytes_form counted
-written_whole offset old a b c d e f g h of_a of_b of_c of_d of_e of_f of_g of_h = rw (of_h, of_g, of_f, of_e, of_d, of_c, of_b, of_a) (simp append_assoc refl)
+pub written_whole : (format : ℕ) (offset : Offset) (old a b c d e f g h : List ℕ) → a ≡ old ++ format ∷ [] → b ≡ a ++ names offset.identity → c ≡ b ++ number64 offset.incarnation → d ≡ c ++ number64 offset.start.0 → e ≡ d ++ number64 offset.lsn.0 → f ≡ e ++ number64 offset.end_lsn.0
+    → g ≡ f ++ number32 (length (tables_with_cursors offset)) → h ≡ g ++ flat_map (entry format) (tables_with_cursors offset) → h ≡ old ++ bytes_in_format format offset
+unfolding bytes_in_format counted
+written_whole format offset old a b c d e f g h of_a of_b of_c of_d of_e of_f of_g of_h = rw (of_h, of_g, of_f, of_e, of_d, of_c, of_b, of_a) (simp append_assoc refl)

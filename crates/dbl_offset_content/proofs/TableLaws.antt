@@ -1,17 +1,18 @@
 -- Tables: what is read was written, and what was written is read again.
-use Rattle.std.proofs.Common.{◌≡◌, ◌∙◌, ℕ, ◌^◌, ◌<◌, Bool, true, false, ◌&&◌, List, [], ◌∷◌, ◌++◌, length, map, Result, Ok, Err, refl, sym, ap, subst, append_assoc}
-use Rattle.std.specs.Int.{w32}
+use Rattle.std.proofs.Common.{◌≡◌, ◌∙◌, ℕ, ◌^◌, ◌<◌, ◌≤◌, Bool, true, false, ◌&&◌, cond, eqb, ltb, List, [], ◌∷◌, ◌++◌, length, map, Result, Ok, Err, refl, sym, ap, subst, append_assoc, arith}
+use Rattle.std.specs.Int.{w32, w64}
 use Rattle.std.specs.List.{AllByRecursion, list_all}
 use Rattle.std.specs.Prelude.{nat_eq, nat_lt}
 use Rattle.std.proofs.Math.Bool.{Bool-set}
+use Rattle.std.proofs.lemmas.Bool.{eqb-true, lt-ltb, ltb-true}
 use mathlib.Core.HLevel.{is_prop→PathP}
 use Rattle.dbl_value.specs.declared.column_type.PgType.{PgType}
 use Rattle.dbl_value.specs.Types.{oid_of, type_of, is_column_type}
 use Rattle.dbl_value.proofs.TypeLemmas.{type_of-oid_of, oids_name_types}
 use Rattle.dbl_record.specs.declared.error.RecordError.{RecordError}
-use Rattle.dbl_record.specs.Fields.{number32, text_form, IsStored}
+use Rattle.dbl_record.specs.Fields.{number32, number64, text_form, IsStored}
 use Rattle.dbl_record.specs.GroupReading.{Read, ◌>>=◌, text_at, number_at}
-use Rattle.dbl_record.proofs.FieldLaws.{IsBytes, ok_is, bind_ok, Takes, Reads, took, number32_reads, text_reads}
+use Rattle.dbl_record.proofs.FieldLaws.{IsBytes, ok_is, bind_ok, guard_held, Takes, Reads, took, number32_reads, number64_reads, text_reads}
 use Rattle.dbl_model_table.specs.declared.table.TableName.{TableName}
 use Rattle.dbl_model_table.specs.declared.table.Column.{Column}
 use Rattle.dbl_model_table.specs.declared.table.TableInfo.{TableInfo}
@@ -21,8 +22,9 @@ use Rattle.dbl_model_table.specs.Infos.{key_types}
 use Rattle.dbl_model_history.specs.Cursors.{IsCursorOf}
 use Rattle.dbl_model_table.proofs.Lists.{and_left, and_right, and_both}
 use Rattle.dbl_model_table.proofs.InfoLemmas.{typed_columns, sound_key}
-use Rattle.dbl_offset_content.specs.Entries.{counted, column, table, cursor, entry, FitsTableColumn, FitsTable, FitsTableCursor}
-use Rattle.dbl_offset_content.specs.Reading.{no_offset, or_no_offset, offset_items_at, offset_column_at, made, info_of, offset_table_at, table_cursor_at}
+use Rattle.dbl_offset_content.specs.Entries.{counted, column, table, version_form, cursor, entry, FitsTableColumn, FitsTable, FitsTableCursor}
+use Rattle.dbl_offset_content.specs.Reading.{no_offset, or_no_offset, offset_items_at, offset_column_at, made, info_of, table_version_at, offset_table_at, table_cursor_at}
+use Rattle.dbl_offset_content.specs.declared.entry.TableEntry.{TableEntry}
 use Rattle.dbl_offset_content.proofs.FieldLaws.{found_is, counted_reads}
 use Rattle.dbl_offset_content.proofs.CellLaws.{cursor_reads}
 
@@ -102,61 +104,106 @@ pub info_none : (name : TableName) (columns : List Column) (key : List ℕ) → 
 unfolding info_of
 info_none name columns key h = made_none name columns key (is_table name columns key) refl h
 
-table_again : (info : TableInfo) (rest : List ℕ) → FitsTable info → offset_table_at (table info ++ rest) ≡ Ok (info, rest)
+-- ---- versions
+
+-- a version that the format has: format 1 has version 1 alone
+pub record IsVersionIn (format version : ℕ) : Type 0 where
+  pub counted : 1 ≤ version
+  pub small : version < 2 ^ 64
+  pub first : eqb format 1 ≡ true → version ≡ 1
+
+version_again : (format version : ℕ) (rest : List ℕ) → IsVersionIn format version → table_version_at format (version_form format version ++ rest) ≡ Ok (version, rest)
+version_again format version rest h = by (eqb format 1) refl
+  where
+    by : (b : Bool) → eqb format 1 ≡ b → table_version_at format (version_form format version ++ rest) ≡ Ok (version, rest)
+    unfolding table_version_at version_form
+    by true is = rw is (ap (λ (v : ℕ). Ok (v, rest)) (sym (h.first is)))
+    by false is = rw (is, (number64_reads 0).again version rest h.small, lt-ltb 0 version (let counted = h.counted in omega (arith, counted))) refl
+
+version_takes : (format : ℕ) (bytes : List ℕ) (version : ℕ) (rest : List ℕ) → IsBytes bytes → table_version_at format bytes ≡ Ok (version, rest) → Takes bytes (version_form format version) rest × IsVersionIn format version
+version_takes format bytes version rest fits e = by (eqb format 1) refl
+  where
+    by : (b : Bool) → eqb format 1 ≡ b → Takes bytes (version_form format version) rest × IsVersionIn format version
+    unfolding table_version_at version_form
+    by true is =
+        let one : ◌≡◌ {A = Read ℕ} (Ok (1, bytes)) (Ok (version, rest)) = rw is at e in
+        subst (λ (y : ℕ × List ℕ). Takes bytes (version_form format y.0) y.1 × IsVersionIn format y.0) (ok_is (1, bytes) (version, rest) one)
+        (rw is (record { parts = refl; rest_fits = fits }), record { counted = omega arith; small = omega arith; first = λ same. refl })
+    by false is =
+        let read = rw is at e in
+        let n = took (number64_reads 0) bytes [] bytes _ (version, rest) (record { parts = refl; rest_fits = fits }) read in
+        let g = guard_held (ltb 0 n.value) _ (Ok (n.value, n.rest)) (version, rest) n.more in
+        let above : 0 < n.value = ltb-true _ _ g.0 in
+        subst (λ (y : ℕ × List ℕ). Takes bytes (version_form format y.0) y.1 × IsVersionIn format y.0) (ok_is (n.value, n.rest) (version, rest) g.1)
+        (rw is n.takes, record { counted = omega (arith, above); small = n.fits; first = λ same. (let no : true ≡ false = sym same ∙ is in cc) })
+
+pub version_reads : (format : ℕ) → Reads (table_version_at format) (version_form format) (IsVersionIn format)
+version_reads format = record { again = version_again format; takes = version_takes format }
+
+-- ---- tables and their versions
+
+-- a table with its version
+abbrev pub table_form : ℕ → TableInfo × ℕ → List ℕ
+table_form format t = table format t.0 t.1
+
+abbrev pub HoldsTable : ℕ → TableInfo × ℕ → Type 0
+HoldsTable format t = FitsTable t.0 × IsVersionIn format t.1
+
+table_again : (format : ℕ) (t : TableInfo × ℕ) (rest : List ℕ) → HoldsTable format t → offset_table_at format (table_form format t ++ rest) ≡ Ok (t, rest)
 unfolding offset_table_at table
-table_again info rest fits =
+table_again format t rest h =
+    let info = t.0 in
+    let fits = h.0 in
     let schema = info.name.schema in
     let name = info.name.name in
+    let version = version_form format t.1 in
     let columns = counted column info.columns in
     let key = counted number32 info.key in
-    let regrouped : (((text_form schema ++ text_form name) ++ columns) ++ key) ++ rest ≡ text_form schema ++ (text_form name ++ (columns ++ (key ++ rest))) = simp append_assoc in
-    ap offset_table_at regrouped ∙ rw ((text_reads 0).again schema (text_form name ++ (columns ++ (key ++ rest))) fits.schema, (text_reads 0).again name (columns ++ (key ++ rest)) fits.name, (counted_reads column_reads).again info.columns (key ++ rest) (fits.columns, holds_of info.columns fits.each (typed_columns info)), (counted_reads (number32_reads 0)).again info.key rest (fits.key, fits.places), info_again info) refl
+    let regrouped : ((((text_form schema ++ text_form name) ++ version) ++ columns) ++ key) ++ rest ≡ text_form schema ++ (text_form name ++ (version ++ (columns ++ (key ++ rest)))) = simp append_assoc in
+    ap (offset_table_at format) regrouped ∙ rw ((text_reads 0).again schema (text_form name ++ (version ++ (columns ++ (key ++ rest)))) fits.schema, (text_reads 0).again name (version ++ (columns ++ (key ++ rest))) fits.name, (version_reads format).again t.1 (columns ++ (key ++ rest)) h.1, (counted_reads column_reads).again info.columns (key ++ rest) (fits.columns, holds_of info.columns fits.each (typed_columns info)), (counted_reads (number32_reads 0)).again info.key rest (fits.key, fits.places), info_again info) refl
 
-abbrev parted : (schema name : List ℕ) (columns : List Column) (key : List ℕ) → List ℕ
-parted schema name columns key = ((text_form schema ++ text_form name) ++ counted column columns) ++ counted number32 key
+abbrev parted : (format : ℕ) (schema name : List ℕ) (version : ℕ) (columns : List Column) (key : List ℕ) → List ℕ
+parted format schema name version columns key = (((text_form schema ++ text_form name) ++ version_form format version) ++ counted column columns) ++ counted number32 key
 
 -- the table has these parts
 abbrev AreParts : (schema name : List ℕ) (columns : List Column) (key : List ℕ) (info : TableInfo) → Type 0
 AreParts schema name columns key info = (info.name ≡ record { schema = schema; name = name }) × (info.columns ≡ columns) × (info.key ≡ key)
 
-table_made : (bytes schema name : List ℕ) (columns : List Column) (key : List ℕ) (info : TableInfo) (rest : List ℕ) → Takes bytes (parted schema name columns key) rest → IsStored schema → IsStored name
-    → (length columns < 2 ^ 32) × AllByRecursion HoldsColumn columns → (length key < 2 ^ 32) × AllByRecursion (λ place. place < 2 ^ 32) key → AreParts schema name columns key info → Takes bytes (table info) rest × FitsTable info
+table_made : (format : ℕ) (bytes schema name : List ℕ) (version : ℕ) (columns : List Column) (key : List ℕ) (info : TableInfo) (rest : List ℕ) → Takes bytes (parted format schema name version columns key) rest → IsStored schema → IsStored name → IsVersionIn format version
+    → (length columns < 2 ^ 32) × AllByRecursion HoldsColumn columns → (length key < 2 ^ 32) × AllByRecursion (λ place. place < 2 ^ 32) key → AreParts schema name columns key info → Takes bytes (table format info version) rest × HoldsTable format (info, version)
 unfolding table
-table_made bytes schema name columns key info rest takes of_schema of_name of_columns of_key parts =
+table_made format bytes schema name version columns key info rest takes of_schema of_name of_version of_columns of_key parts =
     let schema_is : schema ≡ info.name.schema = ap (λ (n : TableName). n.schema) (sym parts.0) in
     let name_is : name ≡ info.name.name = ap (λ (n : TableName). n.name) (sym parts.0) in
     let columns_are : columns ≡ info.columns = sym parts.1 in
     let key_is : key ≡ info.key = sym parts.2 in
-    let spelled : parted schema name columns key ≡ parted info.name.schema info.name.name info.columns info.key = λ i. parted (schema_is i) (name_is i) (columns_are i) (key_is i) in (
-      subst (λ (w : List ℕ). Takes bytes w rest) spelled takes,
-      record {
-        schema = subst IsStored schema_is of_schema;
-        name = subst IsStored name_is of_name;
-        columns = subst (λ (c : List Column). length c < 2 ^ 32) columns_are of_columns.0;
-        each = subst (λ (c : List Column). AllByRecursion FitsTableColumn c) columns_are (fits_of columns of_columns.1);
-        key = subst (λ (k : List ℕ). length k < 2 ^ 32) key_is of_key.0;
-        places = subst (λ (k : List ℕ). AllByRecursion (λ place. place < 2 ^ 32) k) key_is of_key.1;
-      },
-    )
+    let spelled : parted format schema name version columns key ≡ parted format info.name.schema info.name.name version info.columns info.key = λ i. parted format (schema_is i) (name_is i) version (columns_are i) (key_is i) in
+    let fits : FitsTable info = record {
+      schema = subst IsStored schema_is of_schema;
+      name = subst IsStored name_is of_name;
+      columns = subst (λ (c : List Column). length c < 2 ^ 32) columns_are of_columns.0;
+      each = subst (λ (c : List Column). AllByRecursion FitsTableColumn c) columns_are (fits_of columns of_columns.1);
+      key = subst (λ (k : List ℕ). length k < 2 ^ 32) key_is of_key.0;
+      places = subst (λ (k : List ℕ). AllByRecursion (λ place. place < 2 ^ 32) k) key_is of_key.1;
+    } in
+    (subst (λ (w : List ℕ). Takes bytes w rest) spelled takes, (fits, of_version))
 
-table_done : (bytes schema name : List ℕ) (columns : List Column) (key : List ℕ) (x info : TableInfo) (left rest : List ℕ) → ◌≡◌ {A = Read TableInfo} (Ok (x, left)) (Ok (info, rest)) → Takes bytes (parted schema name columns key) left → IsStored schema → IsStored name
-    → (length columns < 2 ^ 32) × AllByRecursion HoldsColumn columns → (length key < 2 ^ 32) × AllByRecursion (λ place. place < 2 ^ 32) key → AreParts schema name columns key x → Takes bytes (table info) rest × FitsTable info
-table_done bytes schema name columns key x info left rest same takes of_schema of_name of_columns of_key parts =
-    subst (λ (y : TableInfo × List ℕ). Takes bytes (table y.0) y.1 × FitsTable y.0) (ok_is (x, left) (info, rest) same) (table_made bytes schema name columns key x left takes of_schema of_name of_columns of_key parts)
-
-table_takes : (bytes : List ℕ) (info : TableInfo) (rest : List ℕ) → IsBytes bytes → offset_table_at bytes ≡ Ok (info, rest) → Takes bytes (table info) rest × FitsTable info
+table_takes : (format : ℕ) (bytes : List ℕ) (t : TableInfo × ℕ) (rest : List ℕ) → IsBytes bytes → offset_table_at format bytes ≡ Ok (t, rest) → Takes bytes (table_form format t) rest × HoldsTable format t
 unfolding offset_table_at
-table_takes bytes info rest fits e =
-    let schema = took (text_reads 0) bytes [] bytes _ (info, rest) (record { parts = refl; rest_fits = fits }) e in
-    let name = took (text_reads 0) bytes _ schema.rest _ (info, rest) schema.takes schema.more in
-    let columns = took (counted_reads column_reads) bytes _ name.rest _ (info, rest) name.takes name.more in
-    let key = took (counted_reads (number32_reads 0)) bytes _ columns.rest _ (info, rest) columns.takes columns.more in
+table_takes format bytes t rest fits e =
+    let schema = took (text_reads 0) bytes [] bytes _ (t, rest) (record { parts = refl; rest_fits = fits }) e in
+    let name = took (text_reads 0) bytes _ schema.rest _ (t, rest) schema.takes schema.more in
+    let version = took (version_reads format) bytes _ name.rest _ (t, rest) name.takes name.more in
+    let columns = took (counted_reads column_reads) bytes _ version.rest _ (t, rest) version.takes version.more in
+    let key = took (counted_reads (number32_reads 0)) bytes _ columns.rest _ (t, rest) columns.takes columns.more in
     let parts_name : TableName = record { schema = schema.value; name = name.value } in
-    let i = bind_ok (info_of parts_name columns.value key.value) (λ (x : TableInfo). Ok (x, key.rest)) (info, rest) key.more in
-    table_done bytes schema.value name.value columns.value key.value i.0 info key.rest rest i.2 key.takes schema.fits name.fits columns.fits key.fits (info_parts parts_name columns.value key.value i.0 i.1)
+    let i = bind_ok (info_of parts_name columns.value key.value) (λ (x : TableInfo). Ok ((x, version.value), key.rest)) (t, rest) key.more in
+    let parts = info_parts parts_name columns.value key.value i.0 i.1 in
+    let read = table_made format bytes schema.value name.value version.value columns.value key.value i.0 key.rest key.takes schema.fits name.fits version.fits columns.fits key.fits parts in
+    subst (λ (y : (TableInfo × ℕ) × List ℕ). Takes bytes (table_form format y.0) y.1 × HoldsTable format y.0) (ok_is ((i.0, version.value), key.rest) (t, rest) i.2) read
 
-pub table_reads : Reads offset_table_at table FitsTable
-table_reads = record { again = table_again; takes = table_takes }
+pub table_reads : (format : ℕ) → Reads (offset_table_at format) (table_form format) (HoldsTable format)
+table_reads format = record { again = table_again format; takes = table_takes format }
 
 -- the columns that were read have types that columns can have
 pub columns_typed : (bytes : List ℕ) (columns : List Column) (rest : List ℕ) → IsBytes bytes → offset_items_at offset_column_at bytes ≡ Ok (columns, rest) → are_typed columns ≡ true
@@ -171,25 +218,27 @@ keys_of columns (place ∷ key) h = (and_left _ _ h, keys_of columns key (and_ri
 pub key_types_hold : (info : TableInfo) → AllByRecursion (λ ty. is_key_type ty ≡ true) (key_types info)
 key_types_hold info = keys_of info.columns info.key (and_right (nat_lt 0 (length info.key) && list_all (λ place. nat_lt place (length info.columns)) info.key && are_distinct nat_eq info.key) _ (sound_key info))
 
--- a table with its cursor, which is one of it
-abbrev pub HoldsEntry : TableInfo × Cursor → Type 0
-HoldsEntry t = IsCursorOf t.0 t.1 × FitsTableCursor t
+-- a table with its version and its cursor, which is one of it
+abbrev pub HoldsEntry : ℕ → TableEntry → Type 0
+HoldsEntry format t = IsCursorOf t.info t.cursor × (FitsTableCursor t × IsVersionIn format t.version)
 
-entry_again : (t : TableInfo × Cursor) (rest : List ℕ) → HoldsEntry t → table_cursor_at (entry t ++ rest) ≡ Ok (t, rest)
+entry_again : (format : ℕ) (t : TableEntry) (rest : List ℕ) → HoldsEntry format t → table_cursor_at format (entry format t ++ rest) ≡ Ok (t, rest)
 unfolding table_cursor_at
-entry_again t rest h =
-    rw (append_assoc (table t.0) (cursor t.1) rest, table_reads.again t.0 (cursor t.1 ++ rest) h.1.0, (cursor_reads t.0 (key_types_hold t.0)).again t.1 rest (h.0, h.1.1)) refl
+entry_again format t rest h =
+    rw (append_assoc (table format t.info t.version) (cursor t.cursor) rest, (table_reads format).again (t.info, t.version) (cursor t.cursor ++ rest) (h.1.0.0, h.1.1), (cursor_reads t.info (key_types_hold t.info)).again t.cursor rest (h.0, h.1.0.1)) refl
 
-entry_takes : (bytes : List ℕ) (t : TableInfo × Cursor) (rest : List ℕ) → IsBytes bytes → table_cursor_at bytes ≡ Ok (t, rest) → Takes bytes (entry t) rest × HoldsEntry t
+entry_takes : (format : ℕ) (bytes : List ℕ) (t : TableEntry) (rest : List ℕ) → IsBytes bytes → table_cursor_at format bytes ≡ Ok (t, rest) → Takes bytes (entry format t) rest × HoldsEntry format t
 unfolding table_cursor_at
-entry_takes bytes t rest fits e =
-    let info = took table_reads bytes [] bytes _ (t, rest) (record { parts = refl; rest_fits = fits }) e in
-    let progress = took (cursor_reads info.value (key_types_hold info.value)) bytes (table info.value) info.rest _ (t, rest) info.takes info.more in
-    subst (λ (y : (TableInfo × Cursor) × List ℕ). Takes bytes (entry y.0) y.1 × HoldsEntry y.0) (ok_is ((info.value, progress.value), progress.rest) (t, rest) progress.more)
-    (progress.takes, (progress.fits.0, (info.fits, progress.fits.1)))
+entry_takes format bytes t rest fits e =
+    let table = took (table_reads format) bytes [] bytes _ (t, rest) (record { parts = refl; rest_fits = fits }) e in
+    let info : TableInfo = table.value.0 in
+    let progress = took (cursor_reads info (key_types_hold info)) bytes (table_form format table.value) table.rest _ (t, rest) table.takes table.more in
+    let read : TableEntry = record { info = info; version = table.value.1; cursor = progress.value } in
+    subst (λ (y : TableEntry × List ℕ). Takes bytes (entry format y.0) y.1 × HoldsEntry format y.0) (ok_is (read, progress.rest) (t, rest) progress.more)
+    (progress.takes, (progress.fits.0, ((table.fits.0, progress.fits.1), table.fits.1)))
 
-pub entry_reads : Reads table_cursor_at entry HoldsEntry
-entry_reads = record { again = entry_again; takes = entry_takes }
+pub entry_reads : (format : ℕ) → Reads (table_cursor_at format) (entry format) (HoldsEntry format)
+entry_reads format = record { again = entry_again format; takes = entry_takes format }
 
 -- the table with these parts
 pub info_is_of : (schema name : List ℕ) (columns : List Column) (key : List ℕ) (info : TableInfo) → info.name ≡ record { schema = schema; name = name } → info.columns ≡ columns → info.key ≡ key → info_of (record { schema = schema; name = name }) columns key ≡ Ok info
@@ -198,20 +247,23 @@ info_is_of schema name columns key info named columned keyed =
 
 -- ---- a table, field by field
 
-module _ (bytes schema after_schema name after_name : List ℕ) (columns : List Column) (after_columns key rest : List ℕ)
-    (of_schema : text_at 0 bytes ≡ Ok (schema, after_schema)) (of_name : text_at 0 after_schema ≡ Ok (name, after_name)) (of_columns : offset_items_at offset_column_at after_name ≡ Ok (columns, after_columns)) (of_key : offset_items_at (number_at w32 0) after_columns ≡ Ok (key, rest)) where
-  fields_read : offset_table_at bytes ≡ (info_of (record { schema = schema; name = name }) columns key >>= λ info. Ok (info, rest))
+module _ (format : ℕ) (bytes schema after_schema name after_name : List ℕ) (version : ℕ) (after_version : List ℕ) (columns : List Column) (after_columns key rest : List ℕ)
+    (of_schema : text_at 0 bytes ≡ Ok (schema, after_schema)) (of_name : text_at 0 after_schema ≡ Ok (name, after_name)) (of_version : table_version_at format after_name ≡ Ok (version, after_version))
+    (of_columns : offset_items_at offset_column_at after_version ≡ Ok (columns, after_columns)) (of_key : offset_items_at (number_at w32 0) after_columns ≡ Ok (key, rest)) where
+  fields_read : offset_table_at format bytes ≡ (info_of (record { schema = schema; name = name }) columns key >>= λ info. Ok ((info, version), rest))
   unfolding offset_table_at
-  fields_read = rw (of_schema, of_name, of_columns, of_key) refl
+  fields_read = rw (of_schema, of_name, of_version, of_columns, of_key) refl
 
-  pub table_some : (info : TableInfo) → info.name ≡ record { schema = schema; name = name } → info.columns ≡ columns → info.key ≡ key → offset_table_at bytes ≡ Ok (info, rest)
-  table_some info named columned keyed = fields_read ∙ ap (λ (o : Result TableInfo RecordError). o >>= λ (x : TableInfo). Ok (x, rest)) (info_is_of schema name columns key info named columned keyed)
+  pub table_some : (info : TableInfo) → info.name ≡ record { schema = schema; name = name } → info.columns ≡ columns → info.key ≡ key → offset_table_at format bytes ≡ Ok ((info, version), rest)
+  table_some info named columned keyed = fields_read ∙ ap (λ (o : Result TableInfo RecordError). o >>= λ (x : TableInfo). Ok ((x, version), rest)) (info_is_of schema name columns key info named columned keyed)
 
-  pub table_none : is_table (record { schema = schema; name = name }) columns key ≡ false → offset_table_at bytes ≡ Err no_offset
-  table_none h = fields_read ∙ ap (λ (o : Result TableInfo RecordError). o >>= λ (x : TableInfo). Ok (x, rest)) (info_none (record { schema = schema; name = name }) columns key h)
+  pub table_none : is_table (record { schema = schema; name = name }) columns key ≡ false → offset_table_at format bytes ≡ Err no_offset
+  table_none h = fields_read ∙ ap (λ (o : Result TableInfo RecordError). o >>= λ (x : TableInfo). Ok ((x, version), rest)) (info_none (record { schema = schema; name = name }) columns key h)
 
-pub typed_behind : (bytes schema after_schema name after_name : List ℕ) (columns : List Column) (after_columns : List ℕ) → IsBytes bytes → text_at 0 bytes ≡ Ok (schema, after_schema) → text_at 0 after_schema ≡ Ok (name, after_name) → offset_items_at offset_column_at after_name ≡ Ok (columns, after_columns) → are_typed columns ≡ true
-typed_behind bytes schema after_schema name after_name columns after_columns fits of_schema of_name of_columns =
+pub typed_behind : (format : ℕ) (bytes schema after_schema name after_name : List ℕ) (version : ℕ) (after_version : List ℕ) (columns : List Column) (after_columns : List ℕ) → IsBytes bytes → text_at 0 bytes ≡ Ok (schema, after_schema) → text_at 0 after_schema ≡ Ok (name, after_name)
+    → table_version_at format after_name ≡ Ok (version, after_version) → offset_items_at offset_column_at after_version ≡ Ok (columns, after_columns) → are_typed columns ≡ true
+typed_behind format bytes schema after_schema name after_name version after_version columns after_columns fits of_schema of_name of_version of_columns =
     let first = (text_reads 0).takes bytes schema after_schema fits of_schema in
     let second = (text_reads 0).takes after_schema name after_name first.0.rest_fits of_name in
-    columns_typed after_name columns after_columns second.0.rest_fits of_columns
+    let third = (version_reads format).takes after_name version after_version second.0.rest_fits of_version in
+    columns_typed after_version columns after_columns third.0.rest_fits of_columns

@@ -1,6 +1,6 @@
--- An offset as the bytes of an entry, format 1, composed of the fields of stored forms.
-use Rattle.std.specs.Prelude.{ℕ, ◌<◌, ◌^◌, Option, Some, None, IfSome, List, [], ◌∷◌, ◌++◌, length, FitsSigned}
-use Rattle.std.specs.List.{AllByRecursion, flat_map, zip}
+-- An offset as the bytes of an entry, by its format, 1 or 2, composed of the fields of stored forms.
+use Rattle.std.specs.Prelude.{ℕ, ◌==◌, ◌<◌, ◌^◌, Option, Some, None, IfSome, List, [], ◌∷◌, ◌++◌, length, FitsSigned, if◌then◌else◌}
+use Rattle.std.specs.List.{AllByRecursion, flat_map}
 use Rattle.std.specs.Int.{to_be_bytes, w32, w64, cast_unsigned}
 use Rattle.dbl_value.specs.declared.value.Val.{Val}
 use Rattle.dbl_value.specs.declared.value.Val.TheVariants as val
@@ -11,6 +11,7 @@ use Rattle.dbl_model_table.specs.declared.table.TableInfo.{TableInfo}
 use Rattle.dbl_model_table.specs.declared.identity.Identity.{Identity}
 use Rattle.dbl_model_table.specs.declared.row.Key.{Key}
 use Rattle.dbl_model_history.specs.declared.cursor.Cursor.{Cursor}
+use Rattle.dbl_offset_content.specs.declared.entry.TableEntry.{TableEntry}
 use Rattle.dbl_offset_content.specs.declared.offset.Offset.{Offset}
 
 -- ---- the format
@@ -27,9 +28,14 @@ names identity = text_form identity.prefix ++ text_form identity.db ++ text_form
 unfoldable pub column : Column → List ℕ
 column c = text_form c.name ++ number32 (oid_of c.ty)
 
--- A table: its name, its columns, and the indices of its key columns.
-unfoldable pub table : TableInfo → List ℕ
-table info = text_form info.name.schema ++ text_form info.name.name ++ counted column info.columns ++ counted number32 info.key
+-- A table's version. Format 1 has none.
+unfoldable pub version_form : ℕ → ℕ → List ℕ
+version_form format version = if format == 1 then [] else number64 version
+
+-- A table: its name, its version, its columns, and the indices of its key columns.
+unfoldable pub table : ℕ → TableInfo → ℕ → List ℕ
+table format info version =
+    text_form info.name.schema ++ text_form info.name.name ++ version_form format version ++ counted column info.columns ++ counted number32 info.key
 
 -- A cell of a key: a signed number, in two's complement, or a text. Keys have no other cells.
 unfoldable pub cell : Val → List ℕ
@@ -47,18 +53,30 @@ unfoldable pub cursor : Cursor → List ℕ
 cursor c = truth_form c.done ++ last_key_form c.last
 
 -- A table, and the progress of its snapshot.
-abbrev pub entry : TableInfo × Cursor → List ℕ
-entry t = table t.0 ++ cursor t.1
+abbrev pub entry : ℕ → TableEntry → List ℕ
+entry format t = table format t.info t.version ++ cursor t.cursor
 
--- The tables with their progress.
-abbrev pub tables_with_cursors : Offset → List (TableInfo × Cursor)
-tables_with_cursors offset = zip offset.infos offset.cursors
+-- The tables, each with its version and its progress, as far as each list has one.
+abbrev pub entries_of : List TableInfo → List ℕ → List Cursor → List TableEntry
+entries_of [] versions cursors = []
+entries_of (info ∷ infos) [] cursors = []
+entries_of (info ∷ infos) (version ∷ versions) [] = []
+entries_of (info ∷ infos) (version ∷ versions) (cursor ∷ cursors) =
+    record { info = info; version = version; cursor = cursor } ∷ entries_of infos versions cursors
 
--- The bytes of an offset: the format's number, and the fields.
-unfoldable pub offset_bytes_form : Offset → List ℕ
-offset_bytes_form offset =
-    1 ∷ (names offset.identity ++ number64 offset.incarnation ++ number64 offset.start.0 ++ number64 offset.lsn.0
-    ++ number64 offset.end_lsn.0 ++ counted entry (tables_with_cursors offset))
+-- The tables with their versions and their progress.
+abbrev pub tables_with_cursors : Offset → List TableEntry
+tables_with_cursors offset = entries_of offset.infos offset.versions offset.cursors
+
+-- The bytes of an offset in a format: the format's number, and the fields.
+unfoldable pub bytes_in_format : ℕ → Offset → List ℕ
+bytes_in_format format offset =
+    format ∷ (names offset.identity ++ number64 offset.incarnation ++ number64 offset.start.0 ++ number64 offset.lsn.0
+    ++ number64 offset.end_lsn.0 ++ counted (entry format) (tables_with_cursors offset))
+
+-- The bytes of an offset as they are stored: in format 2.
+abbrev pub offset_bytes_form : Offset → List ℕ
+offset_bytes_form offset = bytes_in_format 2 offset
 
 -- The content of a slot: the length of an entry in four bytes, big-endian, and the entry, which is empty if no offset is stored.
 unfoldable pub slot_content : List ℕ → List ℕ
@@ -97,8 +115,8 @@ abbrev pub FitsCursor : Cursor → Type 0
 FitsCursor c = IfSome c.last (λ key. AllByRecursion FitsKeyCell key.cells)
 
 -- Whether the format can represent a table and its progress.
-abbrev pub FitsTableCursor : TableInfo × Cursor → Type 0
-FitsTableCursor t = FitsTable t.0 × FitsCursor t.1
+abbrev pub FitsTableCursor : TableEntry → Type 0
+FitsTableCursor t = FitsTable t.info × FitsCursor t.cursor
 
 -- Whether the format can represent an offset.
 pub record FitsOffset (offset : Offset) : Type 0 where

@@ -1,6 +1,6 @@
 -- Reading an entry from left to right: the step between the format and the code. Fields are read as dbl_record reads them. The position of
 -- an error is never reported, so 0 is passed for the number of all bytes.
-use Rattle.std.specs.Prelude.{◌≡◌, ℕ, ℤ, ◌==◌, ◌&&◌, ◌^◌, nat_lt, nat_le, Bool, true, false, List, []}
+use Rattle.std.specs.Prelude.{◌≡◌, ℕ, ℤ, ◌==◌, ◌&&◌, ◌||◌, ◌^◌, nat_lt, nat_le, Bool, true, false, List, []}
 use Rattle.std.specs.Prelude.{◌∷◌, length, map, Option, Some, None, Result, Ok, Err, if◌then◌else◌}
 use Rattle.std.specs.Int.{w32, w64, cast_signed}
 use Rattle.dbl_value.specs.declared.column_type.PgType.{PgType}
@@ -22,6 +22,7 @@ use Rattle.dbl_model_history.specs.declared.cursor.Cursor.{Cursor}
 use Rattle.dbl_model_table.specs.Tables.{same_name, are_distinct, is_table}
 use Rattle.dbl_model_table.specs.Infos.{key_types}
 use Rattle.dbl_model_table.specs.Identities.{is_good_identity}
+use Rattle.dbl_offset_content.specs.declared.entry.TableEntry.{TableEntry}
 use Rattle.dbl_offset_content.specs.declared.offset.Offset.{Offset}
 
 -- The error of bytes that encode no offset.
@@ -64,15 +65,23 @@ made name columns key false sound = Err no_offset
 unfoldable pub info_of : TableName → List Column → List ℕ → Result TableInfo RecordError
 info_of name columns key = made name columns key (is_table name columns key) (λ i. is_table name columns key)
 
--- Reads a table that can be captured.
-unfoldable pub offset_table_at : List ℕ → Read TableInfo
-offset_table_at bytes = do
+-- Reads a table's version, which must be at least 1. In format 1, which has none, each table has version 1.
+unfoldable pub table_version_at : ℕ → List ℕ → Read ℕ
+table_version_at format bytes =
+    if format == 1 then Ok (1, bytes) else (do
+    version ← number_at w64 0 bytes
+    if nat_lt 0 version.0 then Ok version else Err no_offset)
+
+-- Reads a table that can be captured, and its version.
+unfoldable pub offset_table_at : ℕ → List ℕ → Read (TableInfo × ℕ)
+offset_table_at format bytes = do
   schema ← text_at 0 bytes
   name ← text_at 0 schema.1
-  columns ← offset_items_at offset_column_at name.1
+  version ← table_version_at format name.1
+  columns ← offset_items_at offset_column_at version.1
   key ← offset_items_at (number_at w32 0) columns.1
   info ← info_of (record { schema = schema.0; name = name.0 }) columns.0 key.0
-  Ok (info, key.1)
+  Ok ((info, version.0), key.1)
 
 -- ---- cursors
 
@@ -138,12 +147,12 @@ cursor_at info bytes = do
   last ← last_at (key_types info) done.1
   Ok (record { last = last.0; done = done.0 }, last.1)
 
--- Reads a table and the progress of its snapshot.
-unfoldable pub table_cursor_at : List ℕ → Read (TableInfo × Cursor)
-table_cursor_at bytes = do
-  info ← offset_table_at bytes
-  cursor ← cursor_at info.0 info.1
-  Ok ((info.0, cursor.0), cursor.1)
+-- Reads a table, its version and the progress of its snapshot.
+unfoldable pub table_cursor_at : ℕ → List ℕ → Read TableEntry
+table_cursor_at format bytes = do
+  table ← offset_table_at format bytes
+  cursor ← cursor_at table.0.0 table.1
+  Ok (record { info = table.0.0; version = table.0.1; cursor = cursor.0 }, cursor.1)
 
 -- ---- offsets
 
@@ -156,20 +165,24 @@ identity_at bytes = do
   let identity : Identity = record { prefix = prefix.0; db = db.0; placeholder = placeholder.0 } in
       if is_good_identity identity then Ok (identity, placeholder.1) else Err no_offset
 
--- The tables of a list of tables with their progress.
-abbrev pub infos_of : List (TableInfo × Cursor) → List TableInfo
-infos_of tables = map (λ t. t.0) tables
+-- The tables of a list of tables with their versions and their progress.
+abbrev pub infos_of : List TableEntry → List TableInfo
+infos_of tables = map (λ t. t.info) tables
+
+-- The version of each table of such a list.
+abbrev pub versions_of : List TableEntry → List ℕ
+versions_of tables = map (λ t. t.version) tables
 
 -- The progress of each table of such a list.
-abbrev pub cursors_of : List (TableInfo × Cursor) → List Cursor
-cursors_of tables = map (λ t. t.1) tables
+abbrev pub cursors_of : List TableEntry → List Cursor
+cursors_of tables = map (λ t. t.cursor) tables
 
--- Reads 1 to 64 tables with their progress, no table twice.
-unfoldable pub tables_at : List ℕ → Read (List (TableInfo × Cursor))
-tables_at bytes = do
+-- Reads 1 to 64 tables with their versions and their progress, no table twice.
+unfoldable pub tables_at : ℕ → List ℕ → Read (List TableEntry)
+tables_at format bytes = do
   n ← number_at w32 0 bytes
   if nat_lt 0 n.0 && nat_le n.0 64 then (do
-    tables ← many_at table_cursor_at n.0 n.1
+    tables ← many_at (table_cursor_at format) n.0 n.1
     if are_distinct same_name (map (λ info. info.name) (infos_of tables.0)) then Ok tables else Err no_offset) else Err no_offset
 
 -- Reads the incarnation, the start, the LSN and the end LSN.
@@ -186,19 +199,19 @@ numbers_at bytes = do
 unfoldable pub ended : {X : Type 0} → X × List ℕ → Result X RecordError
 ended x = if length x.1 == 0 then Ok x.0 else Err no_offset
 
--- Reads the format's number, which must be 1.
-unfoldable pub version_at : List ℕ → Result (List ℕ) RecordError
-version_at bytes = do
+-- Reads the format's number, which must be 1 or 2.
+unfoldable pub format_at : List ℕ → Read ℕ
+format_at bytes = do
   b ← offset_byte_at bytes
-  if b.0 == 1 then Ok b.1 else Err no_offset
+  if b.0 == 1 || b.0 == 2 then Ok b else Err no_offset
 
 -- Reads an offset; it must be valid.
 unfoldable pub offset_at : List ℕ → Read Offset
 offset_at bytes = do
-  rest ← version_at bytes
-  identity ← identity_at rest
+  format ← format_at bytes
+  identity ← identity_at format.1
   numbers ← numbers_at identity.1
-  tables ← tables_at numbers.1
+  tables ← tables_at format.0 numbers.1
   Ok (
     record {
       identity = identity.0;
@@ -208,6 +221,7 @@ offset_at bytes = do
       end_lsn = record { 0 = numbers.0.3 };
       infos = infos_of tables.0;
       cursors = cursors_of tables.0;
+      versions = versions_of tables.0;
     },
     tables.1,
   )

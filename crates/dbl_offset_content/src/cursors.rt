@@ -8,6 +8,7 @@ ghost use Rattle.dbl_offset_content.specs.Reading.{offset_cell_at, cells_at, cur
 ghost use Rattle.dbl_offset_content.specs.Reading.{table_cursor_at, integer_at, is_integer_of};
 ghost use Rattle.dbl_offset_content.specs.Reading.{offset_key_at, last_at, word_at};
 
+use crate::entry::TableEntry;
 use crate::reading::{NO_OFFSET, byte};
 use crate::tables::read_table;
 use dbl_base::Seq;
@@ -144,15 +145,21 @@ fn read_cursor<'a>(
     Ok((Cursor { last, done }, rest))
 }
 
-/// Reads a table and the progress of its snapshot.
+/// Reads a table, its version and the progress of its snapshot.
 #[tactic(auto, unfolding(crate::specs::Reading::table_cursor_at))]
 pub(crate) fn read_entry(
     alloc: Global,
+    format: u8,
     bytes: &[u8],
-) -> Result<(TableInfo, Cursor, &[u8]), RecordError>
-    ensures { Gives (λ x. ((x.0, x.1), x.2.now)) result (table_cursor_at bytes.now) }
+) -> Result<(TableEntry, &[u8]), RecordError>
+    ensures { Gives (λ x. (x.0, x.1.now)) result (table_cursor_at format bytes.now) }
 {
-    let (info, rest) = read_table(alloc, bytes)?;
+    let (info, version, rest) = read_table(alloc, format, bytes)?;
     let (cursor, rest) = read_cursor(alloc, &info, rest)?;
-    Ok((info, cursor, rest))
+    let entry = TableEntry {
+        info,
+        version,
+        cursor,
+    };
+    Ok((entry, rest))
 }

@@ -1,18 +1,20 @@
 //! From an entry's bytes to its offset.
 
 ghost use Rattle.std.specs.Prelude.{◌≡◌, ◌⊎◌, ℕ, ◌^◌, ◌<◌, ◌≤◌, Err, Ok, IfOk, length, map};
-ghost use Rattle.std.specs.List.{list_any, zip};
+ghost use Rattle.std.specs.List.{list_any};
 ghost use Rattle.dbl_record.specs.GroupReading.{Gives, many_at};
 ghost use Rattle.dbl_model_table.specs.Tables.{are_distinct, same_name};
 ghost use Rattle.dbl_offset_content.specs.declared.offset.Offset.{Offset};
 ghost use Rattle.dbl_offset_content.specs.Offsets.{IsOffsetEntry, EncodesOffset};
+ghost use Rattle.dbl_offset_content.specs.Entries.{entries_of};
 ghost use Rattle.dbl_offset_content.specs.Reading.{table_cursor_at, identity_at, numbers_at};
-ghost use Rattle.dbl_offset_content.specs.Reading.{offset_at, tables_at, version_at, whole};
+ghost use Rattle.dbl_offset_content.specs.Reading.{format_at, offset_at, tables_at, whole};
 
 use crate::cursors::read_entry;
 use crate::infos::SharedInfos;
 use crate::offset::Offset;
-use crate::reading::{NO_OFFSET, byte};
+use crate::entry::TableEntry;
+use crate::reading::{FIRST_FORMAT, FORMAT, NO_OFFSET, byte};
 use dbl_base::{Lsn, Seq};
 use dbl_model_history::Cursor;
 use dbl_model_table::{Identity, TableInfo};
@@ -23,18 +25,15 @@ use std::alloc::Global;
 /// The most tables of an offset.
 const TABLES: u32 = 64;
 
-/// The number of the format that is read and written.
-pub(crate) const VERSION: u8 = 1;
-
-#[tactic(auto, unfolding(crate::specs::Reading::version_at))]
-fn read_version(bytes: &[u8]) -> Result<&[u8], RecordError>
-    ensures { Gives (λ x. x.now) result (version_at bytes.now) }
+#[tactic(auto, unfolding(crate::specs::Reading::format_at))]
+fn read_format(bytes: &[u8]) -> Result<(u8, &[u8]), RecordError>
+    ensures { Gives (λ x. (x.0, x.1.now)) result (format_at bytes.now) }
 {
-    let (version, rest) = byte(bytes)?;
-    if version != VERSION {
+    let (format, rest) = byte(bytes)?;
+    if format != FIRST_FORMAT && format != FORMAT {
         return Err(NO_OFFSET);
     }
-    Ok(rest)
+    Ok((format, rest))
 }
 
 #[tactic(auto, unfolding(crate::specs::Reading::identity_at))]
@@ -86,33 +85,48 @@ fn read_numbers(bytes: &[u8]) -> Result<(Numbers, &[u8]), RecordError>
     Ok((numbers, rest))
 }
 
-// The tables, each with its progress at the same index.
+// The tables, each with its version and its progress at the same index.
 #[derive(Drop)]
 struct Tables {
     infos: SharedInfos,
     cursors: Vec<Cursor>,
+    versions: Vec<u64>,
 }
 
 fn read_each_table(
     alloc: Global,
+    format: u8,
     count: usize,
     bytes: &[u8],
 ) -> Result<(Tables, &[u8]), RecordError>
-    ensures read { Gives (λ x. (zip x.0.infos x.0.cursors.items, x.1.now)) result
-        (many_at table_cursor_at count bytes.now) }
+    ensures read { Gives
+        (λ x. (entries_of x.0.infos x.0.versions.items x.0.cursors.items, x.1.now)) result
+        (many_at (table_cursor_at format) count bytes.now) }
     ensures long { IfOk result (λ x. length x.0.cursors.items ≡ length x.0.infos) }
+    ensures versions { IfOk result (λ x. length x.0.versions.items ≡ length x.0.infos) }
 {
     let mut infos = Vec::new(alloc);
     let mut cursors = Vec::new(alloc);
+    let mut versions = Vec::new(alloc);
     let mut rest = bytes;
     for _ in 0..count {
-        let (info, cursor, after) = read_entry(alloc, rest)?;
+        let (entry, after) = read_entry(alloc, format, rest)?;
+        let TableEntry {
+            info,
+            version,
+            cursor,
+        } = entry;
         infos.push(info)?;
         cursors.push(cursor)?;
+        versions.push(version)?;
         rest = after;
     }
-    let infos = SharedInfos::make(alloc, infos)?;
-    Ok((Tables { infos, cursors }, rest))
+    let tables = Tables {
+        infos: SharedInfos::make(alloc, infos)?,
+        cursors,
+        versions,
+    };
+    Ok((tables, rest))
 }
 
 fn is_named_again(info: &TableInfo, others: &[TableInfo]) -> bool
@@ -134,16 +148,18 @@ fn have_distinct_names(infos: &[TableInfo]) -> bool
 }
 
 #[tactic(auto, unfolding(crate::specs::Reading::tables_at))]
-fn read_tables(alloc: Global, bytes: &[u8]) -> Result<(Tables, &[u8]), RecordError>
-    ensures read { Gives (λ x. (zip x.0.infos x.0.cursors.items, x.1.now)) result
-        (tables_at bytes.now) }
+fn read_tables(alloc: Global, format: u8, bytes: &[u8]) -> Result<(Tables, &[u8]), RecordError>
+    ensures read { Gives
+        (λ x. (entries_of x.0.infos x.0.versions.items x.0.cursors.items, x.1.now)) result
+        (tables_at format bytes.now) }
     ensures long { IfOk result (λ x. length x.0.cursors.items ≡ length x.0.infos) }
+    ensures versions { IfOk result (λ x. length x.0.versions.items ≡ length x.0.infos) }
 {
     let (count, rest) = read_number32(0, bytes)?;
     if count == 0 || count > TABLES {
         return Err(NO_OFFSET);
     }
-    let (tables, rest) = read_each_table(alloc, count as usize, rest)?;
+    let (tables, rest) = read_each_table(alloc, format, count as usize, rest)?;
     if !have_distinct_names(tables.infos.items()) {
         return Err(NO_OFFSET);
     }
@@ -154,11 +170,15 @@ fn read_tables(alloc: Global, bytes: &[u8]) -> Result<(Tables, &[u8]), RecordErr
 fn read_offset(alloc: Global, bytes: &[u8]) -> Result<(Offset, &[u8]), RecordError>
     ensures { Gives (λ x. (x.0, x.1.now)) result (offset_at bytes.now) }
 {
-    let rest = read_version(bytes)?;
+    let (format, rest) = read_format(bytes)?;
     let (identity, rest) = read_identity(alloc, rest)?;
     let (numbers, rest) = read_numbers(rest)?;
-    let (tables, rest) = read_tables(alloc, rest)?;
-    let Tables { infos, cursors } = tables;
+    let (tables, rest) = read_tables(alloc, format, rest)?;
+    let Tables {
+        infos,
+        cursors,
+        versions,
+    } = tables;
     let offset = Offset {
         identity,
         incarnation: numbers.incarnation,
@@ -167,6 +187,7 @@ fn read_offset(alloc: Global, bytes: &[u8]) -> Result<(Offset, &[u8]), RecordErr
         end_lsn: Lsn(numbers.end_lsn),
         infos,
         cursors: Seq::make(cursors),
+        versions: Seq::make(versions),
     };
     Ok((offset, rest))
 }

@@ -6,7 +6,7 @@ ghost use Rattle.dbl_offset_content.specs.Entries.{FitsOffset, offset_bytes_form
 ghost use Rattle.dbl_offset_content.specs.Offsets.{IsOffset, EncodesOffset};
 
 /// Bytes encode at most one offset, and each valid offset that the format can represent has its
-/// bytes.
+/// bytes in the format that is stored.
 pub fn offsets_are_spelled_once()
     ensures one { (bytes : List ℕ) (first second : Offset) → EncodesOffset bytes first →
         EncodesOffset bytes second → first ≡ second }

@@ -3,6 +3,7 @@
 
 mod cursors;
 mod decoding;
+mod entry;
 mod infos;
 mod laws;
 mod measuring;
@@ -16,4 +17,4 @@ pub use infos::SharedInfos;
 pub use laws::offsets_are_spelled_once;
 pub use measuring::{OFFSET_LIMIT, measure};
 pub use offset::Offset;
-pub use writing::{LENGTH_BYTES, encode};
+pub use writing::{LENGTH_BYTES, bytes, encode};

@@ -2,12 +2,14 @@
 
 ghost use Rattle.std.specs.Prelude.{◌≡◌, ◌<◌, ◌^◌, length, FitsSigned};
 ghost use Rattle.std.specs.Int.{w64};
-ghost use Rattle.std.specs.List.{AllByRecursion, flat_map, zip};
+ghost use Rattle.std.specs.List.{AllByRecursion, flat_map};
 ghost use Rattle.dbl_record.specs.Fields.{IsStored, number32, text_form};
 ghost use Rattle.dbl_offset_content.specs.Entries.{FitsOffset, FitsKeyCell, FitsTableColumn, FitsCursor};
 ghost use Rattle.dbl_offset_content.specs.Entries.{FitsTableCursor, FitsNames, FitsTable, cell, column};
-ghost use Rattle.dbl_offset_content.specs.Entries.{counted, cursor, entry, names, offset_bytes_form, table};
+ghost use Rattle.dbl_offset_content.specs.Entries.{counted, cursor, entries_of, entry, names};
+ghost use Rattle.dbl_offset_content.specs.Entries.{offset_bytes_form, table, version_form};
 ghost use Rattle.dbl_offset_content.specs.Measures.{Measures};
+ghost use Rattle.dbl_offset_content.specs.declared.entry.TableEntry.{TableEntry as SpecEntry};
 
 use crate::offset::Offset;
 use dbl_base::Text;
@@ -67,12 +69,20 @@ fn add_places(before: u64, key: &[u32]) -> u64
     before.saturating_add(4).saturating_add(bytes)
 }
 
-fn add_table(before: u64, info: &TableInfo) -> u64
-    ensures { Measures before (length (table info.now)) (FitsTable info.now) result }
+// A version has eight bytes, whichever it is.
+fn add_version(before: u64, version: u64) -> u64
+    ensures { Measures before (length (version_form 2 version)) (version < 2 ^ 64) result }
+{
+    before.saturating_add(8)
+}
+
+fn add_table(before: u64, info: &TableInfo, version: u64) -> u64
+    ensures { Measures before (length (table 2 info.now version)) (FitsTable info.now) result }
 {
     let schema = add_text(before, &info.name.schema);
     let name = add_text(schema, &info.name.name);
-    let columns = add_columns(name.saturating_add(4), info.columns.items());
+    let number = add_version(name, version);
+    let columns = add_columns(number.saturating_add(4), info.columns.items());
     add_places(columns, info.key.items())
 }
 
@@ -115,22 +125,24 @@ fn add_cursor(before: u64, progress: &Cursor) -> u64
     }
 }
 
-fn add_entry(before: u64, info: &TableInfo, progress: &Cursor) -> u64
-    ensures { Measures before (length (entry (info.now, progress.now)))
-        (FitsTableCursor (info.now, progress.now)) result }
+fn add_entry(before: u64, info: &TableInfo, version: u64, progress: &Cursor) -> u64
+    ensures { (t : SpecEntry) → t.info ≡ info.now → t.version ≡ version → t.cursor ≡ progress.now →
+        Measures before (length (entry 2 t)) (FitsTableCursor t) result }
 {
-    let total = add_table(before, info);
+    let total = add_table(before, info, version);
     add_cursor(total, progress)
 }
 
-fn add_entries(before: u64, infos: &[TableInfo], cursors: &[Cursor]) -> u64
-    requires { length cursors.now ≡ length infos.now }
-    ensures { Measures before (length (flat_map entry (zip infos.now cursors.now)))
-        (AllByRecursion FitsTableCursor (zip infos.now cursors.now)) result }
+fn add_entries(before: u64, infos: &[TableInfo], versions: &[u64], cursors: &[Cursor]) -> u64
+    requires cursors { length cursors.now ≡ length infos.now }
+    requires versions { length versions.now ≡ length infos.now }
+    ensures { Measures before
+        (length (flat_map (entry 2) (entries_of infos.now versions.now cursors.now)))
+        (AllByRecursion FitsTableCursor (entries_of infos.now versions.now cursors.now)) result }
 {
     let mut total = before;
     for i in 0..infos.len() {
-        total = add_entry(total, &infos[i], &cursors[i]);
+        total = add_entry(total, &infos[i], versions[i], &cursors[i]);
     }
     total
 }
@@ -142,12 +154,19 @@ fn add_numbers(before: u64, start: u64, lsn: u64, end_lsn: u64) -> u64
     before.saturating_add(36)
 }
 
-/// The number of bytes of the offset. A length above 2^64 - 1 is reported as 2^64 - 1.
+/// The number of bytes of the offset in the format that is stored. A length above 2^64 - 1 is
+/// reported as 2^64 - 1.
 pub fn measure(offset: &Offset) -> u64
-    requires { length offset.now.cursors ≡ length offset.now.infos }
+    requires cursors { length offset.now.cursors ≡ length offset.now.infos }
+    requires versions { length offset.now.versions ≡ length offset.now.infos }
     ensures { Measures 0 (length (offset_bytes_form offset.now)) (FitsOffset offset.now) result }
 {
     let names = add_names(1, &offset.identity);
     let numbers = add_numbers(names, offset.start.0, offset.lsn.0, offset.end_lsn.0);
-    add_entries(numbers, offset.infos.items(), offset.cursors.items())
+    add_entries(
+        numbers,
+        offset.infos.items(),
+        offset.versions.items(),
+        offset.cursors.items(),
+    )
 }

@@ -24,6 +24,8 @@ pub struct Offset {
     pub infos: SharedInfos,
     /// The progress of each table's snapshot.
     pub cursors: Seq<Cursor>,
+    /// The version of each table that `infos` describes, counted from 1.
+    pub versions: Seq<u64>,
 }
 
 impl Offset {
@@ -47,6 +49,10 @@ impl Offset {
             end_lsn: self.end_lsn,
             infos: self.infos.share()?,
             cursors,
+            versions: Seq::make(Vec::from_slice(
+                alloc,
+                self.versions.items().as_slice(),
+            )?),
         })
     }
 }

@@ -1,17 +1,21 @@
 //! Encoding of an offset as a slot's content. Each writer appends to the buffer.
 
 ghost use Rattle.std.specs.Prelude.{◌≡◌, ◌<◌, ◌≤◌, ◌^◌, length, IfOk, OnOk};
-ghost use Rattle.std.specs.List.{AllByRecursion, flat_map, zip};
+ghost use Rattle.std.specs.List.{AllByRecursion, flat_map};
 ghost use Rattle.dbl_record.specs.Fields.{Extends, number32};
 ghost use Rattle.dbl_offset_content.specs.Entries.{FitsOffset, FitsKeyCell, FitsTableColumn};
 ghost use Rattle.dbl_offset_content.specs.Entries.{FitsCursor, FitsTableCursor, FitsNames};
-ghost use Rattle.dbl_offset_content.specs.Entries.{FitsTable, cell, column, counted, cursor, entry};
-ghost use Rattle.dbl_offset_content.specs.Entries.{last_key_form, names, offset_bytes_form, table};
+ghost use Rattle.dbl_offset_content.specs.Entries.{FitsTable, bytes_in_format, cell, column};
+ghost use Rattle.dbl_offset_content.specs.Entries.{counted, cursor, entries_of, entry};
+ghost use Rattle.dbl_offset_content.specs.Entries.{last_key_form, names};
+ghost use Rattle.dbl_offset_content.specs.Entries.{offset_bytes_form, table, version_form};
 ghost use Rattle.dbl_offset_content.specs.Measures.{offset_limit};
 ghost use Rattle.dbl_offset_content.specs.Entries.{slot_content};
+ghost use Rattle.dbl_offset_content.specs.Offsets.{HasFormat, IsOffset};
+ghost use Rattle.dbl_offset_content.specs.declared.entry.TableEntry.{TableEntry as SpecEntry};
 
-use crate::decoding::VERSION;
 use crate::offset::Offset;
+use crate::reading::{FIRST_FORMAT, FORMAT};
 use dbl_model_history::Cursor;
 use dbl_model_table::{Column, Identity, TableInfo};
 use dbl_record::fields::{append_number32, append_number64, append_text, append_truth};
@@ -75,13 +79,29 @@ fn write_places(out: &mut Vec<u8>, key: &[u32]) -> Result<(), AllocError>
     write_each_place(out, key)
 }
 
+#[tactic(auto, unfolding(crate::specs::Entries::version_form))]
+fn write_version(out: &mut Vec<u8>, format: u8, version: u64) -> Result<(), AllocError>
+    ensures { OnOk result (Extends out.old.items (version_form format version) out.new.items) }
+{
+    if format == FIRST_FORMAT {
+        return Ok(());
+    }
+    append_number64(out, version)
+}
+
 #[tactic(auto, unfolding(crate::specs::Entries::table))]
-fn write_table(out: &mut Vec<u8>, info: &TableInfo) -> Result<(), AllocError>
+fn write_table(
+    out: &mut Vec<u8>,
+    format: u8,
+    info: &TableInfo,
+    version: u64,
+) -> Result<(), AllocError>
     requires { FitsTable info.now }
-    ensures { OnOk result (Extends out.old.items (table info.now) out.new.items) }
+    ensures { OnOk result (Extends out.old.items (table format info.now version) out.new.items) }
 {
     append_text(out, &info.name.schema)?;
     append_text(out, &info.name.name)?;
+    write_version(out, format, version)?;
     write_columns(out, info.columns.items())?;
     write_places(out, info.key.items())
 }
@@ -129,57 +149,89 @@ fn write_cursor(out: &mut Vec<u8>, progress: &Cursor) -> Result<(), AllocError>
     }
 }
 
-fn write_entry(out: &mut Vec<u8>, info: &TableInfo, progress: &Cursor) -> Result<(), AllocError>
-    requires { FitsTableCursor (info.now, progress.now) }
-    ensures { OnOk result (Extends out.old.items (entry (info.now, progress.now)) out.new.items) }
+fn write_entry(
+    out: &mut Vec<u8>,
+    format: u8,
+    info: &TableInfo,
+    version: u64,
+    progress: &Cursor,
+) -> Result<(), AllocError>
+    requires table { FitsTable info.now }
+    requires progress { FitsCursor progress.now }
+    ensures { (t : SpecEntry) → t.info ≡ info.now → t.version ≡ version → t.cursor ≡ progress.now →
+        OnOk result (Extends out.old.items (entry format t) out.new.items) }
 {
-    write_table(out, info)?;
+    write_table(out, format, info, version)?;
     write_cursor(out, progress)
 }
 
 fn write_entries(
     out: &mut Vec<u8>,
+    format: u8,
     infos: &[TableInfo],
+    versions: &[u64],
     cursors: &[Cursor],
 ) -> Result<(), AllocError>
     requires long { length cursors.now ≡ length infos.now }
-    requires fit { AllByRecursion FitsTableCursor (zip infos.now cursors.now) }
-    ensures { OnOk result
-        (Extends out.old.items (flat_map entry (zip infos.now cursors.now)) out.new.items) }
+    requires versions { length versions.now ≡ length infos.now }
+    requires fit { AllByRecursion FitsTableCursor (entries_of infos.now versions.now cursors.now) }
+    ensures { OnOk result (Extends out.old.items
+        (flat_map (entry format) (entries_of infos.now versions.now cursors.now)) out.new.items) }
 {
     for i in 0..infos.len() {
-        write_entry(out, &infos[i], &cursors[i])?;
+        write_entry(out, format, &infos[i], versions[i], &cursors[i])?;
     }
     Ok(())
 }
 
-#[tactic(auto, unfolding(crate::specs::Entries::offset_bytes_form, crate::specs::Entries::counted))]
-fn write_offset(out: &mut Vec<u8>, offset: &Offset) -> Result<(), AllocError>
+#[tactic(auto, unfolding(crate::specs::Entries::bytes_in_format, crate::specs::Entries::counted))]
+fn write_offset(out: &mut Vec<u8>, format: u8, offset: &Offset) -> Result<(), AllocError>
     requires long { length offset.now.cursors ≡ length offset.now.infos }
+    requires versions { length offset.now.versions ≡ length offset.now.infos }
     requires few { length offset.now.infos < 2 ^ 32 }
     requires fit { FitsOffset offset.now }
-    ensures { OnOk result (Extends out.old.items (offset_bytes_form offset.now) out.new.items) }
+    ensures { OnOk result
+        (Extends out.old.items (bytes_in_format format offset.now) out.new.items) }
 {
-    out.push(VERSION)?;
+    out.push(format)?;
     write_names(out, &offset.identity)?;
     append_number64(out, offset.incarnation)?;
     append_number64(out, offset.start.0)?;
     append_number64(out, offset.lsn.0)?;
     append_number64(out, offset.end_lsn.0)?;
     append_number32(out, offset.infos.items().len() as u32)?;
-    write_entries(out, offset.infos.items(), offset.cursors.items())?;
+    write_entries(
+        out,
+        format,
+        offset.infos.items(),
+        offset.versions.items(),
+        offset.cursors.items(),
+    )?;
     Ok(())
+}
+
+/// The bytes of the offset in a format: 2, or 1, which has no versions.
+pub fn bytes(alloc: Global, format: u8, offset: &Offset) -> Result<Vec<u8>, AllocError>
+    requires format { HasFormat format offset.now }
+    requires offset { IsOffset offset.now }
+    requires fit { FitsOffset offset.now }
+    ensures { IfOk result (λ out. out.items ≡ bytes_in_format format offset.now) }
+{
+    let mut out = Vec::new(alloc);
+    write_offset(&mut out, format, offset)?;
+    Ok(out)
 }
 
 /// The number of bytes of an entry's length.
 pub const LENGTH_BYTES: usize = 4;
 
-/// The content of a slot with the offset's `count` bytes: their number, and the bytes.
+/// The content of a slot with the offset's `count` bytes: their number, and the bytes, in format 2.
 #[tactic(auto, unfolding(crate::specs::Entries::slot_content, dbl_record::specs::Fields::number32))]
 pub fn encode(alloc: Global, count: usize, offset: &Offset) -> Result<Vec<u8>, AllocError>
     requires count { count ≡ length (offset_bytes_form offset.now) }
     requires short { count ≤ offset_limit }
     requires long { length offset.now.cursors ≡ length offset.now.infos }
+    requires versions { length offset.now.versions ≡ length offset.now.infos }
     requires few { length offset.now.infos < 2 ^ 32 }
     requires fit { FitsOffset offset.now }
     ensures { IfOk result
@@ -187,6 +239,6 @@ pub fn encode(alloc: Global, count: usize, offset: &Offset) -> Result<Vec<u8>, A
 {
     let mut out = Vec::with_capacity(alloc, LENGTH_BYTES + count)?;
     append_number32(&mut out, count as u32)?;
-    write_offset(&mut out, offset)?;
+    write_offset(&mut out, FORMAT, offset)?;
     Ok(out)
 }

@@ -11,7 +11,7 @@ use Rattle.dbl_disk.specs.Model.{DiskModel}
 use Rattle.dbl_record.specs.declared.error.RecordError.{RecordError}
 use Rattle.dbl_record.proofs.FieldLaws.{IsBytes, IsBytes-drop, IsBytes-take}
 use Rattle.dbl_offset_content.specs.declared.offset.Offset.{Offset}
-use Rattle.dbl_offset_content.specs.Entries.{offset_bytes_form, slot_content}
+use Rattle.dbl_offset_content.specs.Entries.{bytes_in_format, slot_content}
 use Rattle.dbl_offset_content.specs.Offsets.{EncodesOffset, IsOffsetEntry}
 use Rattle.dbl_offset_content.specs.Reading.{whole}
 use Rattle.dbl_offset.specs.Slots.{HasNoSelector, HasSelectedEntry, HasSlotContent, HasWrongMagic, ReachesInSlot, SelectsSlot, block_start}
@@ -25,7 +25,7 @@ use Rattle.dbl_offset_content.proofs.OffsetLaws.{no_entry, one_offset, whole_tak
 -- ---- entries
 
 pub entry_some : (entry : List ℕ) (offset : Offset) → EncodesOffset entry offset → 1 ≤ length entry
-unfolding offset_bytes_form
+unfolding bytes_in_format
 entry_some entry offset spells = omega (arith, ap length spells.spelled)
 
 entry_none : (entry : List ℕ) (offset : Offset) → EncodesOffset entry offset → entry ≡ [] → ⊥

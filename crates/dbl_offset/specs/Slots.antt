@@ -1,5 +1,5 @@
 -- The bytes of an offset store: a magic, a selector, and two slots, of which the selected one counts.
-use Rattle.std.specs.Prelude.{◌≡◌, ◌≢◌, ℕ, ◌+◌, ◌*◌, ◌%◌, ◌<◌, ◌≤◌, List, [], ◌∷◌, ◌++◌, length, take, replicate, slice_index}
+use Rattle.std.specs.Prelude.{◌≡◌, ◌≢◌, ℕ, ◌+◌, ◌-◌, ◌*◌, ◌/◌, ◌%◌, ◌<◌, ◌≤◌, List, [], ◌∷◌, ◌++◌, length, take, replicate, slice_index}
 use Rattle.dbl_offset_content.specs.Entries.{slot_content}
 use Rattle.dbl_offset_content.specs.Measures.{offset_limit}
 
@@ -12,6 +12,10 @@ store_magic = 68 ∷ 66 ∷ 76 ∷ 79 ∷ 70 ∷ 70 ∷ 83 ∷ 50 ∷ []
 -- The position at which a slot's block with this number begins. The blocks of the two slots alternate, after a head of 16 bytes.
 abbrev pub block_start : ℕ → ℕ → ℕ
 block_start slot block = 16 + 8192 * block + 4096 * slot
+
+-- Where slot 1's blocks of a content with so many bytes end, at least one. Those of slot 0 end before.
+abbrev pub content_end : ℕ → ℕ
+content_end count = block_start 1 ((count - 1) / 4096) + (count - 1) % 4096 + 1
 
 -- The bytes of a store that was just made: the magic, selector 0, seven zeros, and the length 0 of slot 0.
 abbrev pub empty_store : List ℕ

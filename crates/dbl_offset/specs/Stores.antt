@@ -1,12 +1,12 @@
 -- Offset stores: on bytes, on disks, and after a crash.
-use Rattle.std.specs.Prelude.{◌≡◌, ◌≢◌, ◌⊎◌, ℕ, ◌+◌, ◌*◌, ◌/◌, ◌^◌, ◌≤◌, max, Bool, IsTrue, Option, Some, None, List, [], length}
+use Rattle.std.specs.Prelude.{◌≡◌, ◌≢◌, ◌⊎◌, ℕ, ◌+◌, ◌^◌, ◌≤◌, max, Bool, IsTrue, Option, Some, None, List, [], length}
 use Rattle.dbl_disk.specs.Calls.{WritesDisk}
 use Rattle.dbl_disk.specs.Disks.{IsOnly, Torn}
 use Rattle.dbl_disk.specs.Model.{DiskModel}
 use Rattle.dbl_offset_content.specs.declared.offset.Offset.{Offset}
 use Rattle.dbl_offset_content.specs.Entries.{offset_bytes_form}
 use Rattle.dbl_offset_content.specs.Offsets.{EncodesOffset, IsOffsetEntry}
-use Rattle.dbl_offset.specs.Slots.{HasBadContent, HasNoSelector, HasSelectedEntry, HasWrongMagic}
+use Rattle.dbl_offset.specs.Slots.{HasBadContent, HasNoSelector, HasSelectedEntry, HasWrongMagic, content_end}
 
 -- ---- on bytes
 
@@ -54,9 +54,9 @@ disk_of store = store.disk
 abbrev pub least_room : ℕ
 least_room = 20
 
--- The most bytes that a store needs for this offset: a head of 16 bytes, and in both slots the blocks of the length and the entry.
+-- The most bytes that a store needs for this offset: as far as the length and the entry reach in slot 1.
 abbrev pub room_of : Offset → ℕ
-room_of offset = 16 + 8192 * ((4 + length (offset_bytes_form offset) + 4095) / 4096)
+room_of offset = content_end (4 + length (offset_bytes_form offset))
 
 -- The most bytes that a store of any offset needs, rounded up.
 abbrev pub greatest_room : ℕ

@@ -1,13 +1,13 @@
 //! Writing the slots of a store: its first bytes, a slot's content, and the selector.
 
-ghost use Rattle.std.specs.Prelude.{◌≡◌, ◌⊎◌, ℕ, ◌+◌, ◌-◌, ◌*◌, ◌/◌, ◌<◌, ◌≤◌, List, [], ◌∷◌};
+ghost use Rattle.std.specs.Prelude.{◌≡◌, ◌⊎◌, ℕ, ◌+◌, ◌-◌, ◌<◌, ◌≤◌, List, [], ◌∷◌};
 ghost use Rattle.std.specs.Prelude.{length, max, Some, IsErr, OnOk};
 ghost use Rattle.dbl_base.specs.Streams.{FailsOnlyIfCounted};
 ghost use Rattle.dbl_disk.specs.Disks.{Follows, IsOnly, Torn, written};
 ghost use Rattle.dbl_offset_content.specs.Entries.{slot_content};
 ghost use Rattle.dbl_offset_content.specs.Measures.{offset_limit};
 ghost use Rattle.dbl_offset.specs.Slots.{HasSelectedEntry, HasSlotContent, KeepsOutsideSlot};
-ghost use Rattle.dbl_offset.specs.Slots.{empty_store};
+ghost use Rattle.dbl_offset.specs.Slots.{content_end, empty_store};
 
 use dbl_base::Failed;
 use dbl_disk::Disk;
@@ -52,9 +52,8 @@ fn write_content<D: Disk>(disk: &mut D, slot: u64, content: &[u8]) -> Result<(),
     requires short { length content.now ≤ offset_limit + 4 }
     ensures keeps { (old : List ℕ) → D.seen disk.old ≡ Some old →
         (new : List ℕ) × (D.seen disk.new ≡ Some new) × KeepsOutsideSlot slot old new }
-    ensures grows { (count : ℕ) (old new : List ℕ) → length content.now ≤ 4096 * count →
-        D.seen disk.old ≡ Some old → D.seen disk.new ≡ Some new →
-        length new ≤ max (length old) (16 + 8192 * count) }
+    ensures grows { (old new : List ℕ) → D.seen disk.old ≡ Some old → D.seen disk.new ≡ Some new →
+        length new ≤ max (length old) (content_end (length content.now)) }
     ensures crash { Follows (KeepsOutsideSlot slot) (D.may_leave disk.old) (D.may_leave disk.new) }
     ensures written { (old : List ℕ) → D.seen disk.old ≡ Some old →
         OnOk result ((new : List ℕ) × (D.seen disk.new ≡ Some new) ×
@@ -104,7 +103,7 @@ pub(crate) fn write_slot<D: Disk>(disk: &mut D, slot: u64, content: &[u8]) -> Re
         content.now ≡ slot_content entry → D.may_leave disk.new crashed →
         HasSelectedEntry crashed (1 - slot) old ⊎ HasSelectedEntry crashed slot entry }
     ensures grows { (old new : List ℕ) → D.seen disk.old ≡ Some old → D.seen disk.new ≡ Some new →
-        length new ≤ max (length old) (16 + 8192 * ((length content.now + 4095) / 4096)) }
+        length new ≤ max (length old) (content_end (length content.now)) }
     ensures told { (old : List ℕ) → D.seen disk.old ≡ Some old →
         (new : List ℕ) × (D.seen disk.new ≡ Some new) }
     ensures cause { FailsOnlyIfCounted (IsErr result) (D.faults disk.old) (D.faults disk.new) }

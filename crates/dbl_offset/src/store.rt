@@ -28,7 +28,8 @@ use std::marker::Model;
 /// The disk has the bytes `DBLOFFS2`, a selector, seven bytes that are ignored, and then two slots
 /// whose blocks of 4,096 bytes alternate. The selector's lowest bit is the selected slot. A slot's
 /// content is a length in four bytes, big-endian, and an entry of that length: an offset's bytes,
-/// or none.
+/// or none. An entry is written in format 2; one of format 1 is read as well, with version 1 for
+/// each table.
 #[derive(Drop)]
 pub struct OffsetStore<D: Disk> {
     disk: D,

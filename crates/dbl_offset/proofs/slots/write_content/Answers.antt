@@ -1,7 +1,8 @@
-use Rattle.std.proofs.Common.{◌≡◌, ◌∙◌, ℕ, ◌+◌, ◌*◌, ◌-◌, ◌≤◌, List, length, take, drop, get_or, ap, arith, refl}
+use Rattle.std.proofs.Common.{◌≡◌, ◌∙◌, ℕ, ◌+◌, ◌*◌, ◌-◌, ◌<◌, ◌≤◌, List, length, take, drop, get_or, ap, arith, refl}
+use Rattle.std.proofs.lemmas.Nat.{div-add-mod', mod_below}
 use Rattle.dbl_disk.specs.Disks.{written}
 use Rattle.dbl_disk.proofs.Tears.{length-written, torn_written}
-use Rattle.dbl_offset.specs.Slots.{block_start}
+use Rattle.dbl_offset.specs.Slots.{block_start, content_end}
 use Rattle.dbl_offset.proofs.Blocks.{block_written, get_or-piece, keeps_more, keeps_torn, length-piece}
 use Rattle.dbl_offset.proofs.slots.write_content.Goals as goal
 
@@ -12,6 +13,10 @@ piece content block upto = take (upto - block * 4096) (drop (block * 4096) conte
 few : (content : List ℕ) (block upto : ℕ) → block * 4096 ≤ upto → upto ≤ length content → upto ≤ block * 4096 + 4096 → length (piece content block upto) ≤ 4096
 unfolding piece
 few content block upto order within small = omega (arith, length-piece content (block * 4096) upto order within)
+
+-- no block ends behind the content's end in slot 1
+end_within : (n block slot size : ℕ) → 4096 * block < n → slot < 2 → size ≤ 4096 → 4096 * block + size ≤ n → block_start slot block + size ≤ content_end n
+end_within n block slot size begins small fits within = omega (arith, div-add-mod' (n - 1) 4096, mod_below (n - 1) 4096 (omega arith), begins, small, fits, within)
 
 pub write_at-requires : goal.write_at-requires
 unfolding piece
@@ -40,13 +45,17 @@ returns-in_err-write_at-clause-crash g c crashed leaves =
 
 pub returns-in_err-write_at-clause-grows : goal.returns-in_err-write_at-clause-grows
 unfolding piece
-returns-in_err-write_at-clause-grows g c count old new enough told now =
+returns-in_err-write_at-clause-grows g c old new told now =
     let was = c.each.invariant.wrote old told in
     let left = c.in_err-write_at.ensures.torn was.now was.told in
     let small = few c.args.content.now c.each.block c.block_end-upto.result (omega (arith, c.block_end-upto.ensures.forward))
     (omega (arith, c.block_end-upto.ensures.within)) (omega (arith, c.block_end-upto.ensures.few)) in
     let is : new ≡ left.0 = cc (left.1) in
-    omega (arith, ap length is, left.2.no_longer, was.short, small, c.each-test.true, enough, c.requires.slot)
+    let order : c.each.block * 4096 ≤ c.block_end-upto.result = omega (arith, c.block_end-upto.ensures.forward) in
+    let inner : c.block_end-upto.result ≤ length c.args.content.now = omega (arith, c.block_end-upto.ensures.within) in
+    let long : length (piece c.args.content.now c.each.block c.block_end-upto.result) ≡ c.block_end-upto.result - c.each.block * 4096 = length-piece c.args.content.now (c.each.block * 4096) c.block_end-upto.result order inner in
+    let ends = end_within (length c.args.content.now) c.each.block c.args.slot (length (piece c.args.content.now c.each.block c.block_end-upto.result)) (omega (arith, c.each-test.true)) c.requires.slot small (omega (arith, long, order, inner)) in
+    omega (arith, ap length is, left.2.no_longer, was.short, ends)
 
 pub returns-in_err-write_at-clause-cause : goal.returns-in_err-write_at-clause-cause
 returns-in_err-write_at-clause-cause g c = record {
@@ -82,8 +91,7 @@ each-preserved g c =
               arith,
               length-written was.now (block_start c.args.slot c.each.block) (piece content c.each.block upto),
               was.short,
-              small,
-              c.requires.slot,
+              end_within (length content) c.each.block c.args.slot (length (piece content c.each.block upto)) (omega (arith, c.each-test.true)) c.requires.slot small (omega (arith, long, order, within)),
             );
           });
       crash = λ crashed leaves. (
@@ -102,10 +110,10 @@ returns-clause-keeps g c old told =
     (was.now, was.told, was.keeps)
 
 pub returns-clause-grows : goal.returns-clause-grows
-returns-clause-grows g c count old new enough told now =
+returns-clause-grows g c old new told now =
     let was = c.each.invariant.wrote old told in
     let is : new ≡ was.now = cc (was.told) in
-    omega (arith, ap length is, was.short, c.each.invariant.within, enough)
+    omega (arith, ap length is, was.short)
 
 pub returns-clause-written : goal.returns-clause-written
 returns-clause-written g c old told =

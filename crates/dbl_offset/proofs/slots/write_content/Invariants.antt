@@ -1,6 +1,6 @@
 use Rattle.std.proofs.Common.{◌≡◌, ◌≤◌, ◌<◌, ◌+◌, ◌*◌, ◌-◌, ℕ, Option, List, Some, length, max}
 use Rattle.dbl_disk.specs.Disks.{Follows}
-use Rattle.dbl_offset.specs.Slots.{KeepsOutsideSlot}
+use Rattle.dbl_offset.specs.Slots.{KeepsOutsideSlot, content_end}
 use Rattle.dbl_offset.proofs.Blocks.{HasSlotBlocks}
 use Rattle.dbl_offset.proofs.slots.write_content.Given as goal
 
@@ -10,7 +10,7 @@ pub record WasWritten {D : Type 0} (seen : D → Option (List ℕ)) (slot : ℕ)
   pub told : seen disk ≡ Some now
   pub keeps : KeepsOutsideSlot slot old now
   pub blocks : HasSlotBlocks now slot content block
-  pub short : length now ≤ max (length old) (16 + 8192 * block)
+  pub short : length now ≤ max (length old) (content_end (length content))
 
 abbrev pub invariant-each : goal.invariant-each
 invariant-each g l = record {

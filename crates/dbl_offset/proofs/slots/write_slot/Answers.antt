@@ -1,5 +1,4 @@
-use Rattle.std.proofs.Common.{◌≡◌, ◌∙◌, ◌⊎◌, ◌<◌, ◌≤◌, ◌+◌, ◌-◌, ◌*◌, ◌/◌, ◌^◌, ℕ, List, [], ◌∷◌, length, ap, arith, inl, refl, subst, sym}
-use Rattle.std.proofs.lemmas.Nat.{div-add-mod', mod_below}
+use Rattle.std.proofs.Common.{◌≡◌, ◌∙◌, ◌⊎◌, ◌<◌, ◌≤◌, ◌+◌, ◌-◌, ◌^◌, ℕ, List, [], ◌∷◌, length, ap, arith, inl, refl, subst, sym}
 use Rattle.std.proofs.lemmas.Result.{on_ok_weaker}
 use Rattle.dbl_disk.specs.Disks.{Torn, written}
 use Rattle.dbl_offset_content.specs.Entries.{slot_content}
@@ -62,25 +61,16 @@ returns-clause-stored g c bytes old entry told has is =
     ))
     (c.select.ensures.selected made.0 (c.sync.ensures.seen ∙ made.1))
 
--- the blocks of a content
-blocks_of : (n : ℕ) → n ≤ 4096 * ((n + 4095) / 4096)
-blocks_of n = omega (arith, div-add-mod' (n + 4095) 4096, mod_below (n + 4095) 4096 (omega arith))
-
 pub returns-in_err-write_content-clause-grows : goal.returns-in_err-write_content-clause-grows
-returns-in_err-write_content-clause-grows g c old new told now =
-    let n : ℕ = length c.args.content.now in
-    c.write_content.ensures.grows ((n + 4095) / 4096) old new (blocks_of n) told now
+returns-in_err-write_content-clause-grows g c old new told now = c.write_content.ensures.grows old new told now
 
 pub returns-in_err-sync-clause-grows : goal.returns-in_err-sync-clause-grows
-returns-in_err-sync-clause-grows g c old new told now =
-    let n : ℕ = length c.args.content.now in
-    c.write_content.ensures.grows ((n + 4095) / 4096) old new (blocks_of n) told (sym c.sync.ensures.seen ∙ now)
+returns-in_err-sync-clause-grows g c old new told now = c.write_content.ensures.grows old new told (sym c.sync.ensures.seen ∙ now)
 
 pub returns-clause-grows : goal.returns-clause-grows
 returns-clause-grows g c old new told now =
-    let n : ℕ = length c.args.content.now in
     let made = c.in_ok-write_content.ensures.written old told in
-    let few = c.write_content.ensures.grows ((n + 4095) / 4096) old made.0 (blocks_of n) told made.1 in
+    let few = c.write_content.ensures.grows old made.0 told made.1 in
     let left = c.select.ensures.told made.0 (c.sync.ensures.seen ∙ made.1) in
     let is : new ≡ left.0 = cc (left.1) in
     omega (arith, ap length is, left.2.no_longer, few)

@@ -1,11 +1,11 @@
-use Rattle.std.proofs.Common.{◌≡◌, ◌+◌, ◌-◌, ◌*◌, ◌/◌, ◌≤◌, ◌<◌, ◌^◌, ◌∙◌, List, ℕ, Result, Ok, Err, length, refl, sym, ap, subst, arith}
+use Rattle.std.proofs.Common.{◌≡◌, ◌+◌, ◌-◌, ◌≤◌, ◌<◌, ◌^◌, ◌∙◌, List, ℕ, Result, Ok, Err, length, refl, sym, ap, subst, arith}
 use Rattle.std.specs.Prelude.{max}
-use Rattle.std.proofs.lemmas.Nat.{div-add-mod'}
+use Rattle.std.proofs.lemmas.Nat.{div-add-mod', mod_below}
 use Rattle.dbl_base.specs.Streams.{FaultCounted}
 use Rattle.dbl_offset.specs.declared.error.OffsetError.{OffsetError}
 use Rattle.dbl_offset.specs.declared.error.OffsetError.TheVariants as error
 use Rattle.dbl_offset_content.specs.Entries.{offset_bytes_form, slot_content}
-use Rattle.dbl_offset.specs.Slots.{HasSelectedEntry}
+use Rattle.dbl_offset.specs.Slots.{HasSelectedEntry, content_end}
 use Rattle.dbl_offset.specs.Stores.{HoldsOffset, StoreOn}
 use Rattle.dbl_offset.proofs.Blocks.{length-slot_content}
 use Rattle.dbl_offset.proofs.StoreLaws.{err_one, leaves}
@@ -19,12 +19,11 @@ back slot bytes entry small has = let same : slot ≡ 1 - (1 - slot) = omega (ar
 long_of : (content form : List ℕ) → content ≡ slot_content form → length content ≡ 4 + length form
 long_of content form is = omega (arith, ap length is, length-slot_content form)
 
-grown : (n before after : ℕ) (content : List ℕ) → length content ≡ n → after ≤ max before (16 + 8192 * ((length content + 4095) / 4096))
-    → after ≤ max before (16 + 8192 * ((n + 4095) / 4096))
-grown n before after content long = subst (λ (m : ℕ). after ≤ max before (16 + 8192 * ((m + 4095) / 4096))) long
+grown : (n before after : ℕ) (content : List ℕ) → length content ≡ n → after ≤ max before (content_end (length content)) → after ≤ max before (content_end n)
+grown n before after content long = subst (λ (m : ℕ). after ≤ max before (content_end m)) long
 
-few : (n before after : ℕ) → n ≤ 2 ^ 28 + 4 → after ≤ max before (16 + 8192 * ((n + 4095) / 4096)) → after ≤ max before (2 ^ 30)
-few n before after short most = omega (arith, div-add-mod' (n + 4095) 4096, short, most)
+few : (n before after : ℕ) → n ≤ 2 ^ 28 + 4 → after ≤ max before (content_end n) → after ≤ max before (2 ^ 30)
+few n before after short most = omega (arith, div-add-mod' (n - 1) 4096, mod_below (n - 1) 4096 (omega arith), short, most)
 
 no_end : {X Y : Type 0} (r : Result X Y) (x : X) (e : Y) → r ≡ Ok x → r ≡ Err e → ⊥
 no_end r x e ok err = let contra = sym ok ∙ err in cc

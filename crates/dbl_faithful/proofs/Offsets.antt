@@ -84,15 +84,11 @@ confirms_stay_faithful history confirmed next records offset le faithful = recor
 
 -- the old offset with a new incarnation, and another end of its last commit
 abbrev raised : Offset → ℕ → Lsn → Offset
-raised offset incarnation end = record { identity = offset.identity; incarnation = incarnation; start = offset.start; lsn = offset.lsn; end_lsn = end; infos = offset.infos; cursors = offset.cursors }
+raised offset incarnation end = record { identity = offset.identity; incarnation = incarnation; start = offset.start; lsn = offset.lsn; end_lsn = end; infos = offset.infos; cursors = offset.cursors; versions = offset.versions }
 
 is_raised : (old new : Offset) → IsTakenOver old new → new ≡ raised old new.incarnation new.end_lsn
 is_raised old new over =
-    ap (λ (x : Identity). record { identity = x; incarnation = new.incarnation; start = new.start; lsn = new.lsn; end_lsn = new.end_lsn; infos = new.infos; cursors = new.cursors }) over.identity
-    ∙ (ap (λ (x : Lsn). record { identity = old.identity; incarnation = new.incarnation; start = x; lsn = new.lsn; end_lsn = new.end_lsn; infos = new.infos; cursors = new.cursors }) over.start
-    ∙ (ap (λ (x : Lsn). record { identity = old.identity; incarnation = new.incarnation; start = old.start; lsn = x; end_lsn = new.end_lsn; infos = new.infos; cursors = new.cursors }) over.lsn
-    ∙ (ap (λ (x : List TableInfo). record { identity = old.identity; incarnation = new.incarnation; start = old.start; lsn = old.lsn; end_lsn = new.end_lsn; infos = x; cursors = new.cursors }) over.infos
-    ∙ ap (λ (x : List Cursor). record { identity = old.identity; incarnation = new.incarnation; start = old.start; lsn = old.lsn; end_lsn = new.end_lsn; infos = old.infos; cursors = x }) over.cursors)))
+    λ i. record { identity = over.identity i; incarnation = new.incarnation; start = over.start i; lsn = over.lsn i; end_lsn = new.end_lsn; infos = over.infos i; cursors = over.cursors i; versions = over.versions i }
 
 later_mark : (low most : ℕ) (body : RawBody) → low ≤ most → IsMarkedBy low body → IsMarkedBy most body
 later_mark low most (Changes changes) le is = tt

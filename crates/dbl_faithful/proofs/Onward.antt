@@ -39,7 +39,7 @@ cursors_go_on (x ∷ a) (y ∷ b) (z ∷ c) one two =
 stays : (config : Config) (history : History) (offset : Option Offset) → OffsetGoesOn config history history offset offset
 stays config history None = tt
 stays config history (Some offset) =
-    record { identity = refl; infos = refl; start = refl; lsn = le_refl offset.lsn.0; cursors = cursors_stay offset.cursors; incarnation = inl refl }
+    record { identity = refl; infos = refl; versions = refl; start = refl; lsn = le_refl offset.lsn.0; cursors = cursors_stay offset.cursors; incarnation = inl refl }
 
 pub stores_stay_onward : StoresStayOnward
 stores_stay_onward config stores = record {

@@ -64,6 +64,7 @@ ConfirmsStayFaithful = (history : History) (confirmed next : Lsn) (records : Lis
 pub record IsTakenOver (old new : Offset) : Type 0 where
   pub identity : new.identity ≡ old.identity
   pub infos : new.infos ≡ old.infos
+  pub versions : new.versions ≡ old.versions
   pub start : new.start ≡ old.start
   pub lsn : new.lsn ≡ old.lsn
   pub cursors : new.cursors ≡ old.cursors

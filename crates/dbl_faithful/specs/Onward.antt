@@ -28,6 +28,7 @@ pub record IsLaterCursor (old new : Cursor) : Type 0 where
 pub record IsLaterOffset (old new : Offset) : Type 0 where
   pub identity : new.identity ≡ old.identity
   pub infos : new.infos ≡ old.infos
+  pub versions : new.versions ≡ old.versions
   pub start : new.start ≡ old.start
   pub lsn : old.lsn.0 ≤ new.lsn.0
   pub cursors : AllZip IsLaterCursor old.cursors new.cursors

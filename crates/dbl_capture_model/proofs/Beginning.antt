@@ -69,7 +69,7 @@ module _ (entry : SessionStart) (left : CrashState) (fit : IsFitHistory entry.hi
   stays : (offset : Option Offset) → OffsetGoesOn entry.config entry.history left.history offset offset
   stays None = tt
   stays (Some offset) =
-      record { identity = refl; infos = refl; start = refl; lsn = le_refl offset.lsn.0; cursors = cursors_stay offset.cursors; incarnation = inl refl }
+      record { identity = refl; infos = refl; versions = refl; start = refl; lsn = le_refl offset.lsn.0; cursors = cursors_stay offset.cursors; incarnation = inl refl }
 
   lag_at : (offset : Option Offset) → IsFaithful entry.history entry.confirmed (joined entry.groups) offset → lag left.history (joined entry.groups) offset ≤ max entry.config.every (lag entry.history (joined entry.groups) offset)
   lag_at None is = zero_le (max entry.config.every 0)
@@ -111,7 +111,7 @@ unread_sessions_follow entry left faithful fit fit_left grows same = record {
 pub first_offsets_follow : FirstOffsetsFollow
 first_offsets_follow entry history left first faithful fit fit_left grows on infos began same =
     let all : Grows entry.history left.history = grows_on entry.history history left.history grows on in
-    let own : IsOfSession first first = record { identity = refl; infos = refl; start = refl; incarnation = refl } in
+    let own : IsOfSession first first = record { identity = refl; infos = refl; versions = refl; start = refl; incarnation = refl } in
     record {
       faithful = begun entry left fit fit_left all history first entry.offset on infos began same faithful;
       onward = record {

@@ -81,6 +81,7 @@ offset_goes entry history new more first offset None same began is le later = re
 offset_goes entry history new more first offset (Some old) same began is le later = record {
   identity = is.identity ∙ began.0.identity;
   infos = is.infos ∙ began.0.infos;
+  versions = is.versions ∙ began.0.versions;
   start = is.start ∙ began.0.start;
   lsn = le_on old.lsn.0 first.lsn.0 offset.lsn.0 (same_le first.lsn.0 old.lsn.0 (ap (λ (l : Lsn). l.0) began.0.lsn)) le;
   cursors = subst (λ (l : List Cursor). AllZip IsLaterCursor l offset.cursors) began.0.cursors later;
@@ -247,4 +248,4 @@ sources_may_end entry stage left faithful may going =
 pub stores_may_end : StoresMayEnd
 stores_may_end entry stage left faithful may going =
     let k = going.kept (stood_of entry faithful) faithful in
-    follows_at entry stage left faithful may going (next_offset stage) (record { identity = refl; infos = refl; start = refl; incarnation = refl }) k.to (le_refl stage.lsn.0) k.next_is going.reading.counted.come.later
+    follows_at entry stage left faithful may going (next_offset stage) (record { identity = refl; infos = refl; versions = refl; start = refl; incarnation = refl }) k.to (le_refl stage.lsn.0) k.next_is going.reading.counted.come.later

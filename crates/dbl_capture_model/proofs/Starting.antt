@@ -207,7 +207,7 @@ sessions_begin entry history first some small grows fit_found fit infos cursors 
   reading = record {
     began = began;
     first_small = small;
-    of_session = record { identity = refl; infos = refl; start = refl; incarnation = refl };
+    of_session = record { identity = refl; infos = refl; versions = refl; start = refl; incarnation = refl };
     stored_later = cursors_stay first.cursors;
     no_fall = le_refl entry.confirmed.0;
     more = grows.others;

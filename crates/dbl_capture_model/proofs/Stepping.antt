@@ -262,7 +262,7 @@ stores_keep_going entry stage going = record {
   reading = record {
     began = going.reading.began;
     first_small = going.reading.first_small;
-    of_session = record { identity = refl; infos = refl; start = refl; incarnation = refl };
+    of_session = record { identity = refl; infos = refl; versions = refl; start = refl; incarnation = refl };
     stored_later = going.reading.counted.come.later;
     no_fall = going.reading.no_fall;
     more = going.reading.more;

@@ -44,6 +44,7 @@ next_offset stage = record stage.first { lsn = stage.lsn; end_lsn = stage.end_ls
 pub record IsOfSession (first later : Offset) : Type 0 where
   pub identity : later.identity ≡ first.identity
   pub infos : later.infos ≡ first.infos
+  pub versions : later.versions ≡ first.versions
   pub start : later.start ≡ first.start
   pub incarnation : later.incarnation ≡ first.incarnation
 

@@ -1,7 +1,7 @@
 -- What a session begins with: tables as the catalogue describes them, and the offset that is made of them.
 use Rattle.std.proofs.Common.{◌≡◌, ◌∙◌, ◌⊎◌, inl, inr, ◌+◌, ◌≤◌, ◌<◌, ℕ, zero, suc, Option, Some, None, List, [], ◌∷◌, ◌++◌, length, map, take, drop, get_or, refl, sym, ap, subst, arith, append-nil, length-append, IsTrue, drop-cons}
-use Rattle.std.specs.Prelude.{◌^◌, find, Contains, IfSome, IsSomeAnd}
-use Rattle.std.specs.List.{AllByRecursion}
+use Rattle.std.specs.Prelude.{◌^◌, find, max, Contains, IfSome, IsSomeAnd}
+use Rattle.std.specs.List.{AllByRecursion, AllZip}
 use Rattle.std.proofs.lemmas.List.{length-map, map-append, take-append-drop, take_more}
 use Rattle.std.proofs.lemmas.List.Elements.{Contains-get_or}
 use Rattle.dbl_base.specs.declared.lsn.Lsn.{Lsn}
@@ -33,7 +33,7 @@ use Rattle.dbl_capture_model.proofs.FaithfulItems.{all_weaker}
 use Rattle.dbl_capture_model.specs.Faithful.Lag.{IsUnread}
 use Rattle.dbl_capture_work.specs.declared.halt.Halt.{Halt}
 use Rattle.dbl_capture_work.specs.declared.halt.Halt.TheVariants as halt
-use Rattle.dbl_capture_work.specs.Begins.{AreInfosAt, AreUnread, CanBeCaptured, IsAbsentHalt, IsFaultOf, IsFirstOffsetAtHead, IsFirstAtFault, IsInfoAt, IsOffsetFor, MayRest}
+use Rattle.dbl_capture_work.specs.Begins.{AreCounted, AreInfosAt, AreUnread, AreVersionsAt, CanBeCaptured, IsAbsentHalt, IsFaultOf, IsFirstOffsetAtHead, IsFirstAtFault, IsInfoAt, IsOffsetFor, IsVersionAt, MayRest}
 use Rattle.dbl_capture_work.specs.Halts.{model_halt}
 
 -- ---- one table
@@ -174,8 +174,9 @@ unread_cursors (info ∷ infos) (c ∷ cursors) many each = (
 same_length : (infos : List TableInfo) (names : List TableName) → map (λ (info : TableInfo). info.name) infos ≡ names → length infos ≡ length names
 same_length infos names is = sym (length-map infos (λ (info : TableInfo). info.name)) ∙ ap length is
 
-pub first_is_offset : (config : Config) (infos : List TableInfo) (head : Lsn) (offset : Offset) → IsGoodConfig config → map (λ (info : TableInfo). info.name) infos ≡ config.tables → IsFirstOffsetAtHead config infos head offset → IsOffset offset
-first_is_offset config infos head offset good named first =
+pub first_is_offset : (config : Config) (infos : List TableInfo) (versions : List ℕ) (head : Lsn) (offset : Offset) → IsGoodConfig config → map (λ (info : TableInfo). info.name) infos ≡ config.tables → AreCounted infos versions → IsFirstOffsetAtHead config infos head offset
+    → offset.versions ≡ versions → IsOffset offset
+first_is_offset config infos versions head offset good named counted first numbered =
     let many : length offset.infos ≡ length config.tables = ap length first.infos_are ∙ same_length infos config.tables named in
     record {
       identity = subst (λ (i : Identity). IsTrue (is_good_identity i)) (sym first.identity) good.identity;
@@ -186,6 +187,7 @@ first_is_offset config infos head offset good named first =
       few = at_most (length offset.infos) (length config.tables) many good.few_tables;
       distinct = subst (λ (l : List TableName). IsTrue (are_distinct same_name l)) (sym (ap (map (λ (info : TableInfo). info.name)) first.infos_are ∙ named)) good.distinct;
       cursors = subst (λ (l : List TableInfo). AreCursorsOf l offset.cursors) (sym first.infos_are) (unread_cursors infos offset.cursors first.cursors.many first.cursors.each);
+      versions = subst (λ (l : List TableInfo). AreCounted l offset.versions) (sym first.infos_are) (subst (AreCounted infos) (sym numbered) counted);
     }
   where
     one_small : (n : ℕ) → n ≡ 1 → n ≤ 2 ^ 63
@@ -220,6 +222,22 @@ infos_described old new infos same distinct described = record {
     by : (info : TableInfo) → IsInfoAt old info → IsSomeAnd (entry_of new info.name) (λ raw. IsInfoOf raw info)
     by info at = subst (λ (o : Option RawTable). IsSomeAnd o (λ raw. IsInfoOf raw info)) (sym (no_entry old new info.name same ∙ at.entry)) at.is
 
+-- the versions of the catalogue are those of a later state of the source
+pub versions_described : (old new : History) (infos : List TableInfo) (versions : List ℕ) → new.tables ≡ old.tables → AreVersionsAt old infos versions → AreVersionsAt new infos versions
+versions_described old new [] [] same are = tt
+versions_described old new [] (v ∷ versions) same are = absurd are
+versions_described old new (info ∷ infos) [] same are = absurd are
+versions_described old new (info ∷ infos) (v ∷ versions) same are = (
+  subst (λ (o : Option RawTable). IsSomeAnd o (λ (raw : RawTable). v ≡ max 1 raw.version)) (sym (no_entry old new info.name same)) are.0,
+  versions_described old new infos versions same are.1,
+)
+
+pub zip_push : {A B : Type 0} (P : A → B → Type 0) (xs : List A) (ys : List B) (x : A) (y : B) → AllZip P xs ys → P x y → AllZip P (xs ++ x ∷ []) (ys ++ y ∷ [])
+zip_push P [] [] x y all here = (here, tt)
+zip_push P [] (b ∷ ys) x y all here = absurd all
+zip_push P (a ∷ xs) [] x y all here = absurd all
+zip_push P (a ∷ xs) (b ∷ ys) x y all here = (all.0, zip_push P xs ys x y all.1 here)
+
 -- ---- one table more
 
 -- the names that were gone through, the current one, and those after it
@@ -251,6 +269,9 @@ moved_none s rising = record {
 -- one table more was described
 pub described_more : (s mid : SourceState) (infos : List TableInfo) (info : TableInfo) → Moved s mid → AreInfosAt s.history infos → IsInfoAt mid.history info → AreInfosAt s.history (infos ++ info ∷ [])
 described_more s mid infos info moved described at = described_push s.history infos info described (info_before s.history mid.history info moved.grows.tables at)
+
+pub version_before : (s mid : SourceState) (info : TableInfo) (version : ℕ) → Moved s mid → IsVersionAt mid.history info version → IsVersionAt s.history info version
+version_before s mid info version moved at = subst (λ (o : Option RawTable). IsSomeAnd o (λ (raw : RawTable). version ≡ max 1 raw.version)) (no_entry s.history mid.history info.name moved.grows.tables) at
 
 -- the first invalid table after those that were described
 pub absent_next : (s mid : SourceState) (infos : List TableInfo) (names : List TableName) (i : ℕ) (name : TableName) (h : Halt) → i < length names → name ≡ get_or names i name → Moved s mid → AreInfosAt s.history infos

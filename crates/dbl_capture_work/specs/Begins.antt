@@ -1,6 +1,6 @@
 -- What a session begins with.
-use Rattle.std.specs.Prelude.{◌≡◌, ◌⊎◌, ℕ, ◌+◌, ◌^◌, ◌<◌, ◌≤◌, Option, Some, None, List, ◌∷◌, ◌++◌, length, map}
-use Rattle.std.specs.List.{AllByRecursion}
+use Rattle.std.specs.Prelude.{◌≡◌, ◌⊎◌, ℕ, ◌+◌, ◌^◌, ◌<◌, ◌≤◌, max, Option, Some, None, IsSomeAnd, List, ◌∷◌, ◌++◌, length, map}
+use Rattle.std.specs.List.{AllByRecursion, AllZip}
 use Rattle.dbl_base.specs.declared.lsn.Lsn.{Lsn}
 use Rattle.dbl_model_table.specs.declared.config.Config.{Config}
 use Rattle.dbl_model_table.specs.declared.table.TableName.{TableName}
@@ -34,9 +34,22 @@ pub record IsInfoAt (history : History) (info : TableInfo) : Type 0 where
 abbrev pub AreInfosAt : History → List TableInfo → Type 0
 AreInfosAt history infos = AllByRecursion (IsInfoAt history) infos
 
--- A call of the source returned this description of the named table, and others may have committed.
-abbrev pub IsDescribedAs : TableName → TableInfo → SourceState → SourceState → Type 0
-IsDescribedAs name info s t = Moved s t × (info.name ≡ name) × IsInfoAt s.history info
+-- The catalogue's entry of this description's table has this version, counted from 1.
+abbrev pub IsVersionAt : History → TableInfo → ℕ → Type 0
+IsVersionAt history info version = IsSomeAnd (entry_of history info.name) (λ raw. version ≡ max 1 raw.version)
+
+-- Each of the versions is that of its table's entry in the catalogue.
+abbrev pub AreVersionsAt : History → List TableInfo → List ℕ → Type 0
+AreVersionsAt history infos versions = AllZip (IsVersionAt history) infos versions
+
+-- Each table has a version of 64 bits, counted from 1.
+abbrev pub AreCounted : List TableInfo → List ℕ → Type 0
+AreCounted infos versions = AllZip (λ info version. (1 ≤ version) × (version < 2 ^ 64)) infos versions
+
+-- A call of the source returned this description and this version of the named table, and others may have committed.
+abbrev pub IsDescribedAs : TableName → TableInfo → ℕ → SourceState → SourceState → Type 0
+IsDescribedAs name info version s t =
+    Moved s t × (info.name ≡ name) × IsInfoAt s.history info × IsVersionAt s.history info version
 
 -- The error for a table of which the catalogue has no entry, or this one, which can't be captured.
 abbrev pub IsFaultOf : TableName → Option RawTable → Halt → Type 0

@@ -15,7 +15,8 @@ ghost use Rattle.dbl_offset.specs.Offsets.{IsOffset};
 ghost use Rattle.dbl_offset.specs.Stores.{HoldsOffset, IsLive, LeavesOffset, disk_of};
 ghost use Rattle.dbl_source.specs.Keeps.{KeepsSource, ReadsNothing};
 ghost use Rattle.dbl_offset.specs.Keeps.{KeepsStore};
-ghost use Rattle.dbl_capture_work.specs.Begins.{AreInfosAt, AreUnread, IsAbsentHalt, IsAgain};
+ghost use Rattle.dbl_capture_work.specs.Begins.{AreCounted, AreInfosAt, AreUnread, AreVersionsAt};
+ghost use Rattle.dbl_capture_work.specs.Begins.{IsAbsentHalt, IsAgain};
 ghost use Rattle.dbl_capture_work.specs.Begins.{IsDescribedAs, IsExhausted, IsFaultless};
 ghost use Rattle.dbl_capture_work.specs.Begins.{IsFirstOffsetAtHead, IsGoneFrom, IsModelFault};
 ghost use Rattle.dbl_capture_work.specs.Begins.{IsOffsetFor, IsTooLong, MayRest};
@@ -30,15 +31,25 @@ use dbl_source::Source;
 use dbl_source_model::Started;
 use std::alloc::{AllocError, Global};
 
-// Describes a table, as the catalogue has it.
+// A described table: its description, and its version.
+#[derive(Drop)]
+struct Described {
+    info: TableInfo,
+    version: u64,
+}
+
+// Describes a table, as the catalogue has it. Versions are counted from 1: an answer of 0 counts
+// as 1.
 fn describe_table<S: Source>(
     alloc: Global,
     src: &mut S,
     name: &TableName,
-) -> Result<TableInfo, Halt>
+) -> Result<Described, Halt>
     requires { IsTrue (S.is_live src.old) }
-    ensures described { MovesTo S.stands src.old src.new result (IsDescribedAs name.now) }
-    ensures named { IfOk result (λ info. info.name ≡ name.now) }
+    ensures described { MovesTo S.stands src.old src.new result
+        (λ table. IsDescribedAs name.now table.info table.version) }
+    ensures named { IfOk result (λ table. table.info.name ≡ name.now) }
+    ensures counted { IfOk result (λ table. 1 ≤ table.version) }
     ensures faultless { OnOk result (IsFaultless name.now (S.told src.new)) }
     ensures fault { IfErr result (λ h. (h ≡ Halt.Memory) ⊎ ((h ≡ Halt.Source)
         ⊎ IsModelFault name.now (S.told src.new) h)) }
@@ -48,11 +59,21 @@ fn describe_table<S: Source>(
     ensures source { KeepsSource S.Source src.old src.new result Halt.Source }
 {
     match src.describe(name)? {
-        Some(raw) => Ok(TableInfo::make(alloc, &raw)?),
+        Some(raw) => Ok(Described {
+            info: TableInfo::make(alloc, &raw)?,
+            version: raw.version.max(1),
+        }),
         None => Err(Halt::UnknownTable {
             table: name.copy(alloc)?,
         }),
     }
+}
+
+// The described tables, each with its version at the same index.
+#[derive(Drop)]
+struct Tables {
+    infos: Vec<TableInfo>,
+    versions: Vec<u64>,
 }
 
 // Describes each of the tables, in order.
@@ -60,11 +81,15 @@ fn describe_tables<S: Source>(
     alloc: Global,
     src: &mut S,
     names: &Vec<TableName>,
-) -> Result<Vec<TableInfo>, Halt>
+) -> Result<Tables, Halt>
     requires { IsTrue (S.is_live src.old) }
-    ensures described { MovesTo S.stands src.old src.new result (λ infos s t. Moved s t
-        × AreInfosAt s.history infos.items) }
-    ensures named { IfOk result (λ infos. map (λ info. info.name) infos.items ≡ names.now.items) }
+    ensures described { MovesTo S.stands src.old src.new result (λ tables s t. Moved s t
+        × AreInfosAt s.history tables.infos.items
+        × AreVersionsAt s.history tables.infos.items tables.versions.items) }
+    ensures named { IfOk result
+        (λ tables. map (λ info. info.name) tables.infos.items ≡ names.now.items) }
+    ensures counted { IfOk result
+        (λ tables. AreCounted tables.infos.items tables.versions.items) }
     ensures fault { IfErr result (λ h. (h ≡ Halt.Memory) ⊎ ((h ≡ Halt.Source)
         ⊎ ((name : _) × Contains names.now.items name × IsModelFault name (S.told src.new) h))) }
     ensures absent { (s : SourceState) → S.stands src.old s →
@@ -73,10 +98,13 @@ fn describe_tables<S: Source>(
     ensures source { KeepsSource S.Source src.old src.new result Halt.Source }
 {
     let mut infos = Vec::with_capacity(alloc, names.len())?;
+    let mut versions = Vec::with_capacity(alloc, names.len())?;
     'tables: for name in names {
-        infos.push(describe_table(alloc, src, name)?)?;
+        let Described { info, version } = describe_table(alloc, src, name)?;
+        infos.push(info)?;
+        versions.push(version)?;
     }
-    Ok(infos)
+    Ok(Tables { infos, versions })
 }
 
 // Makes cursors of so many tables, of which nothing was read yet.
@@ -97,11 +125,13 @@ fn unread_cursors(alloc: Global, count: usize) -> Result<Vec<Cursor>, AllocError
 fn offset_at(
     alloc: Global,
     config: &Config,
-    infos: Vec<TableInfo>,
+    tables: Tables,
     head: Lsn,
 ) -> Result<Offset, AllocError>
-    ensures { IfOk result (IsFirstOffsetAtHead config.now infos.items head) }
+    ensures first { IfOk result (IsFirstOffsetAtHead config.now tables.infos.items head) }
+    ensures versions { IfOk result (λ offset. offset.versions ≡ tables.versions.items) }
 {
+    let Tables { infos, versions } = tables;
     let cursors = unread_cursors(alloc, infos.len())?;
     let infos = SharedInfos::make(alloc, infos)?;
     Ok(Offset {
@@ -112,11 +142,12 @@ fn offset_at(
         end_lsn: head,
         infos,
         cursors: Seq::make(cursors),
+        versions: Seq::make(versions),
     })
 }
 
 /// Makes the first offset of a connector: describes each table, and then requests the head of the
-/// log.
+/// log. The offset has the versions that were described.
 pub fn first_offset<S: Source>(alloc: Global, config: &Config, src: &mut S) -> Result<Offset, Halt>
     requires live { IsTrue (S.is_live src.old) }
     requires config { IsGoodConfig config.now }
@@ -124,6 +155,8 @@ pub fn first_offset<S: Source>(alloc: Global, config: &Config, src: &mut S) -> R
         × ((infos : _) × (head : _) × IsFirstOffsetAtHead config.now infos head offset
         × (map (λ info. info.name) infos ≡ config.now.tables) × AreInfosOf t.history infos
         × IsHead head s t)) }
+    ensures versions { MovesTo S.stands src.old src.new result (λ offset s t.
+        AreVersionsAt t.history offset.infos offset.versions) }
     ensures of { IfOk result (IsOffsetFor config.now None) }
     ensures asked { IfOk result IsOffset }
     ensures headed { IfOk result (λ offset. LastAnswerIs (S.told src.new) (Head offset.start)) }
@@ -134,9 +167,9 @@ pub fn first_offset<S: Source>(alloc: Global, config: &Config, src: &mut S) -> R
     ensures rests { ReadsNothing S.Source src.old src.new MayRest }
     ensures source { KeepsSource S.Source src.old src.new result Halt.Source }
 {
-    let infos = describe_tables(alloc, src, config.tables.items())?;
+    let tables = describe_tables(alloc, src, config.tables.items())?;
     let head = src.head()?;
-    Ok(offset_at(alloc, config, infos, head)?)
+    Ok(offset_at(alloc, config, tables, head)?)
 }
 
 /// Returns the stored offset with the next incarnation, or None if none is stored.

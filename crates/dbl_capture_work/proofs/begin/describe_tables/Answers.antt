@@ -6,9 +6,9 @@ use Rattle.dbl_model_table.specs.declared.table.TableName.{TableName}
 use Rattle.dbl_source_model.specs.Standings.{left_of}
 use Rattle.dbl_capture_work.specs.declared.halt.Halt.{Halt}
 use Rattle.dbl_capture_work.specs.declared.halt.Halt.TheVariants as halt
-use Rattle.dbl_capture_work.specs.Begins.{AreInfosAt}
+use Rattle.dbl_capture_work.specs.Begins.{AreInfosAt, IsVersionAt}
 use Rattle.dbl_capture_work.proofs.Exits.{later_on, moved_on, none_taken, rose_behind, taken_on}
-use Rattle.dbl_capture_work.proofs.Describing.{absent_next, described_more, moved_none, name_among, named_push, rest_on}
+use Rattle.dbl_capture_work.proofs.Describing.{absent_next, described_more, moved_none, name_among, named_push, rest_on, version_before, zip_push}
 use Rattle.dbl_capture_work.proofs.begin.describe_tables.Goals as goal
 
 pub returns-in_err-infos-clause-rests : goal.returns-in_err-infos-clause-rests
@@ -21,7 +21,8 @@ returns-in_err-infos-clause-rests g c = record {
 
 pub tables-init : goal.tables-init
 tables-init g c = record {
-  described = λ s stands. record { standing = s; is = stands; holds = (moved_none s (g.met.S.Source.rising c.args.src.now s stands), subst (AreInfosAt s.history) (sym c.in_ok-infos.ensures.items) tt) };
+  described = λ s stands. record { standing = s; is = stands; holds = (moved_none s (g.met.S.Source.rising c.args.src.now s stands), subst (AreInfosAt s.history) (sym c.in_ok-infos.ensures.items) tt, rw (c.in_ok-infos.ensures.items, c.in_ok-versions.ensures.items) tt) };
+  counted = rw (c.in_ok-infos.ensures.items, c.in_ok-versions.ensures.items) tt;
   named = ap (map (λ (info : TableInfo). info.name)) c.in_ok-infos.ensures.items;
   left = λ s l stands may. inl (g.met.S.Source.only c.args.src.now s l stands may);
   some = λ s stands. (left_of s, g.met.S.Source.may c.args.src.now s stands);
@@ -105,7 +106,9 @@ tables-preserved g c =
     let mid = c.tables.src in
     let new = c.describe_table.new.src in
     let infos = c.tables.infos.items in
-    let info = c.in_ok-describe_table.field-0 in
+    let versions = c.tables.versions.items in
+    let info = c.in_ok-describe_table.field-0.info in
+    let version = c.in_ok-describe_table.field-0.version in
     let names = c.args.names.now.items in
     let i = c.tables.name-index in
     let name = c.name-item.result in
@@ -113,6 +116,7 @@ tables-preserved g c =
     let lt : i < length names = subst (λ (l : List TableName). i < length l) items c.tables-test.true in
     let is : name ≡ get_or names i name = c.name-item.is ∙ ap (λ (l : List TableName). get_or l i name) items in
     let pushed : c.push.new.self.items ≡ infos ++ info ∷ [] = c.in_ok-push.ensures.items in
+    let numbered : c.push-2.new.self.items ≡ versions ++ version ∷ [] = c.in_ok-push-2.ensures.items in
     record {
       described = λ s stands. (
           let stood = inv.described s stands in
@@ -123,8 +127,10 @@ tables-preserved g c =
             holds = (
               moved_on s stood.standing next.standing stood.holds.0 next.holds.0,
               subst (AreInfosAt s.history) (sym pushed) (described_more s stood.standing infos info stood.holds.0 stood.holds.1 next.holds.2),
+              rw (pushed, numbered) (zip_push (IsVersionAt s.history) infos versions info version stood.holds.2 (version_before s stood.standing info version stood.holds.0 next.holds.3)),
             );
           });
+      counted = rw (pushed, numbered) (zip_push (λ (x : TableInfo) (v : ℕ). (1 ≤ v) × (v < 2 ^ 64)) infos versions info version inv.counted (c.in_ok-describe_table.ensures.counted, c.describe_table.type_inv.version));
       named = ap (map (λ (x : TableInfo). x.name)) pushed ∙ named_push infos info names i name lt inv.named c.in_ok-describe_table.ensures.named is;
       left = λ s l stands may. (
           let stood = inv.described s stands in

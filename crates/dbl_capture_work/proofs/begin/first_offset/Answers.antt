@@ -11,22 +11,22 @@ use Rattle.dbl_source.specs.SourceLog.declared.error.SourceError.{SourceError}
 use Rattle.dbl_capture_work.specs.declared.halt.Halt.TheVariants as halt
 use Rattle.dbl_capture_work.specs.Begins.{IsAbsentHalt}
 use Rattle.dbl_capture_work.proofs.Exits.{moved_on, rose_behind, source_absent, source_failed, taken_on, later_on}
-use Rattle.dbl_capture_work.proofs.Describing.{first_is_for, first_is_offset, head_from, infos_described, rest_on}
+use Rattle.dbl_capture_work.proofs.Describing.{first_is_for, first_is_offset, head_from, infos_described, rest_on, versions_described}
 use Rattle.dbl_capture_work.proofs.begin.first_offset.Goals as goal
 
-pub returns-in_err-infos-clause-fault : goal.returns-in_err-infos-clause-fault
-returns-in_err-infos-clause-fault g c =
+pub returns-in_err-tables-clause-fault : goal.returns-in_err-tables-clause-fault
+returns-in_err-tables-clause-fault g c =
     let p = err_from_is_err_and c.from_residual.result c.from_residual.ensures.1 in
-    rw (p.1, p.2) (elim c.in_err-infos.ensures.fault [
+    rw (p.1, p.2) (elim c.in_err-tables.ensures.fault [
       | inl memory ↦ inl memory
       | inr (inl failed) ↦ inr (inl failed)
       | inr (inr fault) ↦ inr (inr (fault.0, subst (λ (l : List TableName). Contains l fault.0) c.items.ensures fault.1, fault.2))
     ])
 
-pub returns-in_err-infos-clause-absent : goal.returns-in_err-infos-clause-absent
-returns-in_err-infos-clause-absent g c s stands =
+pub returns-in_err-tables-clause-absent : goal.returns-in_err-tables-clause-absent
+returns-in_err-tables-clause-absent g c s stands =
     let p = err_from_is_err_and c.from_residual.result c.from_residual.ensures.1 in
-    rw (p.1, p.2) (subst (λ (l : List TableName). IsAbsentHalt l s.history c.in_err-infos.field-0.0) c.items.ensures (c.in_err-infos.ensures.absent s stands))
+    rw (p.1, p.2) (subst (λ (l : List TableName). IsAbsentHalt l s.history c.in_err-tables.field-0.0) c.items.ensures (c.in_err-tables.ensures.absent s stands))
 
 pub returns-in_err-head-clause-absent : goal.returns-in_err-head-clause-absent
 returns-in_err-head-clause-absent g c s stands =
@@ -36,7 +36,7 @@ returns-in_err-head-clause-absent g c s stands =
 pub returns-in_err-head-clause-rests : goal.returns-in_err-head-clause-rests
 returns-in_err-head-clause-rests g c = record {
   left = λ s l stands may.
-      let stood = c.in_ok-infos.ensures.described s stands in
+      let stood = c.in_ok-tables.ensures.described s stands in
       rest_on s stood.standing l stood.holds.0 (c.head.ensures.left stood.standing l stood.is may);
   some = search rules;
   still = search rules;
@@ -55,7 +55,7 @@ returns-in_err-head-clause-source g c = record {
 pub returns-in_err-offset_at-clause-rests : goal.returns-in_err-offset_at-clause-rests
 returns-in_err-offset_at-clause-rests g c = record {
   left = λ s l stands may.
-      let stood = c.in_ok-infos.ensures.described s stands in
+      let stood = c.in_ok-tables.ensures.described s stands in
       rest_on s stood.standing l stood.holds.0 (c.head.ensures.left stood.standing l stood.is may);
   some = search rules;
   still = λ s t old new.
@@ -68,11 +68,11 @@ returns-in_err-offset_at-clause-rests g c = record {
 
 pub returns-clause-first : goal.returns-clause-first
 returns-clause-first g c s stands =
-    let stood = c.in_ok-infos.ensures.described s stands in
+    let stood = c.in_ok-tables.ensures.described s stands in
     let headed = c.in_ok-head.ensures.headed stood.standing stood.is in
-    let infos = c.in_ok-infos.infos.items in
+    let infos = c.in_ok-tables.tables.infos.items in
     let moved = moved_on s stood.standing headed.standing stood.holds.0 headed.holds.0 in
-    let named : map (λ (info : TableInfo). info.name) infos ≡ c.args.config.now.tables = c.in_ok-infos.ensures.named ∙ c.items.ensures in
+    let named : map (λ (info : TableInfo). info.name) infos ≡ c.args.config.now.tables = c.in_ok-tables.ensures.named ∙ c.items.ensures in
     record {
       standing = headed.standing;
       is = headed.is;
@@ -81,7 +81,7 @@ returns-clause-first g c s stands =
         (
           infos,
           c.in_ok-head.head,
-          c.in_ok-offset_at.ensures,
+          c.in_ok-offset_at.ensures.first,
           named,
           infos_described s.history headed.standing.history infos moved.grows.tables (subst (λ (l : List TableName). IsTrue (are_distinct same_name l)) (sym named) c.requires.config.distinct) stood.holds.1,
           head_from c.in_ok-head.head s stood.standing headed.standing stood.holds.0 headed.holds.1,
@@ -90,23 +90,35 @@ returns-clause-first g c s stands =
     }
 
 pub returns-clause-of : goal.returns-clause-of
-returns-clause-of g c = first_is_for c.args.config.now c.in_ok-infos.infos.items c.in_ok-head.head c.in_ok-offset_at.field-0 (c.in_ok-infos.ensures.named ∙ c.items.ensures) c.in_ok-offset_at.ensures
+returns-clause-of g c = first_is_for c.args.config.now c.in_ok-tables.tables.infos.items c.in_ok-head.head c.in_ok-offset_at.field-0 (c.in_ok-tables.ensures.named ∙ c.items.ensures) c.in_ok-offset_at.ensures.first
 
 pub returns-clause-asked : goal.returns-clause-asked
 returns-clause-asked g c =
-    first_is_offset c.args.config.now c.in_ok-infos.infos.items c.in_ok-head.head c.in_ok-offset_at.field-0 c.requires.config (c.in_ok-infos.ensures.named ∙ c.items.ensures) c.in_ok-offset_at.ensures
+    first_is_offset c.args.config.now c.in_ok-tables.tables.infos.items c.in_ok-tables.tables.versions.items c.in_ok-head.head c.in_ok-offset_at.field-0 c.requires.config (c.in_ok-tables.ensures.named ∙ c.items.ensures) c.in_ok-tables.ensures.counted
+    c.in_ok-offset_at.ensures.first c.in_ok-offset_at.ensures.versions
+
+pub returns-clause-versions : goal.returns-clause-versions
+returns-clause-versions g c s stands =
+    let stood = c.in_ok-tables.ensures.described s stands in
+    let headed = c.in_ok-head.ensures.headed stood.standing stood.is in
+    let moved = moved_on s stood.standing headed.standing stood.holds.0 headed.holds.0 in
+    record {
+      standing = headed.standing;
+      is = headed.is;
+      holds = rw (c.in_ok-offset_at.ensures.first.infos_are, c.in_ok-offset_at.ensures.versions) (versions_described s.history headed.standing.history c.in_ok-tables.tables.infos.items c.in_ok-tables.tables.versions.items moved.grows.tables stood.holds.2);
+    }
 
 pub returns-clause-headed : goal.returns-clause-headed
-returns-clause-headed g c = subst (λ (lsn : Lsn). LastAnswerIs (g.S.Source.told c.head.new.self) (Head lsn)) (sym c.in_ok-offset_at.ensures.start) c.in_ok-head.ensures.told
+returns-clause-headed g c = subst (λ (lsn : Lsn). LastAnswerIs (g.S.Source.told c.head.new.self) (Head lsn)) (sym c.in_ok-offset_at.ensures.first.start) c.in_ok-head.ensures.told
 
 pub returns-clause-rests : goal.returns-clause-rests
 returns-clause-rests g c = record {
   left = λ s l stands may.
-      let stood = c.in_ok-infos.ensures.described s stands in
+      let stood = c.in_ok-tables.ensures.described s stands in
       rest_on s stood.standing l stood.holds.0 (c.head.ensures.left stood.standing l stood.is may);
   some = search rules;
   still = λ s t old new.
-      let stood = c.in_ok-infos.ensures.described s old in
+      let stood = c.in_ok-tables.ensures.described s old in
       let headed = c.in_ok-head.ensures.headed stood.standing stood.is in
       ap (λ (x : SourceState). x.reading) (g.met.S.Source.one c.head.new.self t headed.standing new headed.is) ∙ (headed.holds.0.reading ∙ stood.holds.0.reading);
   taken =

@@ -140,6 +140,7 @@ taken_over old first is = (
   record {
     identity = ap (λ (o : Offset). o.identity) is;
     infos = ap (λ (o : Offset). o.infos) is;
+    versions = ap (λ (o : Offset). o.versions) is;
     start = ap (λ (o : Offset). o.start) is;
     lsn = ap (λ (o : Offset). o.lsn) is;
     cursors = ap (λ (o : Offset). o.cursors) is;

@@ -44,7 +44,7 @@ sessions_begin_at_rest b every work report for begun messages commits chunks = r
     stored_is = refl;
     of = record {
       for_config = for;
-      of = record { identity = refl; infos = refl; start = refl; incarnation = refl };
+      of = record { identity = refl; infos = refl; versions = refl; start = refl; incarnation = refl };
       placed = subst (λ (o : Offset). IsPlacedOf b.first o) (sym begun.offset_is) refl;
       time = begun.now_is;
       most = begun.chunk_is;

@@ -113,7 +113,7 @@ has_stored config old new first for own = record { offset = own.offset; is = own
 
 -- the first one is
 pub own_first : (first : Offset) (new : Option Offset) → new ≡ Some first → HasOwnStored first new
-own_first first new is = record { offset = first; is = is; of = record { identity = refl; infos = refl; start = refl; incarnation = refl } }
+own_first first new is = record { offset = first; is = is; of = record { identity = refl; infos = refl; versions = refl; start = refl; incarnation = refl } }
 
 apart : (a b : ℕ) → b ≡ a + 1 → (a == b) ≡ false
 apart a b is = grind (arith, nat_tests)

@@ -78,7 +78,7 @@ none_behind (x ∷ xs) ys is = cc
 
 pub stays_put : (history : History) (offset : Option Offset) → OffsetWentOn [] history history offset offset
 stays_put history None = tt
-stays_put history (Some offset) = record { identity = refl; infos = refl; start = refl; lsn = le_refl offset.lsn.0; cursors = cursors_stay offset.cursors; not_less = le_refl offset.incarnation; not_more = plus_none offset.incarnation }
+stays_put history (Some offset) = record { identity = refl; infos = refl; versions = refl; start = refl; lsn = le_refl offset.lsn.0; cursors = cursors_stay offset.cursors; not_less = le_refl offset.incarnation; not_more = plus_none offset.incarnation }
 
 still_there : (old new : History) (more : List RawCommit) (position : ℕ) → HasGrown old new more → IsPositionOf old position → IsPositionOf new position
 still_there old new more position grown is = subst (λ (h : History). IsPositionOf h position) (sym (is_longer old new more grown)) (still_position old more position is)
@@ -130,6 +130,7 @@ offset_next sessions config first last history more (Some a) (Some b) None front
 offset_next sessions config first last history more (Some a) (Some b) (Some c) front grown went goes = record {
   identity = goes.identity ∙ went.identity;
   infos = goes.infos ∙ went.infos;
+  versions = goes.versions ∙ went.versions;
   start = goes.start ∙ went.start;
   lsn = le_on a.lsn.0 b.lsn.0 c.lsn.0 went.lsn goes.lsn;
   cursors = cursors_go_on a.cursors b.cursors c.cursors went.cursors goes.cursors;

@@ -71,7 +71,7 @@ stored_offsets_begin_again entry history old grows fit was small = record {
   grows = grows;
   fit = fit;
   began = subst (λ (o : Option Offset). IsFirstOf entry history (raised old) o) (sym was)
-      (record { identity = refl; infos = refl; start = refl; lsn = refl; cursors = refl; incarnation = one_more old.incarnation }, refl);
+      (record { identity = refl; infos = refl; versions = refl; start = refl; lsn = refl; cursors = refl; incarnation = one_more old.incarnation }, refl);
   described = subst (λ (o : Option Offset). WasDescribed history (raised old) o) (sym was) tt;
   incarnation_fits = small;
 }

@@ -107,7 +107,7 @@ begun_again : BeginsSession second two_commits (example_offset 2 1)
 begun_again = record {
   grows = grows_none two_commits fit_two.rising;
   fit = fit_two;
-  began = (record { identity = refl; infos = refl; start = refl; lsn = refl; cursors = refl; incarnation = omega arith }, refl);
+  began = (record { identity = refl; infos = refl; versions = refl; start = refl; lsn = refl; cursors = refl; incarnation = omega arith }, refl);
   described = tt;
   incarnation_fits = omega arith;
 }
@@ -192,7 +192,7 @@ begun_third : BeginsSession third marked (example_offset 3 2)
 begun_third = record {
   grows = grows_none marked fit_marked.rising;
   fit = fit_marked;
-  began = (record { identity = refl; infos = refl; start = refl; lsn = refl; cursors = refl; incarnation = omega arith }, refl);
+  began = (record { identity = refl; infos = refl; versions = refl; start = refl; lsn = refl; cursors = refl; incarnation = omega arith }, refl);
   described = tt;
   incarnation_fits = omega arith;
 }

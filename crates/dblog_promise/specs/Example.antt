@@ -48,6 +48,7 @@ example_offset incarnation lsn = record {
   end_lsn = record { 0 = lsn };
   infos = [];
   cursors = [];
+  versions = [];
 }
 
 -- What the first session finds: one commit, an empty topic log and no offset.

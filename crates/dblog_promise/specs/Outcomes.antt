@@ -17,6 +17,7 @@ use Rattle.dblog_promise.specs.Restarts.{FoundStores, most_every}
 pub record IsFarther (sessions : ℕ) (old new : Offset) : Type 0 where
   pub identity : new.identity ≡ old.identity
   pub infos : new.infos ≡ old.infos
+  pub versions : new.versions ≡ old.versions
   pub start : new.start ≡ old.start
   pub lsn : old.lsn.0 ≤ new.lsn.0
   pub cursors : AllZip IsLaterCursor old.cursors new.cursors

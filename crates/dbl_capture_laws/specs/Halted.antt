@@ -89,7 +89,7 @@ pub record EndsCommit (infos : List TableInfo) (reading : Reading) (commit : Com
 
 -- ---- windows
 
--- The plan of the next window: of the first unfinished table, after its cursor, with at most `chunk` rows and the next number, of version 1.
+-- The plan of the next window: of the first unfinished table, after its cursor, with at most `chunk` rows, the next number and version 1.
 pub record IsNextPlan (config : Config) (report : Report) (offset : Offset) (plan : Plan) : Type 0 where
   pub table : position (λ cursor. not cursor.done) offset.cursors ≡ Some plan.table
   pub info : slice_get offset.infos plan.table ≡ Some plan.info

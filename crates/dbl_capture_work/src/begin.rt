@@ -100,9 +100,9 @@ fn describe_tables<S: Source>(
     let mut infos = Vec::with_capacity(alloc, names.len())?;
     let mut versions = Vec::with_capacity(alloc, names.len())?;
     'tables: for name in names {
-        let Described { info, version } = describe_table(alloc, src, name)?;
-        infos.push(info)?;
-        versions.push(version)?;
+        let table = describe_table(alloc, src, name)?;
+        infos.push(table.info)?;
+        versions.push(table.version)?;
     }
     Ok(Tables { infos, versions })
 }

@@ -142,26 +142,25 @@ long_infos [] = refl
 long_infos (t ∷ tables) = ap suc (long_infos tables)
 
 -- lists of one length come back from their entries
-module _ where
-  pub infos_back : (infos : List TableInfo) (versions : List ℕ) (cursors : List Cursor) → length versions ≡ length infos → length cursors ≡ length infos → infos_of (entries_of infos versions cursors) ≡ infos
-  infos_back [] versions cursors many long = refl
-  infos_back (info ∷ infos) [] cursors many long = absurd (omega (arith, many))
-  infos_back (info ∷ infos) (v ∷ versions) [] many long = absurd (omega (arith, long))
-  infos_back (info ∷ infos) (v ∷ versions) (c ∷ cursors) many long = ap (λ (l : List TableInfo). info ∷ l) (infos_back infos versions cursors (omega (arith, many)) (omega (arith, long)))
+pub infos_back : (infos : List TableInfo) (versions : List ℕ) (cursors : List Cursor) → length versions ≡ length infos → length cursors ≡ length infos → infos_of (entries_of infos versions cursors) ≡ infos
+infos_back [] versions cursors many long = refl
+infos_back (info ∷ infos) [] cursors many long = absurd (omega (arith, many))
+infos_back (info ∷ infos) (v ∷ versions) [] many long = absurd (omega (arith, long))
+infos_back (info ∷ infos) (v ∷ versions) (c ∷ cursors) many long = ap (λ (l : List TableInfo). info ∷ l) (infos_back infos versions cursors (omega (arith, many)) (omega (arith, long)))
 
-  pub versions_back : (infos : List TableInfo) (versions : List ℕ) (cursors : List Cursor) → length versions ≡ length infos → length cursors ≡ length infos → versions_of (entries_of infos versions cursors) ≡ versions
-  versions_back [] [] cursors many long = refl
-  versions_back [] (v ∷ versions) cursors many long = absurd (omega (arith, many))
-  versions_back (info ∷ infos) [] cursors many long = absurd (omega (arith, many))
-  versions_back (info ∷ infos) (v ∷ versions) [] many long = absurd (omega (arith, long))
-  versions_back (info ∷ infos) (v ∷ versions) (c ∷ cursors) many long = ap (λ (l : List ℕ). v ∷ l) (versions_back infos versions cursors (omega (arith, many)) (omega (arith, long)))
+pub versions_back : (infos : List TableInfo) (versions : List ℕ) (cursors : List Cursor) → length versions ≡ length infos → length cursors ≡ length infos → versions_of (entries_of infos versions cursors) ≡ versions
+versions_back [] [] cursors many long = refl
+versions_back [] (v ∷ versions) cursors many long = absurd (omega (arith, many))
+versions_back (info ∷ infos) [] cursors many long = absurd (omega (arith, many))
+versions_back (info ∷ infos) (v ∷ versions) [] many long = absurd (omega (arith, long))
+versions_back (info ∷ infos) (v ∷ versions) (c ∷ cursors) many long = ap (λ (l : List ℕ). v ∷ l) (versions_back infos versions cursors (omega (arith, many)) (omega (arith, long)))
 
-  pub cursors_back : (infos : List TableInfo) (versions : List ℕ) (cursors : List Cursor) → length versions ≡ length infos → length cursors ≡ length infos → cursors_of (entries_of infos versions cursors) ≡ cursors
-  cursors_back [] versions [] many long = refl
-  cursors_back [] versions (c ∷ cursors) many long = absurd (omega (arith, long))
-  cursors_back (info ∷ infos) [] cursors many long = absurd (omega (arith, many))
-  cursors_back (info ∷ infos) (v ∷ versions) [] many long = absurd (omega (arith, long))
-  cursors_back (info ∷ infos) (v ∷ versions) (c ∷ cursors) many long = ap (λ (l : List Cursor). c ∷ l) (cursors_back infos versions cursors (omega (arith, many)) (omega (arith, long)))
+pub cursors_back : (infos : List TableInfo) (versions : List ℕ) (cursors : List Cursor) → length versions ≡ length infos → length cursors ≡ length infos → cursors_of (entries_of infos versions cursors) ≡ cursors
+cursors_back [] versions [] many long = refl
+cursors_back [] versions (c ∷ cursors) many long = absurd (omega (arith, long))
+cursors_back (info ∷ infos) [] cursors many long = absurd (omega (arith, many))
+cursors_back (info ∷ infos) (v ∷ versions) [] many long = absurd (omega (arith, long))
+cursors_back (info ∷ infos) (v ∷ versions) (c ∷ cursors) many long = ap (λ (l : List Cursor). c ∷ l) (cursors_back infos versions cursors (omega (arith, many)) (omega (arith, long)))
 
 cursors_hold : (format : ℕ) (tables : List TableEntry) → AllByRecursion (HoldsEntry format) tables → AllZip IsCursorOf (infos_of tables) (cursors_of tables)
 cursors_hold format [] h = tt

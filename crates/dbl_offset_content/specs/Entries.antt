@@ -35,7 +35,8 @@ version_form format version = if format == 1 then [] else number64 version
 -- A table: its name, its version, its columns, and the indices of its key columns.
 unfoldable pub table : ℕ → TableInfo → ℕ → List ℕ
 table format info version =
-    text_form info.name.schema ++ text_form info.name.name ++ version_form format version ++ counted column info.columns ++ counted number32 info.key
+    text_form info.name.schema ++ text_form info.name.name ++ version_form format version ++ counted column info.columns
+    ++ counted number32 info.key
 
 -- A cell of a key: a signed number, in two's complement, or a text. Keys have no other cells.
 unfoldable pub cell : Val → List ℕ

@@ -4,8 +4,9 @@ ghost use Rattle.std.specs.Prelude.{◌≡◌, ◌<◌, ◌^◌, length, FitsSig
 ghost use Rattle.std.specs.Int.{w64};
 ghost use Rattle.std.specs.List.{AllByRecursion, flat_map};
 ghost use Rattle.dbl_record.specs.Fields.{IsStored, number32, text_form};
-ghost use Rattle.dbl_offset_content.specs.Entries.{FitsOffset, FitsKeyCell, FitsTableColumn, FitsCursor};
-ghost use Rattle.dbl_offset_content.specs.Entries.{FitsTableCursor, FitsNames, FitsTable, cell, column};
+ghost use Rattle.dbl_offset_content.specs.Entries.{FitsOffset, FitsKeyCell, FitsTableColumn};
+ghost use Rattle.dbl_offset_content.specs.Entries.{FitsCursor, FitsTableCursor, FitsNames};
+ghost use Rattle.dbl_offset_content.specs.Entries.{FitsTable, cell, column};
 ghost use Rattle.dbl_offset_content.specs.Entries.{counted, cursor, entries_of, entry, names};
 ghost use Rattle.dbl_offset_content.specs.Entries.{offset_bytes_form, table, version_form};
 ghost use Rattle.dbl_offset_content.specs.Measures.{Measures};

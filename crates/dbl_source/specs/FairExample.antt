@@ -20,7 +20,12 @@ example_source_name = record { schema = codes "s"; name = codes "t" }
 
 -- A table with one column of texts, which is the key.
 abbrev pub example_raw_table : RawTable
-example_raw_table = record { name = example_source_name; columns = record { name = codes "k"; oid = 25 } ∷ []; key = codes "k" ∷ []; version = 1 }
+example_raw_table = record {
+  name = example_source_name;
+  columns = record { name = codes "k"; oid = 25 } ∷ [];
+  key = codes "k" ∷ [];
+  version = 1;
+}
 
 -- A commit that inserts a row.
 abbrev pub inserting : List ℕ → List Message

@@ -16,11 +16,13 @@ no_rows_selected = record { version = 1; rows = [] }
 -- Whether the answer has version 1, and the rows of one position between the call and the return of the select with these arguments.
 abbrev pub IsAnswered : List LogTable → List Logged → Asked → Selected → Type 0
 IsAnswered tables log question answer =
-    (answer.version ≡ 1) × AreAnswered (history_of tables log) question.from question.upto question.table question.above question.limit answer.rows
+    (answer.version ≡ 1)
+    × AreAnswered (history_of tables log) question.from question.upto question.table question.above question.limit answer.rows
 
 -- Whether what was committed so far is valid, and such as a server sends, and the script's answer to each select so far is correct. After
 -- the script's end a select has version 1 and no rows, which has to be correct too.
 pub record IsFair (tables : List LogTable) (log : List Logged) (asked : List Asked) (rows : List Selected) : Type 0 where
   pub fit : IsFitHistory (history_of tables log)
   pub changes : IsFairLog tables log
-  pub selects : (n : ℕ) (question : Asked) → slice_get asked n ≡ Some question → IsAnswered tables log question (slice_index_or rows n no_rows_selected)
+  pub selects : (n : ℕ) (question : Asked) → slice_get asked n ≡ Some question
+      → IsAnswered tables log question (slice_index_or rows n no_rows_selected)

@@ -24,7 +24,8 @@ use Rattle.dbl_source.specs.Steps.{WasFair, AddedFirst}
 -- encoding.
 abbrev pub NewSourcesAreFair : Type 0
 NewSourcesAreFair = (raws : List RawTable) (moves : List Move) (rows : List Selected) (fails : List ℕ)
-    → AllByRecursion (λ raw. raw.version ≡ 1) raws → AllByRecursion IsEntryInRange (catalogue (map keyed_table raws)) → AreNamed (map keyed_table raws)
+    → AllByRecursion (λ raw. raw.version ≡ 1) raws → AllByRecursion IsEntryInRange (catalogue (map keyed_table raws))
+    → AreNamed (map keyed_table raws)
     → AllByRecursion Fits (all_relations (map keyed_table raws)) → WasFair (new_played raws moves rows fails)
 
 -- Whether each select so far returned when there were no more commits than now, as it has in every source that was made

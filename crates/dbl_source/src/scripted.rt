@@ -40,8 +40,8 @@ use std::vec::IntoIter;
 
 /// A source that plays a script: other clients' commits before each call, and inside of each
 /// `select` between the rows that it takes and its return; an answer for each `select`; and the
-/// calls that fail. Commits inside of another call can be scripted before that call or before the next
-/// one.
+/// calls that fail. Commits inside of another call can be scripted before that call or before the
+/// next one.
 ///
 /// It conforms if the script was fair so far: `fair_scripts_are_honest`.
 #[derive(Drop)]

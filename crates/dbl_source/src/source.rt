@@ -15,8 +15,9 @@ ghost use Rattle.dbl_source_model.specs.Calls.{Moved, IsMarked, Starts, HasReadO
 ghost use Rattle.dbl_source_model.specs.Calls.{HasReadAll, IsConfirmed};
 ghost use Rattle.dbl_source_model.specs.Leaves.{Leaves, LeavesSome, MayFollow};
 ghost use Rattle.dbl_source_model.specs.Leaves.{MayFollowMark, MayFollowConfirm};
-ghost use Rattle.dbl_source_model.specs.Trace.{Described, Head, Began, Read, RowsSelected, Done, Trace};
-ghost use Rattle.dbl_source_model.specs.Trace.{IsTakenBy, IsTakenAnew, LastAnswerIs, is_ready};
+ghost use Rattle.dbl_source_model.specs.Trace.{Described, Head, Began, Read, RowsSelected, Done};
+ghost use Rattle.dbl_source_model.specs.Trace.{Trace, IsTakenBy, IsTakenAnew, LastAnswerIs};
+ghost use Rattle.dbl_source_model.specs.Trace.{is_ready};
 
 use crate::SourceError;
 use dbl_base::{Bytes, Lsn, Text};

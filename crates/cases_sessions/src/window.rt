@@ -46,7 +46,7 @@ fn window(alloc: Global, info: TableInfo, asked: &str) -> Result<Idle> {
     let fields = items::first_of(asked, "window/").unwrap_or("");
     let limit = limit(items::field(fields, 1))?;
     let above = above(alloc, &info, items::field(fields, 0))?;
-    Ok(new(alloc, info, 0, above, limit, 1, 1))
+    Ok(new(alloc, info, 0, above, limit, 1, 1, 1))
 }
 
 // The window with its rows, between its marks.

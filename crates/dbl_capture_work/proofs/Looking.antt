@@ -148,4 +148,4 @@ info_at (suc place) info = (info ∷ (info_at place info).0, (info_at place info
 
 -- rows that were read are in the order of their keys
 pub read_order : (plan : Plan) (told : Option Trace) (rows : List (Key × Row)) → IsReadOf plan told (Ok rows) → AreInKeyOrder rows
-read_order plan told rows is = let infos = info_at plan.table plan.info in above_in_order plan.above rows (read_answered infos.0 plan is.rows rows infos.1 is.read_is).ordered
+read_order plan told rows is = let infos = info_at plan.table plan.info in above_in_order plan.above rows (read_answered infos.0 plan is.answer.rows rows infos.1 is.read_is).ordered

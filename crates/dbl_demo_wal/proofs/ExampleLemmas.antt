@@ -39,6 +39,7 @@ table = record {
     name = record { schema = codes "public"; name = codes "users" };
     columns = record { name = codes "id"; oid = 23 } ∷ record { name = codes "name"; oid = 25 } ∷ [];
     key = codes "id" ∷ [];
+    version = 1;
   };
   full = false;
   toast = 2000;

@@ -22,6 +22,7 @@ table = record {
     name = example_wal_name;
     columns = record { name = codes "name"; oid = 25 } ∷ [];
     key = codes "name" ∷ [];
+    version = 1;
   };
   full = false;
   toast = 2000;

@@ -178,6 +178,7 @@ accounts_at number = record {
     name = record { schema = codes "public"; name = codes "accounts" };
     columns = record { name = codes "id"; oid = 20 } ∷ record { name = codes "owner"; oid = 25 } ∷ record { name = codes "balance"; oid = 20 } ∷ record { name = codes "note"; oid = 25 } ∷ [];
     key = codes "id" ∷ [];
+    version = 1;
   };
   full = false;
   toast = digits_value 10 (codes "64");
@@ -190,6 +191,7 @@ empty_at number = record {
     name = record { schema = codes "public"; name = codes "empty" };
     columns = record { name = codes "id"; oid = 23 } ∷ record { name = codes "name"; oid = 25 } ∷ [];
     key = codes "id" ∷ [];
+    version = 1;
   };
   full = false;
   toast = digits_value 10 (codes "64");

@@ -13,6 +13,7 @@ accounts_table = record {
     columns = record { name = codes "id"; oid = 20 } ∷ record { name = codes "owner"; oid = 25 }
         ∷ record { name = codes "balance"; oid = 20 } ∷ record { name = codes "note"; oid = 25 } ∷ [];
     key = codes "id" ∷ [];
+    version = 1;
   };
   full = false;
   toast = 64;
@@ -26,6 +27,7 @@ empty_table = record {
     name = record { schema = codes "public"; name = codes "empty" };
     columns = record { name = codes "id"; oid = 23 } ∷ record { name = codes "name"; oid = 25 } ∷ [];
     key = codes "id" ∷ [];
+    version = 1;
   };
   full = false;
   toast = 64;

@@ -1,5 +1,5 @@
 -- Typed commits and infos of a history in range are in range.
-use Rattle.std.proofs.Common.{◌≡◌, ◌≤◌, ◌<◌, ◌^◌, ℕ, ℤ, pos, negsuc, suc, Bool, true, false, cond, Option, Some, None, List, [], ◌∷◌, length, map, refl, sym, subst, arith}
+use Rattle.std.proofs.Common.{◌≡◌, ◌≤◌, ◌<◌, ◌^◌, ℕ, ℤ, pos, negsuc, suc, Bool, true, false, cond, Option, Some, None, List, [], ◌∷◌, length, map, refl, sym, subst, arith, ap}
 use Rattle.std.specs.Prelude.{FitsSigned, IfSome, IsSomeAnd, option_map, unwrap_or, if◌then◌else◌, find}
 use Rattle.std.specs.List.{AllByRecursion, filter_map, cons_option}
 use Rattle.std.specs.Str.{IsUtf8}
@@ -18,6 +18,7 @@ use Rattle.dbl_value.proofs.RangeLemmas.{date_in_years}
 use Rattle.dbl_value.proofs.JsonTexts.{instant_mag, IsOf-IsInRange}
 use Rattle.dbl_model_table.specs.declared.table.Column.{Column}
 use Rattle.dbl_model_table.specs.declared.table.RawRow.{RawRow}
+use Rattle.dbl_model_table.specs.declared.table.RawTable.{RawTable}
 use Rattle.dbl_model_table.specs.declared.table.TableInfo.{TableInfo}
 use Rattle.dbl_model_table.specs.declared.change.Change.TheVariants as change
 use Rattle.dbl_model_table.specs.Tables.{same_name}
@@ -25,7 +26,7 @@ use Rattle.dbl_model_table.specs.Infos.{raw_column, catalogue_of, IsInfoOf, numb
 use Rattle.dbl_model_history.specs.History.{RawCell, RawChange, RawBody, RawCommit, History, entry_of}
 use Rattle.dbl_model_history.specs.History as raw
 use Rattle.dbl_model_history.specs.Typed.{typed_cell, typed_cells, typed_update, types_of, key_types_of, typed_key, typed_row, typed_change, typed_body, typed_commit}
-use Rattle.dbl_model_history.specs.Ranges.{IsColumnInRange, IsEntryInRange, AreTextsInRange, IsRawCellInRange, IsRawChangeInRange, IsRawBodyInRange, IsRawCommitInRange, HasRanges, IsValueInRange, AreValuesInRange, IsCellInRange, IsChangeInRange, IsBodyInRange, IsCommitInRange, IsInfoInRange}
+use Rattle.dbl_model_history.specs.Ranges.{IsColumnInRange, IsEntryInRange, AreTextsInRange, IsRawCellInRange, IsRawChangeInRange, IsRawBodyInRange, IsRawCommitInRange, HasRanges, IsNameInRange, IsValueInRange, AreValuesInRange, IsCellInRange, IsChangeInRange, IsBodyInRange, IsCommitInRange, IsInfoInRange}
 use Rattle.dbl_model_history.specs.Laws.{TypedCommitsAreInRange, InfosAreInRange}
 use Rattle.dbl_model_history.proofs.RowKeys.{some_and}
 

@@ -61,12 +61,12 @@ table_in line (name ∷ identity ∷ toast ∷ size ∷ columns) = do
   bytes ← toast_of toast size
   words ← columns_of columns
   Some (
-    record {
-      raw = record { name = named; columns = columns_in words; key = key_in words; version = 1 };
-      full = full;
-      toast = bytes;
-      line = line;
-    })
+      record {
+        raw = record { name = named; columns = columns_in words; key = key_in words; version = 1 };
+        full = full;
+        toast = bytes;
+        line = line;
+      })
 table_in line _ = None
 
 -- ---- rows and steps

@@ -182,7 +182,7 @@ table_said number (a ∷ b ∷ []) table is = cc
 table_said number (a ∷ b ∷ c ∷ []) table is = cc
 table_said number (name ∷ identity ∷ toast ∷ size ∷ written) table is =
     let make : TableName → Bool → ℕ → List ColumnWord → ScriptTable = λ named full bytes words.
-    record { raw = record { name = named; columns = columns_in words; key = key_in words }; full = full; toast = bytes; line = number } in
+    record { raw = record { name = named; columns = columns_in words; key = key_in words; version = 1 }; full = full; toast = bytes; line = number } in
     let a = bound (table_name_of name) (λ named. identity_of identity >>= λ full. toast_of toast size >>= λ bytes. columns_of written >>= λ words. Some (make named full bytes words)) table is in
     let b = bound (identity_of identity) (λ full. toast_of toast size >>= λ bytes. columns_of written >>= λ words. Some (make a.item full bytes words)) table a.rest in
     let c = bound (toast_of toast size) (λ bytes. columns_of written >>= λ words. Some (make a.item b.item bytes words)) table b.rest in
@@ -203,20 +203,22 @@ table_said number (name ∷ identity ∷ toast ∷ size ∷ written) table is =
       few = cs.1;
       columns_are = refl;
       key_is = refl;
+      version = refl;
       line = refl;
     })
 
 table_taken : (number : ℕ) (table : ScriptTable) (name size : List ℕ) (written : List (List ℕ)) (said : List ColumnWord) → SaysTableName name table.raw.name → SaysNumber size table.toast → SayEach SaysColumn written said
-    → length said ≤ 1600 → table.raw.columns ≡ columns_in said → table.raw.key ≡ key_in said → table.line ≡ number → table_in number (name ∷ identity_word table.full ∷ codes "toast" ∷ size ∷ written) ≡ Some table
+    → length said ≤ 1600 → table.raw.columns ≡ columns_in said → table.raw.key ≡ key_in said → table.raw.version ≡ 1 → table.line ≡ number → table_in number (name ∷ identity_word table.full ∷ codes "toast" ∷ size ∷ written) ≡ Some table
 unfolding table_in
-table_taken number table name size written said named toast each few columns_are key_is line_is =
+table_taken number table name size written said named toast each few columns_are key_is version_is line_is =
     let make : TableName → Bool → ℕ → List ColumnWord → ScriptTable = λ named full bytes words.
-    record { raw = record { name = named; columns = columns_in words; key = key_in words }; full = full; toast = bytes; line = number } in
+    record { raw = record { name = named; columns = columns_in words; key = key_in words; version = 1 }; full = full; toast = bytes; line = number } in
     let identity = identity_word table.full in
     let made : make table.raw.name table.full table.toast said ≡ table =
-    ap (λ columns. let t : ScriptTable = record { raw = record { name = table.raw.name; columns = columns; key = key_in said }; full = table.full; toast = table.toast; line = number } in t) (sym columns_are)
-    ∙ (ap (λ key. let t : ScriptTable = record { raw = record { name = table.raw.name; columns = table.raw.columns; key = key }; full = table.full; toast = table.toast; line = number } in t) (sym key_is)
-    ∙ ap (λ line. let t : ScriptTable = record { raw = table.raw; full = table.full; toast = table.toast; line = line } in t) (sym line_is)) in
+    ap (λ columns. let t : ScriptTable = record { raw = record { name = table.raw.name; columns = columns; key = key_in said; version = 1 }; full = table.full; toast = table.toast; line = number } in t) (sym columns_are)
+    ∙ (ap (λ key. let t : ScriptTable = record { raw = record { name = table.raw.name; columns = table.raw.columns; key = key; version = 1 }; full = table.full; toast = table.toast; line = number } in t) (sym key_is)
+    ∙ (ap (λ version. let t : ScriptTable = record { raw = record { name = table.raw.name; columns = table.raw.columns; key = table.raw.key; version = version }; full = table.full; toast = table.toast; line = number } in t) (sym version_is)
+    ∙ ap (λ line. let t : ScriptTable = record { raw = table.raw; full = table.full; toast = table.toast; line = line } in t) (sym line_is))) in
     back (table_name_of name) (λ named. identity_of identity >>= λ full. toast_of (codes "toast") size >>= λ bytes. columns_of written >>= λ words. Some (make named full bytes words)) table.raw.name table (table_name_taken name table.raw.name named)
     (back (identity_of identity) (λ full. toast_of (codes "toast") size >>= λ bytes. columns_of written >>= λ words. Some (make table.raw.name full bytes words)) table.full table (identity_taken table.full)
     (back (toast_of (codes "toast") size) (λ bytes. columns_of written >>= λ words. Some (make table.raw.name table.full bytes words)) table.toast table (toast_taken size table.toast toast)
@@ -412,7 +414,7 @@ words_taken : (number : ℕ) (words : List (List ℕ)) (said : Line) → SaysWor
 unfolding worded step_in
 words_taken number words said (says_table table s) =
     ap (worded number) s.is
-    ∙ ap (option_map Table) (table_taken number table s.name s.size s.columns s.said s.named s.toast s.each s.few s.columns_are s.key_is s.line)
+    ∙ ap (option_map Table) (table_taken number table s.name s.size s.columns s.said s.named s.toast s.each s.few s.columns_are s.key_is s.version s.line)
 words_taken number words said (says_row row s) = ap (worded number) s.is ∙ ap (option_map Row) (row_taken number row s.name s.cells s.named s.each s.line)
 words_taken number words said (says_tick is) = ap (worded number) is
 words_taken number words said (says_step session verb step is named says) = ap (worded number) is ∙ by verb (verb_taken session verb step says)

@@ -117,7 +117,7 @@ identity_word false = codes "default"
 identity_word true = codes "full"
 
 -- `table <schema>.<table> <default or full> toast <N> <columns>`: a table of this line, which stores texts of N bytes and more out of line,
--- with at most 1,600 columns, as many as a PostgreSQL table may have.
+-- with at most 1,600 columns, as many as a PostgreSQL table may have. It has version 1.
 pub record SaysTable (number : ℕ) (words : List (List ℕ)) (table : ScriptTable) : Type 0 where
   pub name : List ℕ
   pub size : List ℕ
@@ -130,6 +130,7 @@ pub record SaysTable (number : ℕ) (words : List (List ℕ)) (table : ScriptTab
   pub few : length said ≤ 1600
   pub columns_are : table.raw.columns ≡ columns_in said
   pub key_is : table.raw.key ≡ key_in said
+  pub version : table.raw.version ≡ 1
   pub line : table.line ≡ number
 
 -- ---- rows and steps

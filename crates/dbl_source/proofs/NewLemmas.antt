@@ -1,12 +1,12 @@
 -- A source that has been asked nothing.
-use Rattle.std.proofs.Common.{◌≡◌, ◌∷◌, List, [], map, refl, sym, ap, subst}
+use Rattle.std.proofs.Common.{◌≡◌, ◌∷◌, Bool, true, false, cond, not, List, [], map, refl, sym, ap, subst}
 use Rattle.std.specs.Prelude.{◌≢◌, IsTrue}
 use Rattle.std.specs.List.{AllByRecursion}
 use Rattle.dbl_pgmsg.specs.Grammar.{Fits}
 use Rattle.dbl_model_table.specs.declared.table.TableName.{TableName}
 use Rattle.dbl_model_table.specs.declared.table.RawTable.{RawTable}
 use Rattle.dbl_source_model.specs.declared.selected.Selected.{Selected}
-use Rattle.dbl_model_table.specs.Tables.{same_name, are_distinct}
+use Rattle.dbl_model_table.specs.Tables.{same_name, are_distinct, is_watermark}
 use Rattle.dbl_source_model.specs.ModelHistory.Ranges.{IsEntryInRange}
 use Rattle.dbl_source_log.specs.declared.logged.Logged.{Logged}
 use Rattle.dbl_source_log.specs.Relations.{catalogue, all_relations}

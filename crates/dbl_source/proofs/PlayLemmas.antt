@@ -145,8 +145,9 @@ module _ (tables : List LogTable) (log more : List Logged) (asked asked_more : L
   fair_front before fair = record {
     fit = fit_log_front tables log more fair.fit;
     changes = fair_log_front tables log more fair.changes;
-    selects = λ n question found. answered_log_front tables log more question.from question.upto question.table question.above question.limit (slice_index_or rows n no_rows_selected) (before n question found)
-        (fair.selects n question (found_more asked asked_more n question found));
+    selects = λ n question found. (
+        let right = fair.selects n question (found_more asked asked_more n question found) in
+        (right.0, answered_log_front tables log more question.from question.upto question.table question.above question.limit (slice_index_or rows n no_rows_selected).rows (before n question found) right.1));
   }
 
 -- the same of states whose parts are told by equations

@@ -1,11 +1,13 @@
 -- After every list of steps of UTF-8 texts all that was changed is of UTF-8 texts, and so the serial run is a fit log.
-use Rattle.std.proofs.Common.{◌≡◌, ◌≢◌, ◌∙◌, ◌⊎◌, inl, inr, ◌<◌, ◌^◌, ℕ, Bool, true, false, Option, Some, List, [], ◌∷◌, ◌++◌, length, map, refl, sym, ap, subst}
+use Rattle.std.proofs.Common.{◌≡◌, ◌≢◌, ◌∙◌, ◌⊎◌, inl, inr, ◌<◌, ◌^◌, ℕ, Bool, true, false, cond, Option, Some, List, [], ◌∷◌, ◌++◌, length, map, refl, sym, ap, subst}
 use Rattle.std.specs.Prelude.{not, if◌then◌else◌, option_map, filter_map, Result, Ok, Err, bytes_eq}
 use Rattle.std.specs.List.{AllByRecursion, cons_option}
 use Rattle.std.proofs.lemmas.List.{length-map}
 use Rattle.dbl_tables_rows.specs.Pgmsg.declared.messages.Message.{Message}
 use Rattle.dbl_tables_rows.specs.ModelTable.declared.named_cell.NamedCell.{NamedCell}
+use Rattle.dbl_tables_rows.specs.ModelTable.declared.table.RawTable.{RawTable}
 use Rattle.dbl_tables_rows.specs.ModelTable.declared.table.TableName.{TableName}
+use Rattle.dbl_tables_rows.specs.ModelTable.Tables.{is_watermark}
 use Rattle.dbl_model_table.proofs.Lists.{same_text, text_itself}
 use Rattle.dbl_tables_rows.specs.ModelHistory.History.{RawChange}
 use Rattle.dbl_tables_rows.specs.ModelHistory.History as raw
@@ -222,12 +224,12 @@ entries_fit tables rows [] fit range = tt
 entries_fit tables rows (ms ∷ log) fit range = (record { ranges = range.0; changes = fit.0 }, entries_fit tables (text_rows_from tables rows ms) log fit.1 range.1)
 
 -- the versions of the catalogue's tables
-opening_of : (tables : List DemoTable) → AllByRecursion (λ (raw : RawTable). raw.version ≡ 1) (catalogue (log_tables tables))
+opening_of : (tables : List DemoTable) → AllByRecursion (λ (r : RawTable). r.version ≡ 1) (catalogue (log_tables tables))
 opening_of [] = tt
 opening_of (table ∷ tables) = by (is_watermark table.info.name) (opening_of tables)
   where
-    by : (b : Bool) → AllByRecursion (λ (raw : RawTable). raw.version ≡ 1) (catalogue (log_tables tables))
-        → AllByRecursion (λ (raw : RawTable). raw.version ≡ 1) (cond (not b) (raw_of table ∷ catalogue (log_tables tables)) (catalogue (log_tables tables)))
+    by : (b : Bool) → AllByRecursion (λ (r : RawTable). r.version ≡ 1) (catalogue (log_tables tables))
+        → AllByRecursion (λ (r : RawTable). r.version ≡ 1) (cond (not b) (raw_of table ∷ catalogue (log_tables tables)) (catalogue (log_tables tables)))
     by true rest = rest
     by false rest = (refl, rest)
 

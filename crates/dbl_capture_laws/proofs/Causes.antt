@@ -182,6 +182,7 @@ module _ (config : Config) (now : ℤ) (held : Option Offset) (first stored : Of
     of = record {
       identity = identity_stored config now held first stored work o;
       infos = infos_stored config now held first stored work o;
+      versions = ap (λ (x : Offset). x.versions) o.placed ∙ sym o.of.versions;
       start = ap (λ (x : Offset). x.start) o.placed ∙ sym o.of.start;
       incarnation = incarnation_stored config now held first stored work o;
     };

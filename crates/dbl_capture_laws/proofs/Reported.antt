@@ -244,6 +244,7 @@ module _ (config : Config) (held : Option Offset) (first : Offset) (work : Sessi
   of_session = record {
     identity = ap (λ (o : Offset). o.identity) placed;
     infos = ap (λ (o : Offset). o.infos) placed;
+    versions = ap (λ (o : Offset). o.versions) placed;
     start = ap (λ (o : Offset). o.start) placed;
     incarnation = ap (λ (o : Offset). o.incarnation) placed;
   }

@@ -148,6 +148,7 @@ module _ (after : Lsn) (ms : List Message) (work : SessionState) (is : IsWork af
         few = is.asked.few;
         distinct = is.asked.distinct;
         cursors = is.asked.cursors;
+        versions = is.asked.versions;
       }
 
       pub followed_is : IsWork after (m ∷ ms) followed_work

@@ -4,6 +4,7 @@ pub use Rattle.dblog_replay.proofs.StreamLemmas as ReplayStreamLemmas
 pub mod AnswerLemmas
 pub mod ApplyLaws
 pub mod ApplyRunLemmas
+pub mod ErrorLemmas
 pub mod FrameInputLemmas
 pub mod InputLemmas
 pub mod ReplayLaws

@@ -1,14 +1,30 @@
 -- For private clauses: errors of reading an input, and a replication stream that is read piece by piece.
 use Rattle.std.specs.Prelude.{◌≡◌, ◌⊎◌, ℕ, Bool, Some, None, Err, List, length}
+use Rattle.dbl_base.specs.declared.input.InputError.{InputError}
+use Rattle.dbl_base.specs.declared.input.InputError.TheVariants as input
 use Rattle.dbl_frames_heads.specs.declared.error.FrameError.{FrameError}
 use Rattle.dbl_frames_heads.specs.declared.frame.Frame.{Frame}
 use Rattle.dbl_frames.specs.Stream.{AreFramesOf, Faulty, WasFed}
+use Rattle.dbl_lines.specs.declared.run_error.RunError.{RunError}
 use Rattle.dbl_lines.specs.declared.run_error.RunError.TheVariants as run
+use Rattle.dblog_replay.specs.declared.lines.LineError.{LineError}
+use Rattle.dblog_replay.specs.declared.lines.LineError.TheVariants as line
 use Rattle.dblog_streams.specs.Answers.{RunAnswer, fault}
 use Rattle.dblog_streams.specs.declared.frames.Stream.{Stream}
 use Rattle.dblog_streams.specs.declared.unread.Unread.{Unread}
 use Rattle.dblog_streams.specs.declared.unread.Unread.TheVariants.{Run, BadFrame, CutFrame}
 use Rattle.dblog_streams.specs.Inputs.{frame_text, cut_text, invalid_input, payloads_of, EncodesStrings}
+
+-- The error of reading an input, as a run's.
+abbrev pub reading_error : InputError → RunError
+reading_error input.Failed = run.InputFailed
+reading_error input.TooLong = run.InputTooLong
+reading_error input.Memory = run.Memory
+
+-- The error of reading the lines of a log, as a run's.
+abbrev pub line_error : LineError → RunError
+line_error (line.BadLine number) = run.BadLine number
+line_error line.Memory = run.Memory
 
 -- The answer of an error of reading.
 abbrev pub unread_answer : Unread → RunAnswer

@@ -6,7 +6,8 @@ ghost use Rattle.dblog_streams.specs.Applies.{HaltsApplying};
 ghost use Rattle.dblog_streams.specs.declared.unread.Unread.TheVariants.{Run};
 ghost use Rattle.dblog_streams.specs.Streaming.{HaltsReading};
 
-use dbl_base::{Bytes, Input, InputError, read_all};
+use crate::errors::reading_error;
+use dbl_base::{Bytes, Input, read_all};
 use dbl_lines::{LongText, RunError, read_long_text};
 use std::alloc::Global;
 
@@ -30,9 +31,7 @@ pub(crate) fn read_input<I: Input>(alloc: Global, input: &mut I) -> Result<Bytes
 {
     match read_all(alloc, input) {
         Ok(bytes) => Ok(bytes),
-        Err(InputError::Failed) => Err(RunError::InputFailed),
-        Err(InputError::TooLong) => Err(RunError::InputTooLong),
-        Err(InputError::Memory) => Err(RunError::Memory),
+        Err(error) => Err(reading_error(error)),
     }
 }
 
@@ -55,8 +54,6 @@ pub(crate) fn read_text<I: Input>(alloc: Global, input: &mut I) -> Result<LongTe
 {
     match read_long_text(alloc, input) {
         Ok(text) => Ok(text),
-        Err(InputError::Failed) => Err(RunError::InputFailed),
-        Err(InputError::TooLong) => Err(RunError::InputTooLong),
-        Err(InputError::Memory) => Err(RunError::Memory),
+        Err(error) => Err(reading_error(error)),
     }
 }

@@ -2,6 +2,7 @@
 #![tactic(auto)]
 
 mod applying;
+mod errors;
 mod frames;
 mod generating;
 mod input;

@@ -13,6 +13,7 @@ ghost use Rattle.dblog_streams.specs.Replays.{RunsLog, RunsReplaying, log_option
 ghost use Rattle.dblog_streams.specs.Statuses.{IsReplayAnswer, IsReplayStatus};
 ghost use Rattle.dblog_streams.specs.Streaming.{HaltsReading, IsFailure};
 
+use crate::errors::line_error;
 use crate::frames::read_payloads;
 use crate::input::read_input;
 use crate::unread::{Unread, say_unread};
@@ -20,7 +21,7 @@ use dbl_base::{Bytes, Input, Output};
 use dbl_cli::ReplayOptions;
 use dbl_lines::{RunError, Status, say};
 use dbl_model_table::Identity;
-use dblog_replay::{LineError, LogOptions, PrintError, print_log};
+use dblog_replay::{LogOptions, PrintError, print_log};
 use std::alloc::Global;
 
 // The byte strings that the lines of an input within the limit encode, which is freed.
@@ -33,11 +34,8 @@ fn strings_of(alloc: Global, text: Bytes) -> Result<Vec<Bytes>, Unread>
 {
     match dblog_replay::messages(alloc, text.items().as_slice()) {
         Ok(strings) => Ok(strings),
-        Err(LineError::BadLine { number }) => Err(Unread::Run {
-            reason: RunError::BadLine { number },
-        }),
-        Err(LineError::Memory) => Err(Unread::Run {
-            reason: RunError::Memory,
+        Err(error) => Err(Unread::Run {
+            reason: line_error(error),
         }),
     }
 }

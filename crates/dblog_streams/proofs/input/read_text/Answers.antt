@@ -1,0 +1,18 @@
+use Rattle.std.proofs.Common.{Err, ap}
+use Rattle.dblog_streams.proofs.ErrorLemmas.{reading_applies, reading_within, reading_failed, reading_kinds}
+use Rattle.dblog_streams.proofs.input.read_text.Goals as goal
+
+pub returns-in-Err-clause-long : goal.returns-in-Err-clause-long
+returns-in-Err-clause-long g c = λ bytes told within.
+    reading_within bytes c.in-Err.error _ c.reading_error.ensures (λ is. c.in-Err.ensures.too_long bytes told (ap Err is)) within
+
+pub returns-in-Err-clause-applying : goal.returns-in-Err-clause-applying
+returns-in-Err-clause-applying g c = λ bytes placeholder told.
+    reading_applies bytes placeholder c.in-Err.error _ c.reading_error.ensures (λ is. c.in-Err.ensures.too_long bytes told (ap Err is))
+
+pub returns-in-Err-clause-failed : goal.returns-in-Err-clause-failed
+returns-in-Err-clause-failed g c = λ is.
+    c.in-Err.ensures.cause.cause (ap Err (reading_failed c.in-Err.error c.reading_error.result c.reading_error.ensures (let t = is in cc)))
+
+pub returns-in-Err-clause-kinds : goal.returns-in-Err-clause-kinds
+returns-in-Err-clause-kinds g c = reading_kinds c.in-Err.error _ c.reading_error.ensures

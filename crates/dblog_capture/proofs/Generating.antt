@@ -56,7 +56,7 @@ unwritten_or init.Memory = inl tt
 
 -- a disk that was only asked was only read
 only_read : {D : Type 0} (model : DiskModel D) (made : Store) (end : inits.InitEnd) (old new : D) → IsAtMostMeasured model made end old new → OnlyRead model old new
-only_read model made end old new asked = record { same = asked.same; crash = asked.crash }
+only_read model made end old new asked = record { same = asked.keeps.same; crash = asked.keeps.crash }
 
 -- ---- lengths
 
@@ -122,7 +122,7 @@ module _ {W T F : Type 0} (wal_model : DiskModel W) (topics_model : DiskModel T)
     -- a disk that was only asked still tells no bytes, which is no store
     not_asked : Made → IsAtMostMeasured offsets_model store.Offsets (Err e) old.offsets mid.offsets → ⊥
     not_asked made only_asked =
-        let nothing = made.made [] (crashed [] (only_asked.same ∙ made.offsets_empty.told)) in
+        let nothing = made.made [] (crashed [] (only_asked.keeps.same ∙ made.offsets_empty.told)) in
         nothing_is_no_store nothing.0 nothing.1
 
     torn_promised : Made → EndsTorn wal_model topics_model offsets_model workload old mid → (w t f : List ℕ) → wal_model.may_leave mid.wal w → topics_model.may_leave mid.topics t → offsets_model.may_leave mid.offsets f → Promise w t f
@@ -226,7 +226,16 @@ no_memory made end memory failed = let t = memory in let u = failed in cc
 
 module _ {D : Type 0} (model : DiskModel D) (made : Store) (disk : D) where
   pub asked_none : IsAtMostMeasured model made (Err init.Memory) disk disk
-  asked_none = record { same = refl; crash = λ crashed may. may; later = omega arith; cause = λ is. absurd (no_memory made (Err init.Memory) refl is); steady = λ no bytes told. refl }
+  asked_none = record {
+    keeps = record {
+      same = refl;
+      crash = λ crashed may. may;
+      later = omega arith;
+      cause = λ is. absurd (no_memory made (Err init.Memory) refl is);
+      steady = λ no bytes told. refl;
+    };
+    unsynced = λ crashed may. may;
+  }
 
   pub leaves_none : LeavesDisk model made (Err init.Memory) disk disk
   leaves_none = record {

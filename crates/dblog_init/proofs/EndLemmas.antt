@@ -169,7 +169,7 @@ module _ {D : Type 0} (model : DiskModel D) (store : Store) (old mid : D) where
   none_held asks holds = holds.2 (asks.empty holds.0 holds.1)
 
   pub empty_behind : AsksOne model store (Ok tt) old mid → (bytes : List ℕ) → model.seen mid ≡ Some bytes → bytes ≡ []
-  empty_behind asks bytes told = asks.empty bytes (sym asks.asked.same ∙ told)
+  empty_behind asks bytes told = asks.empty bytes (sym asks.asked.keeps.same ∙ told)
 
   -- it ended at the input
   pub asked_at : (f : InitError) → (f ≡ Failed store → ⊥) → AsksOne model store (Ok tt) old mid → IsAtMostMeasured model store (Err f) old mid
@@ -188,7 +188,7 @@ module _ {D : Type 0} (model : DiskModel D) (store : Store) (old mid : D) where
         by (Err e) = tt
 
     pub made_end : (before : List ℕ) → model.seen old ≡ Some before → OnOk end (HasStoredBytes model Is new)
-    made_end before told = makes.made (asks.asked.same ∙ told ∙ ap Some (asks.empty before told))
+    made_end before told = makes.made (asks.asked.keeps.same ∙ told ∙ ap Some (asks.empty before told))
 
     pub asked_end : (EndsBeforeWriting store end → end ≡ Err (Failed store) → ⊥) → EndsBeforeWriting store end → IsAtMostMeasured model store end old new
     asked_end spared unwritten =

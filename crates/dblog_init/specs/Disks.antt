@@ -15,9 +15,10 @@ use Rattle.dblog_init.specs.Fresh.{IsEmptyLog}
 use Rattle.dbl_demo.specs.Begun.{first_room}
 use Rattle.dbl_journal.specs.Calls.{Keeps}
 
--- The disk was called for its length at most.
-abbrev pub IsAtMostMeasured : {D : Type 0} → DiskModel D → Store → InitEnd → D → D → Type 0
-IsAtMostMeasured model store end old new = Keeps model (end ≡ Err (Failed store)) old new
+-- The disk was called for its length at most: its contents are the same, and it wasn't synced, as a crash leaves what it could leave before.
+pub record IsAtMostMeasured {D : Type 0} (model : DiskModel D) (store : Store) (end : InitEnd) (old new : D) : Type 0 where
+  pub keeps : Keeps model (end ≡ Err (Failed store)) old new
+  pub unsynced : (crashed : List ℕ) → model.may_leave old crashed → model.may_leave new crashed
 
 -- Each disk was called for its length at most.
 abbrev pub AreAtMostMeasured : {W T F : Type 0} → DiskModel W → DiskModel T → DiskModel F → InitEnd → Disks W T F → Disks W T F → Type 0

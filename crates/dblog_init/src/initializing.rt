@@ -240,9 +240,10 @@ pub fn init<I: Input, W: Disk, T: Disk, F: Disk>(
         ⊎ (result.end ≡ Err (InitError.NotEmpty Store.Topics))
         → result.disks.offsets ≡ disks.offsets }
 
-    // If one of the disks isn't empty, none of them is written.
+    // If one of the disks isn't empty, none of them is written or synced, and the input isn't read.
     ensures unwritten { HoldSomeBytes W.Disk T.Disk F.Disk disks
         → AreAtMostMeasured W.Disk T.Disk F.Disk result.end disks result.disks }
+    ensures full_unread { HoldSomeBytes W.Disk T.Disk F.Disk disks → input.new ≡ input.old }
 
     // No byte is written of a bad workload, nor of a store after one whose disk failed.
     ensures wal_asked { EndsBeforeWriting Store.Wal result.end

@@ -178,9 +178,10 @@ module _ (end : inits.InitEnd) (status : Status) (before after : Option (List �
       cause = λ is. leaves.cause (failed_end made is);
       steady = λ other whole. leaves.steady (λ is. elim (fails_so made is) [ inl same ↦ other same | inr cut ↦ whole cut ]);
       short = leaves.short;
-      same = λ unwritten. (asked (unwritten_of made end (own_end (IsUnwritten made) (unwritten_whole made status) unwritten))).same;
-      crash = λ unwritten. (asked (unwritten_of made end (own_end (IsUnwritten made) (unwritten_whole made status) unwritten))).crash;
+      same = λ unwritten. (asked (unwritten_of made end (own_end (IsUnwritten made) (unwritten_whole made status) unwritten))).keeps.same;
+      crash = λ unwritten. (asked (unwritten_of made end (own_end (IsUnwritten made) (unwritten_whole made status) unwritten))).keeps.crash;
+      unsynced = λ unwritten. (asked (unwritten_of made end (own_end (IsUnwritten made) (unwritten_whole made status) unwritten))).unsynced;
     }
 
 pub untouched : {D : Type 0} (model : DiskModel D) (made : Store) (end : inits.InitEnd) (old new : D) → IsAtMostMeasured model made end old new → IsDiskUntouched model old new
-untouched model made end old new asked = record { same = asked.same; crash = asked.crash }
+untouched model made end old new asked = record { same = asked.keeps.same; crash = asked.keeps.crash; unsynced = asked.unsynced }

@@ -20,6 +20,7 @@ use Rattle.dblog_capture.specs.Connect.declared.asked.Asked.{Asked}
 use Rattle.dblog_capture.specs.Connect.declared.asked.Asked.TheVariants.{First, Again}
 use Rattle.dblog_capture.specs.Connect.Asked.{asks_in}
 use Rattle.dblog_capture.specs.Connect.Disks.{AreKeptDisks, IsTrueAfterCrash}
+use Rattle.dblog_capture.specs.Connect.Ends.{OnlyRead}
 use Rattle.dblog_run.specs.Disks.{IsOnlyRead}
 use Rattle.dblog_run.specs.Inits.{AreUntouched, IsDiskUntouched}
 use Rattle.dblog_run.specs.Sessions.{IsCompleteRun, asked_by, asks_by}
@@ -49,8 +50,13 @@ promised_still complete held none kept =
 
 -- ---- disks that were not written
 
+-- each of the disks was only read
+abbrev pub AreOnlyRead : {W T F : Type 0} → DiskModel W → DiskModel T → DiskModel F → Disks W T F → Disks W T F → Type 0
+AreOnlyRead wal_model topics_model offsets_model old new =
+    OnlyRead wal_model old.wal new.wal × (OnlyRead topics_model old.topics new.topics × OnlyRead offsets_model old.offsets new.offsets)
+
 module _ {W T F : Type 0} (wal_model : DiskModel W) (topics_model : DiskModel T) (offsets_model : DiskModel F) where
-  pub stays_kept : (old new : Disks W T F) → AreUntouched wal_model topics_model offsets_model old new → AreKeptDisks wal_model topics_model offsets_model old → AreKeptDisks wal_model topics_model offsets_model new
+  pub stays_kept : (old new : Disks W T F) → AreOnlyRead wal_model topics_model offsets_model old new → AreKeptDisks wal_model topics_model offsets_model old → AreKeptDisks wal_model topics_model offsets_model new
   stays_kept old new same kept = record {
     wal = subst IsSome (sym same.0.same) kept.wal;
     topics = subst IsSome (sym same.1.0.same) kept.topics;
@@ -58,7 +64,7 @@ module _ {W T F : Type 0} (wal_model : DiskModel W) (topics_model : DiskModel T)
     each = λ wal log store may_wal may_log may_store. kept.each wal log store (same.0.crash wal may_wal) (same.1.0.crash log may_log) (same.1.1.crash store may_store);
   }
 
-  pub stays_promised : (complete : Type 0) (asks : Contents → Option Config) (old new : Disks W T F) → (complete → ⊥) → AreUntouched wal_model topics_model offsets_model old new → AreKeptDisks wal_model topics_model offsets_model old
+  pub stays_promised : (complete : Type 0) (asks : Contents → Option Config) (old new : Disks W T F) → (complete → ⊥) → AreOnlyRead wal_model topics_model offsets_model old new → AreKeptDisks wal_model topics_model offsets_model old
       → IsTrueAfterCrash wal_model topics_model offsets_model new (GuaranteesAfterCrash complete asks (wal_model.may_leave old.wal) (topics_model.may_leave old.topics) (offsets_model.may_leave old.offsets))
   stays_promised complete asks old new none same kept wal log store may_wal may_log may_store =
       let found = kept.each wal log store (same.0.crash wal may_wal) (same.1.0.crash log may_log) (same.1.1.crash store may_store) in
@@ -106,11 +112,14 @@ none_asked : (asked : Asked) → Some asked ≡ None → ⊥
 none_asked asked is = cc
 
 module _ {D : Type 0} (model : DiskModel D) where
-  pub same_untouched : (old new : D) → new ≡ old → IsDiskUntouched model old new
-  same_untouched old new is = subst (λ (d : D). IsDiskUntouched model old d) (sym is) (record { same = refl; crash = λ crashed may. may })
+  pub same_untouched : (old new : D) → new ≡ old → OnlyRead model old new
+  same_untouched old new is = subst (λ (d : D). OnlyRead model old d) (sym is) (record { same = refl; crash = λ crashed may. may })
+
+  pub of_untouched : (old new : D) → IsDiskUntouched model old new → OnlyRead model old new
+  of_untouched old new same = record { same = same.same; crash = same.crash }
 
   -- of a disk that a command neither makes nor runs a session over
-  pub wal_untouched : (c : Command) (old new : D) → asked_by c ≡ None → (makes c ≡ true → IsDiskUntouched model old new) → (writes c ≡ false → new ≡ old) → IsDiskUntouched model old new
+  pub wal_untouched : (c : Command) (old new : D) → asked_by c ≡ None → (makes c ≡ true → OnlyRead model old new) → (writes c ≡ false → new ≡ old) → OnlyRead model old new
   wal_untouched command.Init old new none full stays = full refl
   wal_untouched command.Topics old new none full stays = same_untouched old new (stays refl)
   wal_untouched command.Offsets old new none full stays = same_untouched old new (stays refl)
@@ -123,18 +132,18 @@ module _ {D : Type 0} (model : DiskModel D) where
   wal_untouched (command.Gen number rows groups false) old new none full stays = same_untouched old new (stays refl)
 
   -- it goes on telling what it told
-  pub untouched_bounded : (old new : D) → IsDiskUntouched model old new → IsBounded (model.seen old) (model.seen new)
+  pub untouched_bounded : (old new : D) → OnlyRead model old new → IsBounded (model.seen old) (model.seen new)
   untouched_bounded old new same = record { each = λ before told. inl (same.same ∙ told) }
 
-  pub untouched_store_bounded : (old new : D) → IsDiskUntouched model old new → IsStoreBounded (model.seen old) (model.seen new)
+  pub untouched_store_bounded : (old new : D) → OnlyRead model old new → IsStoreBounded (model.seen old) (model.seen new)
   untouched_store_bounded old new same = record { each = λ before told. (before, same.same ∙ told, omega arith) }
 
 module _ {D : Type 0} (model : DiskModel D) where
-  read_untouched : (fault status : Status) (old new : D) → IsOnlyRead model fault status old new → IsDiskUntouched model old new
+  read_untouched : (fault status : Status) (old new : D) → IsOnlyRead model fault status old new → OnlyRead model old new
   read_untouched fault status old new reads = record { same = reads.same; crash = reads.crash }
 
-  pub topics_untouched : (c : Command) (fault status : Status) (old new : D) → asked_by c ≡ None → (makes c ≡ true → IsDiskUntouched model old new) → (opens_topics c ≡ true → IsOnlyRead model fault status old new)
-      → (uses_topics c ≡ false → new ≡ old) → IsDiskUntouched model old new
+  pub topics_untouched : (c : Command) (fault status : Status) (old new : D) → asked_by c ≡ None → (makes c ≡ true → OnlyRead model old new) → (opens_topics c ≡ true → IsOnlyRead model fault status old new)
+      → (uses_topics c ≡ false → new ≡ old) → OnlyRead model old new
   topics_untouched command.Init fault status old new none full reads stays = full refl
   topics_untouched command.Topics fault status old new none full reads stays = read_untouched fault status old new (reads refl)
   topics_untouched command.Offsets fault status old new none full reads stays = same_untouched model old new (stays refl)
@@ -147,8 +156,8 @@ module _ {D : Type 0} (model : DiskModel D) where
   topics_untouched (command.Gen number rows groups true) fault status old new none full reads stays = full refl
   topics_untouched (command.Gen number rows groups false) fault status old new none full reads stays = same_untouched model old new (stays refl)
 
-  pub offsets_untouched : (c : Command) (fault status : Status) (old new : D) → asked_by c ≡ None → (makes c ≡ true → IsDiskUntouched model old new) → (opens_offsets c ≡ true → IsOnlyRead model fault status old new)
-      → (uses_offsets c ≡ false → new ≡ old) → IsDiskUntouched model old new
+  pub offsets_untouched : (c : Command) (fault status : Status) (old new : D) → asked_by c ≡ None → (makes c ≡ true → OnlyRead model old new) → (opens_offsets c ≡ true → IsOnlyRead model fault status old new)
+      → (uses_offsets c ≡ false → new ≡ old) → OnlyRead model old new
   offsets_untouched command.Init fault status old new none full reads stays = full refl
   offsets_untouched command.Topics fault status old new none full reads stays = same_untouched model old new (stays refl)
   offsets_untouched command.Offsets fault status old new none full reads stays = read_untouched fault status old new (reads refl)
@@ -165,7 +174,7 @@ module _ {D : Type 0} (model : DiskModel D) where
 
 module _ {W T F : Type 0} (wal_model : DiskModel W) (topics_model : DiskModel T) (offsets_model : DiskModel F) (old new : Disks W T F) (c : Command) (status : Status) where
   abbrev Stays : Type 0
-  Stays = AreUntouched wal_model topics_model offsets_model old new
+  Stays = AreOnlyRead wal_model topics_model offsets_model old new
 
   abbrev KeptBefore : Type 0
   KeptBefore = AreKeptDisks wal_model topics_model offsets_model old
@@ -178,16 +187,16 @@ module _ {W T F : Type 0} (wal_model : DiskModel W) (topics_model : DiskModel T)
 
   -- a command without a session leaves kept disks as they are: `init` finds that they aren't empty
   pub run_stays : ((bytes : List ℕ) → wal_model.seen old.wal ≡ Some bytes → wal_model.may_leave old.wal bytes) → ((bytes : List ℕ) → topics_model.seen old.topics ≡ Some bytes → topics_model.may_leave old.topics bytes) → ((bytes : List ℕ) → offsets_model.seen old.offsets ≡ Some bytes → offsets_model.may_leave old.offsets bytes)
-      → (makes c ≡ true → HoldSomeBytes wal_model topics_model offsets_model old → Stays) → (writes c ≡ false → new.wal ≡ old.wal) → (uses_topics c ≡ false → new.topics ≡ old.topics) → (uses_offsets c ≡ false → new.offsets ≡ old.offsets)
+      → (makes c ≡ true → HoldSomeBytes wal_model topics_model offsets_model old → AreUntouched wal_model topics_model offsets_model old new) → (writes c ≡ false → new.wal ≡ old.wal) → (uses_topics c ≡ false → new.topics ≡ old.topics) → (uses_offsets c ≡ false → new.offsets ≡ old.offsets)
       → (opens_topics c ≡ true → IsOnlyRead topics_model TopicsFailed status old.topics new.topics) → (opens_offsets c ≡ true → IsOnlyRead offsets_model OffsetsFailed status old.offsets new.offsets)
       → KeptBefore → asked_by c ≡ None → Stays
   run_stays wal topics offsets full same_wal same_topics same_offsets reads_topics reads_offsets kept none =
       let holds = kept_holds wal_model topics_model offsets_model old wal topics offsets kept in
-      let left : makes c ≡ true → Stays = λ make. full make (inl holds) in (
-        wal_untouched wal_model c old.wal new.wal none (λ make. (left make).0) same_wal,
+      let left : makes c ≡ true → AreUntouched wal_model topics_model offsets_model old new = λ make. full make (inl holds) in (
+        wal_untouched wal_model c old.wal new.wal none (λ make. of_untouched wal_model old.wal new.wal (left make).0) same_wal,
         (
-          topics_untouched topics_model c TopicsFailed status old.topics new.topics none (λ make. (left make).1.0) reads_topics same_topics,
-          offsets_untouched offsets_model c OffsetsFailed status old.offsets new.offsets none (λ make. (left make).1.1) reads_offsets same_offsets,
+          topics_untouched topics_model c TopicsFailed status old.topics new.topics none (λ make. of_untouched topics_model old.topics new.topics (left make).1.0) reads_topics same_topics,
+          offsets_untouched offsets_model c OffsetsFailed status old.offsets new.offsets none (λ make. of_untouched offsets_model old.offsets new.offsets (left make).1.1) reads_offsets same_offsets,
         ),
       )
 

@@ -51,8 +51,8 @@ IsUnwritten store.Wal status = IsUnmade status
 IsUnwritten store.Topics status = (status ≡ SourceFailed) ⊎ IsUnmade status
 IsUnwritten store.Offsets status = (status ≡ TopicsFailed) ⊎ ((status ≡ SourceFailed) ⊎ IsUnmade status)
 
--- What an `init` with this status leaves of a disk: bounded contents, the same if none were to be written yet, and a failure by its status
--- only if its count of faults rose.
+-- What an `init` with this status leaves of a disk: bounded contents, the same and not synced if none were to be written yet, and a failure
+-- by its status only if its count of faults rose.
 pub record IsInitLeft
     {D : Type 0}
     (model : DiskModel D)
@@ -66,13 +66,15 @@ pub record IsInitLeft
       → length after ≤ max (length before) growth_room
   pub same : IsUnwritten made status → model.seen new ≡ model.seen old
   pub crash : IsUnwritten made status → (crashed : List ℕ) → model.may_leave new crashed → model.may_leave old crashed
+  pub unsynced : IsUnwritten made status → (crashed : List ℕ) → model.may_leave old crashed → model.may_leave new crashed
 
--- The disk is as if no byte of it was written: its contents are the same, and a crash leaves nothing that it couldn't leave before.
+-- The disk was neither written nor synced: its contents are the same, and a crash leaves exactly what it could leave before.
 pub record IsDiskUntouched {D : Type 0} (model : DiskModel D) (old new : D) : Type 0 where
   pub same : model.seen new ≡ model.seen old
   pub crash : (crashed : List ℕ) → model.may_leave new crashed → model.may_leave old crashed
+  pub unsynced : (crashed : List ℕ) → model.may_leave old crashed → model.may_leave new crashed
 
--- Each of the disks is as if no byte of it was written.
+-- Each of the disks was neither written nor synced.
 abbrev pub AreUntouched : {W T F : Type 0} → DiskModel W → DiskModel T → DiskModel F → Disks W T F → Disks W T F → Type 0
 AreUntouched wal_model topics_model offsets_model old new =
     IsDiskUntouched wal_model old.wal new.wal

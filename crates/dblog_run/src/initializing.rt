@@ -55,6 +55,7 @@ pub(crate) fn run_init<I: Input, O: Output, W: Disk, T: Disk, F: Disk>(
         → HasStoredBytes F.Disk IsEmptyStore result.disks.offsets }
     ensures full_stay { HoldSomeBytes W.Disk T.Disk F.Disk disks
         → AreUntouched W.Disk T.Disk F.Disk disks result.disks }
+    ensures full_unread { HoldSomeBytes W.Disk T.Disk F.Disk disks → input.new ≡ input.old }
     ensures wal_left { IsInitLeft W.Disk Wal result.end disks.wal result.disks.wal }
     ensures topics_left { IsInitLeft T.Disk Topics
         result.end disks.topics result.disks.topics }

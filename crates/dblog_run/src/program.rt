@@ -162,13 +162,16 @@ pub fn run<I: Input, O: Output, W: Disk, T: Disk, F: Disk>(
         AreKeptDisks W.Disk T.Disk F.Disk result.disks }
 
     // If one of the disks has known contents and isn't empty, a command that makes the stores
-    // changes the contents of none of them.
+    // neither writes nor syncs any of them, and reads no input.
     ensures full_stay { SpellSome words.now.items makes →
         HoldSomeBytes W.Disk T.Disk F.Disk disks →
         AreUntouched W.Disk T.Disk F.Disk disks result.disks }
+    ensures full_unread { Spells words.now.items Command.Init →
+        HoldSomeBytes W.Disk T.Disk F.Disk disks → input.new ≡ input.old }
 
-    // What an `init` with any status leaves of a disk: what was there, if the input failed, was
-    // invalid or unsupported, if a disk wasn't empty, or if one that is written earlier failed.
+    // What an `init` with any status leaves of a disk: what was there, unsynced, if the input
+    // failed, was invalid or unsupported, if a disk wasn't empty, or if one that is written earlier
+    // failed.
     // Known contents don't get longer than they were, or than 2^30 bytes.
     ensures wal_left { Spells words.now.items Command.Init →
         IsInitLeft W.Disk Wal result.end disks.wal result.disks.wal }
@@ -302,6 +305,8 @@ fn run_command<I: Input, O: Output, W: Disk, T: Disk, F: Disk>(
     ensures full_stay { command ≡ Command.Init →
         HoldSomeBytes W.Disk T.Disk F.Disk disks →
         AreUntouched W.Disk T.Disk F.Disk disks result.disks }
+    ensures full_unread { command ≡ Command.Init →
+        HoldSomeBytes W.Disk T.Disk F.Disk disks → input.new ≡ input.old }
     ensures wal_left { command ≡ Command.Init →
         IsInitLeft W.Disk Wal result.end disks.wal result.disks.wal }
     ensures topics_left { command ≡ Command.Init →

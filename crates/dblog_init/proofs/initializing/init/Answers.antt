@@ -76,6 +76,11 @@ returns-in-Err-read_all-clause-whole g c = λ bytes told tells. absurd (input_te
 pub returns-in-Err-read_all-clause-unread : goal.returns-in-Err-read_all-clause-unread
 returns-in-Err-read_all-clause-unread g c = λ before. absurd (input_before c.in-Err-read_all.error c.from.result c.from.ensures before)
 
+pub returns-in-Err-read_all-clause-full_unread : goal.returns-in-Err-read_all-clause-full_unread
+returns-in-Err-read_all-clause-full_unread g c = λ held.
+    absurd (some_held (none_held g.W.Disk Wal c.args.disks.wal _ c.in-Ok.ensures.wal) (none_held g.T.Disk Topics c.args.disks.topics _ c.in-Ok.ensures.topics)
+    (none_held g.F.Disk Offsets c.args.disks.offsets _ c.in-Ok.ensures.offsets) held)
+
 pub returns-in-Err-read_all-clause-topics_stay : goal.returns-in-Err-read_all-clause-topics_stay
 returns-in-Err-read_all-clause-topics_stay g c = λ is. absurd (input_holds c.in-Err-read_all.error c.from.result c.from.ensures Wal (let t = is in cc))
 
@@ -136,6 +141,11 @@ returns-in-Ok-read_all-clause-whole g c = λ bytes told tells. c.in-Ok-read_all.
 
 pub returns-in-Ok-read_all-clause-unread : goal.returns-in-Ok-read_all-clause-unread
 returns-in-Ok-read_all-clause-unread g c = λ before. absurd (make_before c.as_slice.result.now c.make_all.result.end c.make_all.ensures.refused before)
+
+pub returns-in-Ok-read_all-clause-full_unread : goal.returns-in-Ok-read_all-clause-full_unread
+returns-in-Ok-read_all-clause-full_unread g c = λ held.
+    absurd (some_held (none_held g.W.Disk Wal c.args.disks.wal _ c.in-Ok.ensures.wal) (none_held g.T.Disk Topics c.args.disks.topics _ c.in-Ok.ensures.topics)
+    (none_held g.F.Disk Offsets c.args.disks.offsets _ c.in-Ok.ensures.offsets) held)
 
 pub returns-in-Ok-read_all-clause-topics_stay : goal.returns-in-Ok-read_all-clause-topics_stay
 returns-in-Ok-read_all-clause-topics_stay g c = λ is. absurd (make_holds c.as_slice.result.now c.make_all.result.end Wal c.make_all.ensures.refused is)
@@ -208,9 +218,9 @@ returns-in-Err-read_all-clause-torn g c = λ bytes told w t is. absurd (input_di
 pub returns-in-Ok-read_all-clause-torn : goal.returns-in-Ok-read_all-clause-torn
 returns-in-Ok-read_all-clause-torn g c = λ bytes told w t is.
     let same : c.as_slice.result.now ≡ bytes = c.as_slice.ensures.value ∙ c.items.ensures ∙ c.in-Ok-read_all.ensures.all bytes told in
-    let torn = c.make_all.ensures.torn (c.in-Ok.ensures.wal.asked.same ∙ w) (c.in-Ok.ensures.topics.asked.same ∙ t) is in
+    let torn = c.make_all.ensures.torn (c.in-Ok.ensures.wal.asked.keeps.same ∙ w) (c.in-Ok.ensures.topics.asked.keeps.same ∙ t) is in
     inr (record {
       wal_made = subst (λ (l : List _). HasStoredBytes g.W.Disk (IsFreshWal l) c.make_all.result.disks.wal) same torn.wal_made;
       topics_made = torn.topics_made;
-      offsets_torn = λ crashed may. (let before = torn.offsets_torn crashed may in (before.0, c.in-Ok.ensures.offsets.asked.crash before.0 before.1, before.2));
+      offsets_torn = λ crashed may. (let before = torn.offsets_torn crashed may in (before.0, c.in-Ok.ensures.offsets.asked.keeps.crash before.0 before.1, before.2));
     })

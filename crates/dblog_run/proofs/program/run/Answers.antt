@@ -168,6 +168,9 @@ returns-in-Ok-clause-topics_made g c = λ before spells. c.run_command.ensures.t
 pub returns-in-Ok-clause-offsets_made : goal.returns-in-Ok-clause-offsets_made
 returns-in-Ok-clause-offsets_made g c = λ before spells. c.run_command.ensures.offsets_made before (one_command _ c.in-Ok.command command.Init c.in-Ok.ensures.spelled spells)
 
+pub returns-in-Ok-clause-full_unread : goal.returns-in-Ok-clause-full_unread
+returns-in-Ok-clause-full_unread g c = λ spells. c.run_command.ensures.full_unread (one_command _ c.in-Ok.command command.Init c.in-Ok.ensures.spelled spells)
+
 pub returns-in-Ok-clause-wal_left : goal.returns-in-Ok-clause-wal_left
 returns-in-Ok-clause-wal_left g c = λ spells. c.run_command.ensures.wal_left (one_command _ c.in-Ok.command command.Init c.in-Ok.ensures.spelled spells)
 

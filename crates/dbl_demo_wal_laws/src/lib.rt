@@ -3,4 +3,4 @@
 
 mod laws;
 
-pub use laws::rows_of_wals_are_readable;
+pub use laws::{rows_of_wals_are_readable, transactions_of_wals_move_at_most};

@@ -22,3 +22,4 @@ pub mod MadeLaws
 pub mod SequenceLaws
 pub mod KeptLogLaws
 pub mod CellLaws
+pub mod MoveLaws

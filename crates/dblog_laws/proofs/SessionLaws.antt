@@ -24,6 +24,7 @@ use Rattle.dblog_run.specs.CaptureLaws.Halted.{IsTxnFault}
 use Rattle.dblog_laws.specs.Supported.{CanBegin}
 use Rattle.dbl_demo_wal.specs.Wals.{IsWal}
 use Rattle.dblog_laws.proofs.CellLaws.{not_cell}
+use Rattle.dblog_laws.proofs.MoveLaws.{read_moves, without_fault}
 use Rattle.dblog_laws.proofs.Ending.{first_captures, not_absent, not_clash, not_exhausted, not_long, not_model, not_offset}
 use Rattle.dblog_run.specs.Promise.Restarts.{restart_at}
 use Rattle.dblog_run.specs.Init.declared.error.Store.TheVariants.{Wal, Topics, Offsets}
@@ -93,7 +94,9 @@ module _ (config : Config) (now : ℤ) (old left : Contents) (begins : CanBegin 
   not_txn number error halted =
       let infos = halted.was.by.offset.infos in
       let captures = (reads_from config (history_at old) old.offset stored infos halted.reading.after first halted.was.begins_after).0 in
-      not_faulty infos halted.reading number error (supported.messages infos halted.reading captures (may_have halted.reading halted.was)) halted.is
+      let moved = read_moves config old.offset stored left bytes wal kept left_is halted.reading halted.was in
+      let none = supported.messages infos halted.reading captures (may_have halted.reading halted.was) in
+      not_faulty infos halted.reading number error (without_fault infos halted.reading.after halted.reading.messages moved none) halted.is
 
   never : (h : Halt) → IsOwnHalt h → IsKeptHalt config now old stored report left h → IsCauseOf config now old stored report left.wal h → ⊥
   never halt.Source own kept cause = absurd own

@@ -6,6 +6,8 @@ use Rattle.dbl_base.specs.Streams.{FaultCounted, input_limit}
 use Rattle.dbl_disk.specs.Model.{DiskModel}
 use Rattle.dbl_value.specs.declared.error.ValueError.{ValueError}
 use Rattle.dbl_model_table.specs.declared.table.TableName.{TableName}
+use Rattle.dbl_model_commit.specs.declared.txn_error.TxnError.{TxnError}
+use Rattle.dbl_model_commit.specs.declared.txn_error.TxnError.TheVariants.{MovedUnchanged}
 use Rattle.dbl_demo_wal.specs.Workloads.{IsWorkload, Workload}
 use Rattle.dblog_run.specs.DemoLaws.Made.{IsFreshWal}
 use Rattle.dbl_cli.specs.declared.commands.Command.{Command}
@@ -57,6 +59,16 @@ NoCellStopsSessions {W} {T} {F} wal_model topics_model offsets_model =
     → AreKeptDisks wal_model topics_model offsets_model old → AreKeptDisks wal_model topics_model offsets_model new
     → (runs : RunsSessionOn wal_model topics_model offsets_model asked now old new status before after)
     → (table : TableName) (column : List ℕ) (error : ValueError) → runs.end ≢ Err (Halted (halt.Cell table column error))
+
+-- Over crash-consistent disks a session stops at an invalid transaction only if an update moves a key and leaves a cell unsent: by the same
+-- clauses.
+abbrev pub OnlyUnsentMovesStopSessions : {W T F : Type 0} → DiskModel W → DiskModel T → DiskModel F → Type 0
+OnlyUnsentMovesStopSessions {W} {T} {F} wal_model topics_model offsets_model =
+    (asked : Asked) (now : ℤ) (old new : Disks W T F) (status : Status) (before after : Option (List ℕ))
+    → AreKeptDisks wal_model topics_model offsets_model old → AreKeptDisks wal_model topics_model offsets_model new
+    → (runs : RunsSessionOn wal_model topics_model offsets_model asked now old new status before after)
+    → (number : ℕ) (error : TxnError) → runs.end ≡ Err (Halted (halt.Txn number error))
+    → (table : TableName) × (column : List ℕ) × (error ≡ MovedUnchanged table column)
 
 -- A session that exits with 3 has read exactly as many messages as its budget allows, and one that exits with 0 fewer.
 pub record EndsBy (budget : ℕ) (status : Status) (end : ConnectEnd) : Type 0 where

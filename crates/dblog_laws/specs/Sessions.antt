@@ -1,5 +1,5 @@
 -- When a session over crash-consistent disks must succeed: what it was asked for, what it may meet, and that no device failed.
-use Rattle.std.specs.Prelude.{◌≡◌, ◌≢◌, ◌⊎◌, ◌≤◌, ℕ, ℤ, ◌++◌, Option, Some, None, List, reverse}
+use Rattle.std.specs.Prelude.{◌≡◌, ◌≢◌, ◌⊎◌, ◌≤◌, ℕ, ℤ, ◌++◌, Option, Some, None, List, [], ◌∷◌, reverse}
 use Rattle.dbl_lines.specs.declared.status.Status.{Status}
 use Rattle.dbl_lines.specs.declared.status.Status.TheVariants.{Done, BudgetSpent, SourceFailed, TopicsFailed}
 use Rattle.dbl_lines.specs.declared.status.Status.TheVariants.{OffsetsFailed, StdinFailed, StdoutFailed, OutOfMemory}
@@ -8,7 +8,9 @@ use Rattle.dbl_base.specs.declared.lsn.Lsn.{Lsn}
 use Rattle.dbl_pgmsg.specs.declared.messages.Message.{Message}
 use Rattle.dbl_model_table.specs.declared.config.Config.{Config}
 use Rattle.dbl_model_table.specs.declared.table.TableInfo.{TableInfo}
-use Rattle.dbl_model_commit.specs.Blocks.{AreWithoutFault}
+use Rattle.dbl_model_table.specs.declared.table.TableName.{TableName}
+use Rattle.dbl_model_commit.specs.declared.txn_error.TxnError.TheVariants.{MovedUnchanged}
+use Rattle.dbl_model_commit.specs.Stated.{transaction_fault}
 use Rattle.dbl_demo_wal.specs.Standings.{messages_sent}
 use Rattle.dbl_demo_wal.specs.Wals.{Wal}
 use Rattle.dbl_source_model.specs.Standings.{Reading}
@@ -36,12 +38,20 @@ pub record MayHaveRead (old : Contents) (wal : Wal) (reading : Reading) : Type 0
   pub rest : List Message
   pub front : messages_sent wal reading.after ≡ reverse reading.messages ++ rest
 
--- The source's log, as a session leaves it, is supported for the captured tables: no transaction that may be read is invalid, no record has
--- a value equal to the placeholder, and no record and no offset is too long. No cell of such a log is unreadable (`RowsOfWalsAreReadable`).
+-- None of the messages, the newest first, is an update that moves a key and leaves a cell unsent.
+abbrev pub HaveNoUnsentMove : List TableInfo → Lsn → List Message → Type 0
+HaveNoUnsentMove infos after [] = Unit {0}
+HaveNoUnsentMove infos after (m ∷ ms) =
+    ((table : TableName) (column : List ℕ) → transaction_fault infos after m ms ≢ Some (MovedUnchanged table column))
+    × HaveNoUnsentMove infos after ms
+
+-- The source's log, as a session leaves it, is supported for the captured tables: no update that may be read moves a key and leaves a cell
+-- unsent, no record has a value equal to the placeholder, and no record and no offset is too long. Such a log has no other error
+-- (`TransactionsOfWalsMoveAtMost`, `RowsOfWalsAreReadable`).
 pub record IsSupportedOver (config : Config) (now : ℤ) (old left : Contents) : Type 0 where
   pub messages : (infos : List TableInfo) (reading : Reading) → Captures config (history_at old) old.offset infos
       → MayHaveRead old left.wal reading
-      → AreWithoutFault infos reading.after reading.messages
+      → HaveNoUnsentMove infos reading.after reading.messages
   pub commits : (infos : List TableInfo) (reading : Reading) → Captures config (history_at old) old.offset infos
       → MayHaveRead old left.wal reading
       → CanSend (restart_at config now (found_in old)) (history_at left) infos reading

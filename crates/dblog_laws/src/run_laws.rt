@@ -6,7 +6,7 @@ ghost use Rattle.dblog_laws.specs.Budgets.{GenerousBudgetsSuffice};
 ghost use Rattle.dblog_laws.specs.Budgets.{GenerousBudgetsSufficeAgain, SentMessagesAreFew};
 ghost use Rattle.dblog_laws.specs.RunLaws.{GeneratedInitsSucceed, GeneratedStatusesTellBudgets};
 ghost use Rattle.dblog_laws.specs.KeptLogs.{KeptLogsAreTrue};
-ghost use Rattle.dblog_laws.specs.RunLaws.{NoCellStopsSessions};
+ghost use Rattle.dblog_laws.specs.RunLaws.{NoCellStopsSessions, OnlyUnsentMovesStopSessions};
 ghost use Rattle.dblog_laws.specs.RunLaws.{OtherRunsSucceed, PrintedWorkloadsSucceed};
 ghost use Rattle.dblog_laws.specs.RunLaws.{StatusesTellBudgets, SupportedGeneratedRunsSucceed};
 ghost use Rattle.dblog_laws.specs.RunLaws.{SupportedRunsSucceed, SupportedSessionsSucceed};
@@ -45,6 +45,12 @@ pub fn kept_logs_are_true<W: Disk, T: Disk, F: Disk>()
 /// Over crash-consistent disks no session stops at a cell that parses as no value.
 pub fn no_cell_stops_sessions<W: Disk, T: Disk, F: Disk>()
     ensures { NoCellStopsSessions W.Disk T.Disk F.Disk }
+{}
+
+/// Over crash-consistent disks a session stops at an invalid transaction only if an update moves a
+/// key and leaves a cell unsent.
+pub fn only_unsent_moves_stop_sessions<W: Disk, T: Disk, F: Disk>()
+    ensures { OnlyUnsentMovesStopSessions W.Disk T.Disk F.Disk }
 {}
 
 /// A session that exits with 3 has used up its message budget exactly, and one that exits with 0

@@ -9,7 +9,8 @@ use Rattle.dbl_frames_heads.specs.declared.error.FrameError.{FrameError}
 use Rattle.dbl_frames_heads.specs.declared.error.FrameError.TheVariants.{Memory}
 use Rattle.dbl_frames_heads.specs.declared.frame.Frame.{Frame}
 use Rattle.dbl_frames_heads.specs.Form.{FitsFrame, frame_form}
-use Rattle.dbl_frames_heads.specs.Faults.{head_fault, wanted_size}
+use Rattle.dbl_frames_sizes.specs.Sizes.{wanted_size}
+use Rattle.dbl_frames_heads.specs.Faults.{head_fault}
 use Rattle.dbl_frames.specs.Stream.{BeginsWith, AreFramesOf, IsUnfinished, Reader, Faulty, WasFed, stream}
 use Rattle.dbl_frames.specs.Steps.{IsWithinFrame, ReadsFrames, StopsReading}
 use Rattle.dbl_frames_heads.proofs.HeadLemmas.{head_stays, wanted_least, wanted_short, wanted_stays}

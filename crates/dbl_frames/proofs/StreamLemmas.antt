@@ -8,7 +8,8 @@ use Rattle.std.specs.List.{All}
 use Rattle.dbl_frames_heads.specs.declared.error.FrameError.{FrameError}
 use Rattle.dbl_frames_heads.specs.declared.frame.Frame.{Frame}
 use Rattle.dbl_frames_heads.specs.Form.{AreBytes, FitsFrame, frame_form}
-use Rattle.dbl_frames_heads.specs.Faults.{head_fault, wanted_size}
+use Rattle.dbl_frames_sizes.specs.Sizes.{wanted_size}
+use Rattle.dbl_frames_heads.specs.Faults.{head_fault}
 use Rattle.dbl_frames_heads.specs.Fields.{frame_at}
 use Rattle.dbl_frames.specs.Stream.{AreFramesOf, IsStreamRest, Rest, Unfinished, Faulty, stream}
 use Rattle.dbl_frames_heads.proofs.HeadLemmas.{HasBytes, bytes_drop, bytes_take, front_sound, has_bytes, head_stays, wanted_least, wanted_stays}

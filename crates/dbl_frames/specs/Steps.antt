@@ -5,7 +5,8 @@ use Rattle.dbl_frames_heads.specs.declared.error.FrameError.{FrameError}
 use Rattle.dbl_frames_heads.specs.declared.error.FrameError.TheVariants.{Memory}
 use Rattle.dbl_frames_heads.specs.declared.frame.Frame.{Frame}
 use Rattle.dbl_frames_heads.specs.Form.{FitsFrame}
-use Rattle.dbl_frames_heads.specs.Faults.{head_fault, wanted_size}
+use Rattle.dbl_frames_sizes.specs.Sizes.{wanted_size}
+use Rattle.dbl_frames_heads.specs.Faults.{head_fault}
 use Rattle.dbl_frames.specs.Stream.{IsUnfinished, stream}
 
 -- the bytes are no longer than the frame at their front, unless it has a fault

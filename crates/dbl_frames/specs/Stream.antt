@@ -4,7 +4,8 @@ use Rattle.std.specs.List.{All, flat_map}
 use Rattle.dbl_frames_heads.specs.declared.error.FrameError.{FrameError}
 use Rattle.dbl_frames_heads.specs.declared.frame.Frame.{Frame}
 use Rattle.dbl_frames_heads.specs.Form.{FitsFrame, frame_form}
-use Rattle.dbl_frames_heads.specs.Faults.{head_fault, wanted_size}
+use Rattle.dbl_frames_sizes.specs.Sizes.{wanted_size}
+use Rattle.dbl_frames_heads.specs.Faults.{head_fault}
 
 -- how the frames of some bytes end: with the bytes of an unfinished frame, or with a fault
 pub data Rest : Type 0 where

@@ -3,12 +3,13 @@ ghost use Rattle.std.specs.Prelude.{Some, None};
 ghost use Rattle.std.specs.Prelude.{IfOk, IfErr, OnOk, OnErr};
 ghost use Rattle.dbl_frames_heads.specs.declared.error.FrameError.{FrameError};
 ghost use Rattle.dbl_frames_heads.specs.declared.frame.Frame.{Frame};
-ghost use Rattle.dbl_frames_heads.specs.Faults.{wanted_size};
+ghost use Rattle.dbl_frames_sizes.specs.Sizes.{wanted_size};
 ghost use Rattle.dbl_frames.specs.Stream.{AreFramesOf, BeginsWith, Faulty, IsUnfinished, WasFed};
 ghost use Rattle.dbl_frames.specs.Stream.{bytes_fed};
 ghost use Rattle.dbl_frames.specs.Steps.{IsWithinFrame, ReadsFrames, StopsReading};
 
-use dbl_frames_heads::{Frame, FrameError, append_frame, find_head_fault, measure_frame};
+use dbl_frames_heads::{Frame, FrameError, append_frame, find_head_fault};
+use dbl_frames_sizes::measure_frame;
 use std::alloc::{AllocError, Global};
 use std::marker::Model;
 
@@ -121,7 +122,10 @@ fn read_piece(
 {
     let mut rest = piece;
     'steps: while !rest.is_empty() {
-        rest = read_step(alloc, partial, rest, out)?;
+        match read_step(alloc, partial, rest, out) {
+            Ok(left) => rest = left,
+            Err(error) => return Err(error),
+        }
     }
     Ok(())
 }
@@ -142,9 +146,13 @@ fn read_step<'a>(
     ensures stops { IfErr result (λ error. StopsReading partial.old.at partial.old.bytes.items
         piece.now out.old.items out.new.items error) }
 {
-    let rest = fill_frame(&mut partial.bytes, piece)?;
-    finish_frame(alloc, partial, out)?;
-    Ok(rest)
+    match fill_frame(&mut partial.bytes, piece) {
+        Ok(rest) => match finish_frame(alloc, partial, out) {
+            Ok(()) => Ok(rest),
+            Err(error) => Err(error),
+        },
+        Err(_) => Err(FrameError::Memory),
+    }
 }
 
 // Copies bytes from the piece to those of a frame, as many as that still lacks. Room for all of

@@ -11,7 +11,8 @@ use Rattle.std.proofs.Math.Facts.{Fits-of_z, sfits_to_z}
 use Rattle.dbl_frames_heads.specs.declared.frame.Frame.{Frame}
 use Rattle.dbl_frames_heads.specs.declared.frame.Frame.TheVariants.{Data, Keepalive}
 use Rattle.dbl_frames_heads.specs.Form.{FitsFrame, copy_data, frame_content, frame_form}
-use Rattle.dbl_frames_heads.specs.Faults.{content_fault, head_fault, wanted_size}
+use Rattle.dbl_frames_sizes.specs.Sizes.{wanted_size}
+use Rattle.dbl_frames_heads.specs.Faults.{content_fault, head_fault}
 use Rattle.dbl_frames_heads.specs.Fields.{frame_at, int64_at}
 use Rattle.dbl_frames_heads.proofs.HeadLemmas.{HasBytes, HasHead, are_bytes, bytes_drop, bytes_take, content_sound, copied_fault, copied_size, has_head, wanted_least, wanted_long}
 

@@ -8,7 +8,8 @@ use Rattle.std.proofs.lemmas.Nat.{from_be_bytes-to_be_bytes_4}
 use Rattle.dbl_frames_heads.specs.declared.error.FrameError.{FrameError}
 use Rattle.dbl_frames_heads.specs.declared.error.FrameError.TheVariants.{BadKind, BadLength, BadInner, BadSize}
 use Rattle.dbl_frames_heads.specs.Form.{AreBytes, copy_data}
-use Rattle.dbl_frames_heads.specs.Faults.{content_fault, sized_fault, length_fault, head_fault, is_length, wanted_size}
+use Rattle.dbl_frames_sizes.specs.Sizes.{is_length, wanted_size}
+use Rattle.dbl_frames_heads.specs.Faults.{content_fault, sized_fault, length_fault, head_fault}
 
 -- each number of the list is a byte, by its index
 abbrev pub HasBytes : List ℕ → Type 0

@@ -1,9 +1,10 @@
 -- The fault of the frame at the front of the bytes, once the byte that shows it is there: the kind, the last byte of the length, or the
 -- first byte of the content. `at` is the frame's offset in the stream.
-use Rattle.std.specs.Prelude.{ℕ, ◌+◌, ◌==◌, ◌&&◌, Bool, List, [], ◌∷◌, length, take, drop, Option, Some, None, nat_lt, nat_le}
+use Rattle.std.specs.Prelude.{ℕ, ◌==◌, List, [], ◌∷◌, length, take, drop, Option, Some, None, nat_lt, nat_le}
 use Rattle.std.specs.Prelude.{if◌then◌else◌}
 use Rattle.std.specs.Str.{byte}
 use Rattle.std.specs.Int.{w32, from_be_bytes}
+use Rattle.dbl_frames_sizes.specs.Sizes.{is_length}
 use Rattle.dbl_frames_heads.specs.declared.error.FrameError.{FrameError}
 use Rattle.dbl_frames_heads.specs.declared.error.FrameError.TheVariants.{BadKind, BadLength, BadInner, BadSize}
 
@@ -14,10 +15,6 @@ content_fault at n (b ∷ rest) =
     if b == byte "w" then (if nat_le 29 n then None else Some (BadSize at))
     else (if b == byte "k" then (if n == 22 then None else Some (BadSize at))
     else Some (BadInner at b))
-
--- a length of at least one byte of content, and at most XLogData with the longest payload
-abbrev pub is_length : ℕ → Bool
-is_length n = nat_le 5 n && nat_le n 16777245
 
 -- the fault of a length, or of the content after it
 unfoldable pub sized_fault : ℕ → ℕ → List ℕ → Option FrameError
@@ -33,8 +30,3 @@ length_fault at bytes =
 unfoldable pub head_fault : ℕ → List ℕ → Option FrameError
 head_fault at [] = None
 head_fault at (b ∷ rest) = if b == byte "d" then length_fault at rest else Some (BadKind at b)
-
--- The number of bytes of the frame at the front, once its head is there: the kind, the length and the first byte of the content.
--- Before that, the number of bytes of a head.
-unfoldable pub wanted_size : List ℕ → ℕ
-wanted_size bytes = if nat_lt (length bytes) 6 then 6 else from_be_bytes w32 (take 4 (drop 1 bytes)) + 1

@@ -1,39 +1,23 @@
 //! The head of a frame: its kind, its length and the first byte of its content; and the fields of a
 //! whole frame.
 
-ghost use Rattle.std.specs.Prelude.{◌≡◌, ℕ, ◌+◌, ◌≤◌, [], ◌∷◌, ◌++◌, length, take, slice_index};
+ghost use Rattle.std.specs.Prelude.{◌≡◌, ℕ, ◌+◌, ◌≤◌, [], ◌∷◌, ◌++◌, length, slice_index};
 ghost use Rattle.std.specs.Prelude.{None, IfOk, OnErr, OnOk};
-ghost use Rattle.std.specs.Int.{w32, from_be_bytes};
 ghost use Rattle.dbl_frames_heads.specs.declared.frame.Frame.{Frame};
 ghost use Rattle.dbl_frames_heads.specs.Form.{FitsFrame, frame_form};
 ghost use Rattle.dbl_frames_heads.specs.Faults.{content_fault, head_fault, length_fault};
-ghost use Rattle.dbl_frames_heads.specs.Faults.{wanted_size};
+ghost use Rattle.dbl_frames_sizes.specs.Sizes.{wanted_size};
 ghost use Rattle.dbl_frames_heads.specs.Fields.{frame_at, int64_at};
 
 use crate::{Frame, FrameError};
 use dbl_base::Bytes;
+use dbl_frames_sizes::{is_length, read_int32};
 use std::alloc::{AllocError, Global};
-
-// The lengths that a frame may declare: of a content of one byte, and of XLogData with a payload of
-// 16 MiB.
-const LEAST_LENGTH: u32 = 5;
-
-const GREATEST_LENGTH: u32 = 16_777_245;
 
 // The length of XLogData without its payload, and of a keepalive.
 const DATA_LENGTH: u32 = 29;
 
 const KEEPALIVE_LENGTH: u32 = 22;
-
-// The number of bytes of a head.
-const HEAD: usize = 6;
-
-fn read_int32(bytes: &[u8]) -> u32
-    requires { 4 ≤ length bytes.now }
-    ensures { result ≡ from_be_bytes w32 (take 4 bytes.now) }
-{
-    u32::from_be_bytes(*bytes.first_chunk::<4>().unwrap())
-}
 
 fn read_int64(bytes: &[u8], at: usize) -> u64
     requires { at + 8 ≤ length bytes.now }
@@ -75,7 +59,7 @@ fn find_length_fault(at: u64, bytes: &[u8]) -> Option<FrameError>
         return None;
     }
     let length = read_int32(bytes);
-    if LEAST_LENGTH <= length && length <= GREATEST_LENGTH {
+    if is_length(length) {
         find_content_fault(at, length, bytes.split_at(4).1)
     } else {
         Some(FrameError::BadLength { at })
@@ -93,17 +77,6 @@ pub fn find_head_fault(at: u64, bytes: &[u8]) -> Option<FrameError>
         [b'd', rest @ ..] => find_length_fault(at, rest),
         [byte, ..] => Some(FrameError::BadKind { at, byte: *byte }),
     }
-}
-
-/// The number of bytes of the frame at the front, or of a head if that isn't there yet.
-#[tactic(auto, unfolding(crate::specs::Faults::wanted_size))]
-pub fn measure_frame(bytes: &[u8]) -> usize
-    ensures { result ≡ wanted_size bytes.now }
-{
-    if bytes.len() < HEAD {
-        return HEAD;
-    }
-    read_int32(bytes.split_at(1).1) as usize + 1
 }
 
 /// Appends the frame of these bytes, which are whole and have no fault. The payload is copied.

@@ -1,5 +1,5 @@
 -- Offsets: what is read was written, and what was written is read again.
-use Rattle.std.proofs.Common.{◌≡◌, ◌∙◌, ℕ, suc, ◌^◌, ◌<◌, ◌≤◌, Bool, true, false, ◌&&◌, cond, eqb, ltb, leb, not, ◌||◌, ◌+◌, List, [], ◌∷◌, ◌++◌, length, map, get_or, take, drop, ◌-◌, Result, Ok, Err, refl, sym, ap, subst, inl, inr, append_assoc, arith}
+use Rattle.std.proofs.Common.{◌≡◌, ◌⊎◌, ◌∙◌, ℕ, suc, ◌^◌, ◌<◌, ◌≤◌, Bool, true, false, ◌&&◌, cond, eqb, ltb, leb, not, ◌||◌, ◌+◌, List, [], ◌∷◌, ◌++◌, length, map, get_or, take, drop, ◌-◌, Result, Ok, Err, refl, sym, ap, subst, inl, inr, append_assoc, arith}
 use Rattle.std.specs.Prelude.{IfOk}
 use Rattle.std.specs.Int.{w32}
 use Rattle.std.specs.List.{AllByRecursion, AllZip, flat_map, list_any}

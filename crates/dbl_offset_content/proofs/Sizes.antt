@@ -153,18 +153,24 @@ abbrev pub entry_made : TableInfo → ℕ → Cursor → TableEntry
 entry_made info version c = record { info = info; version = version; cursor = c }
 
 -- the entry at an index has what the lists have there
-entry_from : (infos : List TableInfo) (versions : List ℕ) (cursors : List Cursor) (i : ℕ) (info : TableInfo) (v : ℕ) (c : Cursor) → length versions ≡ length infos → length cursors ≡ length infos → i < length infos
-    → get_or (entries_of infos versions cursors) i (entry_made info v c) ≡ entry_made (get_or infos i info) (get_or versions i v) (get_or cursors i c)
+entry_from : (infos : List TableInfo) (versions : List ℕ) (cursors : List Cursor) (i : ℕ) (info : TableInfo) (v : ℕ) (c : Cursor)
+    → length versions ≡ length infos → length cursors ≡ length infos → i < length infos
+    → get_or (entries_of infos versions cursors) i (entry_made info v c)
+    ≡ entry_made (get_or infos i info) (get_or versions i 0) (get_or cursors i c)
 entry_from [] versions cursors i info v c many long lt = absurd (omega (arith, lt))
 entry_from (x ∷ infos) [] cursors i info v c many long lt = absurd (omega (arith, many))
 entry_from (x ∷ infos) (w ∷ versions) [] i info v c many long lt = absurd (omega (arith, long))
 entry_from (x ∷ infos) (w ∷ versions) (d ∷ cursors) zero info v c many long lt = refl
-entry_from (x ∷ infos) (w ∷ versions) (d ∷ cursors) (suc i) info v c many long lt = entry_from infos versions cursors i info v c (omega (arith, many)) (omega (arith, long)) (omega (arith, lt))
+entry_from (x ∷ infos) (w ∷ versions) (d ∷ cursors) (suc i) info v c many long lt =
+    entry_from infos versions cursors i info v c (omega (arith, many)) (omega (arith, long)) (omega (arith, lt))
 
-pub entry_at : (infos : List TableInfo) (versions : List ℕ) (cursors : List Cursor) (i : ℕ) (info : TableInfo) (v : ℕ) (c : Cursor) → length versions ≡ length infos → length cursors ≡ length infos → i < length infos
-    → info ≡ get_or infos i info → v ≡ get_or versions i v → c ≡ get_or cursors i c → entry_made info v c ≡ get_or (entries_of infos versions cursors) i (entry_made info v c)
-entry_at infos versions cursors i info v c many long lt first second third =
-    sym (entry_from infos versions cursors i info v c many long lt ∙ (λ k. entry_made (sym first k) (sym second k) (sym third k)))
+pub entry_at : (infos : List TableInfo) (versions : List ℕ) (cursors : List Cursor) (i : ℕ) (info : TableInfo) (c : Cursor)
+    → length versions ≡ length infos → length cursors ≡ length infos → i < length infos
+    → info ≡ get_or infos i info → c ≡ get_or cursors i c
+    → entry_made info (get_or versions i 0) c ≡ get_or (entries_of infos versions cursors) i (entry_made info (get_or versions i 0) c)
+entry_at infos versions cursors i info c many long lt first second =
+    let v = get_or versions i 0 in
+    sym (entry_from infos versions cursors i info v c many long lt ∙ (λ k. entry_made (sym first k) v (sym second k)))
 
 -- the fields after the format's number
 pub spelling_size : (o : Offset) → length (bytes_in_format 2 o) ≡ 1 + length (names o.identity) + 36 + length (flat_map (entry 2) (tables_with_cursors o))

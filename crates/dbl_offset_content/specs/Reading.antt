@@ -69,8 +69,8 @@ info_of name columns key = made name columns key (is_table name columns key) (λ
 unfoldable pub table_version_at : ℕ → List ℕ → Read ℕ
 table_version_at format bytes =
     if format == 1 then Ok (1, bytes) else (do
-    version ← number_at w64 0 bytes
-    if nat_lt 0 version.0 then Ok version else Err no_offset)
+      version ← number_at w64 0 bytes
+      if nat_lt 0 version.0 then Ok version else Err no_offset)
 
 -- Reads a table that can be captured, and its version.
 unfoldable pub offset_table_at : ℕ → List ℕ → Read (TableInfo × ℕ)

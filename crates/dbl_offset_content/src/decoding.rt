@@ -11,9 +11,9 @@ ghost use Rattle.dbl_offset_content.specs.Reading.{table_cursor_at, identity_at,
 ghost use Rattle.dbl_offset_content.specs.Reading.{format_at, offset_at, tables_at, whole};
 
 use crate::cursors::read_entry;
+use crate::entry::TableEntry;
 use crate::infos::SharedInfos;
 use crate::offset::Offset;
-use crate::entry::TableEntry;
 use crate::reading::{FIRST_FORMAT, FORMAT, NO_OFFSET, byte};
 use dbl_base::{Lsn, Seq};
 use dbl_model_history::Cursor;

@@ -49,10 +49,7 @@ impl Offset {
             end_lsn: self.end_lsn,
             infos: self.infos.share()?,
             cursors,
-            versions: Seq::make(Vec::from_slice(
-                alloc,
-                self.versions.items().as_slice(),
-            )?),
+            versions: Seq::make(Vec::from_slice(alloc, self.versions.items().as_slice())?),
         })
     }
 }

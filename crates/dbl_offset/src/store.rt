@@ -17,7 +17,7 @@ use crate::finding::find;
 use crate::slots::{start, write_slot};
 use dbl_base::Failed;
 use dbl_disk::{Disk, Refused};
-use dbl_offset_content::{LENGTH_BYTES, OFFSET_LIMIT, Offset, decode, encode, measure};
+use dbl_offset_content::{FORMAT, LENGTH_BYTES, OFFSET_LIMIT, Offset, decode, encode, measure};
 use dbl_record::RecordError;
 use std::alloc::Global;
 use std::marker::Model;
@@ -116,7 +116,7 @@ fn content_of(alloc: Global, offset: &Offset) -> Result<Vec<u8>, OffsetError>
     if count > OFFSET_LIMIT {
         return Err(OffsetError::TooLong { len: count });
     }
-    Ok(encode(alloc, count as usize, offset)?)
+    Ok(encode(alloc, count as usize, FORMAT, offset)?)
 }
 
 impl<D: Disk> OffsetStore<D> {

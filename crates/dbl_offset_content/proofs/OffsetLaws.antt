@@ -19,13 +19,14 @@ use Rattle.dbl_model_table.specs.Tables.{same_name, are_distinct}
 use Rattle.dbl_model_table.specs.Identities.{is_good_identity}
 use Rattle.dbl_model_history.specs.Cursors.{IsCursorOf, AreCursorsOf}
 use Rattle.dbl_model_table.proofs.Lists.{and_left, and_right}
+use Rattle.dbl_offset_versions.specs.Versions.{no_offset}
 use Rattle.dbl_offset_content.specs.declared.entry.TableEntry.{TableEntry}
 use Rattle.dbl_offset_content.specs.declared.offset.Offset.{Offset}
 use Rattle.dbl_offset_content.specs.Entries.{names, counted, entry, entries_of, tables_with_cursors, bytes_in_format, FitsNames, FitsTableCursor, FitsOffset}
 use Rattle.dbl_offset_content.specs.Offsets.{HasFormat, IsOffset, EncodesOffset, IsOffsetEntry}
-use Rattle.dbl_offset_content.specs.Reading.{no_offset, table_cursor_at, identity_at, infos_of, versions_of, cursors_of, tables_at, numbers_at, ended, format_at, offset_at, whole}
+use Rattle.dbl_offset_content.specs.Reading.{table_cursor_at, identity_at, infos_of, versions_of, cursors_of, tables_at, numbers_at, ended, format_at, offset_at, whole}
 use Rattle.dbl_offset_content.proofs.FieldLaws.{byte_reads}
-use Rattle.dbl_offset_content.proofs.TableLaws.{HoldsEntry, IsVersionIn, entry_reads}
+use Rattle.dbl_offset_content.proofs.TableLaws.{HoldsEntry, entry_reads}
 
 -- ---- identities
 

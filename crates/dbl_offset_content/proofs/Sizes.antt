@@ -15,9 +15,10 @@ use Rattle.dbl_model_table.specs.declared.table.TableInfo.{TableInfo}
 use Rattle.dbl_model_table.specs.declared.identity.Identity.{Identity}
 use Rattle.dbl_model_table.specs.declared.row.Key.{Key}
 use Rattle.dbl_model_history.specs.declared.cursor.Cursor.{Cursor}
+use Rattle.dbl_offset_versions.specs.Versions.{version_form}
 use Rattle.dbl_offset_content.specs.declared.entry.TableEntry.{TableEntry}
 use Rattle.dbl_offset_content.specs.declared.offset.Offset.{Offset}
-use Rattle.dbl_offset_content.specs.Entries.{counted, names, column, version_form, table, cell, last_key_form, cursor, entry, entries_of, tables_with_cursors, bytes_in_format, FitsNames, FitsTableColumn, FitsTable, FitsKeyCell, FitsCursor, FitsTableCursor, FitsOffset}
+use Rattle.dbl_offset_content.specs.Entries.{counted, names, column, table, cell, last_key_form, cursor, entry, entries_of, tables_with_cursors, bytes_in_format, FitsNames, FitsTableColumn, FitsTable, FitsKeyCell, FitsCursor, FitsTableCursor, FitsOffset}
 use Rattle.dbl_offset_content.specs.Measures.{capped, Measures}
 
 -- ---- sizes

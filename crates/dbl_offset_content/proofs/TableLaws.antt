@@ -22,8 +22,10 @@ use Rattle.dbl_model_table.specs.Infos.{key_types}
 use Rattle.dbl_model_history.specs.Cursors.{IsCursorOf}
 use Rattle.dbl_model_table.proofs.Lists.{and_left, and_right, and_both}
 use Rattle.dbl_model_table.proofs.InfoLemmas.{typed_columns, sound_key}
-use Rattle.dbl_offset_content.specs.Entries.{counted, column, table, version_form, cursor, entry, FitsTableColumn, FitsTable, FitsTableCursor}
-use Rattle.dbl_offset_content.specs.Reading.{no_offset, or_no_offset, offset_items_at, offset_column_at, made, info_of, table_version_at, offset_table_at, table_cursor_at}
+use Rattle.dbl_offset_versions.specs.Versions.{no_offset, table_version_at, version_form}
+use Rattle.dbl_offset_versions.proofs.VersionLaws.{IsVersionIn, version_reads}
+use Rattle.dbl_offset_content.specs.Entries.{counted, column, table, cursor, entry, FitsTableColumn, FitsTable, FitsTableCursor}
+use Rattle.dbl_offset_content.specs.Reading.{or_no_offset, offset_items_at, offset_column_at, made, info_of, offset_table_at, table_cursor_at}
 use Rattle.dbl_offset_content.specs.declared.entry.TableEntry.{TableEntry}
 use Rattle.dbl_offset_content.proofs.FieldLaws.{found_is, counted_reads}
 use Rattle.dbl_offset_content.proofs.CellLaws.{cursor_reads}
@@ -103,48 +105,6 @@ made_none name columns key false h e = refl
 pub info_none : (name : TableName) (columns : List Column) (key : List ℕ) → is_table name columns key ≡ false → info_of name columns key ≡ Err no_offset
 unfolding info_of
 info_none name columns key h = made_none name columns key (is_table name columns key) refl h
-
--- ---- versions
-
--- a version that the format has: format 1 has version 1 alone
-pub record IsVersionIn (format version : ℕ) : Type 0 where
-  pub counted : 1 ≤ version
-  pub small : version < 2 ^ 64
-  pub first : eqb format 1 ≡ true → version ≡ 1
-
-again_by : (b : Bool) (format version : ℕ) (rest : List ℕ) → eqb format 1 ≡ b → IsVersionIn format version → table_version_at format (version_form format version ++ rest) ≡ Ok (version, rest)
-unfolding table_version_at version_form
-again_by true format version rest is h = rw is (ap (λ (v : ℕ). Ok (v, rest)) (sym (h.first is)))
-again_by false format version rest is h =
-    let some : ltb 0 version ≡ true = lt-ltb 0 version (omega (arith, h.counted)) in
-    rw (is, (number64_reads 0).again version rest h.small, some) refl
-
-version_again : (format version : ℕ) (rest : List ℕ) → IsVersionIn format version → table_version_at format (version_form format version ++ rest) ≡ Ok (version, rest)
-version_again format version rest h = again_by (eqb format 1) format version rest refl h
-
-abbrev ReadsVersion : ℕ → List ℕ → ℕ → List ℕ → Type 0
-ReadsVersion format bytes version rest = Takes bytes (version_form format version) rest × IsVersionIn format version
-
-takes_by : (b : Bool) (format : ℕ) (bytes : List ℕ) (version : ℕ) (rest : List ℕ) → eqb format 1 ≡ b → IsBytes bytes → table_version_at format bytes ≡ Ok (version, rest) → ReadsVersion format bytes version rest
-unfolding table_version_at version_form
-takes_by true format bytes version rest is fits e =
-    let one : ◌≡◌ {A = Read ℕ} (Ok (1, bytes)) (Ok (version, rest)) = rw is at e in
-    let takes : Takes bytes (version_form format 1) bytes = rw is (record { parts = refl; rest_fits = fits }) in
-    subst (λ (y : ℕ × List ℕ). ReadsVersion format bytes y.0 y.1) (ok_is (1, bytes) (version, rest) one) (takes, record { counted = omega arith; small = omega arith; first = λ same. refl })
-takes_by false format bytes version rest is fits e =
-    let read = rw is at e in
-    let n = took (number64_reads 0) bytes [] bytes _ (version, rest) (record { parts = refl; rest_fits = fits }) read in
-    let g = guard_held (ltb 0 n.value) _ (Ok (n.value, n.rest)) (version, rest) n.more in
-    let above : 0 < n.value = ltb-true _ _ g.0 in
-    let takes : Takes bytes (version_form format n.value) n.rest = rw is n.takes in
-    let in_format : IsVersionIn format n.value = record { counted = omega (arith, above); small = n.fits; first = λ same. (let no : true ≡ false = sym same ∙ is in cc) } in
-    subst (λ (y : ℕ × List ℕ). ReadsVersion format bytes y.0 y.1) (ok_is (n.value, n.rest) (version, rest) g.1) (takes, in_format)
-
-version_takes : (format : ℕ) (bytes : List ℕ) (version : ℕ) (rest : List ℕ) → IsBytes bytes → table_version_at format bytes ≡ Ok (version, rest) → Takes bytes (version_form format version) rest × IsVersionIn format version
-version_takes format bytes version rest fits e = takes_by (eqb format 1) format bytes version rest refl fits e
-
-pub version_reads : (format : ℕ) → Reads (table_version_at format) (version_form format) (IsVersionIn format)
-version_reads format = record { again = version_again format; takes = version_takes format }
 
 -- ---- tables and their versions
 

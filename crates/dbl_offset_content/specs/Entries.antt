@@ -11,6 +11,7 @@ use Rattle.dbl_model_table.specs.declared.table.TableInfo.{TableInfo}
 use Rattle.dbl_model_table.specs.declared.identity.Identity.{Identity}
 use Rattle.dbl_model_table.specs.declared.row.Key.{Key}
 use Rattle.dbl_model_history.specs.declared.cursor.Cursor.{Cursor}
+use Rattle.dbl_offset_versions.specs.Versions.{version_form}
 use Rattle.dbl_offset_content.specs.declared.entry.TableEntry.{TableEntry}
 use Rattle.dbl_offset_content.specs.declared.offset.Offset.{Offset}
 
@@ -27,10 +28,6 @@ names identity = text_form identity.prefix ++ text_form identity.db ++ text_form
 -- A column: its name, and its type's OID.
 unfoldable pub column : Column → List ℕ
 column c = text_form c.name ++ number32 (oid_of c.ty)
-
--- A table's version. Format 1 has none.
-unfoldable pub version_form : ℕ → ℕ → List ℕ
-version_form format version = if format == 1 then [] else number64 version
 
 -- A table: its name, its version, its columns, and the indices of its key columns.
 unfoldable pub table : ℕ → TableInfo → ℕ → List ℕ

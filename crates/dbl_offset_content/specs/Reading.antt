@@ -11,7 +11,6 @@ use Rattle.dbl_value.specs.Types.{type_of}
 use Rattle.dbl_value.specs.Decimals.{is_within}
 use Rattle.dbl_value.specs.Values.{value_of}
 use Rattle.dbl_record.specs.declared.error.RecordError.{RecordError}
-use Rattle.dbl_record.specs.declared.error.RecordError.TheVariants.{BadRecord}
 use Rattle.dbl_record.specs.GroupReading.{Read, ◌>>=◌, number_at, text_at, truth_at, many_at}
 use Rattle.dbl_model_table.specs.declared.table.TableName.{TableName}
 use Rattle.dbl_model_table.specs.declared.table.Column.{Column}
@@ -22,12 +21,9 @@ use Rattle.dbl_model_history.specs.declared.cursor.Cursor.{Cursor}
 use Rattle.dbl_model_table.specs.Tables.{same_name, are_distinct, is_table}
 use Rattle.dbl_model_table.specs.Infos.{key_types}
 use Rattle.dbl_model_table.specs.Identities.{is_good_identity}
+use Rattle.dbl_offset_versions.specs.Versions.{no_offset, table_version_at}
 use Rattle.dbl_offset_content.specs.declared.entry.TableEntry.{TableEntry}
 use Rattle.dbl_offset_content.specs.declared.offset.Offset.{Offset}
-
--- The error of bytes that encode no offset.
-abbrev pub no_offset : RecordError
-no_offset = BadRecord 0
 
 -- A value, or the error if there is none.
 abbrev pub or_no_offset : {A : Type 0} → Option A → Result A RecordError
@@ -64,13 +60,6 @@ made name columns key false sound = Err no_offset
 -- The table of these parts, or the error if no table with them can be captured.
 unfoldable pub info_of : TableName → List Column → List ℕ → Result TableInfo RecordError
 info_of name columns key = made name columns key (is_table name columns key) (λ i. is_table name columns key)
-
--- Reads a table's version, which must be at least 1. In format 1, which has none, each table has version 1.
-unfoldable pub table_version_at : ℕ → List ℕ → Read ℕ
-table_version_at format bytes =
-    if format == 1 then Ok (1, bytes) else (do
-      version ← number_at w64 0 bytes
-      if nat_lt 0 version.0 then Ok version else Err no_offset)
 
 -- Reads a table that can be captured, and its version.
 unfoldable pub offset_table_at : ℕ → List ℕ → Read (TableInfo × ℕ)

@@ -9,11 +9,12 @@ ghost use Rattle.dbl_offset_content.specs.Reading.{table_cursor_at, integer_at, 
 ghost use Rattle.dbl_offset_content.specs.Reading.{offset_key_at, last_at, word_at};
 
 use crate::entry::TableEntry;
-use crate::reading::{NO_OFFSET, byte};
+use crate::reading::byte;
 use crate::tables::read_table;
 use dbl_base::Seq;
 use dbl_model_history::Cursor;
 use dbl_model_table::{Column, Key, TableInfo};
+use dbl_offset_versions::NO_OFFSET;
 use dbl_record::RecordError;
 use dbl_record::fields::{read_number64, read_text, read_truth};
 use dbl_value::{PgType, Val, ValueError, read_owned};

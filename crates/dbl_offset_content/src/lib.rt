@@ -12,6 +12,7 @@ mod reading;
 mod tables;
 mod writing;
 
+pub use dbl_offset_versions::FORMAT;
 pub use decoding::decode;
 pub use infos::SharedInfos;
 pub use laws::offsets_are_spelled_once;

@@ -8,7 +8,8 @@ ghost use Rattle.dbl_offset_content.specs.Entries.{FitsOffset, FitsKeyCell, Fits
 ghost use Rattle.dbl_offset_content.specs.Entries.{FitsCursor, FitsTableCursor, FitsNames};
 ghost use Rattle.dbl_offset_content.specs.Entries.{FitsTable, cell, column};
 ghost use Rattle.dbl_offset_content.specs.Entries.{counted, cursor, entries_of, entry, names};
-ghost use Rattle.dbl_offset_content.specs.Entries.{offset_bytes_form, table, version_form};
+ghost use Rattle.dbl_offset_content.specs.Entries.{offset_bytes_form, table};
+ghost use Rattle.dbl_offset_versions.specs.Versions.{version_form};
 ghost use Rattle.dbl_offset_content.specs.Measures.{Measures};
 ghost use Rattle.dbl_offset_content.specs.declared.entry.TableEntry.{TableEntry as SpecEntry};
 

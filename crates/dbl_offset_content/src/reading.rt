@@ -4,16 +4,8 @@
 ghost use Rattle.dbl_record.specs.GroupReading.{Gives};
 ghost use Rattle.dbl_offset_content.specs.Reading.{offset_byte_at};
 
+use dbl_offset_versions::NO_OFFSET;
 use dbl_record::RecordError;
-
-/// The error of bytes that encode no offset.
-pub(crate) const NO_OFFSET: RecordError = RecordError::BadRecord { at: 0 };
-
-/// The number of the format without versions, which is read, but not stored any more.
-pub(crate) const FIRST_FORMAT: u8 = 1;
-
-/// The number of the format that is stored.
-pub(crate) const FORMAT: u8 = 2;
 
 /// The first byte, and the bytes after it.
 #[tactic(auto, unfolding(crate::specs::Reading::offset_byte_at))]

@@ -4,13 +4,13 @@ ghost use Rattle.std.specs.Prelude.{◌≡◌, length};
 ghost use Rattle.std.specs.Int.{w32};
 ghost use Rattle.dbl_record.specs.GroupReading.{Gives, many_at, number_at};
 ghost use Rattle.dbl_offset_content.specs.Reading.{offset_column_at, offset_items_at};
-ghost use Rattle.dbl_offset_content.specs.Reading.{offset_table_at, table_version_at};
+ghost use Rattle.dbl_offset_content.specs.Reading.{offset_table_at};
 
-use crate::reading::{FIRST_FORMAT, NO_OFFSET};
 use dbl_base::Seq;
 use dbl_model_table::{Column, TableInfo, TableName};
+use dbl_offset_versions::{NO_OFFSET, read_version};
 use dbl_record::RecordError;
-use dbl_record::fields::{read_number32, read_number64, read_text};
+use dbl_record::fields::{read_number32, read_text};
 use std::alloc::Global;
 
 /// The fewest bytes that a column has.
@@ -82,20 +82,6 @@ fn read_places(alloc: Global, bytes: &[u8]) -> Result<(Vec<u32>, &[u8]), RecordE
 {
     let (count, rest) = read_number32(0, bytes)?;
     read_each_place(alloc, count as usize, rest)
-}
-
-#[tactic(auto, unfolding(crate::specs::Reading::table_version_at))]
-fn read_version(format: u8, bytes: &[u8]) -> Result<(u64, &[u8]), RecordError>
-    ensures { Gives (λ x. (x.0, x.1.now)) result (table_version_at format bytes.now) }
-{
-    if format == FIRST_FORMAT {
-        return Ok((1, bytes));
-    }
-    let (version, rest) = read_number64(0, bytes)?;
-    if version == 0 {
-        return Err(NO_OFFSET);
-    }
-    Ok((version, rest))
 }
 
 /// Reads a table that can be captured, and its version.

@@ -8,16 +8,16 @@ ghost use Rattle.dbl_offset_content.specs.Entries.{FitsCursor, FitsTableCursor, 
 ghost use Rattle.dbl_offset_content.specs.Entries.{FitsTable, bytes_in_format, cell, column};
 ghost use Rattle.dbl_offset_content.specs.Entries.{counted, cursor, entries_of, entry};
 ghost use Rattle.dbl_offset_content.specs.Entries.{last_key_form, names};
-ghost use Rattle.dbl_offset_content.specs.Entries.{offset_bytes_form, table, version_form};
+ghost use Rattle.dbl_offset_content.specs.Entries.{table};
 ghost use Rattle.dbl_offset_content.specs.Measures.{offset_limit};
 ghost use Rattle.dbl_offset_content.specs.Entries.{slot_content};
 ghost use Rattle.dbl_offset_content.specs.Offsets.{HasFormat, IsOffset};
 ghost use Rattle.dbl_offset_content.specs.declared.entry.TableEntry.{TableEntry as SpecEntry};
 
 use crate::offset::Offset;
-use crate::reading::{FIRST_FORMAT, FORMAT};
 use dbl_model_history::Cursor;
 use dbl_model_table::{Column, Identity, TableInfo};
+use dbl_offset_versions::write_version;
 use dbl_record::fields::{append_number32, append_number64, append_text, append_truth};
 use dbl_value::Val;
 use std::alloc::{AllocError, Global};
@@ -77,16 +77,6 @@ fn write_places(out: &mut Vec<u8>, key: &[u32]) -> Result<(), AllocError>
 {
     append_number32(out, key.len() as u32)?;
     write_each_place(out, key)
-}
-
-#[tactic(auto, unfolding(crate::specs::Entries::version_form))]
-fn write_version(out: &mut Vec<u8>, format: u8, version: u64) -> Result<(), AllocError>
-    ensures { OnOk result (Extends out.old.items (version_form format version) out.new.items) }
-{
-    if format == FIRST_FORMAT {
-        return Ok(());
-    }
-    append_number64(out, version)
 }
 
 #[tactic(auto, unfolding(crate::specs::Entries::table))]
@@ -225,20 +215,25 @@ pub fn bytes(alloc: Global, format: u8, offset: &Offset) -> Result<Vec<u8>, Allo
 /// The number of bytes of an entry's length.
 pub const LENGTH_BYTES: usize = 4;
 
-/// The content of a slot with the offset's `count` bytes: their number, and the bytes, in format 2.
+/// The content of a slot with the offset's `count` bytes in a format: their number, and the bytes.
 #[tactic(auto, unfolding(crate::specs::Entries::slot_content, dbl_record::specs::Fields::number32))]
-pub fn encode(alloc: Global, count: usize, offset: &Offset) -> Result<Vec<u8>, AllocError>
-    requires count { count ≡ length (offset_bytes_form offset.now) }
+pub fn encode(
+    alloc: Global,
+    count: usize,
+    format: u8,
+    offset: &Offset,
+) -> Result<Vec<u8>, AllocError>
+    requires count { count ≡ length (bytes_in_format format offset.now) }
     requires short { count ≤ offset_limit }
     requires long { length offset.now.cursors ≡ length offset.now.infos }
     requires versions { length offset.now.versions ≡ length offset.now.infos }
     requires few { length offset.now.infos < 2 ^ 32 }
     requires fit { FitsOffset offset.now }
     ensures { IfOk result
-        (λ content. content.items ≡ slot_content (offset_bytes_form offset.now)) }
+        (λ content. content.items ≡ slot_content (bytes_in_format format offset.now)) }
 {
     let mut out = Vec::with_capacity(alloc, LENGTH_BYTES + count)?;
     append_number32(&mut out, count as u32)?;
-    write_offset(&mut out, FORMAT, offset)?;
+    write_offset(&mut out, format, offset)?;
     Ok(out)
 }

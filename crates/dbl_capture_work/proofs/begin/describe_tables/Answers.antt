@@ -19,6 +19,14 @@ returns-in_err-infos-clause-rests g c = record {
   taken = none_taken (g.S.Source.told c.args.src.now);
 }
 
+pub returns-in_err-versions-clause-rests : goal.returns-in_err-versions-clause-rests
+returns-in_err-versions-clause-rests g c = record {
+  left = search rules;
+  some = search rules;
+  still = search rules;
+  taken = none_taken (g.S.Source.told c.args.src.now);
+}
+
 pub tables-init : goal.tables-init
 tables-init g c = record {
   described = λ s stands. record { standing = s; is = stands; holds = (moved_none s (g.met.S.Source.rising c.args.src.now s stands), subst (AreInfosAt s.history) (sym c.in_ok-infos.ensures.items) tt, rw (c.in_ok-infos.ensures.items, c.in_ok-versions.ensures.items) tt) };
@@ -33,24 +41,24 @@ tables-init g c = record {
   later = le_refl (g.S.Source.faults c.args.src.now);
 }
 
-pub returns-in_err-describe_table-clause-fault : goal.returns-in_err-describe_table-clause-fault
-returns-in_err-describe_table-clause-fault g c =
-    let p = err_from_is_err_and c.from_residual-in_err-describe_table.result c.from_residual-in_err-describe_table.ensures.1 in
+pub returns-in_err-table-clause-fault : goal.returns-in_err-table-clause-fault
+returns-in_err-table-clause-fault g c =
+    let p = err_from_is_err_and c.from_residual-in_err-table.result c.from_residual-in_err-table.ensures.1 in
     let names = c.args.names.now.items in
     let i = c.tables.name-index in
     let name = c.name-item.result in
     let items : c.deref-name-items.result.now ≡ names = c.deref-name-items.ensures.value in
     let lt : i < length names = subst (λ (l : List TableName). i < length l) items c.tables-test.true in
     let is : name ≡ get_or names i name = c.name-item.is ∙ ap (λ (l : List TableName). get_or l i name) items in
-    rw (p.1, p.2) (elim c.in_err-describe_table.ensures.fault [
+    rw (p.1, p.2) (elim c.in_err-table.ensures.fault [
       | inl memory ↦ inl memory
       | inr (inl failed) ↦ inr (inl failed)
       | inr (inr fault) ↦ inr (inr (name, name_among names i name lt is, fault))
     ])
 
-pub returns-in_err-describe_table-clause-absent : goal.returns-in_err-describe_table-clause-absent
-returns-in_err-describe_table-clause-absent g c s stands =
-    let p = err_from_is_err_and c.from_residual-in_err-describe_table.result c.from_residual-in_err-describe_table.ensures.1 in
+pub returns-in_err-table-clause-absent : goal.returns-in_err-table-clause-absent
+returns-in_err-table-clause-absent g c s stands =
+    let p = err_from_is_err_and c.from_residual-in_err-table.result c.from_residual-in_err-table.ensures.1 in
     let stood = c.tables.invariant.described s stands in
     let names = c.args.names.now.items in
     let i = c.tables.name-index in
@@ -58,11 +66,11 @@ returns-in_err-describe_table-clause-absent g c s stands =
     let items : c.deref-name-items.result.now ≡ names = c.deref-name-items.ensures.value in
     let lt : i < length names = subst (λ (l : List TableName). i < length l) items c.tables-test.true in
     let is : name ≡ get_or names i name = c.name-item.is ∙ ap (λ (l : List TableName). get_or l i name) items in
-    rw (p.1, p.2) (absent_next s stood.standing c.tables.infos.items names i name c.in_err-describe_table.field-0.0 lt is stood.holds.0 stood.holds.1 c.tables.invariant.named
-    (c.in_err-describe_table.ensures.absent stood.standing stood.is))
+    rw (p.1, p.2) (absent_next s stood.standing c.tables.infos.items names i name c.in_err-table.field-0.0 lt is stood.holds.0 stood.holds.1 c.tables.invariant.named
+    (c.in_err-table.ensures.absent stood.standing stood.is))
 
-pub returns-in_err-describe_table-clause-rests : goal.returns-in_err-describe_table-clause-rests
-returns-in_err-describe_table-clause-rests g c = record {
+pub returns-in_err-table-clause-rests : goal.returns-in_err-table-clause-rests
+returns-in_err-table-clause-rests g c = record {
   left = λ s l stands may.
       let stood = c.tables.invariant.described s stands in
       rest_on s stood.standing l stood.holds.0 (c.describe_table.ensures.rests.left stood.standing l stood.is may);
@@ -72,12 +80,12 @@ returns-in_err-describe_table-clause-rests g c = record {
       taken_on (g.S.Source.told c.args.src.now) (g.S.Source.told c.tables.src) (g.S.Source.told c.describe_table.new.src) c.tables.invariant.taken c.describe_table.ensures.rests.taken;
 }
 
-pub returns-in_err-describe_table-clause-source : goal.returns-in_err-describe_table-clause-source
-returns-in_err-describe_table-clause-source g c = record {
+pub returns-in_err-table-clause-source : goal.returns-in_err-table-clause-source
+returns-in_err-table-clause-source g c = record {
   live = search rules;
   honest = search rules;
   comes = search rules;
-  cause = record { later = later_on (g.S.Source.faults c.args.src.now) (g.S.Source.faults c.tables.src) (g.S.Source.faults c.describe_table.new.src) c.tables.invariant.later c.describe_table.ensures.source.cause.later; cause = λ is. let p = err_from_is_err_and c.from_residual-in_err-describe_table.result c.from_residual-in_err-describe_table.ensures.1 in let both : Err p.0 ≡ Err halt.Source = sym p.1 ∙ is in let halted : p.0 ≡ halt.Source = cc in rose_behind (g.S.Source.faults c.args.src.now) (g.S.Source.faults c.tables.src) (g.S.Source.faults c.describe_table.new.src) c.tables.invariant.later (c.in_err-describe_table.ensures.source.cause.cause (ap (λ (h : Halt). Err h) (sym p.2 ∙ halted))) };
+  cause = record { later = later_on (g.S.Source.faults c.args.src.now) (g.S.Source.faults c.tables.src) (g.S.Source.faults c.describe_table.new.src) c.tables.invariant.later c.describe_table.ensures.source.cause.later; cause = λ is. let p = err_from_is_err_and c.from_residual-in_err-table.result c.from_residual-in_err-table.ensures.1 in let both : Err p.0 ≡ Err halt.Source = sym p.1 ∙ is in let halted : p.0 ≡ halt.Source = cc in rose_behind (g.S.Source.faults c.args.src.now) (g.S.Source.faults c.tables.src) (g.S.Source.faults c.describe_table.new.src) c.tables.invariant.later (c.in_err-table.ensures.source.cause.cause (ap (λ (h : Halt). Err h) (sym p.2 ∙ halted))) };
 }
 
 pub returns-in_err-push-clause-rests : goal.returns-in_err-push-clause-rests
@@ -99,6 +107,25 @@ returns-in_err-push-clause-source g c = record {
   cause = record { later = later_on (g.S.Source.faults c.args.src.now) (g.S.Source.faults c.tables.src) (g.S.Source.faults c.describe_table.new.src) c.tables.invariant.later c.describe_table.ensures.source.cause.later; cause = λ is. let p = err_from_is_err_and c.from_residual-in_err-push.result c.from_residual-in_err-push.ensures.1 in let both : Err p.0 ≡ Err halt.Source = sym p.1 ∙ is in let halted : p.0 ≡ halt.Source = cc in let wrong : halt.Memory ≡ halt.Source = sym p.2 ∙ halted in cc };
 }
 
+pub returns-in_err-push-2-clause-rests : goal.returns-in_err-push-2-clause-rests
+returns-in_err-push-2-clause-rests g c = record {
+  left = λ s l stands may.
+      let stood = c.tables.invariant.described s stands in
+      rest_on s stood.standing l stood.holds.0 (c.describe_table.ensures.rests.left stood.standing l stood.is may);
+  some = search rules;
+  still = search rules;
+  taken =
+      taken_on (g.S.Source.told c.args.src.now) (g.S.Source.told c.tables.src) (g.S.Source.told c.describe_table.new.src) c.tables.invariant.taken c.describe_table.ensures.rests.taken;
+}
+
+pub returns-in_err-push-2-clause-source : goal.returns-in_err-push-2-clause-source
+returns-in_err-push-2-clause-source g c = record {
+  live = search rules;
+  honest = λ honest. c.tables.invariant.was_honest (c.describe_table.ensures.source.honest honest);
+  comes = g.met.S.Source.comes_on c.args.src.now c.tables.src c.describe_table.new.src c.tables.invariant.comes c.describe_table.ensures.source.comes;
+  cause = record { later = later_on (g.S.Source.faults c.args.src.now) (g.S.Source.faults c.tables.src) (g.S.Source.faults c.describe_table.new.src) c.tables.invariant.later c.describe_table.ensures.source.cause.later; cause = λ is. let p = err_from_is_err_and c.from_residual-in_err-push-2.result c.from_residual-in_err-push-2.ensures.1 in let both : Err p.0 ≡ Err halt.Source = sym p.1 ∙ is in let halted : p.0 ≡ halt.Source = cc in let wrong : halt.Memory ≡ halt.Source = sym p.2 ∙ halted in cc };
+}
+
 pub tables-preserved : goal.tables-preserved
 tables-preserved g c =
     let inv = c.tables.invariant in
@@ -107,8 +134,8 @@ tables-preserved g c =
     let new = c.describe_table.new.src in
     let infos = c.tables.infos.items in
     let versions = c.tables.versions.items in
-    let info = c.in_ok-describe_table.field-0.info in
-    let version = c.in_ok-describe_table.field-0.version in
+    let info = c.in_ok-table.table.info in
+    let version = c.in_ok-table.table.version in
     let names = c.args.names.now.items in
     let i = c.tables.name-index in
     let name = c.name-item.result in
@@ -120,7 +147,7 @@ tables-preserved g c =
     record {
       described = λ s stands. (
           let stood = inv.described s stands in
-          let next = c.in_ok-describe_table.ensures.described stood.standing stood.is in
+          let next = c.in_ok-table.ensures.described stood.standing stood.is in
           record {
             standing = next.standing;
             is = next.is;
@@ -130,8 +157,8 @@ tables-preserved g c =
               rw (pushed, numbered) (zip_push (IsVersionAt s.history) infos versions info version stood.holds.2 (version_before s stood.standing info version stood.holds.0 next.holds.3)),
             );
           });
-      counted = rw (pushed, numbered) (zip_push (λ (x : TableInfo) (v : ℕ). (1 ≤ v) × (v < 2 ^ 64)) infos versions info version inv.counted (c.in_ok-describe_table.ensures.counted, c.describe_table.type_inv.version));
-      named = ap (map (λ (x : TableInfo). x.name)) pushed ∙ named_push infos info names i name lt inv.named c.in_ok-describe_table.ensures.named is;
+      counted = rw (pushed, numbered) (zip_push (λ (x : TableInfo) (v : ℕ). (1 ≤ v) × (v < 2 ^ 64)) infos versions info version inv.counted (c.in_ok-table.ensures.counted, c.describe_table.type_inv.version));
+      named = ap (map (λ (x : TableInfo). x.name)) pushed ∙ named_push infos info names i name lt inv.named c.in_ok-table.ensures.named is;
       left = λ s l stands may. (
           let stood = inv.described s stands in
           rest_on s stood.standing l stood.holds.0 (c.describe_table.ensures.rests.left stood.standing l stood.is may));
@@ -139,7 +166,7 @@ tables-preserved g c =
           let stood = inv.described s stands in
           c.describe_table.ensures.rests.some stood.standing stood.is);
       taken = taken_on (g.S.Source.told old) (g.S.Source.told mid) (g.S.Source.told new) inv.taken c.describe_table.ensures.rests.taken;
-      is_live = c.in_ok-describe_table.ensures.source.live;
+      is_live = c.in_ok-table.ensures.source.live;
       was_honest = λ honest. inv.was_honest (c.describe_table.ensures.source.honest honest);
       comes = g.met.S.Source.comes_on old mid new inv.comes c.describe_table.ensures.source.comes;
       later = later_on (g.S.Source.faults old) (g.S.Source.faults mid) (g.S.Source.faults new) inv.later c.describe_table.ensures.source.cause.later;

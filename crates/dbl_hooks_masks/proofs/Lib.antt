@@ -1,0 +1,5 @@
+pub mod MaskLemmas
+pub mod FitLemmas
+pub mod ResultLemmas
+pub mod CellLemmas
+pub mod PlaceLemmas

@@ -11,6 +11,7 @@ mod compactions;
 mod consumers;
 mod frames;
 mod histories;
+mod masks;
 mod messages;
 mod records;
 mod scripts;
@@ -31,6 +32,7 @@ fn answer(alloc: Global, shown: &mut String, name: &str, arguments: &str) -> Res
         "consume" => consumers::answer(alloc, shown, call, arguments),
         "envelope" => histories::answer(alloc, shown, call, arguments),
         "frames" => frames::answer(alloc, shown, call, arguments),
+        "masks" => masks::answer(alloc, shown, call, arguments),
         "model" => histories::answer(alloc, shown, call, arguments),
         "pgmsg" => messages::answer(alloc, shown, call, arguments),
         "record" => records::answer(alloc, shown, call, arguments),

@@ -14,7 +14,7 @@ pub type TextFn = Box<dyn Fn(&Text) -> Result<Text, AllocError>>;
 #[derive(Drop)]
 pub struct Hook {
     pub mask: Mask,
-    function: TextFn,
+    pub function: TextFn,
     ghost callable: { TextFn.IsAlwaysCallable function },
     ghost masks: { (text : _) (r : _) → TextFn.post function text r →
         IfOk r (λ shown. shown ≡ masked mask text.now) } by { Prim.hlevel props },
@@ -26,7 +26,8 @@ impl Hook {
         requires callable { TextFn.IsAlwaysCallable function }
         requires masks { (text : _) (r : _) → TextFn.post function text r →
             IfOk r (λ shown. shown ≡ masked mask text.now) }
-        ensures { result.mask ≡ mask }
+        ensures mask { result.mask ≡ mask }
+        ensures function { result.function ≡ function }
     {
         Hook { mask, function }
     }

@@ -8,11 +8,13 @@ use anyhow::{Result, bail};
 use cases_items::words;
 use dbl_disk::{Choice, Disk, FuseDisk, MemDisk};
 use dbl_offset::{Offset, OffsetStore};
+use dbl_offset_content::decode;
 use std::alloc::Global;
 use std::fmt::Write;
 
 /// Takes a step: `make`, `store HEX`, of the offset in another store with these bytes, `stops HEX`,
-/// the same on disks that fail, `selectors` and `load`.
+/// the same on disks that fail, `selectors`, `load`, and `entry HEX`, which shows in format 2 the
+/// offset of an entry.
 pub fn step(
     alloc: Global,
     shown: &mut String,
@@ -26,6 +28,7 @@ pub fn step(
         "stops" => stops(alloc, shown, disk, &hex::decode(alloc, rest)?),
         "selectors" => selectors(alloc, shown, disk),
         "load" => load(alloc, shown, disk),
+        "entry" => entry(alloc, shown, &hex::decode(alloc, rest)?),
         _ => steps::call(alloc, shown, disk, word, rest),
     }
 }
@@ -84,6 +87,13 @@ fn store_offset(alloc: Global, shown: &mut String, disk: &mut Device, offset: Of
         }
         Err(refused) => steps::show_refused(shown, disk, refused),
     }
+}
+
+// Adds the bytes in format 2 of the offset that is encoded.
+fn entry(alloc: Global, shown: &mut String, encoded: &[u8]) -> Result<()> {
+    let offset = decode(alloc, encoded)?;
+    let again = dbl_offset::bytes(alloc, 2, &offset)?;
+    steps::show_digits(alloc, shown, again.items())
 }
 
 // A disk with the same contents that fails after so many calls.

@@ -7,6 +7,7 @@ ghost use Rattle.std.specs.BTreeMap.{get};
 ghost use Rattle.dbl_stream2_pending.specs.Buffers.{buffer_in, aborts_in, buffer_or_empty};
 ghost use Rattle.dbl_stream2_pending.specs.Buffers.{item_left, remaining_in};
 
+use dbl_stream2_items::{is_lost, origin_item};
 use std::alloc::{AllocError, Global};
 use std::collections::BTreeMap;
 
@@ -63,16 +64,6 @@ impl<M: Drop> Pending<M> {
             }
         }
         Ok(())
-    }
-}
-
-// Whether the message with this xid and this index was rolled back.
-fn is_lost(aborts: &BTreeMap<u32, usize>, xid: u32, index: usize) -> bool
-    ensures { result ≡ nat_lt index (unwrap_or (get nat_cmp aborts.now xid) 0) }
-{
-    match aborts.get(&xid) {
-        Some(count) => index < *count,
-        None => false,
     }
 }
 
@@ -144,7 +135,8 @@ pub fn buffer_origin<M: Drop>(
     ensures aborts { OnOk result ((x y : ℕ) →
         aborts_in y (get nat_cmp pending.new x) ≡ aborts_in y (get nat_cmp pending.old x)) }
 {
-    buffer_message(pending, block, block, message)
+    let (xid, message) = origin_item(block, message);
+    buffer_message(pending, block, xid, message)
 }
 
 /// Rolls a subtransaction back, without a pass over the messages.

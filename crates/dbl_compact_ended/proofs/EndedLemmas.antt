@@ -1,5 +1,5 @@
 -- The rows that are ended after a change.
-use Rattle.std.proofs.Common.{◌≡◌, ◌∙◌, ℕ, List, [], Bool, true, false, ◌&&◌, ◌||◌, Option, Some, None, option_map, cond, bytes_eq, refl, sym, ap}
+use Rattle.std.proofs.Common.{◌≡◌, ◌∙◌, ℕ, List, [], Bool, true, false, ◌&&◌, ◌||◌, Option, Some, None, option_map, cond, bytes_eq, not, ◌⊎◌, inl, inr, refl, sym, ap}
 use Rattle.std.specs.Prelude.{unwrap_or}
 use Rattle.std.proofs.lemmas.Map.Text.{is_eq-slice_cmp}
 use Rattle.std.proofs.lemmas.Slice.Eq.{bytes_eq-Decides}
@@ -119,6 +119,18 @@ pub part_ended : (ended : EndedRows) (topic key : List ℕ) (whole : Bool) → w
 part_ended ended topic key whole part t k =
     nothing_more (bytes_eq topic t) (has_row ended t k)
     ∙ ap (λ (b : Bool). (bytes_eq topic t && (b && bytes_eq key k)) || has_row ended t k) (sym part)
+
+ended_or_part : (ended whole : Bool) → (not ended && whole) ≡ false → (ended ≡ true) ⊎ (whole ≡ false)
+ended_or_part true whole is = inl refl
+ended_or_part false whole is = inr is
+
+-- a row that isn't ended by a record
+pub row_stays : (ended : EndedRows) (topic key : List ℕ) (whole : Bool) → (not (has_row ended topic key) && whole) ≡ false
+    → (t k : List ℕ) → has_row ended t k ≡ ((bytes_eq topic t && (whole && bytes_eq key k)) || has_row ended t k)
+row_stays ended topic key whole is = elim (ended_or_part (has_row ended topic key) whole is) [
+  | inl already ↦ ended_already ended topic key whole already
+  | inr part ↦ part_ended ended topic key whole part
+]
 
 -- a row that is set whole
 pub whole_ended : (old new : EndedRows) (topic key : List ℕ) (whole : Bool) → whole ≡ true

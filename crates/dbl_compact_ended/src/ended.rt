@@ -3,6 +3,7 @@ ghost use Rattle.std.specs.Str.{bytes_eq};
 ghost use Rattle.dbl_compact_ended.specs.Ended.{has_key, has_row};
 
 use dbl_base::Text;
+use dbl_compact_rules::judge_set;
 use std::alloc::{AllocError, Global};
 use std::collections::{BTreeMap, BTreeSet};
 
@@ -94,14 +95,13 @@ pub fn end_set_row(
         ((bytes_eq topic.now t && (whole && bytes_eq key k)) || has_row ended.old t k)) }
     ensures unended { IfOk result (λ unended. unended ≡ not (has_row ended.old topic.now key)) }
 {
-    if has_row(ended, topic, &key) {
-        return Ok(false);
-    }
-    if !whole {
-        return Ok(true);
+    let rule = judge_set(has_row(ended, topic, &key), whole);
+    if !rule.ends {
+        drop(key);
+        return Ok(rule.kept);
     }
     match end_row(alloc, ended, topic, key) {
-        Ok(()) => Ok(true),
+        Ok(()) => Ok(rule.kept),
         Err(error) => Err(error),
     }
 }

@@ -193,9 +193,8 @@ module _ (tables : List LogTable) (infos : List TableInfo) (after : Lsn) (named 
       → HaveMovedAtMost infos after past → HaveMovedAtMost infos after (mark_message value ∷ onto_relation tables watermark_oid past)
   mark_moved value past begun told opened unmarked none moved =
       let now : List Message = onto_relation tables watermark_oid past in
-      let there : relation_of watermark_oid now ≡ Some watermark = watermark_there now told (relation_known past) in
-      (
+      let there : relation_of watermark_oid now ≡ Some watermark = watermark_there now told (relation_known past) in (
         λ accepted. subst IsMovedAtMost (sym (ap (λ (o : Option Begun). first_of (place_fault (mark_message value) (is_some o)) (err_of (stated infos (mark_message value) now))) opened
-        ∙ mark_stated value now there unmarked (none accepted))) tt,
+            ∙ mark_stated value now there unmarked (none accepted))) tt,
         marks_relation_moved past moved,
       )

@@ -37,6 +37,12 @@ filled at bytes front new un is within = λ none.
       | inr long ↦ omega (arith, within, same, wanted_stays bytes front long)
     ]
 
+-- the bytes of a frame, and now the front of the piece
+pub moved_on : (old grown front rest piece new : List ℕ) → grown ≡ old → new ≡ grown ++ front → piece ≡ front ++ rest → old ++ piece ≡ new ++ rest
+moved_on old grown front rest piece new same is split =
+    ap (λ (l : List ℕ). old ++ l) split ∙ sym (append_assoc old front rest)
+    ∙ ap (λ (l : List ℕ). l ++ rest) (ap (λ (l : List ℕ). l ++ front) (sym same) ∙ sym is)
+
 pub reads_none : (at : ℕ) (bytes piece : List ℕ) (out : List Frame) → IsUnfinished at bytes → ReadsFrames at bytes piece out at bytes piece out
 reads_none at bytes piece out un =
     record { frames = []; encoded = refl; each = All-nil FitsFrame; appended = sym (append-nil out); offset = omega arith; unfinished = un }

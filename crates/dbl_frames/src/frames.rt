@@ -168,10 +168,16 @@ fn fill_frame<'a>(bytes: &mut Vec<u8>, piece: &'a [u8]) -> Result<&'a [u8], Allo
     ensures less { IfOk result (λ rest. length rest.now < length piece.now) }
 {
     let missing = measure_frame(bytes) - bytes.len();
-    bytes.reserve(missing)?;
-    let (front, rest) = piece.split_at(missing.min(piece.len()));
-    bytes.extend_from_slice(front)?;
-    Ok(rest)
+    match bytes.reserve(missing) {
+        Ok(()) => {
+            let (front, rest) = piece.split_at(missing.min(piece.len()));
+            match bytes.extend_from_slice(front) {
+                Ok(()) => Ok(rest),
+                Err(error) => Err(error),
+            }
+        }
+        Err(error) => Err(error),
+    }
 }
 
 // Looks for a fault; appends the frame if it is whole, and begins the next one.
@@ -193,8 +199,12 @@ fn finish_frame(
     if partial.bytes.len() < measure_frame(&partial.bytes) {
         return Ok(());
     }
-    append_frame(alloc, &partial.bytes, out)?;
-    partial.at += partial.bytes.len() as u64;
-    partial.bytes.clear();
-    Ok(())
+    match append_frame(alloc, &partial.bytes, out) {
+        Ok(()) => {
+            partial.at += partial.bytes.len() as u64;
+            partial.bytes.clear();
+            Ok(())
+        }
+        Err(_) => Err(FrameError::Memory),
+    }
 }

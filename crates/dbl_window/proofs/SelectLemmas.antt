@@ -67,6 +67,10 @@ on_ok (Err e) holds = tt
 
 -- ---- what the rows are read as
 
+-- a vector of rows is read as the list that it was made of
+pub rows_so : (plan : Plan) (rows answered : List RawRow) (result : Result Chunk WindowError) → rows ≡ answered → IsReadAs plan rows result → IsReadAs plan answered result
+rows_so plan rows answered result same read = subst (λ (l : List RawRow). IsReadAs plan l result) same read
+
 pub held_so : (plan : Plan) (rows : List RawRow) (Q : Chunk → Type 0) (result : Result Chunk WindowError) → IsReadAs plan rows result → IfOk result (λ held. held.plan ≡ plan)
     → IfOk result (λ held. held.through ≡ last_key plan.above held.rows) → IfOk result (λ held. held.done ≡ nat_lt (length held.rows) plan.limit)
     → ((chunk : Chunk) → chunk.plan ≡ plan → chunk_read plan rows ≡ Ok chunk.rows → chunk.through ≡ last_key plan.above chunk.rows → chunk.done ≡ nat_lt (length chunk.rows) plan.limit → Q chunk)

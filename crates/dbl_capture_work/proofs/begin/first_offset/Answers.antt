@@ -59,7 +59,7 @@ returns-in_err-offset_at-clause-rests g c = record {
       rest_on s stood.standing l stood.holds.0 (c.head.ensures.left stood.standing l stood.is may);
   some = search rules;
   still = λ s t old new.
-      let stood = c.in_ok-infos.ensures.described s old in
+      let stood = c.in_ok-tables.ensures.described s old in
       let headed = c.in_ok-head.ensures.headed stood.standing stood.is in
       ap (λ (x : SourceState). x.reading) (g.met.S.Source.one c.head.new.self t headed.standing new headed.is) ∙ (headed.holds.0.reading ∙ stood.holds.0.reading);
   taken =

@@ -7,6 +7,7 @@ use Rattle.std.proofs.lemmas.List.Folds.{list_all-append}
 use Rattle.dbl_base.specs.Lines.{lines_of, lines_text}
 use Rattle.dbl_model_table.specs.declared.table.TableName.{TableName}
 use Rattle.dbl_script.specs.declared.script.Script.{Script}
+use Rattle.dbl_script.specs.declared.script.ScriptRow.{ScriptRow}
 use Rattle.dbl_script.specs.declared.script.ScriptTable.{ScriptTable}
 use Rattle.dbl_script.specs.declared.line.Line.TheVariants.{Table, Row, Act}
 use Rattle.dbl_script.specs.Reads.{all_of, some_of}
@@ -17,10 +18,10 @@ use Rattle.dbl_script.specs.Scripts.{script_of, is_empty, may_follow, follows, i
 use Rattle.dbl_script.specs.Building.{with_said}
 use Rattle.dbl_script.proofs.ScriptLemmas.{script_more}
 use Rattle.dbl_gen.specs.Draws.{next_state, drawn}
-use Rattle.dbl_gen.specs.Laws.{accounts_table, empty_table, WorkloadsAreRead}
-use Rattle.dbl_gen.specs.Workload.{line_of, accounts, numbered, id_cell, owner_cell, table_lines, row_lines, session, insert_line, balance_line, delete_line, note_line, change, begin_line, commit_line, tick_line, lines_before, group_lines, groups_from, last_lines, workload_lines, workload}
+use Rattle.dbl_gen.specs.Laws.{account_row, account_rows, accounts_table, empty_table, WorkloadsAreRead}
+use Rattle.dbl_gen.specs.Workload.{line_of, accounts, numbered, id_cell, owner_cell, table_lines, row_lines, session, insert_line, balance_line, delete_line, note_line, row_line, change, begin_line, commit_line, tick_line, lines_before, group_lines, groups_from, last_lines, workload_lines, workload}
 use Rattle.dbl_gen.proofs.Plain.{free, is_plain, and_both, lines_back}
-use Rattle.dbl_gen.proofs.Steps.{IsStep, IsRow, accounts_named, utf8_plain, said_by_words, session_cases, tick_steps, begin_steps, commit_steps, delete_steps, insert_steps, balance_steps, note_steps, row_is}
+use Rattle.dbl_gen.proofs.Steps.{IsStep, IsRow, accounts_named, utf8_plain, said_by_words, session_cases, tick_steps, begin_steps, commit_steps, delete_steps, insert_steps, balance_steps, note_steps, row_is, row_said}
 
 -- ---- all lines are rows, or steps
 
@@ -163,6 +164,32 @@ rows_add_none (line ∷ rows) steps before all later =
     ∙ rows_add_none rows steps (before ++ line ∷ []) all.1 later
     ∙ ap (λ (s : Script). s.tables) (script_more before line ∙ ap (with_said (script_of before)) said)
 
+-- ---- steps add no row, and each row adds itself
+
+steps_add_no_row : (lines before : List (List ℕ)) → AllSteps lines → (script_of (before ++ lines)).rows ≡ (script_of before).rows
+steps_add_no_row [] before all = ap (λ ls. (script_of ls).rows) (append-nil before)
+steps_add_no_row (line ∷ lines) before all =
+    let said : line_at (length before + 1) line ≡ Some (Act all.0.step) = all.0.says (length before + 1) in
+    ap (λ ls. (script_of ls).rows) (sym (append_assoc before (line ∷ []) lines))
+    ∙ steps_add_no_row lines (before ++ line ∷ []) all.1
+    ∙ ap (λ (s : Script). s.rows) (script_more before line ∙ ap (with_said (script_of before)) said)
+
+rows_add : (count first : ℕ) (steps before : List (List ℕ)) → first + count < 2 ^ 64 → AllSteps steps
+    → (script_of (before ++ (row_lines first count ++ steps))).rows ≡ (script_of before).rows ++ account_rows first (length before + 1) count
+unfolding row_lines
+rows_add zero first steps before fits later = steps_add_no_row steps before later ∙ sym (append-nil (script_of before).rows)
+rows_add (suc count) first steps before fits later =
+    let line : List ℕ = row_line first in
+    let row : ScriptRow = account_row first (length before + 1) in
+    let said : line_at (length before + 1) line ≡ Some (Row row) = row_said first (length before + 1) (omega arith) in
+    let one : (script_of (before ++ line ∷ [])).rows ≡ (script_of before).rows ++ row ∷ [] = ap (λ (s : Script). s.rows) (script_more before line ∙ ap (with_said (script_of before)) said) in
+    let next : length (before ++ line ∷ []) + 1 ≡ length before + 1 + 1 = ap (λ n. n + 1) (length-append before (line ∷ [])) in
+    ap (λ ls. (script_of ls).rows) (sym (append_assoc before (line ∷ []) (row_lines (first + 1) count ++ steps)))
+    ∙ rows_add count (first + 1) steps (before ++ line ∷ []) (omega arith) later
+    ∙ ap (λ rows. rows ++ account_rows (first + 1) (length (before ++ line ∷ []) + 1) count) one
+    ∙ ap (λ n. ((script_of before).rows ++ row ∷ []) ++ account_rows (first + 1) n count) next
+    ∙ append_assoc (script_of before).rows (row ∷ []) (account_rows (first + 1) (length before + 1 + 1) count)
+
 -- ---- the tables
 
 empty_name : TableName
@@ -279,6 +306,13 @@ module _ (number rows groups : ℕ) (few_rows : rows ≤ 400000) (few_groups : g
       ∙ rows_add_none (row_lines 1 rows) (groups_from rows 1 groups number ++ last_lines groups) (first_line ∷ second_line ∷ []) accounts_are later
       ∙ ap (λ (s : Script). s.tables) two_tables
 
+  -- the rows are the accounts
+  pub rows_read : (script_of (lines_of (workload number rows groups))).rows ≡ account_rows 1 3 rows
+  rows_read =
+      ap (λ ls. (script_of ls).rows) lines_are
+      ∙ rows_add rows 1 (groups_from rows 1 groups number ++ last_lines groups) (first_line ∷ second_line ∷ []) (omega arith) later
+      ∙ ap (λ (s : Script). s.rows ++ account_rows 1 3 rows) two_tables
+
 -- ---- how many lines
 
 length_rows : (count first : ℕ) → length (row_lines first count) ≡ count
@@ -328,4 +362,5 @@ workload_read number rows groups few_rows few_groups = record {
   good = no_bad_line number rows groups few_rows few_groups;
   few = few_lines number rows groups few_rows few_groups;
   tables = tables_read number rows groups few_rows few_groups;
+  rows_are = rows_read number rows groups few_rows few_groups;
 }

@@ -18,6 +18,7 @@ use Rattle.dbl_script.specs.declared.line.Line.TheVariants.{Row, Act}
 use Rattle.dbl_script.specs.Reads.{all_of, some_of}
 use Rattle.dbl_script.specs.Texts as text
 use Rattle.dbl_script.specs.Grammar.{value_cell_of, cell_in, cell_of, row_in, insert_in, update_in, delete_in, verb_in, step_in, worded, line_at}
+use Rattle.dbl_gen.specs.Laws.{account_row}
 use Rattle.dbl_gen.specs.Workload.{line_of, accounts, numbered, id_cell, owner_cell, row_line, session}
 use Rattle.dbl_gen.proofs.Plain.{free, is_plain, plain_words, plain_line, and_both, plain_decimal, free_percent, parts_last, and_first, and_second}
 
@@ -166,18 +167,23 @@ module _ (digit : ℕ) (reads : text.session_of (115 ∷ digit ∷ []) ≡ Some 
         (λ number. rw (reads, accounts_named, id_read key small, note_read group fits) refl)
 
 -- an account of the beginning
-row_cells : ℕ → List NamedCell
-row_cells key = named (codes "id") (decimal key) ∷ named (codes "owner") (117 ∷ decimal key) ∷ named (codes "balance") (codes "100") ∷ named (codes "note") (codes "nnnnnnnnnnnnnnnnnnnnnnnnnnnnnnnnnnnnnnnnnnnnnnnnnnnnnnnnnnnnnnnn") ∷ []
-
 row_words : ℕ → List (List ℕ)
 row_words key = accounts ∷ id_cell key ∷ owner_cell key ∷ codes "balance=100" ∷ codes "note=nnnnnnnnnnnnnnnnnnnnnnnnnnnnnnnnnnnnnnnnnnnnnnnnnnnnnnnnnnnnnnnn" ∷ []
 
+row_plain : (key : ℕ) → key < 2 ^ 64 → list_all is_plain (codes "row" ∷ row_words key) ≡ true
+unfolding row_words
+row_plain key small = and_both _ _ (plain_decimal key small) (and_both _ _ (plain_decimal key small) refl)
+
+pub row_said : (key number : ℕ) → key < 2 ^ 64 → line_at number (row_line key) ≡ Some (Row (account_row key number))
+unfolding row_line row_words worded row_in some_of all_of
+row_said key number small =
+    said_by_words number (codes "row") (row_words key) (Row (account_row key number)) refl (row_plain key small)
+    (rw (accounts_named, id_read key small, owner_read key small, hundred, long_note) refl)
+
 pub row_is : (key : ℕ) → key < 2 ^ 64 → IsRow (row_line key)
-unfolding row_line row_words row_cells worded row_in some_of all_of
-row_is key small =
-    let plain : list_all is_plain (codes "row" ∷ row_words key) ≡ true = and_both _ _ (plain_decimal key small) (and_both _ _ (plain_decimal key small) refl) in
-    record {
-      whole = plain_line (codes "row" ∷ row_words key) plain;
-      row = λ number. record { table = account_name; cells = row_cells key; line = number };
-      says = λ number. said_by_words number (codes "row") (row_words key) (Row (record { table = account_name; cells = row_cells key; line = number })) refl plain (rw (accounts_named, id_read key small, owner_read key small, hundred, long_note) refl);
-    }
+unfolding row_line row_words
+row_is key small = record {
+  whole = plain_line (codes "row" ∷ row_words key) (row_plain key small);
+  row = account_row key;
+  says = λ number. row_said key number small;
+}

@@ -1,7 +1,8 @@
 -- The text of an offset, piece by piece.
 use Rattle.std.proofs.Common.{◌≡◌, ◌∙◌, ℕ, zero, suc, ◌+◌, ◌<◌, true, false, cond, Option, Ok, Err, OnOk, IfErr, List, [], ◌∷◌, ◌++◌, map, length, drop, get_or, codes, refl, sym, ap, subst, append_assoc, arith}
-use Rattle.std.specs.List.{AllZip}
+use Rattle.std.specs.List.{zip, AllZip}
 use Rattle.std.proofs.lemmas.List.{drop_more, length-map}
+use Rattle.std.proofs.lemmas.Slice.Zip.{get_or-zip, length-zip}
 use Rattle.dbl_base.specs.Lines.{lines_text}
 use Rattle.dbl_value.specs.declared.column_type.PgType.{PgType}
 use Rattle.dbl_value.specs.declared.value.Val.{Val}
@@ -20,6 +21,14 @@ use Rattle.dblog_stores.specs.Ends.{CutsLines, CommandEnd, Ends}
 
 pub numbers_regroup : (a i b s c p : List ℕ) → a ++ (i ++ (10 ∷ (b ++ (s ++ (10 ∷ (c ++ (p ++ 10 ∷ []))))))) ≡ (a ++ i) ++ 10 ∷ ((b ++ s) ++ 10 ∷ ((c ++ p) ++ 10 ∷ []))
 numbers_regroup a i b s c p = sym (simp append_assoc)
+
+-- ---- tables with their cursors
+
+pub zip_at : {A B : Type 0} (xs : List A) (ys : List B) (i : ℕ) (x : A) (y : B) → length ys ≡ length xs → i < length xs → x ≡ get_or xs i x → y ≡ get_or ys i y → (x, y) ≡ get_or (zip xs ys) i (x, y)
+zip_at xs ys i x y long lt first second = λ j. sym (get_or-zip xs ys i (x, y) lt (omega (arith, long)) ∙ (λ k. (sym first k, sym second k))) j
+
+pub zip_long : {A B : Type 0} (xs : List A) (ys : List B) → length ys ≡ length xs → length (zip xs ys) ≡ length xs
+zip_long xs ys long = omega (arith, length-zip xs ys, long)
 
 -- ---- a table
 

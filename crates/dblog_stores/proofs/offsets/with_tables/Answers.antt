@@ -3,10 +3,9 @@ use Rattle.std.specs.List.{zip}
 use Rattle.std.specs.String.{string_bytes}
 use Rattle.dbl_base.specs.Lines.{lines_text}
 use Rattle.dbl_model_history.specs.Cursors.{IsCursorOf}
-use Rattle.dbl_offset_content.proofs.Sizes.{zip_at, zip_long}
 use Rattle.dblog_stores.specs.Answers.{table_line}
 use Rattle.dblog_stores.proofs.CrashState.{nothing_left}
-use Rattle.dblog_stores.proofs.OffsetTexts.{all_zip_at, lines_go}
+use Rattle.dblog_stores.proofs.OffsetTexts.{all_zip_at, lines_go, zip_at, zip_long}
 use Rattle.dblog_stores.proofs.offsets.with_tables.Goals as goal
 
 pub table_text-requires : goal.table_text-requires

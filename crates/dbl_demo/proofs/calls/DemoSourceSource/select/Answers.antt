@@ -1,4 +1,4 @@
-use Rattle.std.proofs.Common.{ℕ, Option, List}
+use Rattle.std.proofs.Common.{◌≡◌, ℕ, Option}
 use Rattle.std.specs.Prelude.{option_copied, Result, Ok, Err, IfOk}
 use Rattle.dbl_disk.specs.Model.{DiskModel}
 use Rattle.dbl_model_table.specs.declared.row.Key.{Key}

@@ -32,10 +32,10 @@ returns-in_err-run_to_tick-clause-added g c =
     let p = err_from_is_err_and c.from_residual.result c.from_residual.ensures.1 in
     fails_from g.D.Disk c.self.view_is c.run_to_tick.new.self c.run_to_tick.ensures.same c.run_to_tick.ensures.crash c.run_to_tick.ensures.comes c.run_to_tick.ensures.cause.later second_end (λ s. []) (λ s new rows. IsReaderKept s new) c.from_residual.result p.0 p.1 (end_later _ _) (λ is. c.run_to_tick.ensures.cause.cause (c.in_err-run_to_tick.was ∙ ap Err (sym p.2 ∙ is)))
 
-pub returns-in_err-rows-clause-added : goal.returns-in_err-rows-clause-added
-returns-in_err-rows-clause-added g c =
-    let p = err_from_is_err_and c.from_residual-in_err-rows.result c.from_residual-in_err-rows.ensures.1 in
-    fails_from g.D.Disk c.self.view_is c.run_to_tick.new.self c.run_to_tick.ensures.same c.run_to_tick.ensures.crash c.run_to_tick.ensures.comes c.run_to_tick.ensures.cause.later second_end (λ s. []) (λ s new rows. IsReaderKept s new) c.from_residual-in_err-rows.result p.0 p.1 (end_later _ _) (λ is. absurd (let wrong : Memory ≡ Failed = sym c.in_err-rows.ensures.memory ∙ sym p.2 ∙ is in cc))
+pub returns-in_err-answer-clause-added : goal.returns-in_err-answer-clause-added
+returns-in_err-answer-clause-added g c =
+    let p = err_from_is_err_and c.from_residual-in_err-answer.result c.from_residual-in_err-answer.ensures.1 in
+    fails_from g.D.Disk c.self.view_is c.run_to_tick.new.self c.run_to_tick.ensures.same c.run_to_tick.ensures.crash c.run_to_tick.ensures.comes c.run_to_tick.ensures.cause.later second_end (λ s. []) (λ s new rows. IsReaderKept s new) c.from_residual-in_err-answer.result p.0 p.1 (end_later _ _) (λ is. absurd (let wrong : Memory ≡ Failed = sym c.in_err-answer.ensures.memory ∙ sym p.2 ∙ is in cc))
 
 pub run_to_tick-requires-2-clause-live : goal.run_to_tick-requires-2-clause-live
 run_to_tick-requires-2-clause-live g c = c.in_ok-run_to_tick.ensures.live
@@ -59,5 +59,5 @@ returns-clause-added g c =
 -- the rows are those of the store between the groups
 pub returns-clause-shown : goal.returns-clause-shown
 returns-clause-shown g c =
-    subst (λ (s : Demo _). (wal : Wal) → IsDemo g.D.Disk wal s → AreRowsShown wal.workload.tables (acts_at wal.workload (next_end s)) c.args.table.now (option_copied c.args.above) c.args.limit c.in_ok-rows.rows.items) c.self.view_is
-    (rows_shown g.D.Disk c.self.view_is c.run_to_tick.new.self c.run_to_tick.ensures.same c.in_ok-run_to_tick.ensures.ran c.in_ok-run_to_tick.ensures.end c.args.table.now (option_copied c.args.above) c.args.limit c.in_ok-rows.rows.items c.in_ok-rows.ensures.rows)
+    subst (λ (s : Demo _). (wal : Wal) → IsDemo g.D.Disk wal s → AreRowsShown wal.workload.tables (acts_at wal.workload (next_end s)) c.args.table.now (option_copied c.args.above) c.args.limit c.in_ok-answer.answer.rows) c.self.view_is
+    (rows_shown g.D.Disk c.self.view_is c.run_to_tick.new.self c.run_to_tick.ensures.same c.in_ok-run_to_tick.ensures.ran c.in_ok-run_to_tick.ensures.end c.args.table.now (option_copied c.args.above) c.args.limit c.in_ok-answer.answer.rows c.in_ok-answer.ensures.rows)

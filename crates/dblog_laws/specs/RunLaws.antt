@@ -98,8 +98,8 @@ SupportedGeneratedRunsSucceed {W} {T} {F} wal_model topics_model offsets_model =
     (offsets_model.may_leave new.offsets) w t f)
     → NoneFailed status → IsSessionDone status
 
--- The `init` part of `gen --run` succeeds for a text that can be run, or memory ran out. A generated text is proved to have such lines and
--- tables (`workloads_are_read`), not to have such rows and such a length.
+-- The `init` part of `gen --run` succeeds for a text that can be run, or memory ran out. A generated text is proved to be such a one
+-- (`generated_workloads_can_run` of `dbl_gen_laws`), and so short if it has few rows and groups (`workloads_are_short` of `dbl_gen`).
 abbrev pub GeneratedInitsSucceed : {W T F : Type 0} → DiskModel W → DiskModel T → DiskModel F → Type 0
 GeneratedInitsSucceed {W} {T} {F} wal_model topics_model offsets_model =
     (text : List ℕ) (workload : Workload) (now : ℤ) (old new : Disks W T F) (status : Status) (before after : Option (List ℕ))

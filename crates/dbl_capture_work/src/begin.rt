@@ -49,7 +49,8 @@ fn describe_table<S: Source>(
     ensures described { MovesTo S.stands src.old src.new result
         (λ table. IsDescribedAs name.now table.info table.version) }
     ensures named { IfOk result (λ table. table.info.name ≡ name.now) }
-    ensures counted { IfOk result (λ table. 1 ≤ table.version) }
+    ensures counted { IfOk result
+        (λ table. (1 ≤ table.version) × (table.version < 2 ^ 64)) }
     ensures faultless { OnOk result (IsFaultless name.now (S.told src.new)) }
     ensures fault { IfErr result (λ h. (h ≡ Halt.Memory) ⊎ ((h ≡ Halt.Source)
         ⊎ IsModelFault name.now (S.told src.new) h)) }

@@ -143,7 +143,7 @@ tables-preserved g c =
     let lt : i < length names = subst (λ (l : List TableName). i < length l) items c.tables-test.true in
     let is : name ≡ get_or names i name = c.name-item.is ∙ ap (λ (l : List TableName). get_or l i name) items in
     let pushed : c.push.new.self.items ≡ infos ++ info ∷ [] = c.in_ok-push.ensures.items in
-    let numbered : c.push-2.new.self.items ≡ versions ++ version ∷ [] = c.in_ok-push-2.ensures.items in
+    let numbered = c.in_ok-push-2.ensures.items in
     record {
       described = λ s stands. (
           let stood = inv.described s stands in
@@ -157,7 +157,7 @@ tables-preserved g c =
               rw (pushed, numbered) (zip_push (IsVersionAt s.history) infos versions info version stood.holds.2 (version_before s stood.standing info version stood.holds.0 next.holds.3)),
             );
           });
-      counted = rw (pushed, numbered) (zip_push (λ (x : TableInfo) (v : ℕ). (1 ≤ v) × (v < 2 ^ 64)) infos versions info version inv.counted (c.in_ok-table.ensures.counted, c.describe_table.type_inv.version));
+      counted = rw (pushed, numbered) (zip_push (λ (x : TableInfo) (v : ℕ). (1 ≤ v) × (v < 2 ^ 64)) infos versions info version inv.counted c.in_ok-table.ensures.counted);
       named = ap (map (λ (x : TableInfo). x.name)) pushed ∙ named_push infos info names i name lt inv.named c.in_ok-table.ensures.named is;
       left = λ s l stands may. (
           let stood = inv.described s stands in

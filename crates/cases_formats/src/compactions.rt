@@ -3,7 +3,7 @@
 use crate::{consumers, records};
 use anyhow::{Result, bail};
 use cases_items::words;
-use dbl_base::{MemOutput, Text};
+use dbl_base::Text;
 use dbl_compact::{compact, kept_records_are_kept, kept_records_make_the_same_consumer};
 use dbl_consume::{Consumer, Kind, kind};
 use dbl_record::Record;
@@ -13,19 +13,16 @@ use std::fmt::Write;
 /// Adds what a case of this family answers.
 pub fn answer(alloc: Global, shown: &mut String, call: &str, arguments: &str) -> Result<()> {
     let records = records::records(alloc, arguments)?;
+    let null = Text::of(alloc, "null")?;
     match call {
-        "kinds" => show_kinds(alloc, shown, &records),
-        "keeps" => show_kept(alloc, shown, &records),
+        "kinds" => show_kinds(alloc, shown, &null, &records),
+        "keeps" => show_kept(alloc, shown, &null, &records),
         _ => bail!("no such call"),
     }
 }
 
 fn placeholder(alloc: Global) -> Result<Text> {
     Ok(Text::of(alloc, "__debezium_unavailable_value")?)
-}
-
-fn null(alloc: Global) -> Result<Text> {
-    Ok(Text::of(alloc, "null")?)
 }
 
 // A text, or `null` if it is absent.
@@ -37,30 +34,14 @@ fn text_or<'a>(text: &'a Option<Text>, null: &'a Text) -> &'a Text {
 }
 
 // The kind of each record's effect, or why it is refused.
-fn show_kinds(alloc: Global, shown: &mut String, records: &Vec<Record>) -> Result<()> {
+fn show_kinds(alloc: Global, shown: &mut String, null: &Text, records: &Vec<Record>) -> Result<()> {
     let placeholder = placeholder(alloc)?;
-    let end = show_effects(alloc, shown, &placeholder, records);
-    drop(placeholder);
-    end
-}
-
-fn show_effects(
-    alloc: Global,
-    shown: &mut String,
-    placeholder: &Text,
-    records: &Vec<Record>,
-) -> Result<()> {
-    let null = null(alloc)?;
     for record in records {
-        match show_effect(alloc, shown, placeholder, &null, record) {
-            Ok(()) => {}
-            Err(error) => {
-                drop(null);
-                return Err(error);
-            }
+        if !shown.is_empty() {
+            words::add(shown, ", ")?;
         }
+        show_effect(alloc, shown, &placeholder, null, record)?;
     }
-    drop(null);
     Ok(())
 }
 
@@ -71,9 +52,6 @@ fn show_effect(
     null: &Text,
     record: &Record,
 ) -> Result<()> {
-    if !shown.is_empty() {
-        words::add(shown, ", ")?;
-    }
     let key = text_or(&record.key, null);
     let value = text_or(&record.value, null);
     match kind(alloc, placeholder, &record.topic, key, value) {
@@ -106,11 +84,11 @@ fn show_key(shown: &mut String, before: &str, key: &Text, after: &str) -> Result
 }
 
 // The positions of the records that are kept, and whether a consumer of these has the same rows.
-fn show_kept(alloc: Global, shown: &mut String, records: &Vec<Record>) -> Result<()> {
+fn show_kept(alloc: Global, shown: &mut String, null: &Text, records: &Vec<Record>) -> Result<()> {
     kept_records_make_the_same_consumer();
     kept_records_are_kept();
     match compact(alloc, &placeholder(alloc)?, records) {
-        Ok(kept) => show_compacted(alloc, shown, records, &kept),
+        Ok(kept) => show_compacted(alloc, shown, null, records, &kept),
         Err(error) => words::said(shown, &error),
     }
 }
@@ -118,6 +96,7 @@ fn show_kept(alloc: Global, shown: &mut String, records: &Vec<Record>) -> Result
 fn show_compacted(
     alloc: Global,
     shown: &mut String,
+    null: &Text,
     records: &Vec<Record>,
     kept: &Vec<Record>,
 ) -> Result<()> {
@@ -125,61 +104,35 @@ fn show_compacted(
     for record in kept {
         write!(shown, " {}/{}", record.position, record.ordinal)?;
     }
-    words::add(shown, ", the same rows: ")?;
-    let all = rows(alloc, records)?;
-    let end = show_same_rows(alloc, shown, &all, kept);
-    drop(all);
-    end
-}
-
-// Whether a consumer of the kept records has these rows.
-fn show_same_rows(
-    alloc: Global,
-    shown: &mut String,
-    all: &String,
-    kept: &Vec<Record>,
-) -> Result<()> {
-    let left = rows(alloc, kept)?;
-    let end = words::said(shown, &(*all == left));
-    drop(left);
-    end
+    let all = rows(alloc, null, records)?;
+    let left = rows(alloc, null, kept)?;
+    write!(shown, ", the same rows: {}", all == left)?;
+    Ok(())
 }
 
 // The rows of a consumer of the records, as they are printed.
-fn rows(alloc: Global, records: &Vec<Record>) -> Result<String> {
+fn rows(alloc: Global, null: &Text, records: &Vec<Record>) -> Result<String> {
+    let mut rows = String::new(alloc);
     let mut consumer = consumers::consumer(alloc)?;
-    let rows = rows_of(alloc, records, &mut consumer);
+    let end = put_rows(alloc, null, records, &mut consumer, &mut rows);
     drop(consumer);
-    rows
-}
-
-fn rows_of(alloc: Global, records: &Vec<Record>, consumer: &mut Consumer) -> Result<String> {
-    let null = null(alloc)?;
-    let end = apply(records, consumer, &null);
-    drop(null);
     match end {
-        Ok(()) => printed(alloc, consumer),
+        Ok(()) => Ok(rows),
         Err(error) => Err(error),
     }
 }
 
-fn printed(alloc: Global, consumer: &Consumer) -> Result<String> {
-    let mut output = MemOutput::make(alloc, Vec::new(alloc));
-    let rows = print_to(alloc, consumer, &mut output);
-    drop(output);
-    rows
-}
-
-fn print_to(alloc: Global, consumer: &Consumer, output: &mut MemOutput) -> Result<String> {
-    consumer.print(output)?;
-    Ok(String::from_str(alloc, str::from_utf8(output.bytes())?)?)
-}
-
-fn apply(records: &Vec<Record>, consumer: &mut Consumer, null: &Text) -> Result<()> {
+fn put_rows(
+    alloc: Global,
+    null: &Text,
+    records: &Vec<Record>,
+    consumer: &mut Consumer,
+    rows: &mut String,
+) -> Result<()> {
     for record in records {
         let key = text_or(&record.key, null);
         let value = text_or(&record.value, null);
         consumer.apply(&record.topic, key, value)?;
     }
-    Ok(())
+    consumers::print(alloc, rows, consumer)
 }

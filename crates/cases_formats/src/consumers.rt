@@ -46,7 +46,8 @@ fn take(alloc: Global, shown: &mut String, consumer: &mut Consumer, record: &str
     }
 }
 
-fn print(alloc: Global, shown: &mut String, consumer: &Consumer) -> Result<()> {
+/// Adds the rows of a consumer, as they are printed.
+pub fn print(alloc: Global, shown: &mut String, consumer: &Consumer) -> Result<()> {
     let mut output = MemOutput::make(alloc, Vec::new(alloc));
     consumer.print(&mut output)?;
     let rows = str::from_utf8(output.bytes())?.trim_end();

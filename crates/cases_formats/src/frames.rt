@@ -29,41 +29,69 @@ impl Feeding {
         }
     }
 
-    fn feed(&mut self, piece: &[u8], out: &mut Vec<Frame>) -> Result<Option<FrameError>> {
+    // Feeds a piece, shows the frames that it completes, and returns the fault.
+    fn feed(
+        &mut self,
+        alloc: Global,
+        shown: &mut String,
+        piece: &[u8],
+    ) -> Result<Option<FrameError>> {
         if self.count > LIMIT || piece.len() > LIMIT {
             bail!("too long");
         }
-        match self.frames.feed(piece, out) {
-            Ok(()) => {
-                self.count += piece.len();
-                Ok(None)
-            }
-            Err(error) => Ok(Some(error)),
+        let mut out = Vec::new(alloc);
+        let fed = self.frames.feed(piece, &mut out);
+        self.count += piece.len();
+        show_frames(alloc, shown, &out)?;
+        Ok(fed.err())
+    }
+
+    // Feeds a piece, and shows what the reader answers.
+    fn show(&mut self, alloc: Global, shown: &mut String, piece: &[u8]) -> Result<()> {
+        match self.feed(alloc, shown, piece)? {
+            Some(error) => words::said(shown, &error),
+            None => self.show_rest(shown),
         }
+    }
+
+    fn show_rest(&self, shown: &mut String) -> Result<()> {
+        write!(shown, "rest {}", self.frames.rest())?;
+        Ok(())
     }
 }
 
 /// Adds what a case of this family answers.
 pub fn answer(alloc: Global, shown: &mut String, call: &str, arguments: &str) -> Result<()> {
     match call {
-        "pieces" => show_pieces(alloc, shown, &words::all(alloc, arguments)?),
-        "bytes" => show_bytes(alloc, shown, &hex::decode(alloc, arguments)?),
-        "prefixes" => show_prefixes(alloc, shown, &hex::decode(alloc, arguments)?),
-        "zeros" => show_zeros(alloc, shown, arguments),
         "status" => show_status(alloc, shown, arguments),
+        "prefixes" => show_prefixes(alloc, shown, &hex::decode(alloc, arguments)?),
+        _ => {
+            let mut feeding = Feeding::make(alloc);
+            let end = show_stream(alloc, shown, &mut feeding, call, arguments);
+            drop(feeding);
+            end
+        }
+    }
+}
+
+// What a new reader answers.
+fn show_stream(
+    alloc: Global,
+    shown: &mut String,
+    feeding: &mut Feeding,
+    call: &str,
+    arguments: &str,
+) -> Result<()> {
+    match call {
+        "pieces" => show_pieces(alloc, shown, feeding, &words::all(alloc, arguments)?),
+        "bytes" => show_bytes(alloc, shown, feeding, &hex::decode(alloc, arguments)?),
+        "zeros" => feeding.show(alloc, shown, &zeros(alloc, arguments)?),
         _ => bail!("no such call"),
     }
 }
 
 // What a reader answers to each piece, a line each.
-fn show_pieces(alloc: Global, shown: &mut String, pieces: &Vec<Text>) -> Result<()> {
-    let mut feeding = Feeding::make(alloc);
-    let end = feed_pieces(alloc, shown, &mut feeding, pieces);
-    drop(feeding);
-    end
-}
-
-fn feed_pieces(
+fn show_pieces(
     alloc: Global,
     shown: &mut String,
     feeding: &mut Feeding,
@@ -71,30 +99,41 @@ fn feed_pieces(
 ) -> Result<()> {
     for piece in pieces {
         words::line(shown)?;
-        show_piece(alloc, shown, feeding, &hex::decode(alloc, piece.as_str())?)?;
+        feeding.show(alloc, shown, &hex::decode(alloc, piece.as_str())?)?;
     }
     Ok(())
 }
 
-// Feeds a piece, and shows the frames that it completes and what the reader answers.
-fn show_piece(
+// The frames of bytes that are fed one by one; at a fault, the index of the byte that shows it.
+fn show_bytes(
     alloc: Global,
     shown: &mut String,
     feeding: &mut Feeding,
-    piece: &[u8],
+    bytes: &[u8],
 ) -> Result<()> {
-    let mut out = Vec::new(alloc);
-    let fault = feeding.feed(piece, &mut out)?;
-    show_frames(alloc, shown, &out)?;
-    match fault {
-        Some(error) => words::said(shown, &error),
-        None => show_rest(shown, &feeding.frames),
+    for (at, byte) in bytes.iter().enumerate() {
+        if let Some(error) = feeding.feed(alloc, shown, &[*byte])? {
+            write!(shown, "byte {at}: {error}")?;
+            return Ok(());
+        }
     }
+    feeding.show_rest(shown)
 }
 
-fn show_rest(shown: &mut String, frames: &Frames) -> Result<()> {
-    write!(shown, "rest {}", frames.rest())?;
-    Ok(())
+// What a new reader answers to each prefix of the bytes, from the empty one on.
+fn show_prefixes(alloc: Global, shown: &mut String, bytes: &[u8]) -> Result<()> {
+    for length in 0..bytes.len() {
+        show_prefix(alloc, shown, &bytes[..length])?;
+        words::add(shown, ", ")?;
+    }
+    show_prefix(alloc, shown, bytes)
+}
+
+fn show_prefix(alloc: Global, shown: &mut String, bytes: &[u8]) -> Result<()> {
+    let mut feeding = Feeding::make(alloc);
+    let end = feeding.show(alloc, shown, bytes);
+    drop(feeding);
+    end
 }
 
 fn show_frames(alloc: Global, shown: &mut String, frames: &Vec<Frame>) -> Result<()> {
@@ -132,55 +171,16 @@ fn show_payload(alloc: Global, shown: &mut String, bytes: &[u8]) -> Result<()> {
     words::add(shown, hex::encode(alloc, bytes)?.as_str())
 }
 
-// The frames of bytes that are fed one by one; at a fault, the index of the byte that shows it.
-fn show_bytes(alloc: Global, shown: &mut String, bytes: &[u8]) -> Result<()> {
-    let mut feeding = Feeding::make(alloc);
-    let mut out = Vec::new(alloc);
-    let end = feed_bytes(alloc, shown, &mut feeding, bytes, &mut out);
-    drop(feeding);
-    drop(out);
-    end
-}
-
-fn feed_bytes(
-    alloc: Global,
-    shown: &mut String,
-    feeding: &mut Feeding,
-    bytes: &[u8],
-    out: &mut Vec<Frame>,
-) -> Result<()> {
-    for (at, byte) in bytes.iter().enumerate() {
-        if let Some(error) = feeding.feed(&[*byte], out)? {
-            show_frames(alloc, shown, out)?;
-            write!(shown, "byte {at}: {error}")?;
-            return Ok(());
-        }
-    }
-    show_frames(alloc, shown, out)?;
-    show_rest(shown, &feeding.frames)
-}
-
-// What a new reader answers to each prefix of the bytes, from the empty one on.
-fn show_prefixes(alloc: Global, shown: &mut String, bytes: &[u8]) -> Result<()> {
-    for length in 0..bytes.len() {
-        show_piece(alloc, shown, &mut Feeding::make(alloc), &bytes[..length])?;
-        words::add(shown, ", ")?;
-    }
-    show_piece(alloc, shown, &mut Feeding::make(alloc), bytes)
-}
-
-// What a reader answers to `d`, a length, `w` and a number of zeros: LENGTH/NUMBER.
-fn show_zeros(alloc: Global, shown: &mut String, arguments: &str) -> Result<()> {
-    let length: u32 = items::field(arguments, 0).parse()?;
-    let count: usize = items::field(arguments, 1).parse()?;
+// The bytes of a head and a number of zeros: HEAD/NUMBER.
+fn zeros(alloc: Global, arguments: &str) -> Result<Vec<u8>> {
+    let (head, number) = words::split(arguments, "/");
+    let count: usize = number.parse()?;
     if count > LIMIT {
         bail!("too many");
     }
-    let mut bytes = b"d".to_vec(alloc)?;
-    bytes.extend_from_slice(&length.to_be_bytes())?;
-    bytes.push(b'w')?;
+    let mut bytes = hex::decode(alloc, head)?;
     bytes.extend_from_slice(&vec![in alloc; 0u8; count]?)?;
-    show_piece(alloc, shown, &mut Feeding::make(alloc), &bytes)
+    Ok(bytes)
 }
 
 // A status update: WRITTEN/FLUSHED/APPLIED/TIME/REPLY.

@@ -35,6 +35,7 @@ own_next first work new same is = record {
   of = record {
     identity = ap (λ (o : Offset). o.identity) same;
     infos = ap (λ (o : Offset). o.infos) same;
+    versions = ap (λ (o : Offset). o.versions) same;
     start = ap (λ (o : Offset). o.start) same;
     incarnation = ap (λ (o : Offset). o.incarnation) same;
   };

@@ -35,7 +35,7 @@ use Rattle.dbl_capture_work.proofs.CaptureModelBeginning.{unread_sessions_follow
 use Rattle.dbl_capture_work.proofs.CaptureModelGrowing.{first_longer}
 use Rattle.dbl_capture_work.proofs.CaptureModelStarting.{sessions_begin}
 use Rattle.dbl_capture_work.specs.declared.work.SessionState.{SessionState}
-use Rattle.dbl_capture_work.specs.Begins.{IsAgain, IsFirstOffsetAtHead, IsOffsetFor}
+use Rattle.dbl_capture_work.specs.Begins.{AreVersionsAt, IsAgain, IsFirstOffsetAtHead, IsOffsetFor}
 use Rattle.dbl_capture_laws.specs.Found.{BeganAt, BeginsAt, IsFirstAtHead}
 use Rattle.dbl_capture_laws.specs.Sessions.{InSession, AddsFewOrNoMarks, LeavesBy}
 use Rattle.dbl_capture_work.specs.Works as works
@@ -125,11 +125,13 @@ first_offset config infos head first s t g rise is names at = record {
 }
 
 pub first_at_head : (config : Config) (infos : List TableInfo) (head : Lsn) (first : Offset) (s t : SourceState) → Moved s t → IsRising t.history → IsFirstOffsetAtHead config infos head first
-    → map (λ info. info.name) infos ≡ config.tables → AreInfosOf t.history infos → IsHead head s t → IsFirstAtHead config s.history first
-first_at_head config infos head first s t moved rise is names are at = record {
+    → map (λ info. info.name) infos ≡ config.tables → AreInfosOf t.history infos → IsHead head s t → AreVersionsAt t.history first.infos first.versions
+    → IsFirstAtHead config s.history first
+first_at_head config infos head first s t moved rise is names are at versions = record {
   later = t.history;
   grown = moved.grows;
   infos = subst (AreInfosOf t.history) (sym is.infos_are) are;
+  versions = versions;
   is = first_offset config infos head first s t moved.grows rise is names at;
 }
 

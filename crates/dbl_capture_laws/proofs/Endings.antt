@@ -26,7 +26,7 @@ use Rattle.dbl_capture_work.specs.CaptureModel.Outcomes.{IsComplete}
 use Rattle.dbl_capture_work.proofs.CaptureModelCompleting.{read_sessions_are_complete}
 use Rattle.dbl_capture_work.specs.declared.report.Report.{Report}
 use Rattle.dbl_capture_work.specs.declared.work.SessionState.{SessionState}
-use Rattle.dbl_capture_work.specs.Begins.{IsOffsetFor}
+use Rattle.dbl_capture_work.specs.Begins.{AreVersionsAt, IsOffsetFor}
 use Rattle.dbl_capture_laws.specs.Ends.{AreAllDone, HasNoneNext, HasOwnStored, IsAtPosition, IsCompleteWith, LeavesComplete, table_to_read}
 use Rattle.dbl_capture_laws.specs.Found.{HasStored, IsFirstAtHead, IsFirstStored, IsStoredBy, position_of}
 use Rattle.dbl_capture_laws.specs.Sessions.{state_at_stage, InSession}
@@ -161,6 +161,8 @@ later_at_head config history first later of f = record {
   later = f.later;
   grown = f.grown;
   infos = subst (AreInfosOf f.later) (sym of.infos) f.infos;
+  versions = subst (λ (l : List TableInfo). AreVersionsAt f.later l later.versions) (sym of.infos)
+      (subst (λ (l : List ℕ). AreVersionsAt f.later first.infos l) (sym of.versions) f.versions);
   is = record {
     identity = of.identity ∙ f.is.identity;
     tables = ap (map (λ (info : TableInfo). info.name)) of.infos ∙ f.is.tables;

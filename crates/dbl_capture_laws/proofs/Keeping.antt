@@ -43,6 +43,11 @@ pub answer_then : {T E : Type 0} (r : Result T E) (P Q : T → Type 0) → IfOk 
 answer_then (Ok x) P Q p f = f x p
 answer_then (Err e) P Q p f = tt
 
+-- two facts of an answer
+pub answer_both : {T E : Type 0} (r : Result T E) (P Q : T → Type 0) → IfOk r P → IfOk r Q → IfOk r (λ x. P x × Q x)
+answer_both (Ok x) P Q p q = (p, q)
+answer_both (Err e) P Q p q = tt
+
 -- what follows of either
 pub either_answer : {T E : Type 0} (r : Result T E) (P Q : Type 0) → OnOk r P → OnErr r Q → (P → Q) → Q
 either_answer (Ok x) P Q p q f = f p

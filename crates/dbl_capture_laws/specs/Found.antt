@@ -13,6 +13,7 @@ use Rattle.dbl_capture_work.specs.SourceModel.Standings.{SourceState}
 use Rattle.dbl_capture_work.specs.Offset.declared.offset.Offset.{Offset}
 use Rattle.dbl_capture_work.specs.OffsetStore.Stores.{StoreOn, HoldsOffset}
 use Rattle.dbl_capture_work.specs.Faithful.Onward.{IsFirstOffset}
+use Rattle.dbl_capture_work.specs.Begins.{AreVersionsAt}
 use Rattle.dbl_capture_work.specs.CaptureModel.Entries.{SessionStart}
 use Rattle.dbl_capture_work.specs.CaptureModel.Going.{BeganWith}
 
@@ -98,12 +99,13 @@ IsStoredBy config None new = (new.identity ≡ config.identity) × (map (λ info
 IsStoredBy config (Some old) new = (new.identity ≡ old.identity) × (new.infos ≡ old.infos) × (new.start ≡ old.start)
     × (new.incarnation ≡ old.incarnation + 1)
 
--- A first offset of the configured tables, as the catalogue of some later state of the source has them, that starts at a position of that
--- state, not below any commit of the history.
+-- A first offset of the configured tables and their versions, as the catalogue of some later state of the source has them, that starts at
+-- a position of that state, not below any commit of the history.
 pub record IsFirstAtHead (config : Config) (history : History) (offset : Offset) : Type 0 where
   pub later : History
   pub grown : Grows history later
   pub infos : AreInfosOf later offset.infos
+  pub versions : AreVersionsAt later offset.infos offset.versions
   pub is : IsFirstOffset config history later offset
 
 -- A first offset that is stored is one at the head of the log.

@@ -3,10 +3,10 @@ use Rattle.std.specs.Prelude.{IfOk}
 use Rattle.dbl_source.proofs.SourceModelGrowthLemmas.{grows_none}
 use Rattle.dbl_source.specs.SourceModel.Standings.{SourceState, left_of}
 use Rattle.dbl_offset_content.specs.declared.offset.Offset.{Offset}
-use Rattle.dbl_capture_work.specs.Begins.{IsAgain, IsOffsetFor}
+use Rattle.dbl_capture_work.specs.Begins.{AreVersionsAt, IsAgain, IsOffsetFor}
 use Rattle.dbl_capture_laws.proofs.Beginnings.{again_for, begins_again, begins_first, first_at_head, none_again}
 use Rattle.dbl_capture_laws.proofs.StepCauses.{OfNone, OfSource, again_of, err_at, err_then, first_of, residual_of}
-use Rattle.dbl_capture_laws.proofs.Keeping.{answer_then}
+use Rattle.dbl_capture_laws.proofs.Keeping.{answer_both, answer_then}
 use Rattle.dbl_capture_work.proofs.Exits.{none_taken}
 use Rattle.dbl_capture_laws.specs.Underway.{IsBeginHalt}
 use Rattle.dbl_capture_laws.proofs.Telling.{again_begins, first_begins}
@@ -175,10 +175,14 @@ returns-in-None-clause-by_state g c = record {
         holds = first_within c.args.config.now stood.holds.1.0 stood.holds.1.1 offset s stood.standing stood.holds.1.2 stood.holds.1.5;
       });
   first = λ s was none.
-      answer_then c.first_offset.result _ _ (c.first_offset.ensures.first s was)
-      (λ offset at. (
+      answer_then c.first_offset.result _ _ (answer_both c.first_offset.result _ _ (c.first_offset.ensures.first s was) (c.first_offset.ensures.versions s was))
+      (λ offset both.
+      let at = both.0 in
+      let same = g.met.S.Source.one c.first_offset.new.src both.1.standing at.standing both.1.is at.is in
+      let versions = subst (λ (x : SourceState). AreVersionsAt x.history offset.infos offset.versions) same both.1.holds in (
         first_by_catalogue c.args.config.now s at.standing at.holds.1.0 at.holds.1.1 offset at.holds.0 at.holds.1.2 at.holds.1.3 at.holds.1.4,
-        first_at_head c.args.config.now at.holds.1.0 at.holds.1.1 offset s at.standing at.holds.0 (g.met.S.Source.rising _ at.standing at.is) at.holds.1.2 at.holds.1.3 at.holds.1.4 at.holds.1.5,
+        first_at_head c.args.config.now at.holds.1.0 at.holds.1.1 offset s at.standing at.holds.0 (g.met.S.Source.rising _ at.standing at.is)
+            at.holds.1.2 at.holds.1.3 at.holds.1.4 at.holds.1.5 versions,
       ));
 }
 

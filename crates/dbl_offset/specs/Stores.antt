@@ -99,6 +99,12 @@ pub record HoldsOffset {D : Type 0} (model : DiskModel D) (store : StoreOn D) (o
   pub is : IsSlotEntry entry offset
   pub offset_is : store.offset ≡ offset
 
+-- Whether the disk's contents are known, and this is the entry of the store's slot.
+pub record HasEntry {D : Type 0} (model : DiskModel D) (store : StoreOn D) (entry : List ℕ) : Type 0 where
+  pub bytes : List ℕ
+  pub told : model.seen (disk_of store) ≡ Some bytes
+  pub selected : HasSelectedEntry bytes store.slot entry
+
 -- Whether a crash may leave a store of this offset.
 abbrev pub MayLeaveOffset : {D : Type 0} → DiskModel D → D → Option Offset → Type 0
 MayLeaveOffset model disk offset = (crashed : List ℕ) × model.may_leave disk crashed × IsStore crashed offset

@@ -8,9 +8,9 @@ ghost use Rattle.dbl_offset_content.specs.Entries.{offset_bytes_form, slot_conte
 ghost use Rattle.dbl_offset_content.specs.Measures.{capped, offset_limit};
 ghost use Rattle.dbl_offset_content.specs.Offsets.{EncodesOffset, IsOffset, IsOffsetEntry};
 ghost use Rattle.dbl_offset.specs.Slots.{HasSelectedEntry, empty_store};
-ghost use Rattle.dbl_offset.specs.Stores.{BeginsTorn, ExtendsOffsets, HasBadOffset, HoldsOffset};
-ghost use Rattle.dbl_offset.specs.Stores.{IsLive, IsNoStoreAt, IsSlotEntry, IsStore, LeavesOffset};
-ghost use Rattle.dbl_offset.specs.Stores.{PutLeaves, disk_of, least_room, room_of};
+ghost use Rattle.dbl_offset.specs.Stores.{BeginsTorn, ExtendsOffsets, HasBadOffset, HasEntry};
+ghost use Rattle.dbl_offset.specs.Stores.{HoldsOffset, IsLive, IsNoStoreAt, IsSlotEntry, IsStore};
+ghost use Rattle.dbl_offset.specs.Stores.{LeavesOffset, PutLeaves, disk_of, least_room, room_of};
 
 use crate::OffsetError;
 use crate::finding::find;
@@ -194,14 +194,16 @@ impl<D: Disk> OffsetStore<D> {
         self.offset.as_ref()
     }
 
-    /// Replaces the stored offset: writes it into the slot that isn't selected, a write for each
-    /// block, and syncs; then selects that slot by a write and a sync. After `Failed` the store
-    /// isn't live; the other errors come before the first call and change nothing.
+    /// Replaces the stored offset: writes it, in format 2, into the slot that isn't selected, a
+    /// write for each block, and syncs; then selects that slot by a write and a sync. After `Failed`
+    /// the store isn't live; the other errors come before the first call and change nothing.
     pub fn store(&mut self, alloc: Global, offset: Offset) -> Result<(), OffsetError>
         requires live { IsLive self.old }
         requires offset { IsOffset offset }
         ensures stored { (old : Option Offset) → HoldsOffset D.Disk self.old old →
             OnOk result (HoldsOffset D.Disk self.new (Some offset)) }
+        ensures format { (old : Option Offset) → HoldsOffset D.Disk self.old old →
+            OnOk result (HasEntry D.Disk self.new (offset_bytes_form offset)) }
         ensures left { (old : Option Offset) → HoldsOffset D.Disk self.old old →
             LeavesOffset D.Disk (disk_of self.new) (λ left. (left ≡ old) ⊎ (left ≡ Some offset)) }
         ensures grows { (before after : List ℕ) → D.seen (disk_of self.old) ≡ Some before →

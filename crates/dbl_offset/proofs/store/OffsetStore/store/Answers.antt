@@ -62,6 +62,16 @@ returns-in-Ok-write_slot-clause-stored g c old holds =
       offset_is = c.replace.ensures.after;
     }
 
+pub returns-in-Ok-write_slot-clause-format : goal.returns-in-Ok-write_slot-clause-format
+returns-in-Ok-write_slot-clause-format g c old holds =
+    let held = subst (λ (s : StoreOn _). HoldsOffset g.D.Disk s old) (sym c.self.view_is) holds in
+    let slot : ℕ = c.self.inside.slot in
+    let form : List ℕ = offset_bytes_form c.args.offset in
+    let is : c.as_slice.result.now ≡ slot_content form = c.as_slice.ensures.value ∙ c.in-Ok.ensures.content.0 in
+    let made = c.in-Ok-write_slot.ensures.stored held.bytes held.entry form held.told
+    (back slot held.bytes held.entry c.self.invariant.0 held.selected) is in
+    record { bytes = made.0; told = made.1; selected = made.3 }
+
 pub returns-in-Ok-write_slot-clause-grows : goal.returns-in-Ok-write_slot-clause-grows
 returns-in-Ok-write_slot-clause-grows g c before after told now =
     let form : List ℕ = offset_bytes_form c.args.offset in

@@ -1,5 +1,5 @@
 -- Over crash-consistent disks the only invalid transaction is one with an update that moves a key and leaves a cell unsent.
-use Rattle.std.proofs.Common.{◌≡◌, ◌∙◌, ℕ, ℤ, Option, Some, None, List, [], ◌∷◌, refl, ap, subst}
+use Rattle.std.proofs.Common.{◌≡◌, ◌≢◌, ◌∙◌, ℕ, Option, Some, None, List, [], ◌∷◌, refl, ap, subst}
 use Rattle.std.specs.Prelude.{IfErr}
 use Rattle.dbl_base.specs.declared.lsn.Lsn.{Lsn}
 use Rattle.dbl_disk.specs.Model.{DiskModel}
@@ -20,7 +20,6 @@ use Rattle.dbl_demo_wal.specs.Wals.{IsWal}
 use Rattle.dbl_demo_wal.specs.TablesLaws.Laws.{IsMovedAtMost}
 use Rattle.dbl_demo_wal_laws.specs.Moved.{HaveMovedAtMost}
 use Rattle.dbl_demo_wal_laws.proofs.MovedLaws.{transactions_move}
-use Rattle.dblog_run.specs.CaptureWork.declared.halt.Halt.{Halt}
 use Rattle.dblog_run.specs.CaptureWork.declared.halt.Halt.TheVariants as halt
 use Rattle.dblog_run.specs.CaptureLaws.Halted.{IsTxnFault}
 use Rattle.dblog_run.specs.Promise.Causes.{HasRead, IsCauseOf}
@@ -31,18 +30,20 @@ use Rattle.dblog_run.specs.Connect.Ends.{ConnectEnd, IsKeptError}
 use Rattle.dblog_laws.specs.RunLaws.{OnlyUnsentMovesStopSessions}
 use Rattle.dblog_laws.specs.Sessions.{HaveNoUnsentMove}
 
+-- a message that moves no key so has no error
+no_fault : (infos : List TableInfo) (after : Lsn) (m : Message) (ms : List Message)
+    → ((table : TableName) (column : List ℕ) → transaction_fault infos after m ms ≢ Some (MovedUnchanged table column))
+    → (o : Option TxnError) → transaction_fault infos after m ms ≡ o → IsMovedAtMost o → transaction_fault infos after m ms ≡ None
+no_fault infos after m ms none None is fine = is
+no_fault infos after m ms none (Some e) is fine = absurd (none fine.0 fine.1 (is ∙ ap (λ (x : TxnError). let o : Option TxnError = Some x in o) fine.2))
+
 -- if no key is moved so, no message is invalid
 pub without_fault : (infos : List TableInfo) (after : Lsn) (ms : List Message) → HaveMovedAtMost infos after ms → HaveNoUnsentMove infos after ms
     → AreWithoutFault infos after ms
 without_fault infos after [] moved none = tt
-without_fault infos after (m ∷ ms) moved none = (by (transaction_fault infos after m ms) refl (moved.0 rest), rest)
-  where
-    rest : AreWithoutFault infos after ms
-    rest = without_fault infos after ms moved.1 none.1
-
-    by : (o : Option TxnError) → transaction_fault infos after m ms ≡ o → IsMovedAtMost o → transaction_fault infos after m ms ≡ None
-    by None is fine = is
-    by (Some e) is fine = absurd (none.0 fine.0 fine.1 (is ∙ ap (λ (x : TxnError). let o : Option TxnError = Some x in o) fine.2))
+without_fault infos after (m ∷ ms) moved none =
+    let rest = without_fault infos after ms moved.1 none.1 in
+    (no_fault infos after m ms none.0 (transaction_fault infos after m ms) refl (moved.0 rest), rest)
 
 fault_moves : (infos : List TableInfo) (reading : Reading) (number : ℕ) (error : TxnError) → HaveMovedAtMost infos reading.after reading.messages
     → IsTxnFault infos reading number error → (table : TableName) × (column : List ℕ) × (error ≡ MovedUnchanged table column)

@@ -93,6 +93,23 @@ told_has_none keys ms (says.Delete oid before) raw is = cc
 told_has_none keys ms (says.Truncate options oids) raw is = cc
 told_has_none keys ms (says.Logical flags lsn prefix content) raw is = cc
 
+-- a table is described with its first version
+pub told_first : (keys : List TableKey) (tables : List RawTable) (m : Message) (raw : RawTable) → table_told keys tables m ≡ Some raw
+    → record raw { version = 1 } ≡ raw
+told_first keys tables (says.Relation oid namespace told identity columns) raw is =
+    let entry = entry_of keys (table_named namespace told) columns in
+    let found = told_some tables entry raw (is_watermark entry.name || is_among entry.name tables) refl is in
+    subst (λ (r : RawTable). record r { version = 1 } ≡ r) found.1 refl
+told_first keys tables (says.Begin lsn time xid) raw is = cc
+told_first keys tables (says.Commit flags lsn end_lsn time) raw is = cc
+told_first keys tables (says.Origin lsn told) raw is = cc
+told_first keys tables (says.TypeName oid namespace told) raw is = cc
+told_first keys tables (says.Insert oid row) raw is = cc
+told_first keys tables (says.Update oid before row) raw is = cc
+told_first keys tables (says.Delete oid before) raw is = cc
+told_first keys tables (says.Truncate options oids) raw is = cc
+told_first keys tables (says.Logical flags lsn prefix content) raw is = cc
+
 -- ---- infos and entries
 
 any-infos : (name : TableName) (infos : List TableInfo) → is_among name (map catalogue_of infos) ≡ list_any (λ (info : TableInfo). same_name info.name name) infos

@@ -15,7 +15,7 @@ use Rattle.dblog_replay.specs.declared.options.LogOptions.{LogOptions}
 use Rattle.dblog_replay.specs.Captures.{capture_fault, entry_fault, table_told, tables_in, AreCaptured, told_fault}
 use Rattle.dblog_replay.specs.Pieces.{Piece, Carries, Stops}
 use Rattle.dblog_replay.specs.Log.{lines_in, log_start, HasTables, records_fault, IsLogFault, no_table, no_place, no_records, end_fault, LogWrites}
-use Rattle.dblog_replay.proofs.CaptureLemmas.{captured_still, captured_more}
+use Rattle.dblog_replay.proofs.CaptureLemmas.{captured_still, captured_more, told_first}
 
 abbrev Written : LogOptions → ℤ → List Message → List Piece → Type 0
 Written options now ms pieces = (lines : List (List ℕ)) × (end : Option LogFault) × LogWrites options now ms pieces lines end
@@ -35,8 +35,11 @@ captures options ms m infos captured None none clean = (infos, captured_still op
 captures options ms m infos captured (Some raw) told clean =
     let judged : capture_fault (length (tables_in options.keys ms)) raw ≡ None = sym
     (ap (λ (o : Option RawTable). option_and_then (capture_fault (length (tables_in options.keys ms))) o) told) ∙ clean in
-    let info = (capturable raw).0 (no_entry_fault _ _ judged) in
-    (infos ++ info.0 ∷ [], captured_more options.keys m ms infos info.0 raw captured told info.1)
+    let info = (capturable raw).0 (no_entry_fault _ _ judged) in (
+      infos ++ info.0 ∷ [],
+      captured_more options.keys m ms infos info.0 raw captured told
+          (info.1 ∙ told_first options.keys (tables_in options.keys ms) m raw told),
+    )
 
 module _ (options : LogOptions) (now : ℤ) (ms : List Message) (number : ℕ) (m : Message) (pieces : List Piece) where
   stops : (found : LogFault) → IsLogFault options ms number m found → Written options now ms (Carries number m ∷ pieces)

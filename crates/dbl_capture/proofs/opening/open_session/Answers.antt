@@ -99,6 +99,9 @@ returns-in_err-start_reading-clause-state g c = record {
   uncounted = (refl, refl);
 }
 
+small : (n : ℕ) → n ≤ 2 ^ 63 → n < 2 ^ 64
+small n le = omega (arith, le)
+
 -- it began
 pub returns-clause-session : goal.returns-clause-session
 returns-clause-session g c = record {
@@ -142,9 +145,6 @@ returns-clause-state g c = record {
   reading = search rules;
   uncounted = (refl, refl);
 }
-
-small : (n : ℕ) → n ≤ 2 ^ 63 → n < 2 ^ 64
-small n le = omega (arith, le)
 
 -- ---- counts, and what no call undoes
 

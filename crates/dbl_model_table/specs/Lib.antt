@@ -4,6 +4,7 @@ pub mod Identities
 pub mod Infos
 pub mod Keys
 pub mod Rows
+pub mod Heads
 pub mod Made
 pub mod Laws
 pub mod Configs

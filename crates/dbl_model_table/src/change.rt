@@ -1,4 +1,5 @@
 ghost use Rattle.std.specs.Prelude.{◌≡◌};
+ghost use Rattle.dbl_model_table.specs.Heads.{head_of};
 ghost use Rattle.dbl_model_table.specs.Rows.{table_of};
 
 use crate::{Key, Row};
@@ -82,4 +83,37 @@ pub struct Commit {
     pub time: i64,
     pub xid: u32,
     pub body: Body,
+}
+
+/// The Begin of a transaction.
+#[derive(Clone, Copy)]
+pub struct Head {
+    /// The LSN of the commit record to come.
+    pub lsn: Lsn,
+    /// The commit's time, in microseconds since 2000-01-01 UTC.
+    pub time: i64,
+    pub xid: u32,
+}
+
+/// The end of a transaction whose changes were handed out before it.
+#[derive(Drop)]
+pub struct Ended {
+    pub head: Head,
+    /// The LSN after the commit record.
+    pub end_lsn: Lsn,
+    /// The value that the transaction wrote to the watermark, if it wrote one.
+    pub mark: Option<Text>,
+}
+
+impl Commit {
+    /// The Begin of its transaction. Takes no memory.
+    pub fn head(&self) -> Head
+        ensures { result ≡ head_of self.now }
+    {
+        Head {
+            lsn: self.lsn,
+            time: self.time,
+            xid: self.xid,
+        }
+    }
 }

@@ -14,7 +14,7 @@ mod row;
 mod table;
 
 pub use capturing::name_at;
-pub use change::{Body, Cell, Change, Commit};
+pub use change::{Body, Cell, Change, Commit, Ended, Head};
 pub use config::Config;
 pub use error::ModelError;
 pub use identity::Identity;

@@ -24,7 +24,7 @@ use Rattle.dbl_capture_work.specs.ModelHistory.History as raw
 use Rattle.dbl_capture_work.specs.ModelHistory.Typed.{typed_commit}
 use Rattle.dbl_capture_work.specs.ModelCommit.Blocks.{AreWithoutFault}
 use Rattle.dbl_capture_work.specs.ModelCommit.Past as past
-use Rattle.dbl_capture_work.specs.ModelCommit.Past.{Begun, begin_of}
+use Rattle.dbl_capture_work.specs.ModelCommit.Past.{Head, begin_of}
 use Rattle.dbl_capture_work.specs.ModelCommit.Stated.{body_of, commit_of, commits_of, ended_commit, list_of, open_changes}
 use Rattle.dbl_capture_work.specs.SourceModel.Calls.{HasReadAll, IsBegun, IsHead, Moved, HasReadOneMore, head_after, head_of}
 use Rattle.dbl_capture_work.specs.SourceModel.Growth.{Grows, Marks}
@@ -129,7 +129,7 @@ mark_body (Some value) changes = refl
 ended_marks : (infos : List TableInfo) (m : Message) (ms : List Message) → marks_of (list_of (ended_commit infos m ms)) ≡ marks_of (list_of (ended_commit [] m ms))
 ended_marks infos (says.Commit flags lsn end_lsn time) ms = by (begin_of ms)
   where
-    by : (o : Option Begun) → marks_of (list_of (option_map (commit_of lsn end_lsn (past.open_mark ms) (open_changes infos ms)) o)) ≡ marks_of (list_of (option_map (commit_of lsn end_lsn (past.open_mark ms) (open_changes [] ms)) o))
+    by : (o : Option Head) → marks_of (list_of (option_map (commit_of lsn end_lsn (past.open_mark ms) (open_changes infos ms)) o)) ≡ marks_of (list_of (option_map (commit_of lsn end_lsn (past.open_mark ms) (open_changes [] ms)) o))
     by None = refl
     by (Some begun) = ap (λ (x : Option (List ℕ)). x ∷ []) (mark_body (past.open_mark ms) (open_changes infos ms) ∙ sym (mark_body (past.open_mark ms) (open_changes [] ms)))
 ended_marks infos m ms = refl

@@ -34,7 +34,7 @@ use Rattle.dbl_capture_work.specs.ModelCommit.declared.message_parts.Target.{Tar
 use Rattle.dbl_capture_work.specs.ModelCommit.declared.message_parts.Target.TheVariants.{Watermark, Captured, Passed}
 use Rattle.dbl_capture_work.specs.ModelCommit.declared.txn_error.TxnError.{TxnError}
 use Rattle.dbl_capture_work.specs.ModelCommit.declared.txn_error.TxnError.TheVariants as errors
-use Rattle.dbl_capture_work.specs.ModelCommit.Past.{Begun, begin_of, mark_by, mark_in, open_mark, relation_of, second_text}
+use Rattle.dbl_capture_work.specs.ModelCommit.Past.{Head, begin_of, mark_by, mark_in, open_mark, relation_of, second_text}
 use Rattle.dbl_capture_work.specs.ModelCommit.Stated.{body_of, clears, commit_of, has_some, in_table, is_the_watermark, ok_or_none, open_changes, row_stated, stated_in, target, targets_at, truncate_stated}
 use Rattle.dbl_capture_work.specs.ModelCommit.Tuples.{◌>>=◌, change_of, refuse_if, some_or}
 use Rattle.dbl_capture_work.proofs.ModelCommitChangeFits.{open_fits}
@@ -229,7 +229,7 @@ mark_ranged (says.Relation o n m i c ∷ ms) all = mark_ranged ms all.1
 mark_ranged (says.Logical f l p c ∷ ms) all = mark_ranged ms all.1
 mark_ranged (says.Truncate options oids ∷ ms) all = mark_ranged ms all.1
 
-abbrev IsBegunInRange : Begun → Type 0
+abbrev IsBegunInRange : Head → Type 0
 IsBegunInRange begun = FitsSigned w64 begun.time × (begun.xid < 2 ^ 32)
 
 begun_ranged : (ms : List Message) → AllByRecursion FitsFields ms → IfSome (begin_of ms) IsBegunInRange
@@ -255,7 +255,7 @@ body_ranged (Some value) cs text few all = text
 body_ranged None cs text few all = (few, all)
 
 module _ (infos : List TableInfo) (ms : List Message) (commit : Commit) (all : AllByRecursion FitsFields ms) (many : length ms < 2 ^ 30) where
-  ended_ranged : (lsn end_lsn : Lsn) → lsn.0 < 2 ^ 64 → end_lsn.0 < 2 ^ 64 → (o : Option Begun) → IfSome o IsBegunInRange
+  ended_ranged : (lsn end_lsn : Lsn) → lsn.0 < 2 ^ 64 → end_lsn.0 < 2 ^ 64 → (o : Option Head) → IfSome o IsBegunInRange
       → option_map (commit_of lsn end_lsn (open_mark ms) (open_changes infos ms)) o ≡ Some commit → IsCommitInRange commit
   ended_ranged lsn end_lsn one two None begun is = cc
   ended_ranged lsn end_lsn one two (Some b) begun is =

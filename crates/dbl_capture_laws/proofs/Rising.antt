@@ -10,7 +10,7 @@ use Rattle.dbl_model_table.specs.declared.change.Commit.{Commit}
 use Rattle.dbl_capture_work.specs.ModelCommit.declared.txn_error.TxnError.{TxnError}
 use Rattle.dbl_capture_work.specs.ModelCommit.declared.txn_error.TxnError.TheVariants as errors
 use Rattle.dbl_capture_work.specs.ModelCommit.Blocks.{AreWithoutFault}
-use Rattle.dbl_capture_work.specs.ModelCommit.Past.{Begun, begin_of, last_lsn, open_mark}
+use Rattle.dbl_capture_work.specs.ModelCommit.Past.{Head, begin_of, last_lsn, open_mark}
 use Rattle.dbl_capture_work.specs.ModelCommit.Stated.{place_fault, own_fault, first_of, mismatch, open_changes, commit_of, ended_commit, transaction_fault}
 
 no_other : (a b : Option TxnError) → first_of a b ≡ None → b ≡ None
@@ -25,12 +25,12 @@ less : (a b : ℕ) → nat_lt a b ≡ true → a < b
 less a b is = grind (arith, nat_tests)
 
 -- the open transaction's LSN is after that of the last one
-begun_after : (infos : List TableInfo) (after : Lsn) (ms : List Message) (begun : Begun) → AreWithoutFault infos after ms → begin_of ms ≡ Some begun → (last_lsn after ms).0 < begun.lsn.0
+begun_after : (infos : List TableInfo) (after : Lsn) (ms : List Message) (begun : Head) → AreWithoutFault infos after ms → begin_of ms ≡ Some begun → (last_lsn after ms).0 < begun.lsn.0
 begun_after infos after [] begun accepted is = cc
 begun_after infos after (says.Begin lsn time xid ∷ ms) begun accepted is =
     let clean : own_fault infos after (says.Begin lsn time xid) ms ≡ None = no_other (place_fault (says.Begin lsn time xid) (is_some (begin_of ms))) (own_fault infos after (says.Begin lsn time xid) ms) accepted.0 in
     let same : begun ≡ record { lsn = lsn; time = time; xid = xid } = cc in
-    subst (λ (b : Begun). (last_lsn after ms).0 < b.lsn.0) (sym same) (less (last_lsn after ms).0 lsn.0 (in_order (nat_lt (last_lsn after ms).0 lsn.0) (last_lsn after ms) lsn clean))
+    subst (λ (b : Head). (last_lsn after ms).0 < b.lsn.0) (sym same) (less (last_lsn after ms).0 lsn.0 (in_order (nat_lt (last_lsn after ms).0 lsn.0) (last_lsn after ms) lsn clean))
 begun_after infos after (says.Commit flags lsn end_lsn time ∷ ms) begun accepted is = cc
 begun_after infos after (m ∷ ms) begun accepted is = begun_after infos after ms begun accepted.1 is
 
@@ -48,7 +48,7 @@ to_end a b c d lt one two = omega (arith, lt, one, two)
 pub accepted_rise : (infos : List TableInfo) (after : Lsn) (ms : List Message) (m : Message) (commit : Commit) → AreWithoutFault infos after (m ∷ ms) → ended_commit infos m ms ≡ Some commit → (last_lsn after ms).0 < commit.lsn.0
 accepted_rise infos after ms (says.Commit flags lsn end_lsn time) commit accepted is = by (begin_of ms) refl (no_other (place_fault (says.Commit flags lsn end_lsn time) (is_some (begin_of ms))) (mismatch (begin_of ms) lsn) accepted.0) is
   where
-    by : (b : Option Begun) → begin_of ms ≡ b → mismatch b lsn ≡ None → option_map (commit_of lsn end_lsn (open_mark ms) (open_changes infos ms)) b ≡ Some commit → (last_lsn after ms).0 < commit.lsn.0
+    by : (b : Option Head) → begin_of ms ≡ b → mismatch b lsn ≡ None → option_map (commit_of lsn end_lsn (open_mark ms) (open_changes infos ms)) b ≡ Some commit → (last_lsn after ms).0 < commit.lsn.0
     by None begun clean ends = cc
     by (Some begun) open_is clean ends =
         let one : commit_of lsn end_lsn (open_mark ms) (open_changes infos ms) begun ≡ commit = cc in
@@ -66,7 +66,7 @@ no_first (Some e) b is = cc
 pub lsn_stays : (infos : List TableInfo) (after : Lsn) (ms : List Message) (m : Message) → transaction_fault infos after m ms ≡ None → ended_commit infos m ms ≡ None → last_lsn after (m ∷ ms) ≡ last_lsn after ms
 lsn_stays infos after ms (says.Commit flags lsn end_lsn time) clean none = by (begin_of ms) (no_first (place_fault (says.Commit flags lsn end_lsn time) (is_some (begin_of ms))) (mismatch (begin_of ms) lsn) clean) none
   where
-    by : (b : Option Begun) → (if is_some b then None else Some errors.OutsideTransaction) ≡ None → option_map (commit_of lsn end_lsn (open_mark ms) (open_changes infos ms)) b ≡ None → lsn ≡ last_lsn after ms
+    by : (b : Option Head) → (if is_some b then None else Some errors.OutsideTransaction) ≡ None → option_map (commit_of lsn end_lsn (open_mark ms) (open_changes infos ms)) b ≡ None → lsn ≡ last_lsn after ms
     by None place ends = cc
     by (Some begun) place ends = cc
 lsn_stays infos after ms m clean none = refl
@@ -75,7 +75,7 @@ lsn_stays infos after ms m clean none = refl
 pub lsn_moves : (infos : List TableInfo) (after : Lsn) (ms : List Message) (m : Message) (commit : Commit) → ended_commit infos m ms ≡ Some commit → last_lsn after (m ∷ ms) ≡ commit.lsn
 lsn_moves infos after ms (says.Commit flags lsn end_lsn time) commit is = by (begin_of ms) is
   where
-    by : (b : Option Begun) → option_map (commit_of lsn end_lsn (open_mark ms) (open_changes infos ms)) b ≡ Some commit → lsn ≡ commit.lsn
+    by : (b : Option Head) → option_map (commit_of lsn end_lsn (open_mark ms) (open_changes infos ms)) b ≡ Some commit → lsn ≡ commit.lsn
     by None ends = cc
     by (Some begun) ends =
         let one : commit_of lsn end_lsn (open_mark ms) (open_changes infos ms) begun ≡ commit = cc in

@@ -19,7 +19,7 @@ use Rattle.dbl_model_commit.specs.declared.txn_error.TxnError.TheVariants as err
 use Rattle.dbl_model_table.specs.Tables.{is_watermark}
 use Rattle.dbl_model_table.specs.Infos.{number_of}
 use Rattle.dbl_model_table.specs.Rows.{changes_of}
-use Rattle.dbl_model_commit.specs.Past.{relation_of, Begun, begin_of, mark_in, mark_by, open_mark}
+use Rattle.dbl_model_commit.specs.Past.{relation_of, Head, begin_of, mark_in, mark_by, open_mark}
 use Rattle.dbl_model_commit.specs.Tuples.{◌>>=◌, some_or}
 use Rattle.dbl_model_commit.specs.Stated.{captured_at, target, has_some, row_stated, stated, ok_or_none, open_changes, body_of, commit_of, mismatch, place_fault, own_fault}
 use Rattle.dbl_model_commit.specs.BegunCommits.{BeginsCommit, EndedCommitsWereBegun, BegunCommitsWereBegun}
@@ -51,7 +51,7 @@ kept_mark (Some value) new commit stays is = subst (λ (o : Option (List ℕ)). 
 
 -- ---- one message back
 
-back_one : (infos : List TableInfo) (ms ns : List Message) (more : List Change) (begun : Begun) (commit : Commit) → open_changes infos ns ≡ open_changes infos ms ++ more
+back_one : (infos : List TableInfo) (ms ns : List Message) (more : List Change) (begun : Head) (commit : Commit) → open_changes infos ns ≡ open_changes infos ms ++ more
     → (IsSome (open_mark ms) → open_mark ns ≡ open_mark ms) → BeginsCommit infos ns begun commit → BeginsCommit infos ms begun commit
 back_one infos ms ns more begun commit grew stays begins = record {
   lsn = begins.lsn;
@@ -62,17 +62,17 @@ back_one infos ms ns more begun commit grew stays begins = record {
   mark = kept_mark (open_mark ms) (open_mark ns) commit stays begins.mark;
 }
 
-back_first : (infos : List TableInfo) (ms ns : List Message) (more : List Change) (begun : Begun) (o : Option Commit) → open_changes infos ns ≡ open_changes infos ms ++ more
+back_first : (infos : List TableInfo) (ms ns : List Message) (more : List Change) (begun : Head) (o : Option Commit) → open_changes infos ns ≡ open_changes infos ms ++ more
     → (IsSome (open_mark ms) → open_mark ns ≡ open_mark ms) → IsSomeAnd o (BeginsCommit infos ns begun) → IsSomeAnd o (BeginsCommit infos ms begun)
 back_first infos ms ns more begun None grew stays begins = begins
 back_first infos ms ns more begun (Some commit) grew stays begins = back_one infos ms ns more begun commit grew stays begins
 
-back : (infos : List TableInfo) (ms ns : List Message) (more : List Change) (later : List Commit) (o : Option Begun) → open_changes infos ns ≡ open_changes infos ms ++ more
+back : (infos : List TableInfo) (ms ns : List Message) (more : List Change) (later : List Commit) (o : Option Head) → open_changes infos ns ≡ open_changes infos ms ++ more
     → (IsSome (open_mark ms) → open_mark ns ≡ open_mark ms) → IfSome o (λ begun. IsSomeAnd (slice_get later 0) (BeginsCommit infos ns begun)) → IfSome o (λ begun. IsSomeAnd (slice_get later 0) (BeginsCommit infos ms begun))
 back infos ms ns more later None grew stays begins = tt
 back infos ms ns more later (Some begun) grew stays begins = back_first infos ms ns more begun (slice_get later 0) grew stays begins
 
-not_open : (o : Option Begun) (e : TxnError) (P : Begun → Type 0) → (if is_some o then Some e else None) ≡ None → IfSome o P
+not_open : (o : Option Head) (e : TxnError) (P : Head → Type 0) → (if is_some o then Some e else None) ≡ None → IfSome o P
 not_open None e P none = tt
 not_open (Some begun) e P none = cc
 
@@ -109,7 +109,7 @@ bodies : (mark : Option (List ℕ)) (so_far : List Change) (commit : Commit) →
 bodies None so_far commit is bare = (append-nil so_far ∙ ap (λ (b : Body). elim b [ Changes changes ↦ changes | Mark value ↦ [] ]) (sym is), tt)
 bodies (Some value) so_far commit is bare = (append-nil so_far ∙ (bare refl ∙ ap (λ (b : Body). elim b [ Changes changes ↦ changes | Mark v ↦ [] ]) (sym is)), is)
 
-ended_one : (infos : List TableInfo) (ms : List Message) (begun : Begun) (lsn end_lsn : Lsn) → (IsSome (open_mark ms) → open_changes infos ms ≡ []) → mismatch (Some begun) lsn ≡ None
+ended_one : (infos : List TableInfo) (ms : List Message) (begun : Head) (lsn end_lsn : Lsn) → (IsSome (open_mark ms) → open_changes infos ms ≡ []) → mismatch (Some begun) lsn ≡ None
     → BeginsCommit infos ms begun (commit_of lsn end_lsn (open_mark ms) (open_changes infos ms) begun)
 ended_one infos ms begun lsn end_lsn bare fine =
     let body = bodies (open_mark ms) (open_changes infos ms) (commit_of lsn end_lsn (open_mark ms) (open_changes infos ms) begun) refl bare in record {
@@ -125,7 +125,7 @@ ended_one infos ms begun lsn end_lsn bare fine =
     by true same told = ap (λ (n : ℕ). let l : Lsn = record { 0 = n } in l) (eqb-true begun.lsn.0 lsn.0 same)
     by false same told = cc
 
-ended_first : (infos : List TableInfo) (ms : List Message) (o : Option Begun) (lsn end_lsn : Lsn) (commit : Commit) → (IsSome (open_mark ms) → open_changes infos ms ≡ []) → mismatch o lsn ≡ None
+ended_first : (infos : List TableInfo) (ms : List Message) (o : Option Head) (lsn end_lsn : Lsn) (commit : Commit) → (IsSome (open_mark ms) → open_changes infos ms ≡ []) → mismatch o lsn ≡ None
     → option_map (commit_of lsn end_lsn (open_mark ms) (open_changes infos ms)) o ≡ Some commit → IfSome o (λ begun. BeginsCommit infos ms begun commit)
 ended_first infos ms None lsn end_lsn commit bare fine is = tt
 ended_first infos ms (Some begun) lsn end_lsn commit bare fine is =

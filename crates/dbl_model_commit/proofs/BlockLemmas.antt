@@ -17,7 +17,7 @@ onto-append before [] ys = refl
 onto-append before (x ∷ xs) ys = onto-append (x ∷ before) xs ys
 
 module _ (infos : List TableInfo) where
-  changes_push : (m : Message) (before : List Message) → IsFurther m → open_changes infos (m ∷ before) ≡ open_changes infos before ++ ok_or_none (stated infos m before)
+  pub changes_push : (m : Message) (before : List Message) → IsFurther m → open_changes infos (m ∷ before) ≡ open_changes infos before ++ ok_or_none (stated infos m before)
   changes_push (says.Begin l t x) before is = absurd is
   changes_push (says.Commit f l e t) before is = absurd is
   changes_push (says.Origin l n) before is = refl
@@ -29,7 +29,7 @@ module _ (infos : List TableInfo) where
   changes_push (says.Truncate p o) before is = refl
   changes_push (says.Logical f l p c) before is = refl
 
-  begin_push : (m : Message) (before : List Message) → IsFurther m → begin_of (m ∷ before) ≡ begin_of before
+  pub begin_push : (m : Message) (before : List Message) → IsFurther m → begin_of (m ∷ before) ≡ begin_of before
   begin_push (says.Begin l t x) before is = absurd is
   begin_push (says.Commit f l e t) before is = absurd is
   begin_push (says.Origin l n) before is = refl

@@ -33,7 +33,7 @@ use Rattle.dbl_model_table.specs.Keys.{key_of, new_key_of, same_key}
 use Rattle.dbl_model_table.specs.Rows.{all_given, changes_of}
 use Rattle.dbl_model_history.specs.Fit.{IsKeyOf}
 use Rattle.dbl_model_history.specs.FitsInfos.{AreCellsOf, FitsInsert, FitsUpdate, FitsDelete, FitsInfos}
-use Rattle.dbl_model_commit.specs.Past.{relation_of, Begun, begin_of, mark_in, open_mark}
+use Rattle.dbl_model_commit.specs.Past.{relation_of, Head, begin_of, mark_in, open_mark}
 use Rattle.dbl_model_commit.specs.Tuples.{◌>>=◌, refuse_if, some_or, is_key_place, is_flagged, is_read, each_from, row_cell, row_of, old_row, old_row_if_sent, is_whole, next_cell, new_cells, is_unsent, unsent_fault, key_before, all_sent_if_moved, key_in_identity, is_full, change_of}
 use Rattle.dbl_model_commit.specs.Stated.{target, in_table, row_stated, targets_at, is_the_watermark, clears, has_some, truncate_stated, stated_in, ok_or_none, open_changes, body_of, commit_of, list_of, commits_of}
 use Rattle.dbl_model_commit.specs.StatedFits.{FitCommits}
@@ -353,7 +353,7 @@ body_fits : (infos : List TableInfo) (mark : Option (List ℕ)) (commit : Commit
 body_fits infos None commit cs is all = rw is all
 body_fits infos (Some value) commit cs is all = rw is tt
 
-ended_fits : (infos : List TableInfo) (mark : Option (List ℕ)) (cs : List Change) (commit : Begun → Commit) (o : Option Begun) → ((b : Begun) → (commit b).body ≡ body_of mark cs) → AllFit infos cs
+ended_fits : (infos : List TableInfo) (mark : Option (List ℕ)) (cs : List Change) (commit : Head → Commit) (o : Option Head) → ((b : Head) → (commit b).body ≡ body_of mark cs) → AllFit infos cs
     → FitCommits infos (list_of (option_map commit o))
 ended_fits infos mark cs commit None is all = tt
 ended_fits infos mark cs commit (Some b) is all = (body_fits infos mark (commit b) cs (is b) all, tt)

@@ -11,3 +11,4 @@ pub mod CellFits
 pub mod ChangeFits
 pub mod BegunLemmas
 pub mod MarkedLemmas
+pub mod PieceLemmas

@@ -11,7 +11,7 @@ use Rattle.dbl_model_table.specs.declared.change.Commit.{Commit}
 use Rattle.dbl_model_table.specs.declared.table.TableInfo.{TableInfo}
 use Rattle.dbl_model_commit.specs.declared.txn_error.TxnError.{TxnError}
 use Rattle.dbl_model_commit.specs.declared.txn_error.TxnError.TheVariants as errors
-use Rattle.dbl_model_commit.specs.Past.{Begun, begin_of}
+use Rattle.dbl_model_commit.specs.Past.{Head, begin_of}
 use Rattle.dbl_model_commit.specs.Stated.{is_empty, mismatch, first_of, place_fault, own_fault, transaction_fault, commits_of}
 use Rattle.dbl_model_commit.specs.Blocks.{onto, Block, Part, Between, Whole, messages_of, IsFurther, IsPart, IsRest, commits_in, States, AreWithoutFault, first_transaction_fault}
 use Rattle.dbl_model_commit.proofs.BlockLemmas.{onto-append, parts_closed, inside_rest, one_reading, begin_onto}
@@ -94,7 +94,7 @@ module _ (infos : List TableInfo) (after : Lsn) where
       let b : Block = record { lsn = from; time = time; xid = xid; inner = r; flags = flags; end_lsn = end_lsn; end_time = end_time } in
       let begins : begin_of ms ≡ Some (record { lsn = from; time = time; xid = xid }) =
       ap begin_of (spelled ∙ onto-append [] (flat_map messages_of parts) (says.Begin from time xid ∷ r)) ∙ begin_onto infos (says.Begin from time xid ∷ onto [] (flat_map messages_of parts)) r is in
-      let same : from ≡ lsn = same_lsn from lsn (same_number from.0 lsn.0 (errors.CommitMismatch from lsn) (sym (ap (λ (o : Option Begun). mismatch o lsn) begins) ∙ match)) in
+      let same : from ≡ lsn = same_lsn from lsn (same_number from.0 lsn.0 (errors.CommitMismatch from lsn) (sym (ap (λ (o : Option Head). mismatch o lsn) begins) ∙ match)) in
       with_message (says.Commit flags lsn end_lsn end_time) ms parts (says.Begin from time xid ∷ r) (parts ++ Whole b ∷ []) [] spelled (all-append IsPart parts (Whole b) all is) tt
       (append_assoc (flat_map messages_of parts) (says.Begin from time xid ∷ r) (says.Commit flags lsn end_lsn end_time ∷ [])
       ∙ ap (λ (n : Lsn). flat_map messages_of parts ++ (says.Begin from time xid ∷ r ++ says.Commit flags n end_lsn end_time ∷ [])) (sym same)

@@ -7,13 +7,13 @@ use Rattle.dbl_model_table.specs.declared.change.Change.{Change}
 use Rattle.dbl_model_table.specs.declared.change.Body.TheVariants.{Mark}
 use Rattle.dbl_model_table.specs.declared.change.Commit.{Commit}
 use Rattle.dbl_model_table.specs.Rows.{changes_of}
-use Rattle.dbl_model_commit.specs.Past.{Begun, begin_of, open_mark}
+use Rattle.dbl_model_commit.specs.Past.{Head, begin_of, open_mark}
 use Rattle.dbl_model_commit.specs.Stated.{open_changes, ended_commit, transaction_fault}
 use Rattle.dbl_model_commit.specs.Blocks.{AreWithoutFault}
 
 -- Whether a transaction begins the commit: its Begin and its watermark, if any, are the commit's, and its changes so far a prefix of the
 -- commit's.
-pub record BeginsCommit (infos : List TableInfo) (ms : List Message) (begun : Begun) (commit : Commit) : Type 0 where
+pub record BeginsCommit (infos : List TableInfo) (ms : List Message) (begun : Head) (commit : Commit) : Type 0 where
   pub lsn : begun.lsn ≡ commit.lsn
   pub time : begun.time ≡ commit.time
   pub xid : begun.xid ≡ commit.xid

@@ -9,3 +9,4 @@ pub mod Blocks
 pub mod StatedFits
 pub mod BegunCommits
 pub mod StatedChanges
+pub mod Pieces

@@ -1,12 +1,13 @@
 -- What a message of the log finds among the messages before it: PostgreSQL's "Logical Replication Message Formats" and "Logical Streaming
 -- Replication Protocol". Lists of messages have the newest first.
-use Rattle.std.specs.Prelude.{◌≢◌, ℕ, ℤ, ◌==◌, if◌then◌else◌, Option, Some, None, List, [], ◌∷◌, codes}
+use Rattle.std.specs.Prelude.{◌≢◌, ℕ, ◌==◌, if◌then◌else◌, Option, Some, None, List, [], ◌∷◌, codes}
 use Rattle.dbl_base.specs.declared.lsn.Lsn.{Lsn}
 use Rattle.dbl_pgmsg.specs.declared.messages.Message.{Message}
 use Rattle.dbl_pgmsg.specs.declared.messages.Message.TheVariants as says
 use Rattle.dbl_pgmsg.specs.declared.messages.RelationColumn.{RelationColumn}
 use Rattle.dbl_pgmsg.specs.declared.messages.TupleCell.{TupleCell}
 use Rattle.dbl_pgmsg.specs.declared.messages.TupleCell.TheVariants as cell
+pub use Rattle.dbl_model_table.specs.declared.change.Head.{Head}
 use Rattle.dbl_model_table.specs.declared.table.TableName.{TableName}
 use Rattle.dbl_model_commit.specs.declared.message_parts.Relation.{Relation}
 use Rattle.dbl_model_commit.specs.declared.message_parts.RowChange.{RowChange}
@@ -33,14 +34,8 @@ relation_of oid (says.Relation given namespace name identity columns ∷ ms) = i
     then Some (described namespace name identity columns) else relation_of oid ms
 relation_of oid (m ∷ ms) = relation_of oid ms
 
--- A Begin: the LSN of the commit to come, the commit's time and the transaction's number.
-pub record Begun : Type 0 where
-  pub lsn : Lsn
-  pub time : ℤ
-  pub xid : ℕ
-
 -- The Begin of the open transaction, None if no transaction is open.
-abbrev pub begin_of : List Message → Option Begun
+abbrev pub begin_of : List Message → Option Head
 begin_of [] = None
 begin_of (says.Begin lsn time xid ∷ ms) = Some (record { lsn = lsn; time = time; xid = xid })
 begin_of (says.Commit flags lsn end_lsn time ∷ ms) = None

@@ -13,8 +13,6 @@ use Rattle.dbl_model_table.specs.declared.table.Column.{Column}
 use Rattle.dbl_model_table.specs.declared.table.TableInfo.{TableInfo}
 use Rattle.dbl_model_table.specs.declared.change.Change.{Change}
 use Rattle.dbl_model_table.specs.declared.change.Change.TheVariants.{Clear}
-use Rattle.dbl_model_table.specs.declared.change.Body.{Body}
-use Rattle.dbl_model_table.specs.declared.change.Body.TheVariants.{Changes, Mark}
 use Rattle.dbl_model_table.specs.declared.change.Commit.{Commit}
 use Rattle.dbl_model_commit.specs.declared.message_parts.Relation.{Relation}
 use Rattle.dbl_model_commit.specs.declared.message_parts.RowChange.{RowChange}
@@ -23,9 +21,10 @@ use Rattle.dbl_model_commit.specs.declared.message_parts.Target.{Target}
 use Rattle.dbl_model_commit.specs.declared.message_parts.Target.TheVariants.{Watermark, Captured, Passed}
 use Rattle.dbl_model_commit.specs.declared.txn_error.TxnError.{TxnError}
 use Rattle.dbl_model_commit.specs.declared.txn_error.TxnError.TheVariants as errors
+pub use Rattle.dbl_model_table.specs.Heads.{body_of}
 use Rattle.dbl_model_table.specs.Tables.{is_watermark}
 use Rattle.dbl_model_table.specs.Infos.{number_of}
-use Rattle.dbl_model_commit.specs.Past.{table_named, described, relation_of, Begun, begin_of, last_lsn, mark_in, open_mark}
+use Rattle.dbl_model_commit.specs.Past.{table_named, described, relation_of, Head, begin_of, last_lsn, mark_in, open_mark}
 use Rattle.dbl_model_commit.specs.Tuples.{◌>>=◌, refuse_if, some_or, change_of}
 
 -- The kind of a table that has this index among the captured ones, or none.
@@ -123,13 +122,8 @@ open_changes infos (m ∷ ms) = open_changes infos ms ++ ok_or_none (stated_in i
 abbrev pub stated : List TableInfo → Message → List Message → Result (List Change) TxnError
 stated infos m ms = stated_in infos m ms (open_mark ms) (has_some (open_changes infos ms))
 
--- The contents of a commit: its watermark if it has one, or else its changes.
-abbrev pub body_of : Option (List ℕ) → List Change → Body
-body_of (Some value) changes = Mark value
-body_of None changes = Changes changes
-
 -- The commit with the LSNs of its Commit, and the time and transaction number of its Begin.
-abbrev pub commit_of : Lsn → Lsn → Option (List ℕ) → List Change → Begun → Commit
+abbrev pub commit_of : Lsn → Lsn → Option (List ℕ) → List Change → Head → Commit
 commit_of lsn end_lsn mark changes
     begun = record { lsn = lsn; end_lsn = end_lsn; time = begun.time; xid = begun.xid; body = body_of mark changes }
 
@@ -162,7 +156,7 @@ place_fault (says.Logical flags lsn prefix content) inside = None
 place_fault m inside = if inside then None else Some errors.OutsideTransaction
 
 -- The error of a Commit whose LSN isn't its Begin's.
-abbrev pub mismatch : Option Begun → Lsn → Option TxnError
+abbrev pub mismatch : Option Head → Lsn → Option TxnError
 mismatch None lsn = None
 mismatch (Some begun) lsn = if begun.lsn.0 == lsn.0 then None else Some (errors.CommitMismatch begun.lsn lsn)
 

@@ -9,7 +9,7 @@ use Rattle.dbl_model_table.specs.declared.change.Change.{Change}
 use Rattle.dbl_source_model.specs.ModelHistory.Typed.{typed_change}
 use Rattle.dbl_source_model.specs.ModelHistory.Fit.{AreInfosOf}
 use Rattle.dbl_source_model.specs.ModelCommit.declared.txn_error.TxnError.{TxnError}
-use Rattle.dbl_source_model.specs.ModelCommit.Past.{Begun, begin_of, open_mark}
+use Rattle.dbl_source_model.specs.ModelCommit.Past.{Head, begin_of, open_mark}
 use Rattle.dbl_source_model.specs.ModelCommit.Stated.{has_some, stated, stated_in, err_of, ok_or_none, open_changes, commits_of, place_fault, own_fault, first_of, transaction_fault}
 use Rattle.dbl_source_model.specs.Stated.{MayStand}
 use Rattle.dbl_source_log.specs.declared.logged.LogTable.{LogTable}
@@ -55,13 +55,13 @@ module _ (tables : List LogTable) (infos : List TableInfo) (after : Lsn) where
   change_facts (says.Logical f l p c) past change = absurd change
 
   -- it stands in an open transaction
-  in_place : (m : Message) (past : List Message) (o : Option Begun) (begun : Begun) → begin_of past ≡ o → o ≡ Some begun → ChangeFacts tables infos after m past → transaction_fault infos after m past ≡ err_of (stated infos m past)
+  in_place : (m : Message) (past : List Message) (o : Option Head) (begun : Head) → begin_of past ≡ o → o ≡ Some begun → ChangeFacts tables infos after m past → transaction_fault infos after m past ≡ err_of (stated infos m past)
   in_place m past o begun is some f =
-      ap (λ (b : Option Begun). first_of (place_fault m (is_some b)) (own_fault infos after m past)) (is ∙ some)
+      ap (λ (b : Option Head). first_of (place_fault m (is_some b)) (own_fault infos after m past)) (is ∙ some)
       ∙ ap (λ (e : Option TxnError). first_of e (own_fault infos after m past)) f.placed
       ∙ f.own
 
-  pub change_may_stand : (m : Message) (past : List Message) (begun : Begun) → AreNamed tables → AreInfosOf (history_of tables []) infos → IsChangeOf tables m → HasFewFaults tables m → AreDescribed tables (oids_of m) past → begin_of past ≡ Some begun → open_mark past ≡ None
+  pub change_may_stand : (m : Message) (past : List Message) (begun : Head) → AreNamed tables → AreInfosOf (history_of tables []) infos → IsChangeOf tables m → HasFewFaults tables m → AreDescribed tables (oids_of m) past → begin_of past ≡ Some begun → open_mark past ≡ None
       → MayStand (transaction_fault infos after m past)
   change_may_stand m past begun named captured is few described opened unmarked =
       let f = change_facts m past is.change in

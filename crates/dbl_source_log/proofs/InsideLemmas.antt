@@ -29,7 +29,7 @@ use Rattle.dbl_source_model.specs.ModelCommit.declared.message_parts.Target.{Tar
 use Rattle.dbl_source_model.specs.ModelCommit.declared.message_parts.Target.TheVariants.{Watermark, Captured, Passed}
 use Rattle.dbl_source_model.specs.ModelCommit.declared.txn_error.TxnError.{TxnError}
 use Rattle.dbl_source_model.specs.ModelCommit.declared.txn_error.TxnError.TheVariants as errors
-use Rattle.dbl_source_model.specs.ModelCommit.Past.{relation_of, Begun, begin_of, last_lsn, open_mark, mark_by, described, table_named}
+use Rattle.dbl_source_model.specs.ModelCommit.Past.{relation_of, Head, begin_of, last_lsn, open_mark, mark_by, described, table_named}
 use Rattle.dbl_source_model.specs.ModelCommit.Tuples.{◌>>=◌, some_or}
 use Rattle.dbl_source_model.specs.ModelCommit.Stated.{target, has_some, list_of, row_stated, stated, stated_in, err_of, ok_or_none, open_changes, body_of, commit_of, ended_commit, commits_of, same_columns, columns_fault, schema_fault, place_fault, own_fault, mismatch, first_of, transaction_fault}
 use Rattle.dbl_source_model.specs.ModelCommit.Blocks.{AreWithoutFault}
@@ -101,7 +101,7 @@ module _ (tables : List LogTable) (after : Lsn) where
 
 -- ---- a reader
 
-abbrev pub begun_of : ℕ → Begun
+abbrev pub begun_of : ℕ → Head
 begun_of n = record { lsn = lsn_of n; time = time_of n; xid = xid_of n }
 
 -- Between two transactions, after the commits `done` and before `later`; commit n comes next.
@@ -130,7 +130,7 @@ module _ (tables : List LogTable) (infos : List TableInfo) (after : Lsn) (n : �
   begins_it : (past : List Message) (so_far rest : List Change) (mark : Option (List ℕ)) → begin_of past ≡ Some (begun_of n) → open_mark past ≡ mark → commit.lsn ≡ lsn_of n → commit.time ≡ time_of n → commit.xid ≡ xid_of n → so_far ++ rest ≡ changes_of commit
       → IfSome mark (λ value. commit.body ≡ body.Mark value) → open_changes infos past ≡ so_far → BeginsNext infos past (commit ∷ later)
   begins_it past so_far rest mark begun marked lsn time xid parts mark_is open_is =
-      subst (λ (o : Option Begun). IfSome o (λ b. IsSomeAnd (slice_get (commit ∷ later) 0) (BeginsCommit infos past b))) (sym begun)
+      subst (λ (o : Option Head). IfSome o (λ b. IsSomeAnd (slice_get (commit ∷ later) 0) (BeginsCommit infos past b))) (sym begun)
       (record {
         lsn = sym lsn;
         time = sym time;
@@ -152,7 +152,7 @@ module _ (tables : List LogTable) (infos : List TableInfo) (after : Lsn) (n : �
 
   no_begin_fault : (past : List Message) → begin_of past ≡ None → (last_lsn after past).0 < 256 * n → transaction_fault infos after (begin_message n) past ≡ None
   no_begin_fault past closed below =
-      ap (λ (o : Option Begun). first_of (place_fault (begin_message n) (is_some o)) (own_fault infos after (begin_message n) past)) closed
+      ap (λ (o : Option Head). first_of (place_fault (begin_message n) (is_some o)) (own_fault infos after (begin_message n) past)) closed
       ∙ ap (λ (b : Bool). if b then None else Some (errors.LsnOrder (last_lsn after past) (lsn_of n))) (lt_true (last_lsn after past).0 (256 * n) below)
 
   pub begin_step : (past : List Message) → commit.lsn ≡ lsn_of n → commit.time ≡ time_of n → commit.xid ≡ xid_of n → Between tables infos after n done (commit ∷ later) past
@@ -228,7 +228,7 @@ module _ (tables : List LogTable) (infos : List TableInfo) (after : Lsn) (n : �
 
   no_commit_fault : (past : List Message) → begin_of past ≡ Some (begun_of n) → transaction_fault infos after (commit_message n) past ≡ None
   no_commit_fault past begun =
-      ap (λ (o : Option Begun). first_of (place_fault (commit_message n) (is_some o)) (mismatch o (lsn_of n))) begun
+      ap (λ (o : Option Head). first_of (place_fault (commit_message n) (is_some o)) (mismatch o (lsn_of n))) begun
       ∙ ap (λ (b : Bool). if b then None else Some (errors.CommitMismatch (lsn_of n) (lsn_of n))) (eq_same (256 * n))
 
   -- what the transaction states is the commit
@@ -244,7 +244,7 @@ module _ (tables : List LogTable) (infos : List TableInfo) (after : Lsn) (n : �
   ended_is : (past : List Message) (so_far : List Change) (mark : Option (List ℕ)) → begin_of past ≡ Some (begun_of n) → open_mark past ≡ mark → open_changes infos past ≡ so_far → commit_of (lsn_of n) (end_lsn_of n) mark so_far (begun_of n) ≡ commit
       → ended_commit infos (commit_message n) past ≡ Some commit
   ended_is past so_far mark begun marked open_is is =
-      ap (λ (o : Option Begun). option_map (commit_of (lsn_of n) (end_lsn_of n) (open_mark past) (open_changes infos past)) o) begun
+      ap (λ (o : Option Head). option_map (commit_of (lsn_of n) (end_lsn_of n) (open_mark past) (open_changes infos past)) o) begun
       ∙ ap (λ (v : Option (List ℕ)). Some (commit_of (lsn_of n) (end_lsn_of n) v (open_changes infos past) (begun_of n))) marked
       ∙ ap (λ (cs : List Change). Some (commit_of (lsn_of n) (end_lsn_of n) mark cs (begun_of n))) open_is
       ∙ ap (λ (c : Commit). Some c) is
@@ -366,7 +366,7 @@ module _ (tables : List LogTable) (infos : List TableInfo) (after : Lsn) (n : �
 
   mark_fault : (value : List ℕ) (subsequent : List Message) → begin_of subsequent ≡ Some (begun_of n) → stated infos (mark_message value) subsequent ≡ Ok [] → transaction_fault infos after (mark_message value) subsequent ≡ None
   mark_fault value subsequent begun ok =
-      ap (λ (o : Option Begun). first_of (place_fault (mark_message value) (is_some o)) (err_of (stated infos (mark_message value) subsequent))) begun ∙ ap err_of ok
+      ap (λ (o : Option Head). first_of (place_fault (mark_message value) (is_some o)) (err_of (stated infos (mark_message value) subsequent))) begun ∙ ap err_of ok
 
   pub mark_step : (value : List ℕ) (past : List Message) → commit.body ≡ body.Mark value → Inside tables infos after n done commit later [] [] None past
       → Inside tables infos after n done commit later [] [] (Some value) (told_changes tables (mark_message value ∷ []) past)

@@ -11,7 +11,7 @@ use Rattle.dbl_model_table.specs.declared.table.TableInfo.{TableInfo}
 use Rattle.dbl_model_table.specs.declared.change.Commit.{Commit}
 use Rattle.dbl_source_model.specs.ModelHistory.Typed.{typed_change, typed_commit}
 use Rattle.dbl_source_model.specs.ModelHistory.Fit.{AreInfosOf}
-use Rattle.dbl_source_model.specs.ModelCommit.Past.{relation_of, Begun, begin_of, open_mark}
+use Rattle.dbl_source_model.specs.ModelCommit.Past.{relation_of, Head, begin_of, open_mark}
 use Rattle.dbl_source_model.specs.ModelCommit.Stated.{list_of, open_changes, commit_of, ended_commit, commits_of}
 use Rattle.dbl_source_model.specs.Stated.{commits_after, to_state, ReadsRight, IsReadRight}
 use Rattle.dbl_source_log.specs.declared.logged.LogTable.{LogTable}
@@ -164,10 +164,10 @@ module _ (tables : List LogTable) (infos : List TableInfo) (after : Lsn) where
       by (m ∷ l) all = (all.0.0.change, by l all.1)
   are_changes (Mark value) fair = (tt, tt)
 
-  ends_one : (n : ℕ) (past : List Message) (begun : Begun) → begin_of past ≡ Some begun → length (commits_of infos (commit_message n ∷ past)) ≡ length (commits_of infos past) + 1
+  ends_one : (n : ℕ) (past : List Message) (begun : Head) → begin_of past ≡ Some begun → length (commits_of infos (commit_message n ∷ past)) ≡ length (commits_of infos past) + 1
   ends_one n past begun is =
       let one : Commit = commit_of (lsn_of n) (end_lsn_of n) (open_mark past) (open_changes infos past) begun in
-      let ends : ended_commit infos (commit_message n) past ≡ Some one = ap (λ (o : Option Begun). option_map (commit_of (lsn_of n) (end_lsn_of n) (open_mark past) (open_changes infos past)) o) is in
+      let ends : ended_commit infos (commit_message n) past ≡ Some one = ap (λ (o : Option Head). option_map (commit_of (lsn_of n) (end_lsn_of n) (open_mark past) (open_changes infos past)) o) is in
       ap (λ (o : Option Commit). length (commits_of infos past ++ list_of o)) ends ∙ length-append (commits_of infos past) (one ∷ [])
 
   counts_from : (n : ℕ) (log : List Logged) (past : List Message) → AllByRecursion (λ entry. AllByRecursion (λ message. IsChangeOf tables message × HasFewFaults tables message) (changes_given entry)) log

@@ -12,7 +12,7 @@ use Rattle.dbl_model_commit.specs.ModelTable.declared.table.TableInfo.{TableInfo
 use Rattle.dbl_model_commit.specs.ModelTable.declared.change.Commit.{Commit}
 use Rattle.dbl_model_commit.specs.ModelHistory.History.{RawCommit, History, AreRising}
 use Rattle.dbl_model_commit.specs.ModelHistory.Typed.{typed_commit}
-use Rattle.dbl_model_commit.specs.Past.{Begun, begin_of}
+use Rattle.dbl_model_commit.specs.Past.{Head, begin_of}
 use Rattle.dbl_model_commit.specs.Stated.{is_empty, commits_of}
 use Rattle.dbl_model_commit.specs.Blocks.{AreWithoutFault}
 use Rattle.dbl_model_commit.specs.BegunCommits.{BeginsCommit}
@@ -31,11 +31,11 @@ to_state-grown infos after old new g =
 
 -- ---- more commits
 
-first_more : (infos : List TableInfo) (ms : List Message) (begun : Begun) (later more : List Commit) → IsSomeAnd (slice_get later 0) (BeginsCommit infos ms begun) → IsSomeAnd (slice_get (later ++ more) 0) (BeginsCommit infos ms begun)
+first_more : (infos : List TableInfo) (ms : List Message) (begun : Head) (later more : List Commit) → IsSomeAnd (slice_get later 0) (BeginsCommit infos ms begun) → IsSomeAnd (slice_get (later ++ more) 0) (BeginsCommit infos ms begun)
 first_more infos ms begun [] more begins = absurd begins
 first_more infos ms begun (commit ∷ later) more begins = begins
 
-next_more : (infos : List TableInfo) (ms : List Message) (o : Option Begun) (later more : List Commit) → IfSome o (λ begun. IsSomeAnd (slice_get later 0) (BeginsCommit infos ms begun))
+next_more : (infos : List TableInfo) (ms : List Message) (o : Option Head) (later more : List Commit) → IfSome o (λ begun. IsSomeAnd (slice_get later 0) (BeginsCommit infos ms begun))
     → IfSome o (λ begun. IsSomeAnd (slice_get (later ++ more) 0) (BeginsCommit infos ms begun))
 next_more infos ms None later more next = tt
 next_more infos ms (Some begun) later more next = first_more infos ms begun later more next

@@ -13,7 +13,7 @@ use Rattle.dbl_model_history.specs.History.{AreRising, History, IsRising, RawCom
 use Rattle.dbl_model_history.specs.Typed.{typed_commit}
 use Rattle.dbl_model_history.proofs.MomentLemmas.{lsns}
 use Rattle.dbl_model_commit.specs.Blocks.{AreWithoutFault}
-use Rattle.dbl_model_commit.specs.Past.{Begun, begin_of, last_lsn, open_mark}
+use Rattle.dbl_model_commit.specs.Past.{Head, begin_of, last_lsn, open_mark}
 use Rattle.dbl_model_commit.specs.Stated.{commit_of, commits_of, ended_commit, first_of, list_of, mismatch, open_changes, place_fault}
 use Rattle.dbl_source.specs.SourceModel.Stated.{ReadsRight, to_state}
 use Rattle.dbl_capture_laws.proofs.FaithfulPositions.{all_above, all_under, rising_behind}
@@ -33,7 +33,7 @@ module _ (infos : List TableInfo) (after : Lsn) where
       let commits : commits_of infos (m ∷ ms) ≡ commits_of infos ms = ap (λ (o : Option Commit). commits_of infos ms ++ list_of o) none ∙ append-nil (commits_of infos ms) in
       subst (λ (lsn : Lsn). EndAt after (commits_of infos (m ∷ ms)) lsn) (sym same) (subst (λ (cs : List Commit). EndAt after cs (last_lsn after ms)) (sym commits) ends)
 
-  open_at : (flags : ℕ) (lsn end_lsn : Lsn) (time : _) (o : Option Begun) → first_of (place_fault (says.Commit flags lsn end_lsn time) (is_some o)) (mismatch o lsn) ≡ None → (begun : Begun) × (o ≡ Some begun)
+  open_at : (flags : ℕ) (lsn end_lsn : Lsn) (time : _) (o : Option Head) → first_of (place_fault (says.Commit flags lsn end_lsn time) (is_some o)) (mismatch o lsn) ≡ None → (begun : Head) × (o ≡ Some begun)
   open_at flags lsn end_lsn time None clean = absurd (let e : Some _ ≡ None = clean in cc)
   open_at flags lsn end_lsn time (Some begun) clean = (begun, refl)
 
@@ -42,7 +42,7 @@ module _ (infos : List TableInfo) (after : Lsn) where
   last_read (says.Commit flags lsn end_lsn time ∷ ms) ok =
       let begins = open_at flags lsn end_lsn time (begin_of ms) ok.0 in
       let make = commit_of lsn end_lsn (open_mark ms) (open_changes infos ms) in
-      inr (commits_of infos ms, make begins.0, ap (λ (o : Option Begun). commits_of infos ms ++ list_of (option_map make o)) begins.1, refl)
+      inr (commits_of infos ms, make begins.0, ap (λ (o : Option Head). commits_of infos ms ++ list_of (option_map make o)) begins.1, refl)
   last_read (says.Begin lsn time xid ∷ ms) ok = still (says.Begin lsn time xid) ms refl refl (last_read ms ok.1)
   last_read (says.Origin lsn name ∷ ms) ok = still (says.Origin lsn name) ms refl refl (last_read ms ok.1)
   last_read (says.Relation oid namespace name identity columns ∷ ms) ok = still (says.Relation oid namespace name identity columns) ms refl refl (last_read ms ok.1)

@@ -1,7 +1,3 @@
-pub mod Texts
-pub mod Loops
-pub mod Steps
+pub use Rattle.dbl_txn_pieces.proofs.TxnChangesLoops
 pub mod Wholes
-pub mod Targets
-pub mod Captured
-pub mod KeyLemmas
+pub mod Buffering

@@ -1,2 +1,2 @@
-pub mod Answers
+pub use Rattle.dbl_txn_pieces.specs as TxnPieces
 pub mod Stands

@@ -1,15 +1,13 @@
 //! Transactions assembled from the messages of a log: its commits, with their changes of captured
-//! tables.
+//! tables, whole or in pieces.
 #![tactic(auto)]
 
 mod assembler;
-mod cells;
-mod changes;
-mod keys;
-mod rows;
-mod tables;
+mod laws;
 mod whole;
 
 pub use assembler::Assembler;
-pub use dbl_model_commit::TxnError;
+pub use dbl_model_commit::{Piece, TxnError};
+pub use dbl_model_table::{Ended, Head};
+pub use laws::between_transactions_both_calls_stand;
 pub use whole::take_all;

@@ -3,7 +3,7 @@ use Rattle.std.specs.Prelude.{Err}
 use Rattle.std.specs.Vec.Iter.{into_iter_items}
 use Rattle.std.proofs.lemmas.Result.{err_from_is_err_and}
 use Rattle.dbl_record.specs.declared.record.Record.{Record}
-use Rattle.dbl_txn.proofs.Loops.{no_items}
+use Rattle.dbl_txn.proofs.TxnChangesLoops.{no_items}
 use Rattle.dbl_capture_work.specs.declared.halt.Halt.{Halt}
 use Rattle.dbl_capture_work.specs.declared.halt.Halt.TheVariants as halt
 use Rattle.dbl_capture_work.specs.declared.report.Report.{Report}

@@ -7,7 +7,7 @@ use Rattle.dbl_model_commit.specs.Stated.{commits_of}
 use Rattle.dbl_model_commit.specs.Blocks.{States}
 use Rattle.dbl_model_commit.proofs.Splitting.{faultless_states}
 use Rattle.dbl_txn.specs.Stands.{StandsWhole}
-use Rattle.dbl_txn.proofs.Loops.{no_items}
+use Rattle.dbl_txn_pieces.proofs.TxnChangesLoops.{no_items}
 use Rattle.dbl_txn.proofs.Wholes.{one_more, stopped, at_end, end_clean}
 use Rattle.dbl_txn.proofs.whole.take_all.Goals as goal
 

@@ -1,0 +1,66 @@
+-- The changes of the open transaction that an assembler buffers.
+use Rattle.std.proofs.Common.{◌≡◌, ◌∙◌, ℕ, List, [], ◌∷◌, ◌++◌, refl, sym, ap, subst}
+use Rattle.std.specs.Prelude.{Option, Some, None}
+use Rattle.dbl_base.specs.declared.lsn.Lsn.{Lsn}
+use Rattle.dbl_pgmsg.specs.declared.messages.Message.{Message}
+use Rattle.dbl_model_table.specs.declared.table.TableInfo.{TableInfo}
+use Rattle.dbl_model_table.specs.declared.change.Change.{Change}
+use Rattle.dbl_model_table.specs.declared.change.Commit.{Commit}
+use Rattle.dbl_model_table.specs.declared.change.Ended.{Ended as End}
+use Rattle.dbl_model_table.specs.Heads.{commit_by}
+use Rattle.dbl_model_commit.specs.declared.piece.Piece.{Piece}
+use Rattle.dbl_model_commit.specs.declared.piece.Piece.TheVariants.{Nothing, Changed, Ended}
+use Rattle.dbl_model_commit.specs.Past.{Head, begin_of, HasNoRelation}
+use Rattle.dbl_model_commit.specs.Stated.{open_changes, ended_commit}
+use Rattle.dbl_model_commit.specs.Pieces.{if_open, joined, ended_by}
+use Rattle.dbl_model_commit.proofs.Learning.{changes_learnt}
+use Rattle.dbl_model_commit.proofs.PieceLemmas.{piece_joins}
+use Rattle.dbl_txn_pieces.specs.declared.reader.PieceReader.{PieceReader}
+use Rattle.dbl_txn_pieces.specs.Reading.{HasRead, ReadPiece}
+use Rattle.dbl_txn.specs.declared.assembler.Assembler.{Assembler}
+use Rattle.dbl_txn.specs.Stands.{Stands, StandsWhole, StandsInPieces, Taken, TakenPiece, BetweenTransactionsBothStand}
+
+-- no change is buffered, whether a transaction is open or not
+pub none_buffered : (o : Option Head) → if_open o [] ≡ []
+none_buffered None = refl
+none_buffered (Some head) = refl
+
+-- a piece was taken and nothing buffered
+pub piece_taken : (infos : List TableInfo) (after : Lsn) (m : Message) (ms : List Message) (a b : Assembler) (piece : Piece) → StandsInPieces infos after ms a → b.buffered.items ≡ a.buffered.items
+    → ReadPiece infos after m ms b.reader piece → TakenPiece infos after m ms b piece
+piece_taken infos after m ms a b piece s same read = record {
+  clean = read.clean;
+  is = read.is;
+  stands = record { reads = read.reads; buffers = same ∙ s.buffers ∙ none_buffered (begin_of ms) ∙ sym (none_buffered (begin_of (m ∷ ms))) };
+}
+
+-- a message was taken, and what its piece adds is buffered
+pub whole_taken : (infos : List TableInfo) (after : Lsn) (m : Message) (ms : List Message) (a b : Assembler) (piece : Piece) (o : Option Commit) → StandsWhole infos after ms a
+    → ReadPiece infos after m ms b.reader piece → b.buffered.items ≡ joined a.buffered.items piece → o ≡ ended_by a.buffered.items piece → Taken infos after m ms b o
+whole_taken infos after m ms a b piece o s read buffers ends =
+    let joins = piece_joins infos after m ms piece read.clean read.is in record {
+      clean = read.clean;
+      commit = ends ∙ ap (λ (l : List Change). ended_by l piece) s.buffers ∙ joins.commit;
+      stands = record { reads = read.reads; buffers = buffers ∙ ap (λ (l : List Change). joined l piece) s.buffers ∙ joins.changes };
+    }
+
+-- one more table was learnt
+pub whole_learnt : (infos : List TableInfo) (info : TableInfo) (after : Lsn) (ms : List Message) (a b : Assembler) → StandsWhole infos after ms a → HasNoRelation info.name ms → b.buffered.items ≡ a.buffered.items
+    → HasRead (infos ++ info ∷ []) after ms b.reader → StandsWhole (infos ++ info ∷ []) after ms b
+whole_learnt infos info after ms a b s none same reads = record {
+  reads = reads;
+  buffers = same ∙ s.buffers ∙ ap (if_open (begin_of ms)) (sym (changes_learnt infos info ms none));
+}
+
+others_buffered : (o : Option Head) (held other : List Change) → o ≡ None → if_open o held ≡ if_open o other
+others_buffered None held other none = refl
+others_buffered (Some head) held other none = cc
+
+other_stands : (infos : List TableInfo) (after : Lsn) (ms : List Message) (held other : List Change) (a : Assembler) → begin_of ms ≡ None → Stands infos after ms held a → Stands infos after ms other a
+other_stands infos after ms held other a none s = record { reads = s.reads; buffers = s.buffers ∙ others_buffered (begin_of ms) held other none }
+
+pub both_stand : BetweenTransactionsBothStand
+both_stand infos after ms a none = (
+  other_stands infos after ms (open_changes infos ms) [] a none,
+  other_stands infos after ms [] (open_changes infos ms) a none,
+)

@@ -1,0 +1,4 @@
+pub mod Texts
+pub mod Loops
+pub mod Captured
+pub mod KeyLemmas

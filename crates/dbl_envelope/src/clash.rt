@@ -219,7 +219,12 @@ pub(crate) fn refuse(
     }
 }
 
-fn check_change(alloc: Global, writer: &EventWriter, change: &Change) -> Result<(), EnvelopeError>
+/// Checks that no value in the change's records equals the placeholder; else returns the first one.
+pub(crate) fn check_change(
+    alloc: Global,
+    writer: &EventWriter,
+    change: &Change,
+) -> Result<(), EnvelopeError>
     requires suits { Suits writer.now.infos change.now }
     ensures ok { OnOk result
         (notices_clash writer.now.identity.placeholder writer.now.infos change.now ≡ None) }

@@ -140,7 +140,8 @@ fn tell_change(
     append_change_records(out, alloc, &frame, stamp, change)
 }
 
-fn add_change(
+/// Appends the records of a change.
+pub(crate) fn add_change(
     out: &mut Vec<Record>,
     alloc: Global,
     writer: &EventWriter,
@@ -229,8 +230,8 @@ fn next_place(change: usize, count: usize) -> usize
     }
 }
 
-// An absent tail for each table.
-fn no_tails(alloc: Global, count: usize) -> Result<Vec<Option<Text>>, AllocError>
+/// An absent tail for each table.
+pub(crate) fn no_tails(alloc: Global, count: usize) -> Result<Vec<Option<Text>>, AllocError>
     ensures { IfOk result (λ tails. tails.items ≡ replicate count None) }
 {
     let mut tails = Vec::with_capacity(alloc, count)?;

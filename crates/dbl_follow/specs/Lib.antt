@@ -3,5 +3,6 @@ pub use Rattle.dbl_window.specs.SourceModel
 pub use Rattle.dbl_window.specs.ModelCommit
 pub mod Followed
 pub mod Steps
+pub mod Amid
 pub mod Faults
 pub mod Laws

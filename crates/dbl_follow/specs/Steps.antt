@@ -87,8 +87,10 @@ abbrev pub Becomes : List TableInfo → Window → Body → Window → Type 0
 Becomes infos window (Changes changes) new = Passes infos window changes new
 Becomes infos window (Mark value) new = new ≡ seen_by window value
 
--- Whether the new follower is the old one after a commit (theorem StepsAreOne).
+-- Whether the new follower is the old one after a commit (theorem StepsAreOne). No transaction is open before or after it.
 pub record Steps (old : Following) (commit : Commit) (new : Following) : Type 0 where
+  pub began : old.part ≡ None
+  pub ended : new.part ≡ None
   pub identity : new.identity ≡ old.identity
   pub infos : new.infos ≡ old.infos
   pub cursors : new.cursors ≡ cursors_after old.cursors (closing old.window (mark_of commit))

@@ -1,29 +1,35 @@
-ghost use Rattle.std.specs.Prelude.{◌≡◌, ◌≤◌, not, length, None, Some, List, [], ◌∷◌};
-ghost use Rattle.std.specs.Prelude.{slice_set, position, All, IfOk, IfErr, OnOk};
+ghost use Rattle.std.specs.Prelude.{◌≡◌, ◌≤◌, not, length, None, Some, ℤ, List, [], ◌∷◌, ◌++◌};
+ghost use Rattle.std.specs.Prelude.{slice_set, position, All, IfOk, IfErr, IfSome, IsSome, OnOk};
 ghost use Rattle.std.specs.Option.{option_copied};
+ghost use Rattle.dbl_record.specs.declared.record.Record.{Record};
 ghost use Rattle.dbl_model_table.specs.declared.change.Body.TheVariants as bodies;
+ghost use Rattle.dbl_model_table.specs.declared.change.Change.{Change};
+ghost use Rattle.dbl_model_table.specs.declared.change.Ended.{Ended};
 ghost use Rattle.dbl_model_table.specs.declared.table.TableInfo.{TableInfo as SpecInfo};
+ghost use Rattle.dbl_model_table.specs.Heads.{commit_by, commit_so_far, ended_at};
 ghost use Rattle.dbl_model_table.specs.Rows.{changes_of};
 ghost use Rattle.dbl_model_history.specs.Cursors.{AreCursorsOf};
 ghost use Rattle.dbl_model_history.specs.FitsInfos.{FitsInfos};
-ghost use Rattle.dbl_model_event.specs.Clashes.{snapshot_clash};
+ghost use Rattle.dbl_model_event.specs.Clashes.{clash_of, snapshot_clash};
 ghost use Rattle.dbl_model_event.specs.Snapshots.{snapshot, FitsSnapshot};
 ghost use Rattle.dbl_model_event.specs.SnapshotLists.{IsSnapshot};
 ghost use Rattle.dbl_window.specs.Plans.{Chunk, high_text};
 ghost use Rattle.dbl_follow.specs.declared.window.Window.TheVariants as windows;
-ghost use Rattle.dbl_follow.specs.Followed.{awaited, FitsWindow, IsPlanOfCaptured};
+ghost use Rattle.dbl_follow.specs.Amid.{IsAmid, EndsAs};
+ghost use Rattle.dbl_follow.specs.Followed.{awaited, Following, FitsWindow, IsPlanOfCaptured};
 ghost use Rattle.dbl_follow.specs.Followed.{IsOpenOf, IsWindowOf};
 ghost use Rattle.dbl_follow.specs.Faults.{IsClashOf};
 ghost use Rattle.dbl_follow.specs.Steps.{Passes, Steps, clash_by, closed_of};
 ghost use Rattle.dbl_follow.specs.Steps.{closing, mark_of, records_by, seen_by};
 
 use crate::FollowError;
+use crate::part::{Part, end_part, follow_change};
 use crate::window::Window;
-use dbl_base::Text;
+use dbl_base::{Lsn, Text};
 use dbl_envelope::EventWriter;
 use dbl_model_event::Closed;
 use dbl_model_history::Cursor;
-use dbl_model_table::{Body, Change, Commit, Identity, TableInfo};
+use dbl_model_table::{Body, Change, Commit, Ended, Head, Identity, TableInfo};
 use dbl_record::Record;
 use dbl_window::{Armed, Open, Seen};
 use std::alloc::{AllocError, Global};
@@ -38,10 +44,12 @@ pub struct Follower {
     writer: EventWriter,
     cursors: Vec<Cursor>,
     window: Window,
+    part: Option<Part>,
 }
 
 impl Model for Follower {
-    ghost use Rattle.dbl_follow.specs.Followed.{Following, IsFollowing};
+    ghost use Rattle.std.specs.Prelude.{option_map};
+    ghost use Rattle.dbl_follow.specs.Followed.{Following, IsFollowing, part_of};
 
     ghost Value = { Following };
 
@@ -50,9 +58,10 @@ impl Model for Follower {
       infos = f.writer.infos;
       cursors = f.cursors.items;
       window = f.window;
+      part = option_map part_of f.part;
     } };
 
-    ghost invariant = { λ f. IsFollowing f.writer f.cursors.items f.window };
+    ghost invariant = { λ f. IsFollowing f.writer f.cursors.items f.window f.part };
 }
 
 // The index of the first snapshot that isn't done.
@@ -91,6 +100,7 @@ impl Follower {
               infos = infos.items;
               cursors = cursors.items;
               window = windows.Absent;
+              part = None;
             }) }
         ensures memory { IfErr result (λ e. e ≡ FollowError.Memory) }
     {
@@ -100,6 +110,7 @@ impl Follower {
             writer,
             cursors,
             window: Window::Absent,
+            part: None,
         })
     }
 
@@ -157,21 +168,6 @@ impl Follower {
         }
     }
 
-    // Passes the changes of a commit to the window, one after the other.
-    fn see_changes(&mut self, changes: &Vec<Change>) -> Result<(), AllocError>
-        requires { All (FitsInfos self.old.infos) changes.now.items }
-        ensures passes { OnOk result
-            (Passes self.old.infos self.old.window changes.now.items self.new.window) }
-        ensures same { self.new ≡ record self.old { window = self.new.window } }
-    {
-        // Reading the window shows the prover its invariant.
-        let _window = &self.window;
-        for change in changes {
-            self.see_change(change)?;
-        }
-        Ok(())
-    }
-
     // The records of a closed window, whose table's progress is advanced to its last key.
     fn close(
         &mut self,
@@ -209,6 +205,7 @@ impl Follower {
         commit: &Commit,
         now_ms: i64,
     ) -> Result<Vec<Record>, FollowError>
+        requires none { self.old.part ≡ None }
         requires absent { self.old.window ≡ windows.Absent }
         requires opened { IsOpenOf self.old.infos opened }
         requires mark { commit.now.body ≡ bodies.Mark value.now }
@@ -238,7 +235,8 @@ impl Follower {
         commit: &Commit,
         now_ms: i64,
     ) -> Result<Vec<Record>, FollowError>
-        requires { commit.now.body ≡ bodies.Mark value.now }
+        requires none { self.old.part ≡ None }
+        requires mark { commit.now.body ≡ bodies.Mark value.now }
         ensures records { IfOk result
             (λ records. records.items ≡ records_by self.old commit.now now_ms) }
         ensures steps { OnOk result (Steps self.old commit.now self.new) }
@@ -259,23 +257,126 @@ impl Follower {
         }
     }
 
-    // Handles a commit with changes.
-    fn see_commit(
+    /// Follows the next change of the open transaction, whose Begin this is, and returns the records
+    /// that are known not to be its last one: all records of its changes so far, but those returned
+    /// before and the last one, which is held. They are made at the `now_ms` of the transaction's
+    /// first change, in milliseconds since 1970-01-01 UTC. A change with a value equal to the
+    /// placeholder is refused. After an error the follower must not be used any more.
+    pub fn change(
         &mut self,
-        changes: &Vec<Change>,
-        commit: &Commit,
+        head: &Head,
+        change: &Change,
         now_ms: i64,
     ) -> Result<Vec<Record>, FollowError>
-        requires changes { commit.now.body ≡ bodies.Changes changes.now.items }
-        requires fits { All (FitsInfos self.old.infos) changes.now.items }
-        ensures records { IfOk result
-            (λ records. records.items ≡ records_by self.old commit.now now_ms) }
-        ensures steps { OnOk result (Steps self.old commit.now self.new) }
-        ensures no_clash { OnOk result (clash_by self.old commit.now ≡ None) }
-        ensures err { IfErr result (IsClashOf (clash_by self.old commit.now)) }
+        requires fits { FitsInfos self.old.infos change.now }
+        requires head { IfSome self.old.part (λ part. part.head ≡ head.now) }
+        ensures amid { (start : Following) (changes : List Change) (now : ℤ)
+            (released : List Record) →
+            IsAmid start head.now changes now released self.old → (changes ≡ [] → now ≡ now_ms) →
+            IfOk result (λ more. IsAmid start head.now (changes ++ change.now ∷ []) now
+            (released ++ more.items) self.new) }
+        ensures err { (start : Following) (changes : List Change) (now : ℤ)
+            (released : List Record) → IsAmid start head.now changes now released self.old →
+            IfErr result (IsClashOf (clash_of start.identity start.infos
+            (commit_so_far head.now (changes ++ change.now ∷ [])))) }
     {
-        let records = self.writer.records(self.alloc, commit, now_ms)?;
-        self.see_changes(changes)?;
+        let released = follow_change(
+            &mut self.part,
+            self.alloc,
+            &self.writer,
+            head,
+            change,
+            now_ms,
+        )?;
+        self.see_change(change)?;
+        Ok(released)
+    }
+
+    // Ends a transaction without a watermark.
+    fn end_changes(&mut self) -> Result<Vec<Record>, FollowError>
+        ensures ends { (start : Following) (ended : Ended) (changes : List Change) (now : ℤ)
+            (released : List Record) → IsAmid start ended.head changes now released self.old →
+            ended.mark ≡ None → IfOk result (λ more. EndsAs start (commit_by ended changes) now
+            (released ++ more.items) self.new) }
+        ensures err { IfErr result (λ e. e ≡ FollowError.Memory) }
+    {
+        // Reading the window shows the prover its invariant.
+        let _window = &self.window;
+        let records = end_part(&mut self.part, self.alloc)?;
+        Ok(records)
+    }
+
+    // Ends a watermark's transaction.
+    fn end_mark(
+        &mut self,
+        value: &Text,
+        ended: &Ended,
+        now_ms: i64,
+    ) -> Result<Vec<Record>, FollowError>
+        requires none { self.old.part ≡ None }
+        requires mark { ended.now.mark ≡ Some value.now }
+        ensures ends { IfOk result (λ records.
+            EndsAs self.old (commit_by ended.now []) now_ms records.items self.new) }
+        ensures err { IfErr result (IsClashOf (clash_by self.old (commit_by ended.now []))) }
+    {
+        let commit = Commit {
+            lsn: ended.head.lsn,
+            end_lsn: ended.end_lsn,
+            time: ended.head.time,
+            xid: ended.head.xid,
+            body: Body::Mark(value.copy(self.alloc)?),
+        };
+        self.see_mark(value, &commit, now_ms)
+    }
+
+    /// Ends the open transaction, and returns its held record, which is its last one; or the
+    /// snapshot of the window that its watermark closes, made at `now_ms`. A transaction of which a
+    /// change was followed has no watermark. After an error the follower must not be used any more.
+    pub fn end(&mut self, ended: &Ended, now_ms: i64) -> Result<Vec<Record>, FollowError>
+        requires head { IfSome self.old.part (λ part. part.head ≡ ended.now.head) }
+        requires mark { IsSome self.old.part → ended.now.mark ≡ None }
+        ensures ends { (start : Following) (changes : List Change) (now : ℤ)
+            (released : List Record) → IsAmid start ended.now.head changes now released self.old →
+            (changes ≡ [] → now ≡ now_ms) → IfOk result (λ more. EndsAs start
+            (commit_by ended.now changes) now (released ++ more.items) self.new) }
+        ensures err { (start : Following) (changes : List Change) (now : ℤ)
+            (released : List Record) → IsAmid start ended.now.head changes now released self.old →
+            IfErr result (IsClashOf (clash_by start (commit_by ended.now changes))) }
+    {
+        match &ended.mark {
+            Some(value) => self.end_mark(value, ended, now_ms),
+            None => self.end_changes(),
+        }
+    }
+
+    // Follows a transaction of these changes from its Begin to its end.
+    fn follow_changes(
+        &mut self,
+        head: &Head,
+        changes: &Vec<Change>,
+        end_lsn: Lsn,
+        now_ms: i64,
+    ) -> Result<Vec<Record>, FollowError>
+        requires none { self.old.part ≡ None }
+        requires fits { All (FitsInfos self.old.infos) changes.now.items }
+        ensures ends { IfOk result (λ records. EndsAs self.old
+            (commit_by (ended_at head.now end_lsn) changes.now.items) now_ms records.items
+            self.new) }
+        ensures err { IfErr result (IsClashOf (clash_by self.old
+            (commit_by (ended_at head.now end_lsn) changes.now.items))) }
+    {
+        let mut records = Vec::new(self.alloc);
+        for change in changes {
+            let mut more = self.change(head, change, now_ms)?;
+            records.append(&mut more)?;
+        }
+        let ended = Ended {
+            head: *head,
+            end_lsn,
+            mark: None,
+        };
+        let mut last = self.end(&ended, now_ms)?;
+        records.append(&mut last)?;
         Ok(records)
     }
 
@@ -283,7 +384,8 @@ impl Follower {
     /// the high watermark of an open window the window's snapshot. Watermarks of earlier sessions
     /// open and close nothing. After an error the follower must not be used any more.
     pub fn step(&mut self, commit: &Commit, now_ms: i64) -> Result<Vec<Record>, FollowError>
-        requires { All (FitsInfos self.old.infos) (changes_of commit.now) }
+        requires none { self.old.part ≡ None }
+        requires fits { All (FitsInfos self.old.infos) (changes_of commit.now) }
         ensures records { IfOk result
             (λ records. records.items ≡ records_by self.old commit.now now_ms) }
         ensures steps { OnOk result (Steps self.old commit.now self.new) }
@@ -294,9 +396,19 @@ impl Follower {
             IfOk result (λ records. IsSnapshot self.old.identity self.old.infos (closed_of chunk)
             commit.now now_ms records.items) }
     {
+        let head = commit.head();
         match &commit.body {
-            Body::Changes(changes) => self.see_commit(changes.items(), commit, now_ms),
-            Body::Mark(value) => self.see_mark(value, commit, now_ms),
+            Body::Changes(changes) => {
+                self.follow_changes(&head, changes.items(), commit.end_lsn, now_ms)
+            }
+            Body::Mark(value) => {
+                let ended = Ended {
+                    head,
+                    end_lsn: commit.end_lsn,
+                    mark: Some(value.copy(self.alloc)?),
+                };
+                self.end(&ended, now_ms)
+            }
         }
     }
 }

@@ -1,5 +1,6 @@
 //! Theorems about followers, as contracts of empty functions.
 
+ghost use Rattle.dbl_follow.specs.Amid.{ArmedWithinTransactions};
 ghost use Rattle.dbl_follow.specs.Laws.{StepsAreOne, OtherMarksDoNothing};
 
 /// The state of a follower after a commit is unique.
@@ -10,4 +11,9 @@ pub fn steps_are_one()
 /// A watermark that the window doesn't wait for opens and closes nothing, and has no record.
 pub fn other_marks_do_nothing()
     ensures { OtherMarksDoNothing }
+{}
+
+/// A window may be armed within a transaction as before it.
+pub fn armed_within_transactions()
+    ensures { ArmedWithinTransactions }
 {}

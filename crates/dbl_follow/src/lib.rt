@@ -5,8 +5,9 @@
 mod error;
 mod follower;
 mod laws;
+mod part;
 mod window;
 
 pub use error::FollowError;
 pub use follower::Follower;
-pub use laws::{other_marks_do_nothing, steps_are_one};
+pub use laws::{armed_within_transactions, other_marks_do_nothing, steps_are_one};

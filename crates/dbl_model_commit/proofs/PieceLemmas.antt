@@ -65,14 +65,14 @@ module _ (infos : List TableInfo) where
 
   -- a message that states changes
   stating : (m : Message) (ms : List Message) (piece : Piece) → IsFurther m → IsOpenAt (begin_of ms) → ended_commit infos m ms ≡ None → IsPiece infos m ms piece → Joins infos m ms piece
-  stating m ms Nothing further open ends is = silent m ms Nothing further is.0 ends is
-  stating m ms (Changed changes) further open ends is = record {
-    changes = ap (λ (l : List Change). l ++ changes) (changes_open (begin_of ms) (open_changes infos ms) open)
-        ∙ sym (so_far m ms further ∙ changes_open (begin_of ms) (open_changes infos ms ++ ok_or_none (stated infos m ms)) open
+  stating m ms Nothing further begun ends is = silent m ms Nothing further is.0 ends is
+  stating m ms (Changed changes) further begun ends is = record {
+    changes = ap (λ (l : List Change). l ++ changes) (changes_open (begin_of ms) (open_changes infos ms) begun)
+        ∙ sym (so_far m ms further ∙ changes_open (begin_of ms) (open_changes infos ms ++ ok_or_none (stated infos m ms)) begun
         ∙ ap (λ (r : Result (List Change) TxnError). open_changes infos ms ++ ok_or_none r) is.0);
     commit = sym ends;
   }
-  stating m ms (Ended ended) further open ends is = cc
+  stating m ms (Ended ended) further begun ends is = cc
 
   begins : (lsn : Lsn) (time : _) (xid : _) (ms : List Message) (piece : Piece) → begin_of ms ≡ None → IsPiece infos (says.Begin lsn time xid) ms piece → Joins infos (says.Begin lsn time xid) ms piece
   begins lsn time xid ms Nothing closed is = record { changes = ap (λ (o : Option Head). if_open o (open_changes infos ms)) closed; commit = refl }
@@ -81,14 +81,14 @@ module _ (infos : List TableInfo) where
 
   ends : (flags : _) (lsn end_lsn : Lsn) (time : _) (ms : List Message) (piece : Piece) → IsOpenAt (begin_of ms) → IsPiece infos (says.Commit flags lsn end_lsn time) ms piece
       → Joins infos (says.Commit flags lsn end_lsn time) ms piece
-  ends flags lsn end_lsn time ms Nothing open is =
-      let some = ap (option_map (commit_of lsn end_lsn (open_mark ms) (open_changes infos ms))) open.found in
+  ends flags lsn end_lsn time ms Nothing begun is =
+      let some = ap (option_map (commit_of lsn end_lsn (open_mark ms) (open_changes infos ms))) begun.found in
       let none : ended_commit infos (says.Commit flags lsn end_lsn time) ms ≡ None = is.1 in
       absurd (cc (some, none))
-  ends flags lsn end_lsn time ms (Changed changes) open is = absurd (is.1 (no_changes changes (Ok []) refl is.0))
-  ends flags lsn end_lsn time ms (Ended ended) open is = record {
+  ends flags lsn end_lsn time ms (Changed changes) begun is = absurd (is.1 (no_changes changes (Ok []) refl is.0))
+  ends flags lsn end_lsn time ms (Ended ended) begun is = record {
     changes = refl;
-    commit = ap (λ (l : List Change). Some (commit_by ended l)) (changes_open (begin_of ms) (open_changes infos ms) open) ∙ sym is;
+    commit = ap (λ (l : List Change). Some (commit_by ended l)) (changes_open (begin_of ms) (open_changes infos ms) begun) ∙ sym is;
   }
 
   -- one more message without a fault
@@ -194,10 +194,10 @@ module _ (infos : List TableInfo) where
       (piece_of changes, is, λ other by. pieces_one m ms (piece_of changes) other is by)
 
   one_ended : (flags : _) (lsn end_lsn : Lsn) (time : _) (ms : List Message) → IsOpenAt (begin_of ms) → OnePiece (says.Commit flags lsn end_lsn time) ms
-  one_ended flags lsn end_lsn time ms open =
+  one_ended flags lsn end_lsn time ms begun =
       let m : Message = says.Commit flags lsn end_lsn time in
-      let ended : End = record { head = record { lsn = lsn; time = open.head.time; xid = open.head.xid }; end_lsn = end_lsn; mark = open_mark ms } in
-      let is : IsPiece infos m ms (Ended ended) = ap (option_map (commit_of lsn end_lsn (open_mark ms) (open_changes infos ms))) open.found in
+      let ended : End = record { head = record { lsn = lsn; time = begun.head.time; xid = begun.head.xid }; end_lsn = end_lsn; mark = open_mark ms } in
+      let is : IsPiece infos m ms (Ended ended) = ap (option_map (commit_of lsn end_lsn (open_mark ms) (open_changes infos ms))) begun.found in
       (Ended ended, is, λ other by. pieces_one m ms (Ended ended) other is by)
 
   one_row : (after : Lsn) (m : Message) (ms : List Message) → own_fault infos after m ms ≡ None → own_fault infos after m ms ≡ err_of (stated infos m ms) → ended_commit infos m ms ≡ None → OnePiece m ms

@@ -5,3 +5,4 @@ pub mod Clashes
 pub mod Snapshots
 pub mod EventLaws
 pub mod SnapshotLists
+pub mod OpenEvents

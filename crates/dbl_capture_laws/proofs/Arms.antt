@@ -170,6 +170,7 @@ module _ {S K D : Type 0} {tell : Bool} {source_model : SourceModel S} {sink_mod
       end_is = s.work_is.is.end_is;
       start = s.work_is.is.start;
       sent = s.work_is.is.sent;
+      between = s.work_is.is.between;
       own = own_chunk work table chunk p unread.first few;
       some_rows = s.work_is.is.some_rows;
       few_rows = s.work_is.is.few_rows;

@@ -86,6 +86,7 @@ windows_let_it_rest b ms stored old new table report r absent unread armed = sub
       end_is = r.is.is.end_is;
       start = r.is.is.start;
       sent = r.is.is.sent;
+      between = r.is.is.between;
       own = own_chunk old table armed.chunk plan unread.first armed.few;
       some_rows = r.is.is.some_rows;
       few_rows = r.is.is.few_rows;

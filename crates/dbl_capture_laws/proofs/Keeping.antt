@@ -126,6 +126,7 @@ settled_work after ms work is = record {
   end_is = is.end_is;
   start = is.start;
   sent = is.sent;
+  between = is.between;
   own = is.own;
   some_rows = is.some_rows;
   few_rows = is.few_rows;

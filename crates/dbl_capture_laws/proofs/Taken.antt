@@ -104,6 +104,7 @@ module _ (after : Lsn) (ms : List Message) (work : SessionState) (is : IsWork af
           (subst (AllByRecursion Sendable) (sym (append-nil (commits_of work.offset.infos ms))) is.sent);
       lsn = is.lsn ∙ sym (lsn_stays work.offset.infos after ms m clean none);
       start = is.start;
+      between = is.between;
       own = is.own;
       some_rows = is.some_rows;
       few_rows = is.few_rows;
@@ -165,6 +166,7 @@ module _ (after : Lsn) (ms : List Message) (work : SessionState) (is : IsWork af
             (all_append Sendable (commits_of work.offset.infos ms) (commit ∷ []) is.sent (sendable, tt));
         lsn = sym (lsn_moves work.offset.infos after ms m commit ends);
         start = is.start;
+        between = steps.ended;
         own = own_after work.offset.incarnation work.number work.chunk work.offset.infos work.follower.infos work.follower.cursors new.cursors new.window work.follower.window commit.body steps.cursors steps.window is.own;
         some_rows = is.some_rows;
         few_rows = is.few_rows;

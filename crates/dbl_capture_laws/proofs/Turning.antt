@@ -119,6 +119,7 @@ armed_ready old new table r unread armed =
         end_is = r.is.end_is;
         start = r.is.start;
         sent = r.is.sent;
+        between = r.is.between;
         own = own_chunk old table armed.chunk p unread.first armed.few;
         some_rows = r.is.some_rows;
         few_rows = r.is.few_rows;

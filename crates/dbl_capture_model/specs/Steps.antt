@@ -49,7 +49,7 @@ begun_at entry history first following = record {
 
 -- The follower's state at an offset, without a window.
 abbrev pub following_of : Offset → Following
-following_of offset = record { identity = offset.identity; infos = offset.infos; cursors = offset.cursors; window = Absent }
+following_of offset = record { identity = offset.identity; infos = offset.infos; cursors = offset.cursors; window = Absent; part = None }
 
 -- The invariant is true after the first store, while only others have committed.
 abbrev pub SessionsBegin : Type 0

@@ -34,6 +34,7 @@ work_begins offset copies work asked is follows same stands some_rows few_rows s
     end_is = tt;
     start = subst (λ (o : Offset). o.start.0 ≤ offset.lsn.0) (sym is) asked.order;
     sent = tt;
+    between = ap (λ (f : Following). f.part) follows;
     own = subst (λ (f : Following). IsOwnWaiting work.offset.incarnation work.number work.offset.infos f.cursors work.chunk f.window) (sym follows) tt;
     some_rows = some_rows;
     few_rows = few_rows;

@@ -78,6 +78,7 @@ pub record IsWork (after : Lsn) (ms : List Message) (work : SessionState) : Type
   pub start : work.offset.start.0 ≤ after.0
   pub sent : AllByRecursion (λ commit. CouldBeSent work.offset.identity work.offset.infos work.now_ms commit commit.body)
       (commits_of work.offset.infos ms)
+  pub between : work.follower.part ≡ None
   pub own : IsOwnWaiting work.offset.incarnation work.number work.offset.infos work.follower.cursors work.chunk work.follower.window
   pub some_rows : 1 ≤ work.chunk
   pub few_rows : work.chunk ≤ 100000

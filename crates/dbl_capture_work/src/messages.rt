@@ -99,6 +99,7 @@ pub fn deliver_commit<K: Sink>(
     report: &mut Report,
 ) -> Result<bool, Halt>
     requires live { IsTrue (K.is_live sink.old) }
+    requires between { work.old.follower.part ≡ None }
     requires fits { All (FitsInfos work.old.follower.infos) (changes_of commit.now) }
     requires since { work.old.since < work.old.every }
     requires commits { report.old.commits < 2 ^ 63 }

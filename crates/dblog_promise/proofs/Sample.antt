@@ -146,7 +146,7 @@ followed = record {
   clean = refl;
   ends = refl;
   right = commit_right;
-  steps = record { identity = refl; infos = refl; cursors = refl; window = refl };
+  steps = record { began = refl; ended = refl; identity = refl; infos = refl; cursors = refl; window = refl };
   no_clash = refl;
   listed = λ chunk closes. cc;
 }

@@ -189,6 +189,9 @@ returns-clause-state g c = record {
 pub is_due-requires : goal.is_due-requires
 is_due-requires g c = stepped_since c.in-Some-2.commit c.args.work.now c.take_message.new.work c.deliver_commit.new.work c.take_message.ensures.same c.in_ok-closed-in-Some-2.ensures.stepped c.requires.since
 
+pub deliver_commit-requires-clause-between : goal.deliver_commit-requires-clause-between
+deliver_commit-requires-clause-between g c = ap (λ (w : SessionState). w.follower.part) c.take_message.ensures.same ∙ c.requires.ready.is.between
+
 pub deliver_commit-requires-clause-since : goal.deliver_commit-requires-clause-since
 deliver_commit-requires-clause-since g c = subst (λ (w : SessionState). w.since < w.every) (sym c.take_message.ensures.same) c.requires.since
 

@@ -74,7 +74,7 @@ notices_some infos c more h = step (slice_get infos (table_of c)) h
     step None h = absurd h
     step (Some info) h = told_some (table_of c) info c more
 
-notices_count : (infos : List TableInfo) (c : Change) → Suits infos c → (length (notices infos c) ≤ 3) × (1 ≤ length (notices infos c))
+pub notices_count : (infos : List TableInfo) (c : Change) → Suits infos c → (length (notices infos c) ≤ 3) × (1 ≤ length (notices infos c))
 notices_count infos c h = step (slice_get infos (table_of c)) h
   where
     step : (o : Option TableInfo) → IsSomeAnd o (λ info. SuitsTable info c) → (length (unwrap_or (option_map (λ info. change_notices (table_of c) info c) o) []) ≤ 3) × (1 ≤ length (unwrap_or (option_map (λ info. change_notices (table_of c) info c) o) []))

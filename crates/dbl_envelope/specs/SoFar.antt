@@ -1,5 +1,5 @@
 -- The records of a transaction that is still open, made change by change.
-use Rattle.std.specs.Prelude.{◌≡◌, ℕ, ℤ, ◌+◌, ◌<◌, List, [], ◌++◌, length, map}
+use Rattle.std.specs.Prelude.{◌≡◌, ℕ, ℤ, ◌+◌, List, [], ◌++◌, length, map}
 use Rattle.dbl_record.specs.declared.record.Record.{Record}
 use Rattle.dbl_model_table.specs.declared.change.Change.{Change}
 use Rattle.dbl_model_table.specs.declared.change.Head.{Head}
@@ -34,5 +34,4 @@ pub record HasMade (captured : Captured) (head : Head) (now : ℤ) (made : ℕ) 
 pub record AppendsRecords (captured : Captured) (head : Head) (now : ℤ) (made : ℕ) (change : Change) (old new : List Record)
     (records : OpenRecords) : Type 0 where
   pub appended : new ≡ old ++ records_after captured head now made change
-  pub some : length old < length new
   pub makes : HasMade captured head now (made + length (records_after captured head now made change)) records

@@ -1,6 +1,6 @@
 //! The records of a transaction that is still open.
 
-ghost use Rattle.std.specs.Prelude.{◌≡◌, ℕ, ℤ, [], None, IfOk, IfErr, OnOk};
+ghost use Rattle.std.specs.Prelude.{◌≡◌, ◌<◌, ℕ, ℤ, [], None, IfOk, IfErr, OnOk, length};
 ghost use Rattle.dbl_model_table.specs.declared.change.Head.{Head as SpecHead};
 ghost use Rattle.dbl_model_table.specs.Heads.{commit_so_far};
 ghost use Rattle.dbl_envelope.specs.Clashing.{IsClash, notices_clash};
@@ -76,6 +76,7 @@ impl OpenRecords {
             HasMade writer.now head now made self.old →
             OnOk result (AppendsRecords writer.now head now made change.now out.old.items
             out.new.items self.new) }
+        ensures some { OnOk result (length out.old.items < length out.new.items) }
         ensures no_clash { OnOk result
             (notices_clash writer.now.identity.placeholder writer.now.infos change.now ≡ None) }
         ensures err { IfErr result

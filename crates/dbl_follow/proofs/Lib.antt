@@ -6,3 +6,4 @@ pub use Rattle.dbl_window.proofs.SourceModelGrowthLemmas
 pub use Rattle.dbl_window.proofs.SourceModelReadLemmas
 pub mod StepLemmas
 pub mod SnapshotSteps
+pub mod AmidLemmas

@@ -46,7 +46,8 @@ one_step old commit a b by_a by_b =
     let infos : a.infos ≡ b.infos = by_a.infos ∙ sym by_b.infos in
     let cursors : a.cursors ≡ b.cursors = by_a.cursors ∙ sym by_b.cursors in
     let window : a.window ≡ b.window = windows_one old.infos old.window commit.body a.window b.window by_a.window by_b.window in
-    λ i. record { identity = identity i; infos = infos i; cursors = cursors i; window = window i }
+    let part : a.part ≡ b.part = by_a.ended ∙ sym by_b.ended in
+    λ i. record { identity = identity i; infos = infos i; cursors = cursors i; window = window i; part = part i }
 
 -- ---- watermarks of others
 
@@ -87,8 +88,9 @@ nothing_done old new commit value now mark other by_it =
     let window : new.window ≡ old.window = subst (λ (b : Body). Becomes old.infos old.window b new.window) body by_it.window ∙ seen_not old.window value other in
     let cursors : new.cursors ≡ old.cursors = by_it.cursors ∙ ap (cursors_after old.cursors) closes in
     let identity : new.identity ≡ old.identity = by_it.identity in
-    let infos : new.infos ≡ old.infos = by_it.infos in (
-      λ i. record { identity = identity i; infos = infos i; cursors = cursors i; window = window i },
+    let infos : new.infos ≡ old.infos = by_it.infos in
+    let part : new.part ≡ old.part = by_it.ended ∙ sym by_it.began in (
+      λ i. record { identity = identity i; infos = infos i; cursors = cursors i; window = window i; part = part i },
       ap (λ (o : Option Chunk). records_of old o commit now) closes ∙ nothing_told old.identity old.infos commit now value body,
     )
 
@@ -144,9 +146,11 @@ cursors_long (i ∷ infos) (c ∷ cursors) are = ap suc (cursors_long infos curs
 -- ---- what each kind of commit does
 
 -- a watermark that closes no window: what it makes of the window is all that it does
-pub marked_steps : (old new : Following) (commit : Commit) (value : List ℕ) → commit.body ≡ Mark value → closing old.window (Some value) ≡ None → new.window ≡ seen_by old.window value → new.identity ≡ old.identity
+pub marked_steps : (old new : Following) (commit : Commit) (value : List ℕ) → old.part ≡ None → new.part ≡ None → commit.body ≡ Mark value → closing old.window (Some value) ≡ None → new.window ≡ seen_by old.window value → new.identity ≡ old.identity
     → new.infos ≡ old.infos → new.cursors ≡ old.cursors → Steps old commit new
-marked_steps old new commit value is closes window identity infos cursors = record {
+marked_steps old new commit value began ended is closes window identity infos cursors = record {
+  began = began;
+  ended = ended;
   identity = identity;
   infos = infos;
   cursors = cursors ∙ sym (ap (λ (b : Body). cursors_after old.cursors (closing old.window (watermark_in b))) is ∙ ap (cursors_after old.cursors) closes);

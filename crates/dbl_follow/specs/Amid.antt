@@ -15,7 +15,7 @@ use Rattle.dbl_envelope.specs.SoFar.{HasMade, records_after}
 use Rattle.dbl_window.specs.Plans.{Chunk}
 use Rattle.dbl_follow.specs.declared.part.Part.{Part}
 use Rattle.dbl_follow.specs.declared.window.Window.{Window}
-use Rattle.dbl_follow.specs.declared.window.Window.TheVariants.{Absent, Armed}
+use Rattle.dbl_follow.specs.declared.window.Window.TheVariants.{Armed}
 use Rattle.dbl_follow.specs.Followed.{OpenPart, Following}
 use Rattle.dbl_follow.specs.Steps.{mark_of, closing, closed_of, records_by, clash_by, Passes, Steps}
 
@@ -24,26 +24,26 @@ abbrev pub PassesSoFar : List TableInfo → Window → List Change → Window �
 PassesSoFar infos old [] new = new ≡ old
 PassesSoFar infos old (c ∷ changes) new = Passes infos old (c ∷ changes) new
 
--- Whether all records of a transaction so far but the last one are these, and the last one is held, marked as the last of its commit. Before
--- its first change there is none.
+-- Whether all records of a transaction so far but the last one are these, and the last one is held, marked as the last of its commit.
+-- Before its first change there is none.
 abbrev pub AreReleased : Following → Head → List Change → ℤ → List Record → Option OpenPart → Type 0
 AreReleased start head [] now released part = (part ≡ None) × (released ≡ [])
 AreReleased start head (c ∷ changes) now released part =
     (held : Record) × (part ≡ Some (record { head = head; now = now; made = length released + 1; held = held }))
     × (released ++ held ∷ [] ≡ envelopes start.identity start.infos (commit_so_far head (c ∷ changes)) now)
 
--- Whether a follower, which was this one at `start`, between transactions, has followed these changes of the transaction with this Begin, and
--- answered these records, made at `now`. Each follower without an open transaction is so for any Begin before the first change.
-pub record IsAmid (start : Following) (head : Head) (changes : List Change) (now : ℤ) (released : List Record) (f : Following)
-    : Type 0 where
+-- Whether a follower that was `start`, between transactions, has followed these changes of the transaction with this Begin, and returned
+-- these records, made at `now`. For no changes and no records, each follower between transactions has.
+pub record IsAmid (start : Following) (head : Head) (changes : List Change) (now : ℤ) (released : List Record)
+    (f : Following) : Type 0 where
   pub between : start.part ≡ None
   pub same : f ≡ record start { window = f.window; part = f.part }
   pub passes : PassesSoFar start.infos start.window changes f.window
   pub no_clash : clash_of start.identity start.infos (commit_so_far head changes) ≡ None
   pub released_are : AreReleased start head changes now released f.part
 
--- Whether these records are those of a commit that the follower followed from `start` on: the commit's, or the snapshot of the window that it
--- closes.
+-- Whether these records are those of a commit that the follower followed from `start` on: the commit's, or the snapshot of the window that
+-- it closes.
 pub record EndsAs (start : Following) (commit : Commit) (now : ℤ) (records : List Record) (new : Following) : Type 0 where
   pub records_are : records ≡ records_by start commit now
   pub steps : Steps start commit new
@@ -58,12 +58,13 @@ Extends captured head now change None released new =
     × (released ++ held ∷ [] ≡ records_after captured head now 0 change)
 Extends captured head now change (Some part) released new =
     (held : Record)
-    × (new ≡ Some (record part { made = part.made + length (records_after captured part.head part.now part.made change); held = held }))
+    × (new
+    ≡ Some (record part { made = part.made + length (records_after captured part.head part.now part.made change); held = held }))
     × (released ++ held ∷ [] ≡ unmarked part.held ∷ records_after captured part.head part.now part.made change)
 
 -- For private clauses: the records of one more change were appended to the old ones, but that the last of them is held.
-pub record HoldsLast (captured : Captured) (head : Head) (now : ℤ) (made : ℕ) (change : Change) (old new : List Record) (part : Part)
-    : Type 0 where
+pub record HoldsLast (captured : Captured) (head : Head) (now : ℤ) (made : ℕ) (change : Change) (old new : List Record)
+    (part : Part) : Type 0 where
   pub head_is : part.head ≡ head
   pub now_is : part.now_ms ≡ now
   pub appended : new ++ part.held ∷ [] ≡ old ++ records_after captured head now made change
@@ -74,8 +75,8 @@ abbrev pub held_of : Option OpenPart → List Record
 held_of None = []
 held_of (Some part) = part.held ∷ []
 
--- A window may be armed within a transaction as before it.
+-- To arm a window within a transaction is to arm it before the transaction.
 abbrev pub ArmedWithinTransactions : Type 0
 ArmedWithinTransactions = (start f : Following) (head : Head) (changes : List Change) (now : ℤ) (released : List Record) (chunk : Chunk)
-    → IsAmid start head changes now released f → f.window ≡ Absent
+    → IsAmid start head changes now released f
     → IsAmid (record start { window = Armed chunk }) head changes now released (record f { window = Armed chunk })

@@ -257,11 +257,11 @@ impl Follower {
         }
     }
 
-    /// Follows the next change of the open transaction, whose Begin this is, and returns the records
-    /// that are known not to be its last one: all records of its changes so far, but those returned
-    /// before and the last one, which is held. They are made at the `now_ms` of the transaction's
-    /// first change, in milliseconds since 1970-01-01 UTC. A change with a value equal to the
-    /// placeholder is refused. After an error the follower must not be used any more.
+    /// Follows the next change of the transaction with this Begin, and returns the records that are
+    /// known not to be its last one: all records of its changes so far, but those returned before
+    /// and the last one, which is held. They are made at the `now_ms` of the transaction's first
+    /// change, in milliseconds since 1970-01-01 UTC. A change with a value equal to the placeholder
+    /// is refused. After an error the follower must not be used any more.
     pub fn change(
         &mut self,
         head: &Head,

@@ -13,7 +13,7 @@ pub fn other_marks_do_nothing()
     ensures { OtherMarksDoNothing }
 {}
 
-/// A window may be armed within a transaction as before it.
+/// To arm a window within a transaction is to arm it before the transaction.
 pub fn armed_within_transactions()
     ensures { ArmedWithinTransactions }
 {}

@@ -13,7 +13,7 @@ use Rattle.dbl_model_commit.specs.Past.{Head, begin_of}
 use Rattle.dbl_model_commit.specs.Stated.{open_changes, stated, ended_commit, list_of, commits_of, transaction_fault}
 use Rattle.dbl_model_commit.specs.Blocks.{onto, first_transaction_fault}
 
--- Whether this is the piece of a message after these messages: the changes that it states, or the commit that it ends, which has the changes
+-- Whether this is the piece of a message after these messages: the changes that it states, or the end of its commit, which has the changes
 -- that the open transaction stated so far.
 abbrev pub IsPiece : List TableInfo → Message → List Message → Piece → Type 0
 IsPiece infos m ms Nothing = (stated infos m ms ≡ Ok []) × (ended_commit infos m ms ≡ None)
@@ -63,7 +63,8 @@ if_open (Some head) changes = changes
 abbrev pub changes_so_far : List TableInfo → List Message → List Change
 changes_so_far infos ms = if_open (begin_of ms) (open_changes infos ms)
 
--- The pieces of messages in order without an error, joined, are the commits that the messages state, and the changes of the open transaction.
+-- The pieces of messages in order without an error, joined, are the commits that the messages state, and the changes of the open
+-- transaction.
 abbrev pub PiecesAreJoined : Type 0
 PiecesAreJoined = (infos : List TableInfo) (after : Lsn) (ms : List Message) (pieces : List Piece)
     → first_transaction_fault infos after [] ms ≡ None → ArePieces infos [] ms pieces
@@ -71,5 +72,6 @@ PiecesAreJoined = (infos : List TableInfo) (after : Lsn) (ms : List Message) (pi
 
 -- A message without an error has exactly one piece.
 abbrev pub EachMessageHasOnePiece : Type 0
-EachMessageHasOnePiece = (infos : List TableInfo) (after : Lsn) (m : Message) (ms : List Message) → transaction_fault infos after m ms ≡ None
+EachMessageHasOnePiece = (infos : List TableInfo) (after : Lsn) (m : Message) (ms : List Message)
+    → transaction_fault infos after m ms ≡ None
     → (piece : Piece) × IsPiece infos m ms piece × ((other : Piece) → IsPiece infos m ms other → other ≡ piece)

@@ -40,12 +40,13 @@ Takes infos after m ms a (Ok o) = Taken infos after m ms a o
 Takes infos after m ms a (Err e) = (e ≡ errors.Memory) ⊎ (transaction_fault infos after m ms ≡ Some e)
 
 -- A message was processed: it has no fault, this is its piece of the transaction, and the assembler's state includes it.
-pub record TakenPiece (infos : List TableInfo) (after : Lsn) (m : Message) (ms : List Message) (a : Assembler) (piece : Piece) : Type 0 where
+pub record TakenPiece (infos : List TableInfo) (after : Lsn) (m : Message) (ms : List Message) (a : Assembler) (piece : Piece)
+    : Type 0 where
   pub clean : transaction_fault infos after m ms ≡ None
   pub is : IsPiece infos m ms piece
   pub stands : StandsInPieces infos after (m ∷ ms) a
 
--- The effect of processing one more message in pieces: an error is the message's fault, unless memory ran out.
+-- The effect of processing one more message in pieces: an error is the message's, unless memory ran out.
 abbrev pub TakesPiece : List TableInfo → Lsn → Message → List Message → Assembler → Result Piece TxnError → Type 0
 TakesPiece infos after m ms a (Ok piece) = TakenPiece infos after m ms a piece
 TakesPiece infos after m ms a (Err e) = (e ≡ errors.Memory) ⊎ (transaction_fault infos after m ms ≡ Some e)

@@ -50,7 +50,8 @@ pub record Recalls (infos : List TableInfo) (ms : List Message) (look : ℕ → 
   pub each : (oid : ℕ) → look oid ≡ option_map (known_in infos) (relation_of oid ms)
 
 -- A message was read: it has no error, this is its piece, and the reader's state includes it.
-pub record ReadPiece (infos : List TableInfo) (after : Lsn) (m : Message) (ms : List Message) (r : PieceReader) (piece : Piece) : Type 0 where
+pub record ReadPiece (infos : List TableInfo) (after : Lsn) (m : Message) (ms : List Message) (r : PieceReader) (piece : Piece)
+    : Type 0 where
   pub clean : transaction_fault infos after m ms ≡ None
   pub is : IsPiece infos m ms piece
   pub reads : HasRead infos after (m ∷ ms) r

@@ -31,8 +31,8 @@ struct Block {
 }
 
 /// Reads the messages of a log one by one, each as its piece of the open transaction. It keeps the
-/// last Relation of each table, and of the open transaction its Begin, its watermark, and whether it
-/// changed a captured table, but no change.
+/// last Relation of each table, and of the open transaction its Begin, its watermark, and whether
+/// a captured table was changed, but no change.
 #[derive(Drop)]
 pub struct PieceReader {
     infos: Vec<TableInfo>,

@@ -7,4 +7,5 @@ invariant_of-self c = record {
   few = c.self.invariant.few;
   cursors_are = c.self.invariant.cursors_are;
   window_is = subst (λ (f : Following). IsPlanOfCaptured f.infos c.args.armed.plan) (sym c.self.view_is) c.requires.planned;
+  part_is = c.self.invariant.part_is;
 }

@@ -24,4 +24,5 @@ invariant_of-self c = record {
   cursors_are = cursors_closed c.self.inside.writer.infos c.self.inside.cursors.items c.args.closed c.self.invariant.cursors_are
       (subst (λ (f : Following). FitsSnapshot f.infos c.args.closed) (sym c.self.view_is) c.requires.fits);
   window_is = c.self.invariant.window_is;
+  part_is = c.self.invariant.part_is;
 }

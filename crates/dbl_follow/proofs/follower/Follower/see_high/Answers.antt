@@ -16,7 +16,8 @@ returns-else-closes-clause-steps c =
     let opened = c.args.opened in
     let value = c.args.value.now in
     let other : value ≢ high_text opened.plan = λ same. (let contra : false ≡ true = sym c.if-closes.false ∙ c.closes.ensures.1 same in cc) in
-    marked_steps (record { identity = f.identity; infos = f.infos; cursors = f.cursors; window = windows.Open opened }) _ c.args.commit.now value c.requires.mark (closing-other opened value other)
+    marked_steps (record { identity = f.identity; infos = f.infos; cursors = f.cursors; window = windows.Open opened; part = f.part }) _ c.args.commit.now value c.requires.none
+    (ap (λ (x : Following). x.part) c.self.view_is ∙ c.requires.none) c.requires.mark (closing-other opened value other)
     (sym (seen-other opened value other)) (ap (λ (x : Following). x.identity) c.self.view_is) (ap (λ (x : Following). x.infos) c.self.view_is) (ap (λ (x : Following). x.cursors) c.self.view_is)
 
 pub returns-else-closes-clause-no_clash : goal.returns-else-closes-clause-no_clash
@@ -25,7 +26,7 @@ returns-else-closes-clause-no_clash c =
     let opened = c.args.opened in
     let value = c.args.value.now in
     let other : value ≢ high_text opened.plan = λ same. (let contra : false ≡ true = sym c.if-closes.false ∙ c.closes.ensures.1 same in cc) in
-    marked_clash (record { identity = f.identity; infos = f.infos; cursors = f.cursors; window = windows.Open opened }) c.args.commit.now value c.requires.mark (closing-other opened value other)
+    marked_clash (record { identity = f.identity; infos = f.infos; cursors = f.cursors; window = windows.Open opened; part = f.part }) c.args.commit.now value c.requires.mark (closing-other opened value other)
 
 pub returns-then-closes-clause-snapshot : goal.returns-then-closes-clause-snapshot
 returns-then-closes-clause-snapshot c own =

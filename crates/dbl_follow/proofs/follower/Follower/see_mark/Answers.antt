@@ -19,7 +19,7 @@ pub returns-in-Armed-clause-no_clash : goal.returns-in-Armed-clause-no_clash
 returns-in-Armed-clause-no_clash c =
     let f = c.args.self.now in
     let value = c.args.value.now in
-    marked_clash f c.args.commit.now value c.requires (closes f c.in-Armed.armed value (c.in-Armed.ensures.value ∙ ap (λ (g : Following). g.window) c.self.view_is))
+    marked_clash f c.args.commit.now value c.requires.mark (closes f c.in-Armed.armed value (c.in-Armed.ensures.value ∙ ap (λ (g : Following). g.window) c.self.view_is))
 
 pub returns-in-Armed-clause-snapshot : goal.returns-in-Armed-clause-snapshot
 returns-in-Armed-clause-snapshot c chunk told =

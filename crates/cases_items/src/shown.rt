@@ -94,7 +94,8 @@ fn change(alloc: Global, shown: &mut String, change: &Change) -> Result<()> {
     cells(alloc, shown, change)
 }
 
-fn changes(alloc: Global, shown: &mut String, changes: &Seq<Change>) -> Result<()> {
+/// Changes, each after a semicolon.
+pub fn changes(alloc: Global, shown: &mut String, changes: &Seq<Change>) -> Result<()> {
     for each in changes.items() {
         change(alloc, shown, each)?;
     }
@@ -110,7 +111,8 @@ fn head(shown: &mut String, commit: &Commit) -> Result<()> {
     Ok(())
 }
 
-fn mark(shown: &mut String, value: &str) -> Result<()> {
+/// A watermark, after a semicolon.
+pub fn mark(shown: &mut String, value: &str) -> Result<()> {
     write!(shown, "; mark {value}")?;
     Ok(())
 }

@@ -185,7 +185,7 @@ module _ (infos : List TableInfo) where
   pieces_one m ms (Ended ended) (Ended other) by_a by_b =
       ap (λ (e : End). Ended e) (ends_one other ended (open_changes infos ms) (ended_commit infos m ms) by_b by_a)
 
-  OnePiece : Message → List Message → Type 0
+  abbrev OnePiece : Message → List Message → Type 0
   OnePiece m ms = (piece : Piece) × IsPiece infos m ms piece × ((other : Piece) → IsPiece infos m ms other → other ≡ piece)
 
   one_stated : (m : Message) (ms : List Message) (changes : List Change) → stated infos m ms ≡ Ok changes → ended_commit infos m ms ≡ None → OnePiece m ms

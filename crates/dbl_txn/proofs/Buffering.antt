@@ -1,6 +1,6 @@
 -- The changes of the open transaction that an assembler buffers.
 use Rattle.std.proofs.Common.{◌≡◌, ◌∙◌, ℕ, List, [], ◌∷◌, ◌++◌, refl, sym, ap, subst}
-use Rattle.std.specs.Prelude.{Option, Some, None}
+use Rattle.std.specs.Prelude.{Option, Some, None, Result, Ok, Err}
 use Rattle.dbl_base.specs.declared.lsn.Lsn.{Lsn}
 use Rattle.dbl_pgmsg.specs.declared.messages.Message.{Message}
 use Rattle.dbl_model_table.specs.declared.table.TableInfo.{TableInfo}
@@ -10,15 +10,16 @@ use Rattle.dbl_model_table.specs.declared.change.Ended.{Ended as End}
 use Rattle.dbl_model_table.specs.Heads.{commit_by}
 use Rattle.dbl_model_commit.specs.declared.piece.Piece.{Piece}
 use Rattle.dbl_model_commit.specs.declared.piece.Piece.TheVariants.{Nothing, Changed, Ended}
+use Rattle.dbl_model_commit.specs.declared.txn_error.TxnError.{TxnError}
 use Rattle.dbl_model_commit.specs.Past.{Head, begin_of, HasNoRelation}
 use Rattle.dbl_model_commit.specs.Stated.{open_changes, ended_commit}
 use Rattle.dbl_model_commit.specs.Pieces.{if_open, joined, ended_by}
 use Rattle.dbl_model_commit.proofs.Learning.{changes_learnt}
 use Rattle.dbl_model_commit.proofs.PieceLemmas.{piece_joins}
 use Rattle.dbl_txn_pieces.specs.declared.reader.PieceReader.{PieceReader}
-use Rattle.dbl_txn_pieces.specs.Reading.{HasRead, ReadPiece}
+use Rattle.dbl_txn_pieces.specs.Reading.{HasRead, ReadPiece, ReadsPiece}
 use Rattle.dbl_txn.specs.declared.assembler.Assembler.{Assembler}
-use Rattle.dbl_txn.specs.Stands.{Stands, StandsWhole, StandsInPieces, Taken, TakenPiece, BetweenTransactionsBothStand}
+use Rattle.dbl_txn.specs.Stands.{Stands, StandsWhole, StandsInPieces, Taken, TakenPiece, TakesPiece, BetweenTransactionsBothStand}
 
 -- no change is buffered, whether a transaction is open or not
 pub none_buffered : (o : Option Head) → if_open o [] ≡ []
@@ -33,6 +34,12 @@ piece_taken infos after m ms a b piece s same read = record {
   is = read.is;
   stands = record { reads = read.reads; buffers = same ∙ s.buffers ∙ none_buffered (begin_of ms) ∙ sym (none_buffered (begin_of (m ∷ ms))) };
 }
+
+-- the effect of a piece, by the result
+pub pieces_taken : (infos : List TableInfo) (after : Lsn) (m : Message) (ms : List Message) (a b : Assembler) (r : Result Piece TxnError) → StandsInPieces infos after ms a → b.buffered.items ≡ a.buffered.items
+    → ReadsPiece infos after m ms b.reader r → TakesPiece infos after m ms b r
+pieces_taken infos after m ms a b (Ok piece) s same read = piece_taken infos after m ms a b piece s same read
+pieces_taken infos after m ms a b (Err e) s same fails = fails
 
 -- a message was taken, and what its piece adds is buffered
 pub whole_taken : (infos : List TableInfo) (after : Lsn) (m : Message) (ms : List Message) (a b : Assembler) (piece : Piece) (o : Option Commit) → StandsWhole infos after ms a

@@ -7,3 +7,4 @@ pub mod SnapshotLemmas
 pub mod TailLemmas
 pub mod TellLemmas
 pub mod WrittenLemmas
+pub mod SoFarLemmas

@@ -7,3 +7,4 @@ pub use Rattle.dbl_window.proofs.SourceModelReadLemmas
 pub mod StepLemmas
 pub mod SnapshotSteps
 pub mod AmidLemmas
+pub mod PartLemmas

@@ -132,12 +132,18 @@ pub(crate) fn follow_change(
         (notices_clash writer.now.identity.placeholder writer.now.infos change.now)) }
 {
     let mut released = Vec::new(alloc);
-    let next = match part.take() {
-        None => begin_part(alloc, writer, head, change, now_ms, &mut released)?,
-        Some(old) => extend_part(old, alloc, writer, change, &mut released)?,
-    };
-    *part = Some(next);
-    Ok(released)
+    match part.take() {
+        None => {
+            let next = begin_part(alloc, writer, head, change, now_ms, &mut released)?;
+            *part = Some(next);
+            Ok(released)
+        }
+        Some(old) => {
+            let next = extend_part(old, alloc, writer, change, &mut released)?;
+            *part = Some(next);
+            Ok(released)
+        }
+    }
 }
 
 /// Ends the open transaction, if there is one, and returns the record that is held.

@@ -1,6 +1,6 @@
 -- A follower within a transaction, change by change, and at its end.
-use Rattle.std.proofs.Common.{◌≡◌, ◌≢◌, ◌∙◌, ◌+◌, ◌≤◌, ℕ, ℤ, Option, Some, None, List, [], ◌∷◌, ◌++◌, length, map, flat_map, refl, sym, ap, subst, arith, append_assoc, append-nil}
-use Rattle.std.specs.Prelude.{option_map}
+use Rattle.std.proofs.Common.{◌≡◌, ◌≢◌, ◌∙◌, ◌+◌, ◌≤◌, ℕ, suc, ℤ, Option, Some, None, List, [], ◌∷◌, ◌++◌, length, map, flat_map, refl, sym, ap, subst, arith, append_assoc, append-nil}
+use Rattle.std.specs.Prelude.{IfSome, IsSome}
 use Rattle.std.specs.Option.{option_or}
 use Rattle.std.proofs.lemmas.List.{length-append, length-map}
 use Rattle.dbl_record.specs.declared.record.Record.{Record}
@@ -38,7 +38,7 @@ use Rattle.dbl_follow.proofs.StepLemmas.{passes_on}
 
 length_numbered : (position ordinal : ℕ) (ns : List Notice) → length (numbered position ordinal ns) ≡ length ns
 length_numbered position ordinal [] = refl
-length_numbered position ordinal (n ∷ ns) = ap (λ (k : ℕ). k + 1) (length_numbered position (ordinal + 1) ns)
+length_numbered position ordinal (n ∷ ns) = ap suc (length_numbered position (ordinal + 1) ns)
 
 -- the events of one change
 one_change : (infos : List TableInfo) (change : Change) → flat_map (notices infos) (change ∷ []) ≡ notices infos change
@@ -100,7 +100,7 @@ next_released : (start : Following) (head : Head) (c : Change) (cs : List Change
     → AreReleased start head (c ∷ (cs ++ change ∷ [])) now (released ++ more) new
 next_released start head c cs change now released more held new are suits by =
     let recs = records_after (captured_by start) head now (length released + 1) change in
-    let long : length (more ++ by.0 ∷ []) ≡ length recs + 1 = ap length by.2 in
+    let long : length (more ++ by.0 ∷ []) ≡ length recs + 1 = ap length by.2 ∙ omega arith in
     let made : (length released + 1) + length recs ≡ length (released ++ more) + 1 = omega (arith, long, length-append more (by.0 ∷ []), length-append released more) in (
       by.0,
       by.1 ∙ ap (λ (n : ℕ). let p : OpenPart = record { head = head; now = now; made = n; held = by.0 } in Some p) made,
@@ -181,7 +181,11 @@ amid_rests start f head (c ∷ cs) now released a none =
 -- the head of an open transaction
 pub amid_head : (start f : Following) (head : Head) (changes : List Change) (now : ℤ) (released : List Record) (part : OpenPart) → IsAmid start head changes now released f → f.part ≡ Some part → part.head ≡ head
 amid_head start f head [] now released part a is = let none = a.released_are.0 in absurd (cc (none, is))
-amid_head start f head (c ∷ cs) now released part a is = let some = a.released_are.1 in cc (some, is)
+amid_head start f head (c ∷ cs) now released part a is =
+    let whole : OpenPart = record { head = head; now = now; made = length released + 1; held = a.released_are.0 } in
+    let some : f.part ≡ Some whole = a.released_are.1 in
+    let same : part ≡ whole = cc (some, is) in
+    ap (λ (p : OpenPart). p.head) same
 
 -- ---- the end of a transaction of changes
 
@@ -261,11 +265,24 @@ pub clash_longer : (start : Following) (head : Head) (end_lsn : _) (changes more
 clash_longer start head end_lsn changes more e h = by (clash_of start.identity start.infos (commit_so_far head changes)) refl h
   where
     by : (o : Option Clash) → clash_of start.identity start.infos (commit_so_far head changes) ≡ o → IsClashOf o e → IsClashOf (clash_by start (commit_by (ended_at head end_lsn) (changes ++ more))) e
-    by None is clashes other = let contra = clashes other in absurd (cc)
+    by None is clashes = λ other. (let contra = clashes other in absurd (cc (contra)))
     by (Some clash) is clashes =
         subst (λ (o : Option Clash). IsClashOf o e)
         (sym (ap (λ (o : Option Chunk). clash_in start o (commit_by (ended_at head end_lsn) (changes ++ more))) (closing-None start.window)
         ∙ first_clashes_stay start.identity start.infos head changes more clash is)) clashes
+
+-- a watermark's transaction has followed no change
+pub no_part : (o : Option OpenPart) (mark : Option (List ℕ)) (value : List ℕ) → (IsSome o → mark ≡ None) → mark ≡ Some value → o ≡ None
+no_part None mark value unmarked_if is = refl
+no_part (Some part) mark value unmarked_if is = let none = unmarked_if tt in absurd (cc (none, is))
+
+-- an open transaction's head, as a condition
+pub heads_fit : (start f : Following) (head : Head) (changes : List Change) (now : ℤ) (released : List Record) → IsAmid start head changes now released f → IfSome f.part (λ part. part.head ≡ head)
+heads_fit start f head changes now released a = by f.part refl
+  where
+    by : (o : Option OpenPart) → f.part ≡ o → IfSome o (λ part. part.head ≡ head)
+    by None is = tt
+    by (Some part) is = amid_head start f head changes now released part a is
 
 -- ---- arming
 

@@ -11,8 +11,10 @@ use Rattle.dbl_model_table.specs.declared.change.Commit.{Commit}
 use Rattle.dbl_model_table.specs.declared.change.Head.{Head}
 use Rattle.dbl_model_table.specs.declared.change.Body.{Body}
 use Rattle.dbl_model_table.specs.declared.change.Body.TheVariants.{Changes, Mark}
-use Rattle.dbl_model_table.specs.Heads.{body_of, commit_by, commit_so_far}
-use Rattle.dbl_model_event.specs.Events.{Notice, notices, numbered, is_nil}
+use Rattle.dbl_model_table.specs.declared.change.Ended.{Ended}
+use Rattle.dbl_model_table.specs.Heads.{body_of, commit_by, ended_at, commit_so_far}
+use Rattle.dbl_model_table.specs.Rows.{changes_of}
+use Rattle.dbl_model_event.specs.Events.{Notice, Event, notices, numbered, is_nil}
 use Rattle.dbl_model_event.specs.EventJson.{print, source_data, envelopes}
 use Rattle.dbl_model_event.specs.Clashes.{Clash, first_found, notice_clash, clash_of}
 use Rattle.dbl_model_event.specs.OpenEvents.{unmarked, RecordsGoOn, RecordsShowNoEnd, FirstClashesStay}
@@ -45,14 +47,20 @@ module _ (identity : Identity) (commit : Commit) (now : ℤ) where
 
 -- ---- the records of a transaction
 
--- they show its head alone
-pub prints_head : (identity : Identity) (head : Head) (changes : List Change) (now : ℤ) → print identity (commit_so_far head changes) now ≡ print identity (commit_so_far head []) now
+map_same : {A B : Type 0} (f g : A → B) → ((x : A) → f x ≡ g x) → (xs : List A) → map f xs ≡ map g xs
+map_same f g same [] = refl
+map_same f g same (x ∷ xs) = ap₂ (λ (y : _) (l : List _). y ∷ l) (same x) (map_same f g same xs)
+
+-- each shows its commit's head alone
+print_head : (identity : Identity) (ended : Ended) (changes : List Change) (now : ℤ) (event : Event) → print identity (commit_by ended changes) now event ≡ print identity (commit_so_far ended.head []) now event
 unfolding source_data
-prints_head identity head changes now = refl
+print_head identity ended changes now event = refl
 
 pub records_by_head : (identity : Identity) (infos : List TableInfo) (head : Head) (changes : List Change) (now : ℤ)
     → envelopes identity infos (commit_so_far head changes) now ≡ map (print identity (commit_so_far head []) now) (numbered head.lsn.0 0 (flat_map (notices infos) changes))
-records_by_head identity infos head changes now = ap (λ f. map f (numbered head.lsn.0 0 (flat_map (notices infos) changes))) (prints_head identity head changes now)
+records_by_head identity infos head changes now =
+    map_same (print identity (commit_so_far head changes) now) (print identity (commit_so_far head []) now) (print_head identity (ended_at head head.lsn) changes now)
+    (numbered head.lsn.0 0 (flat_map (notices infos) changes))
 
 -- the records so far, and those of further changes
 pub records_on : (identity : Identity) (infos : List TableInfo) (head : Head) (changes more : List Change) (now : ℤ) (released : List Record) (held : Record)
@@ -78,9 +86,11 @@ bodies None changes none = refl
 bodies (Some value) changes none = cc
 
 pub records_show_no_end : RecordsShowNoEnd
-unfolding source_data
 records_show_no_end identity infos ended changes now none =
-    ap (λ (b : Body). map (print identity (commit_so_far ended.head []) now) (numbered ended.head.lsn.0 0 (flat_map (notices infos) (elim b [ Changes cs ↦ cs | Mark v ↦ [] ])))) (bodies ended.mark changes none)
+    let P = print identity (commit_so_far ended.head []) now in
+    map_same (print identity (commit_by ended changes) now) P (print_head identity ended changes now) (numbered ended.head.lsn.0 0 (flat_map (notices infos) (changes_of (commit_by ended changes))))
+    ∙ ap (λ (b : Body). map P (numbered ended.head.lsn.0 0 (flat_map (notices infos) (elim b [ Changes cs ↦ cs | Mark v ↦ [] ])))) (bodies ended.mark changes none)
+    ∙ sym (records_by_head identity infos ended.head changes now)
 
 -- ---- values equal to the placeholder
 

@@ -142,7 +142,8 @@ impl Assembler {
         ensures { (infos : List TableInfo) (after : Lsn) (ms : List Message) →
             StandsWhole infos after ms self.old → Takes infos after message ms self.new result }
     {
-        match self.reader.read(alloc, message)? {
+        let piece = self.reader.read(alloc, message)?;
+        match piece {
             Piece::Nothing => Ok(None),
             Piece::Changed(changes) => {
                 buffer(&mut self.buffered, changes)?;

@@ -1,13 +1,13 @@
 -- A follower within a transaction, change by change, and at its end.
 use Rattle.std.proofs.Common.{◌≡◌, ◌≢◌, ◌∙◌, ◌+◌, ◌≤◌, ℕ, suc, ℤ, Option, Some, None, List, [], ◌∷◌, ◌++◌, length, map, flat_map, refl, sym, ap, subst, arith, append_assoc, append-nil}
-use Rattle.std.specs.Prelude.{IfSome, IsSome}
+use Rattle.std.specs.Prelude.{IfOk, IfSome, IsSome, OnOk, Result, Ok, Err}
 use Rattle.std.specs.Option.{option_or}
 use Rattle.std.proofs.lemmas.List.{length-append, length-map}
 use Rattle.dbl_record.specs.declared.record.Record.{Record}
 use Rattle.dbl_model_table.specs.declared.identity.Identity.{Identity}
 use Rattle.dbl_model_table.specs.declared.table.TableInfo.{TableInfo}
 use Rattle.dbl_model_table.specs.declared.change.Body.{Body}
-use Rattle.dbl_model_table.specs.declared.change.Body.TheVariants.{Changes}
+use Rattle.dbl_model_table.specs.declared.change.Body.TheVariants.{Changes, Mark}
 use Rattle.dbl_model_table.specs.declared.change.Change.{Change}
 use Rattle.dbl_model_table.specs.declared.change.Commit.{Commit}
 use Rattle.dbl_model_table.specs.declared.change.Ended.{Ended}
@@ -17,6 +17,7 @@ use Rattle.dbl_model_event.specs.Clashes.{Clash, clash_of, first_found, notice_c
 use Rattle.dbl_model_event.specs.Events.{Notice, notices, numbered}
 use Rattle.dbl_model_event.specs.EventJson.{print, envelopes}
 use Rattle.dbl_model_event.specs.OpenEvents.{unmarked}
+use Rattle.dbl_model_event.specs.SnapshotLists.{IsSnapshot}
 use Rattle.dbl_model_event.proofs.OpenLemmas.{clashes_on, records_by_head, records_on, records_show_no_end, first_clashes_stay}
 use Rattle.dbl_envelope.specs.Clashing.{notices_clash}
 use Rattle.dbl_envelope.specs.Suits.{Suits}
@@ -30,7 +31,7 @@ use Rattle.dbl_follow.specs.declared.window.Window.TheVariants.{Absent, Armed, O
 use Rattle.dbl_follow.specs.Amid.{PassesSoFar, AreReleased, IsAmid, EndsAs, Extends, held_of, ArmedWithinTransactions}
 use Rattle.dbl_follow.specs.Faults.{IsClashOf}
 use Rattle.dbl_follow.specs.Followed.{OpenPart, Following, IsWindowOf}
-use Rattle.dbl_follow.specs.Steps.{closing, records_of, clash_in, clash_by, cursors_after, Passes, Steps}
+use Rattle.dbl_follow.specs.Steps.{mark_of, closing, closed_of, records_of, records_by, clash_in, clash_by, cursors_after, Passes, Steps}
 use Rattle.dbl_follow.proofs.SnapshotSteps.{closing-None}
 use Rattle.dbl_follow.proofs.StepLemmas.{passes_on}
 
@@ -254,10 +255,49 @@ rest_clashes start old ended changes now released e a none clashes =
     let rests = amid_rests start old ended.head changes now released a none in
     subst (λ (l : List Change). IsClashOf (clash_by start (commit_by ended l)) e) (sym rests.unchanged) (subst (λ (f : Following). IsClashOf (clash_by f (commit_by ended [])) e) (sym rests.same) clashes)
 
+-- the commit that a watermark's end makes
+pub marked_commit : (ended : Ended) (text value : List ℕ) → text ≡ value → ended.mark ≡ Some value
+    → (let c : Commit = record { lsn = ended.head.lsn; end_lsn = ended.end_lsn; time = ended.head.time; xid = ended.head.xid; body = Mark text } in c) ≡ commit_by ended []
+marked_commit ended text value same marked =
+    ap (λ (l : List ℕ). let c : Commit = record { lsn = ended.head.lsn; end_lsn = ended.end_lsn; time = ended.head.time; xid = ended.head.xid; body = Mark l } in c) same
+    ∙ sym (ap (λ (o : Option (List ℕ)). commit_by (record { head = ended.head; end_lsn = ended.end_lsn; mark = o }) []) marked)
+
+-- what handling a watermark promises, as one record
+pub marks_end : {V : Type 0} (r : Result V FollowError) (items : V → List Record) (old new : Following) (commit : Commit) (value : List ℕ) (now : ℤ) → mark_of commit ≡ Some value
+    → IfOk r (λ v. items v ≡ records_by old commit now) → OnOk r (Steps old commit new) → OnOk r (clash_by old commit ≡ None)
+    → ((chunk : Chunk) → closing old.window (Some value) ≡ Some chunk → IfOk r (λ v. IsSnapshot old.identity old.infos (closed_of chunk) commit now (items v)))
+    → IfOk r (λ v. EndsAs old commit now (items v) new)
+marks_end (Ok v) items old new commit value now marked are steps none snapshot = record {
+  records_are = are;
+  steps = steps;
+  no_clash = none;
+  snapshot = λ chunk closed. snapshot chunk (ap (closing old.window) (sym marked) ∙ closed);
+}
+marks_end (Err e) items old new commit value now marked are steps none snapshot = tt
+
 -- ---- whole commits
 
 pub commit_is : (commit : Commit) (changes : List Change) → commit.body ≡ Changes changes → commit_by (ended_at (head_of commit) commit.end_lsn) changes ≡ commit
 commit_is commit changes is = λ i. record { lsn = commit.lsn; end_lsn = commit.end_lsn; time = commit.time; xid = commit.xid; body = sym is i }
+
+-- the commit that a transaction of these changes, with this Begin, is
+pub changes_end : (old new : Following) (commit : Commit) (head : Head) (changes : List Change) (now : ℤ) (records : List Record) → head ≡ head_of commit → commit.body ≡ Changes changes
+    → EndsAs old (commit_by (ended_at head commit.end_lsn) changes) now records new → EndsAs old commit now records new
+changes_end old new commit head changes now records at is ends =
+    subst (λ (c : Commit). EndsAs old c now records new) (commit_is commit changes is) (subst (λ (h : Head). EndsAs old (commit_by (ended_at h commit.end_lsn) changes) now records new) at ends)
+
+pub changes_clash : (old : Following) (commit : Commit) (head : Head) (changes : List Change) (e : FollowError) → head ≡ head_of commit → commit.body ≡ Changes changes
+    → IsClashOf (clash_by old (commit_by (ended_at head commit.end_lsn) changes)) e → IsClashOf (clash_by old commit) e
+changes_clash old commit head changes e at is clashes =
+    subst (λ (c : Commit). IsClashOf (clash_by old c) e) (commit_is commit changes is) (subst (λ (h : Head). IsClashOf (clash_by old (commit_by (ended_at h commit.end_lsn) changes)) e) at clashes)
+
+-- the commit of a watermark
+pub mark_commit : (commit : Commit) (head : Head) (value text : List ℕ) → head ≡ head_of commit → commit.body ≡ Mark value → text ≡ value
+    → commit_by (record { head = head; end_lsn = commit.end_lsn; mark = Some text }) [] ≡ commit
+mark_commit commit head value text at is same =
+    ap (λ (h : Head). commit_by (record { head = h; end_lsn = commit.end_lsn; mark = Some text }) []) at
+    ∙ ap (λ (l : List ℕ). commit_by (record { head = head_of commit; end_lsn = commit.end_lsn; mark = Some l }) []) same
+    ∙ (λ i. record { lsn = commit.lsn; end_lsn = commit.end_lsn; time = commit.time; xid = commit.xid; body = sym is i })
 
 -- the value equal to the placeholder that a transaction has so far is the first one of its commit
 pub clash_longer : (start : Following) (head : Head) (end_lsn : _) (changes more : List Change) (e : FollowError) → IsClashOf (clash_of start.identity start.infos (commit_so_far head changes)) e

@@ -338,6 +338,7 @@ armed_within start f head changes now released chunk a = record {
     armed_passes : (changes : List Change) → PassesSoFar start.infos (Armed chunk) changes (Armed chunk)
     armed_passes [] = refl
     armed_passes (c ∷ cs) = refl
+
     same_released : (changes : List Change) → AreReleased start head changes now released f.part → AreReleased (record start { window = Armed chunk }) head changes now released f.part
     same_released [] are = are
     same_released (c ∷ cs) are = are

@@ -127,8 +127,8 @@ module _ (infos : List TableInfo) where
       let one = piece_joins after m before piece none.0 are.0 in
       let rest = all_joined after (m ∷ before) ms pieces none.1 are.1 in (
         sym (append_assoc (commits_of infos before) (list_of (ended_by (changes_so_far infos before) piece)) (commits_by (joined (changes_so_far infos before) piece) pieces))
-        ∙ (ap (λ (o : Option Commit). (commits_of infos before ++ list_of o) ++ commits_by (joined (changes_so_far infos before) piece) pieces) one.commit
-        ∙ (ap (λ (l : List Change). commits_of infos (m ∷ before) ++ commits_by l pieces) one.changes ∙ rest.0)),
+            ∙ (ap (λ (o : Option Commit). (commits_of infos before ++ list_of o) ++ commits_by (joined (changes_so_far infos before) piece) pieces) one.commit
+            ∙ (ap (λ (l : List Change). commits_of infos (m ∷ before) ++ commits_by l pieces) one.changes ∙ rest.0)),
         ap (λ (l : List Change). joined_all l pieces) one.changes ∙ rest.1,
       )
 

@@ -27,9 +27,11 @@ numbered_last position ordinal (n ∷ m ∷ ns) =
 abbrev pub stamp_at : ℕ → Stamp
 stamp_at ordinal = record { ordinal = ordinal; last = true }
 
-records_last : (captured : Captured) (head : Head) (now : ℤ) (made : ℕ) (change : Change) → change_records captured (commit_so_far head []) now (stamp_at made) change ≡ records_after captured head now made change
+records_last : (captured : Captured) (head : Head) (now : ℤ) (made : ℕ) (change : Change)
+    → change_records captured (commit_so_far head []) now (stamp_at made) change ≡ records_after captured head now made change
 unfolding change_records
-records_last captured head now made change = ap (map (print captured.identity (commit_so_far head []) now)) (numbered_last head.lsn.0 made (notices captured.infos change))
+records_last captured head now made change =
+    ap (map (print captured.identity (commit_so_far head []) now)) (numbered_last head.lsn.0 made (notices captured.infos change))
 
 -- the change's records as this transaction's
 pub records_made : (captured : Captured) (head : Head) (now : ℤ) (made : ℕ) (change : Change) (records : OpenRecords) → HasMade captured head now made records
@@ -41,7 +43,8 @@ records_made captured head now made change records is =
     ∙ records_last captured head now made change
 
 -- between one and three records
-pub few_more : (captured : Captured) (commit : Commit) (now : ℤ) (stamp : Stamp) (change : Change) (old new : List Record) → Suits captured.infos change → new ≡ old ++ change_records captured commit now stamp change
+pub few_more : (captured : Captured) (commit : Commit) (now : ℤ) (stamp : Stamp) (change : Change) (old new : List Record) → Suits captured.infos change
+    → new ≡ old ++ change_records captured commit now stamp change
     → (length old + 1 ≤ length new) × (length new ≤ length old + 3)
 few_more captured commit now stamp change old new suits is =
     let told = change_records captured commit now stamp change in
@@ -49,8 +52,10 @@ few_more captured commit now stamp change old new suits is =
     let long : length new ≡ length old + length told = ap length is ∙ length-append old told in
     (omega (arith, count.1, long), omega (arith, count.0, long))
 
-pub appends : (captured : Captured) (head : Head) (now : ℤ) (made : ℕ) (change : Change) (old new : List Record) (before after : OpenRecords) → HasMade captured head now made before
-    → new ≡ old ++ change_records captured before.commit before.now_ms (stamp_at (made_by before)) change → after.commit ≡ before.commit → after.now_ms ≡ before.now_ms
+pub appends : (captured : Captured) (head : Head) (now : ℤ) (made : ℕ) (change : Change) (old new : List Record) (before after : OpenRecords)
+    → HasMade captured head now made before
+    → new ≡ old ++ change_records captured before.commit before.now_ms (stamp_at (made_by before)) change → after.commit ≡ before.commit
+    → after.now_ms ≡ before.now_ms
     → made_by after + length old ≡ made_by before + length new → HasTails captured after → AppendsRecords captured head now made change old new after
 appends captured head now made change old new before after is pushed commit time counted tails =
     let recs = records_after captured head now made change in
@@ -67,7 +72,8 @@ appends captured head now made change old new before after is pushed commit time
     }
 
 -- none was made yet
-pub none_made : (captured : Captured) (head : Head) (now : ℤ) (records : OpenRecords) (count : ℕ) → records.commit ≡ commit_so_far head [] → records.now_ms ≡ now → made_by records ≡ 0 → count ≡ length captured.infos
+pub none_made : (captured : Captured) (head : Head) (now : ℤ) (records : OpenRecords) (count : ℕ) → records.commit ≡ commit_so_far head []
+    → records.now_ms ≡ now → made_by records ≡ 0 → count ≡ length captured.infos
     → records.tails.items ≡ replicate count None → HasMade captured head now 0 records
 none_made captured head now records count commit time made long tails = record {
   commit = commit;

@@ -64,20 +64,24 @@ module _ (identity : Identity) (infos : List TableInfo) (head : Head) (now : ℤ
       ∙ ap (λ (l : List Notice). map (print identity (commit_so_far head []) now) (numbered head.lsn.0 0 l)) (one_change infos change)
 
   -- as many records as events
-  counted : (changes : List Change) (released : List Record) (held : Record) → released ++ held ∷ [] ≡ so_far changes → length (flat_map (notices infos) changes) ≡ length released + 1
+  counted : (changes : List Change) (released : List Record) (held : Record) → released ++ held ∷ [] ≡ so_far changes
+      → length (flat_map (notices infos) changes) ≡ length released + 1
   counted changes released held are =
       let ns = flat_map (notices infos) changes in
       let P = print identity (commit_so_far head []) now in
-      let long : length (released ++ held ∷ []) ≡ length (map P (numbered head.lsn.0 0 ns)) = ap length (are ∙ records_by_head identity infos head changes now) in
+      let long : length (released ++ held ∷ []) ≡ length (map P (numbered head.lsn.0 0 ns)) =
+      ap length (are ∙ records_by_head identity infos head changes now) in
       let printed : length (map P (numbered head.lsn.0 0 ns)) ≡ length ns = length-map (numbered head.lsn.0 0 ns) P ∙ length_numbered head.lsn.0 0 ns in
       omega (arith, long, printed, length-append released (held ∷ []))
 
-  next_records : (changes : List Change) (change : Change) (released : List Record) (held : Record) → released ++ held ∷ [] ≡ so_far changes → Suits infos change
+  next_records : (changes : List Change) (change : Change) (released : List Record) (held : Record) → released ++ held ∷ [] ≡ so_far changes
+      → Suits infos change
       → so_far (changes ++ change ∷ []) ≡ (released ++ unmarked held ∷ []) ++ records_after captured head now (length released + 1) change
   next_records changes change released held are suits =
       let P = print identity (commit_so_far head []) now in
       records_on identity infos head changes (change ∷ []) now released held (sym are) (some_events infos change suits)
-      ∙ ap (λ (n : ℕ). (released ++ unmarked held ∷ []) ++ map P (numbered head.lsn.0 n (flat_map (notices infos) (change ∷ [])))) (counted changes released held are)
+      ∙ ap (λ (n : ℕ). (released ++ unmarked held ∷ []) ++ map P (numbered head.lsn.0 n (flat_map (notices infos) (change ∷ []))))
+      (counted changes released held are)
       ∙ ap (λ (l : List Notice). (released ++ unmarked held ∷ []) ++ map P (numbered head.lsn.0 (length released + 1) l)) (one_change infos change)
 
 -- ---- what is released
@@ -85,7 +89,8 @@ module _ (identity : Identity) (infos : List TableInfo) (head : Head) (now : ℤ
 abbrev captured_by : Following → Captured
 captured_by f = record { identity = f.identity; infos = f.infos }
 
-first_released : (start : Following) (head : Head) (change : Change) (now : ℤ) (more : List Record) (new : Option OpenPart) → Extends (captured_by start) head now change None more new
+first_released : (start : Following) (head : Head) (change : Change) (now : ℤ) (more : List Record) (new : Option OpenPart)
+    → Extends (captured_by start) head now change None more new
     → AreReleased start head (change ∷ []) now more new
 first_released start head change now more new by =
     let long : length (more ++ by.0 ∷ []) ≡ length (records_after (captured_by start) head now 0 change) = ap length by.2 in
@@ -95,14 +100,16 @@ first_released start head change now more new by =
       by.2 ∙ sym (first_records start.identity start.infos head now change),
     )
 
-next_released : (start : Following) (head : Head) (c : Change) (cs : List Change) (change : Change) (now : ℤ) (released more : List Record) (held : Record) (new : Option OpenPart)
+next_released : (start : Following) (head : Head) (c : Change) (cs : List Change) (change : Change) (now : ℤ) (released more : List Record) (held : Record)
+    (new : Option OpenPart)
     → released ++ held ∷ [] ≡ envelopes start.identity start.infos (commit_so_far head (c ∷ cs)) now → Suits start.infos change
     → Extends (captured_by start) head now change (Some (record { head = head; now = now; made = length released + 1; held = held })) more new
     → AreReleased start head (c ∷ (cs ++ change ∷ [])) now (released ++ more) new
 next_released start head c cs change now released more held new are suits by =
     let recs = records_after (captured_by start) head now (length released + 1) change in
     let long : length (more ++ by.0 ∷ []) ≡ length recs + 1 = ap length by.2 ∙ omega arith in
-    let made : (length released + 1) + length recs ≡ length (released ++ more) + 1 = omega (arith, long, length-append more (by.0 ∷ []), length-append released more) in (
+    let made : (length released + 1) + length recs ≡ length (released ++ more) + 1 =
+    omega (arith, long, length-append more (by.0 ∷ []), length-append released more) in (
       by.0,
       by.1 ∙ ap (λ (n : ℕ). let p : OpenPart = record { head = head; now = now; made = n; held = by.0 } in Some p) made,
       append_assoc released more (by.0 ∷ [])
@@ -111,29 +118,35 @@ next_released start head c cs change now released more held new are suits by =
           ∙ sym (next_records start.identity start.infos head now (c ∷ cs) change released held are suits),
     )
 
-released_more : (start : Following) (head : Head) (changes : List Change) (change : Change) (now now_ms : ℤ) (released more : List Record) (old new : Option OpenPart)
-    → AreReleased start head changes now released old → (changes ≡ [] → now ≡ now_ms) → Suits start.infos change → Extends (captured_by start) head now_ms change old more new
+released_more : (start : Following) (head : Head) (changes : List Change) (change : Change) (now now_ms : ℤ) (released more : List Record)
+    (old new : Option OpenPart)
+    → AreReleased start head changes now released old → (changes ≡ [] → now ≡ now_ms) → Suits start.infos change
+    → Extends (captured_by start) head now_ms change old more new
     → AreReleased start head (changes ++ change ∷ []) now (released ++ more) new
 released_more start head [] change now now_ms released more old new are at suits by =
     subst (λ (l : List Record). AreReleased start head (change ∷ []) now (l ++ more) new) (sym are.1)
     (first_released start head change now more new
-    (subst (λ (t : ℤ). Extends (captured_by start) head t change None more new) (sym (at refl)) (subst (λ (o : Option OpenPart). Extends (captured_by start) head now_ms change o more new) are.0 by)))
+    (subst (λ (t : ℤ). Extends (captured_by start) head t change None more new) (sym (at refl))
+    (subst (λ (o : Option OpenPart). Extends (captured_by start) head now_ms change o more new) are.0 by)))
 released_more start head (c ∷ cs) change now now_ms released more old new are at suits by =
     next_released start head c cs change now released more are.0 new are.2 suits
     (subst (λ (o : Option OpenPart). Extends (captured_by start) head now_ms change o more new) are.1 by)
 
 -- ---- one more change
 
-passes_more : (infos : List TableInfo) (changes : List Change) (change : Change) (first middle last : Window) → PassesSoFar infos first changes middle → Passes infos middle (change ∷ []) last
+passes_more : (infos : List TableInfo) (changes : List Change) (change : Change) (first middle last : Window) → PassesSoFar infos first changes middle
+    → Passes infos middle (change ∷ []) last
     → PassesSoFar infos first (changes ++ change ∷ []) last
 passes_more infos [] change first middle last a b = subst (λ (w : Window). Passes infos w (change ∷ []) last) a b
 passes_more infos (c ∷ cs) change first middle last a b = passes_on infos (c ∷ cs) (change ∷ []) first middle last a b
 
-pub identity_kept : (start f : Following) (head : Head) (changes : List Change) (now : ℤ) (released : List Record) → IsAmid start head changes now released f → captured_by f ≡ captured_by start
+pub identity_kept : (start f : Following) (head : Head) (changes : List Change) (now : ℤ) (released : List Record) → IsAmid start head changes now released f
+    → captured_by f ≡ captured_by start
 identity_kept start f head changes now released a = ap captured_by a.same
 
 -- the first value equal to the placeholder of one more change
-pub clash_more : (start f : Following) (head : Head) (changes : List Change) (change : Change) (now : ℤ) (released : List Record) → IsAmid start head changes now released f
+pub clash_more : (start f : Following) (head : Head) (changes : List Change) (change : Change) (now : ℤ) (released : List Record)
+    → IsAmid start head changes now released f
     → clash_of start.identity start.infos (commit_so_far head (changes ++ change ∷ [])) ≡ notices_clash f.identity.placeholder f.infos change
 clash_more start f head changes change now released a =
     clashes_on start.identity start.infos head changes (change ∷ [])
@@ -141,17 +154,21 @@ clash_more start f head changes change now released a =
     ∙ ap (first_found (notice_clash start.identity.placeholder)) (one_change start.infos change)
     ∙ ap (λ (k : Captured). notices_clash k.identity.placeholder k.infos change) (sym (identity_kept start f head changes now released a))
 
-pub amid_more : (start old new : Following) (head : Head) (changes : List Change) (change : Change) (now now_ms : ℤ) (released more : List Record) → IsAmid start head changes now released old
+pub amid_more : (start old new : Following) (head : Head) (changes : List Change) (change : Change) (now now_ms : ℤ) (released more : List Record)
+    → IsAmid start head changes now released old
     → (changes ≡ [] → now ≡ now_ms) → Suits old.infos change → Extends (captured_by old) head now_ms change old.part more new.part
-    → notices_clash old.identity.placeholder old.infos change ≡ None → Passes old.infos old.window (change ∷ []) new.window → new ≡ record old { window = new.window; part = new.part }
+    → notices_clash old.identity.placeholder old.infos change ≡ None → Passes old.infos old.window (change ∷ []) new.window
+    → new ≡ record old { window = new.window; part = new.part }
     → IsAmid start head (changes ++ change ∷ []) now (released ++ more) new
 amid_more start old new head changes change now now_ms released more a at suits by none passes same =
     let kept = identity_kept start old head changes now released a in record {
       between = a.between;
       same = same ∙ ap (λ (f : Following). record f { window = new.window; part = new.part }) a.same;
-      passes = passes_more start.infos changes change start.window old.window new.window a.passes (subst (λ (k : Captured). Passes k.infos old.window (change ∷ []) new.window) kept passes);
+      passes = passes_more start.infos changes change start.window old.window new.window a.passes
+          (subst (λ (k : Captured). Passes k.infos old.window (change ∷ []) new.window) kept passes);
       no_clash = clash_more start old head changes change now released a ∙ none;
-      released_are = released_more start head changes change now now_ms released more old.part new.part a.released_are at (subst (λ (k : Captured). Suits k.infos change) kept suits)
+      released_are = released_more start head changes change now now_ms released more old.part new.part a.released_are at
+          (subst (λ (k : Captured). Suits k.infos change) kept suits)
           (subst (λ (k : Captured). Extends k head now_ms change old.part more new.part) kept by);
     }
 
@@ -166,7 +183,8 @@ pub record IsAtRest (start f : Following) (changes : List Change) (released : Li
   pub unreleased : released ≡ []
   pub same : start ≡ f
 
-pub amid_rests : (start f : Following) (head : Head) (changes : List Change) (now : ℤ) (released : List Record) → IsAmid start head changes now released f → f.part ≡ None → IsAtRest start f changes released
+pub amid_rests : (start f : Following) (head : Head) (changes : List Change) (now : ℤ) (released : List Record) → IsAmid start head changes now released f
+    → f.part ≡ None → IsAtRest start f changes released
 amid_rests start f head [] now released a none =
     let part : f.part ≡ start.part = none ∙ sym a.between in
     let window : f.window ≡ start.window = a.passes in
@@ -180,7 +198,8 @@ amid_rests start f head (c ∷ cs) now released a none =
     absurd (cc (is, none))
 
 -- the head of an open transaction
-pub amid_head : (start f : Following) (head : Head) (changes : List Change) (now : ℤ) (released : List Record) (part : OpenPart) → IsAmid start head changes now released f → f.part ≡ Some part → part.head ≡ head
+pub amid_head : (start f : Following) (head : Head) (changes : List Change) (now : ℤ) (released : List Record) (part : OpenPart)
+    → IsAmid start head changes now released f → f.part ≡ Some part → part.head ≡ head
 amid_head start f head [] now released part a is = let none = a.released_are.0 in absurd (cc (none, is))
 amid_head start f head (c ∷ cs) now released part a is =
     let whole : OpenPart = record { head = head; now = now; made = length released + 1; held = a.released_are.0 } in
@@ -195,7 +214,8 @@ passes_none infos Absent is = refl
 passes_none infos (Armed chunk) is = refl
 passes_none infos (Open chunk) is = (chunk.rows, refl, λ key. refl, is.ordered)
 
-passed : (infos : List TableInfo) (changes : List Change) (old new : Window) → IsWindowOf infos new → PassesSoFar infos old changes new → Passes infos old changes new
+passed : (infos : List TableInfo) (changes : List Change) (old new : Window) → IsWindowOf infos new → PassesSoFar infos old changes new
+    → Passes infos old changes new
 passed infos [] old new is passes = subst (λ (w : Window). Passes infos w [] new) passes (passes_none infos new is)
 passed infos (c ∷ cs) old new is passes = passes
 
@@ -208,8 +228,10 @@ all_released start f head (c ∷ cs) now released a = ap (λ (o : Option OpenPar
 unmarked_end : (ended : Ended) → ended.mark ≡ None → ended ≡ ended_at ended.head ended.end_lsn
 unmarked_end ended none = λ i. record { head = ended.head; end_lsn = ended.end_lsn; mark = none i }
 
-ends_at : (start old new : Following) (ended : Ended) (changes : List Change) (now : ℤ) (released more : List Record) → IsAmid start ended.head changes now released old → IsWindowOf old.infos old.window
-    → more ≡ held_of old.part → new ≡ record old { part = None } → EndsAs start (commit_by (ended_at ended.head ended.end_lsn) changes) now (released ++ more) new
+ends_at : (start old new : Following) (ended : Ended) (changes : List Change) (now : ℤ) (released more : List Record)
+    → IsAmid start ended.head changes now released old → IsWindowOf old.infos old.window
+    → more ≡ held_of old.part → new ≡ record old { part = None }
+    → EndsAs start (commit_by (ended_at ended.head ended.end_lsn) changes) now (released ++ more) new
 ends_at start old new ended changes now released more a window_is held same =
     let commit : Commit = commit_by (ended_at ended.head ended.end_lsn) changes in
     let closes : closing start.window None ≡ None = closing-None start.window in
@@ -219,7 +241,8 @@ ends_at start old new ended changes now released more a window_is held same =
     record {
       records_are = ap (λ (l : List Record). released ++ l) held
           ∙ all_released start old ended.head changes now released a
-          ∙ sym (ap (λ (o : Option Chunk). records_of start o commit now) closes ∙ records_show_no_end start.identity start.infos (ended_at ended.head ended.end_lsn) changes now refl);
+          ∙ sym (ap (λ (o : Option Chunk). records_of start o commit now) closes
+          ∙ records_show_no_end start.identity start.infos (ended_at ended.head ended.end_lsn) changes now refl);
       steps = record {
         began = a.between;
         ended = ap (λ (f : Following). f.part) ends;
@@ -233,37 +256,46 @@ ends_at start old new ended changes now released more a window_is held same =
       snapshot = λ chunk closed. (let contra : None ≡ Some chunk = sym closes ∙ closed in absurd (cc));
     }
 
-pub amid_ends : (start old new : Following) (ended : Ended) (changes : List Change) (now : ℤ) (released more : List Record) → IsAmid start ended.head changes now released old → ended.mark ≡ None
-    → IsWindowOf old.infos old.window → more ≡ held_of old.part → new ≡ record old { part = None } → EndsAs start (commit_by ended changes) now (released ++ more) new
+pub amid_ends : (start old new : Following) (ended : Ended) (changes : List Change) (now : ℤ) (released more : List Record)
+    → IsAmid start ended.head changes now released old → ended.mark ≡ None
+    → IsWindowOf old.infos old.window → more ≡ held_of old.part → new ≡ record old { part = None }
+    → EndsAs start (commit_by ended changes) now (released ++ more) new
 amid_ends start old new ended changes now released more a none window_is held same =
     subst (λ (e : Ended). EndsAs start (commit_by e changes) now (released ++ more) new) (sym (unmarked_end ended none))
     (ends_at start old new ended changes now released more a window_is held same)
 
 -- ---- the end of a watermark's transaction
 
-pub rest_ends : (start old new : Following) (ended : Ended) (changes : List Change) (now now_ms : ℤ) (released more : List Record) → IsAmid start ended.head changes now released old → old.part ≡ None
+pub rest_ends : (start old new : Following) (ended : Ended) (changes : List Change) (now now_ms : ℤ) (released more : List Record)
+    → IsAmid start ended.head changes now released old → old.part ≡ None
     → (changes ≡ [] → now ≡ now_ms) → EndsAs old (commit_by ended []) now_ms more new → EndsAs start (commit_by ended changes) now (released ++ more) new
 rest_ends start old new ended changes now now_ms released more a none at ends =
     let rests = amid_rests start old ended.head changes now released a none in
     subst (λ (l : List Record). EndsAs start (commit_by ended changes) now (l ++ more) new) (sym rests.unreleased)
     (subst (λ (l : List Change). EndsAs start (commit_by ended l) now more new) (sym rests.unchanged)
-    (subst (λ (t : ℤ). EndsAs start (commit_by ended []) t more new) (sym (at rests.unchanged)) (subst (λ (f : Following). EndsAs f (commit_by ended []) now_ms more new) (sym rests.same) ends)))
+    (subst (λ (t : ℤ). EndsAs start (commit_by ended []) t more new) (sym (at rests.unchanged))
+    (subst (λ (f : Following). EndsAs f (commit_by ended []) now_ms more new) (sym rests.same) ends)))
 
-pub rest_clashes : (start old : Following) (ended : Ended) (changes : List Change) (now : ℤ) (released : List Record) (e : FollowError) → IsAmid start ended.head changes now released old → old.part ≡ None
+pub rest_clashes : (start old : Following) (ended : Ended) (changes : List Change) (now : ℤ) (released : List Record) (e : FollowError)
+    → IsAmid start ended.head changes now released old → old.part ≡ None
     → IsClashOf (clash_by old (commit_by ended [])) e → IsClashOf (clash_by start (commit_by ended changes)) e
 rest_clashes start old ended changes now released e a none clashes =
     let rests = amid_rests start old ended.head changes now released a none in
-    subst (λ (l : List Change). IsClashOf (clash_by start (commit_by ended l)) e) (sym rests.unchanged) (subst (λ (f : Following). IsClashOf (clash_by f (commit_by ended [])) e) (sym rests.same) clashes)
+    subst (λ (l : List Change). IsClashOf (clash_by start (commit_by ended l)) e) (sym rests.unchanged)
+    (subst (λ (f : Following). IsClashOf (clash_by f (commit_by ended [])) e) (sym rests.same) clashes)
 
 -- the commit that a watermark's end makes
 pub marked_commit : (ended : Ended) (text value : List ℕ) → text ≡ value → ended.mark ≡ Some value
-    → (let c : Commit = record { lsn = ended.head.lsn; end_lsn = ended.end_lsn; time = ended.head.time; xid = ended.head.xid; body = Mark text } in c) ≡ commit_by ended []
+    → (let c : Commit = record { lsn = ended.head.lsn; end_lsn = ended.end_lsn; time = ended.head.time; xid = ended.head.xid; body = Mark text } in c)
+    ≡ commit_by ended []
 marked_commit ended text value same marked =
-    ap (λ (l : List ℕ). let c : Commit = record { lsn = ended.head.lsn; end_lsn = ended.end_lsn; time = ended.head.time; xid = ended.head.xid; body = Mark l } in c) same
+    ap (λ (l : List ℕ). let c : Commit =
+    record { lsn = ended.head.lsn; end_lsn = ended.end_lsn; time = ended.head.time; xid = ended.head.xid; body = Mark l } in c) same
     ∙ sym (ap (λ (o : Option (List ℕ)). commit_by (record { head = ended.head; end_lsn = ended.end_lsn; mark = o }) []) marked)
 
 -- what handling a watermark promises, as one record
-pub marks_end : {V : Type 0} (r : Result V FollowError) (items : V → List Record) (old new : Following) (commit : Commit) (value : List ℕ) (now : ℤ) → mark_of commit ≡ Some value
+pub marks_end : {V : Type 0} (r : Result V FollowError) (items : V → List Record) (old new : Following) (commit : Commit) (value : List ℕ) (now : ℤ)
+    → mark_of commit ≡ Some value
     → IfOk r (λ v. items v ≡ records_by old commit now) → OnOk r (Steps old commit new) → OnOk r (clash_by old commit ≡ None)
     → ((chunk : Chunk) → closing old.window (Some value) ≡ Some chunk → IfOk r (λ v. IsSnapshot old.identity old.infos (closed_of chunk) commit now (items v)))
     → IfOk r (λ v. EndsAs old commit now (items v) new)
@@ -277,19 +309,24 @@ marks_end (Err e) items old new commit value now marked are steps none snapshot 
 
 -- ---- whole commits
 
-pub commit_is : (commit : Commit) (changes : List Change) → commit.body ≡ Changes changes → commit_by (ended_at (head_of commit) commit.end_lsn) changes ≡ commit
+pub commit_is : (commit : Commit) (changes : List Change) → commit.body ≡ Changes changes
+    → commit_by (ended_at (head_of commit) commit.end_lsn) changes ≡ commit
 commit_is commit changes is = λ i. record { lsn = commit.lsn; end_lsn = commit.end_lsn; time = commit.time; xid = commit.xid; body = sym is i }
 
 -- the commit that a transaction of these changes, with this Begin, is
-pub changes_end : (old new : Following) (commit : Commit) (head : Head) (changes : List Change) (now : ℤ) (records : List Record) → head ≡ head_of commit → commit.body ≡ Changes changes
+pub changes_end : (old new : Following) (commit : Commit) (head : Head) (changes : List Change) (now : ℤ) (records : List Record) → head ≡ head_of commit
+    → commit.body ≡ Changes changes
     → EndsAs old (commit_by (ended_at head commit.end_lsn) changes) now records new → EndsAs old commit now records new
 changes_end old new commit head changes now records at is ends =
-    subst (λ (c : Commit). EndsAs old c now records new) (commit_is commit changes is) (subst (λ (h : Head). EndsAs old (commit_by (ended_at h commit.end_lsn) changes) now records new) at ends)
+    subst (λ (c : Commit). EndsAs old c now records new) (commit_is commit changes is)
+    (subst (λ (h : Head). EndsAs old (commit_by (ended_at h commit.end_lsn) changes) now records new) at ends)
 
-pub changes_clash : (old : Following) (commit : Commit) (head : Head) (changes : List Change) (e : FollowError) → head ≡ head_of commit → commit.body ≡ Changes changes
+pub changes_clash : (old : Following) (commit : Commit) (head : Head) (changes : List Change) (e : FollowError) → head ≡ head_of commit
+    → commit.body ≡ Changes changes
     → IsClashOf (clash_by old (commit_by (ended_at head commit.end_lsn) changes)) e → IsClashOf (clash_by old commit) e
 changes_clash old commit head changes e at is clashes =
-    subst (λ (c : Commit). IsClashOf (clash_by old c) e) (commit_is commit changes is) (subst (λ (h : Head). IsClashOf (clash_by old (commit_by (ended_at h commit.end_lsn) changes)) e) at clashes)
+    subst (λ (c : Commit). IsClashOf (clash_by old c) e) (commit_is commit changes is)
+    (subst (λ (h : Head). IsClashOf (clash_by old (commit_by (ended_at h commit.end_lsn) changes)) e) at clashes)
 
 -- the commit of a watermark
 pub mark_commit : (commit : Commit) (head : Head) (value text : List ℕ) → head ≡ head_of commit → commit.body ≡ Mark value → text ≡ value
@@ -300,11 +337,13 @@ mark_commit commit head value text at is same =
     ∙ (λ i. record { lsn = commit.lsn; end_lsn = commit.end_lsn; time = commit.time; xid = commit.xid; body = sym is i })
 
 -- the value equal to the placeholder that a transaction has so far is the first one of its commit
-pub clash_longer : (start : Following) (head : Head) (end_lsn : _) (changes more : List Change) (e : FollowError) → IsClashOf (clash_of start.identity start.infos (commit_so_far head changes)) e
+pub clash_longer : (start : Following) (head : Head) (end_lsn : _) (changes more : List Change) (e : FollowError)
+    → IsClashOf (clash_of start.identity start.infos (commit_so_far head changes)) e
     → IsClashOf (clash_by start (commit_by (ended_at head end_lsn) (changes ++ more))) e
 clash_longer start head end_lsn changes more e h = by (clash_of start.identity start.infos (commit_so_far head changes)) refl h
   where
-    by : (o : Option Clash) → clash_of start.identity start.infos (commit_so_far head changes) ≡ o → IsClashOf o e → IsClashOf (clash_by start (commit_by (ended_at head end_lsn) (changes ++ more))) e
+    by : (o : Option Clash) → clash_of start.identity start.infos (commit_so_far head changes) ≡ o → IsClashOf o e
+        → IsClashOf (clash_by start (commit_by (ended_at head end_lsn) (changes ++ more))) e
     by None is clashes = λ other. (let contra = clashes other in absurd (cc (contra)))
     by (Some clash) is clashes =
         subst (λ (o : Option Clash). IsClashOf o e)
@@ -317,7 +356,8 @@ no_part None mark value unmarked_if is = refl
 no_part (Some part) mark value unmarked_if is = let none = unmarked_if tt in absurd (cc (none, is))
 
 -- an open transaction's head, as a condition
-pub heads_fit : (start f : Following) (head : Head) (changes : List Change) (now : ℤ) (released : List Record) → IsAmid start head changes now released f → IfSome f.part (λ part. part.head ≡ head)
+pub heads_fit : (start f : Following) (head : Head) (changes : List Change) (now : ℤ) (released : List Record) → IsAmid start head changes now released f
+    → IfSome f.part (λ part. part.head ≡ head)
 heads_fit start f head changes now released a = by f.part refl
   where
     by : (o : Option OpenPart) → f.part ≡ o → IfSome o (λ part. part.head ≡ head)
@@ -339,6 +379,7 @@ armed_within start f head changes now released chunk a = record {
     armed_passes [] = refl
     armed_passes (c ∷ cs) = refl
 
-    same_released : (changes : List Change) → AreReleased start head changes now released f.part → AreReleased (record start { window = Armed chunk }) head changes now released f.part
+    same_released : (changes : List Change) → AreReleased start head changes now released f.part
+        → AreReleased (record start { window = Armed chunk }) head changes now released f.part
     same_released [] are = are
     same_released (c ∷ cs) are = are

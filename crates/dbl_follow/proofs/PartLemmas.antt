@@ -29,7 +29,8 @@ holds_last captured head now made change old all new records held a popped = rec
 }
 
 -- the records go on to be made for this transaction
-pub part_makes : (captured : Captured) (head : Head) (now : ℤ) (made : ℕ) (change : Change) (old new : List Record) (part : Part) → HoldsLast captured head now made change old new part → IsPartOf captured (Some part)
+pub part_makes : (captured : Captured) (head : Head) (now : ℤ) (made : ℕ) (change : Change) (old new : List Record) (part : Part)
+    → HoldsLast captured head now made change old new part → IsPartOf captured (Some part)
 part_makes captured head now made change old new part h = record {
   commit = h.makes.commit ∙ ap (λ (x : Head). commit_so_far x []) (sym h.head_is);
   now_is = h.makes.now_is ∙ sym h.now_is;
@@ -37,20 +38,24 @@ part_makes captured head now made change old new part h = record {
   tails = h.makes.tails;
 }
 
-part_is : (captured : Captured) (head : Head) (now : ℤ) (made : ℕ) (change : Change) (old new : List Record) (part : Part) → HoldsLast captured head now made change old new part
-    → Some (part_of part) ≡ (let p : OpenPart = record { head = head; now = now; made = made + length (records_after captured head now made change); held = part.held } in Some p)
+part_is : (captured : Captured) (head : Head) (now : ℤ) (made : ℕ) (change : Change) (old new : List Record) (part : Part)
+    → HoldsLast captured head now made change old new part
+    → Some (part_of part) ≡ (let p : OpenPart =
+    record { head = head; now = now; made = made + length (records_after captured head now made change); held = part.held } in Some p)
 part_is captured head now made change old new part h =
     let head_is : part.head ≡ head = h.head_is in
     let now_is : part.now_ms ≡ now = h.now_is in
     let made_is : made_by part.records ≡ made + length (records_after captured head now made change) = h.makes.made_is in
     λ i. Some (record { head = head_is i; now = now_is i; made = made_is i; held = part.held })
 
-pub first_extends : (captured : Captured) (head : Head) (now : ℤ) (change : Change) (released : List Record) (part : Part) → HoldsLast captured head now 0 change [] released part
+pub first_extends : (captured : Captured) (head : Head) (now : ℤ) (change : Change) (released : List Record) (part : Part)
+    → HoldsLast captured head now 0 change [] released part
     → Extends captured head now change None released (Some (part_of part))
 first_extends captured head now change released part h =
     let none : 0 + length (records_after captured head now 0 change) ≡ length (records_after captured head now 0 change) = omega arith in (
       part.held,
-      part_is captured head now 0 change [] released part h ∙ ap (λ (n : ℕ). let p : OpenPart = record { head = head; now = now; made = n; held = part.held } in Some p) none,
+      part_is captured head now 0 change [] released part h
+          ∙ ap (λ (n : ℕ). let p : OpenPart = record { head = head; now = now; made = n; held = part.held } in Some p) none,
       h.appended,
     )
 

@@ -50,21 +50,26 @@ no_changes changes r none is = cc
 
 module _ (infos : List TableInfo) where
   -- the changes so far after a message that neither begins nor ends a transaction
-  so_far : (m : Message) (ms : List Message) → IsFurther m → changes_so_far infos (m ∷ ms) ≡ if_open (begin_of ms) (open_changes infos ms ++ ok_or_none (stated infos m ms))
+  so_far : (m : Message) (ms : List Message) → IsFurther m
+      → changes_so_far infos (m ∷ ms) ≡ if_open (begin_of ms) (open_changes infos ms ++ ok_or_none (stated infos m ms))
   so_far m ms further =
-      ap (λ (o : Option Head). if_open o (open_changes infos (m ∷ ms))) (begin_push infos m ms further) ∙ ap (if_open (begin_of ms)) (changes_push infos m ms further)
+      ap (λ (o : Option Head). if_open o (open_changes infos (m ∷ ms))) (begin_push infos m ms further)
+      ∙ ap (if_open (begin_of ms)) (changes_push infos m ms further)
 
   -- a message that states no change
-  silent : (m : Message) (ms : List Message) (piece : Piece) → IsFurther m → stated infos m ms ≡ Ok [] → ended_commit infos m ms ≡ None → IsPiece infos m ms piece → Joins infos m ms piece
+  silent : (m : Message) (ms : List Message) (piece : Piece) → IsFurther m → stated infos m ms ≡ Ok [] → ended_commit infos m ms ≡ None
+      → IsPiece infos m ms piece → Joins infos m ms piece
   silent m ms Nothing further none ends is = record {
-    changes = sym (so_far m ms further ∙ ap (λ (r : Result (List Change) TxnError). if_open (begin_of ms) (open_changes infos ms ++ ok_or_none r)) none ∙ ap (if_open (begin_of ms)) (append-nil (open_changes infos ms)));
+    changes = sym (so_far m ms further ∙ ap (λ (r : Result (List Change) TxnError). if_open (begin_of ms) (open_changes infos ms ++ ok_or_none r)) none
+        ∙ ap (if_open (begin_of ms)) (append-nil (open_changes infos ms)));
     commit = sym ends;
   }
   silent m ms (Changed changes) further none ends is = absurd (is.1 (no_changes changes (stated infos m ms) none is.0))
   silent m ms (Ended ended) further none ends is = cc
 
   -- a message that states changes
-  stating : (m : Message) (ms : List Message) (piece : Piece) → IsFurther m → IsOpenAt (begin_of ms) → ended_commit infos m ms ≡ None → IsPiece infos m ms piece → Joins infos m ms piece
+  stating : (m : Message) (ms : List Message) (piece : Piece) → IsFurther m → IsOpenAt (begin_of ms) → ended_commit infos m ms ≡ None
+      → IsPiece infos m ms piece → Joins infos m ms piece
   stating m ms Nothing further begun ends is = silent m ms Nothing further is.0 ends is
   stating m ms (Changed changes) further begun ends is = record {
     changes = ap (λ (l : List Change). l ++ changes) (changes_open (begin_of ms) (open_changes infos ms) begun)
@@ -74,12 +79,14 @@ module _ (infos : List TableInfo) where
   }
   stating m ms (Ended ended) further begun ends is = cc
 
-  begins : (lsn : Lsn) (time : _) (xid : _) (ms : List Message) (piece : Piece) → begin_of ms ≡ None → IsPiece infos (says.Begin lsn time xid) ms piece → Joins infos (says.Begin lsn time xid) ms piece
+  begins : (lsn : Lsn) (time : _) (xid : _) (ms : List Message) (piece : Piece) → begin_of ms ≡ None → IsPiece infos (says.Begin lsn time xid) ms piece
+      → Joins infos (says.Begin lsn time xid) ms piece
   begins lsn time xid ms Nothing closed is = record { changes = ap (λ (o : Option Head). if_open o (open_changes infos ms)) closed; commit = refl }
   begins lsn time xid ms (Changed changes) closed is = absurd (is.1 (no_changes changes (Ok []) refl is.0))
   begins lsn time xid ms (Ended ended) closed is = cc
 
-  ends : (flags : _) (lsn end_lsn : Lsn) (time : _) (ms : List Message) (piece : Piece) → IsOpenAt (begin_of ms) → IsPiece infos (says.Commit flags lsn end_lsn time) ms piece
+  ends : (flags : _) (lsn end_lsn : Lsn) (time : _) (ms : List Message) (piece : Piece) → IsOpenAt (begin_of ms)
+      → IsPiece infos (says.Commit flags lsn end_lsn time) ms piece
       → Joins infos (says.Commit flags lsn end_lsn time) ms piece
   ends flags lsn end_lsn time ms Nothing begun is =
       let some = ap (option_map (commit_of lsn end_lsn (open_mark ms) (open_changes infos ms))) begun.found in
@@ -92,33 +99,43 @@ module _ (infos : List TableInfo) where
   }
 
   -- one more message without a fault
-  pub piece_joins : (after : Lsn) (m : Message) (ms : List Message) (piece : Piece) → transaction_fault infos after m ms ≡ None → IsPiece infos m ms piece → Joins infos m ms piece
+  pub piece_joins : (after : Lsn) (m : Message) (ms : List Message) (piece : Piece) → transaction_fault infos after m ms ≡ None → IsPiece infos m ms piece
+      → Joins infos m ms piece
   piece_joins after (says.Begin lsn time xid) ms piece fine is =
-      begins lsn time xid ms piece (closed_so (begin_of ms) errors.NestedBegin (first_none (place_fault (says.Begin lsn time xid) (is_some (begin_of ms))) (own_fault infos after (says.Begin lsn time xid) ms) fine).0) is
+      begins lsn time xid ms piece (closed_so (begin_of ms) errors.NestedBegin
+      (first_none (place_fault (says.Begin lsn time xid) (is_some (begin_of ms))) (own_fault infos after (says.Begin lsn time xid) ms) fine).0) is
   piece_joins after (says.Commit flags lsn end_lsn time) ms piece fine is =
       ends flags lsn end_lsn time ms piece
-      (open_so (begin_of ms) errors.OutsideTransaction (first_none (place_fault (says.Commit flags lsn end_lsn time) (is_some (begin_of ms))) (own_fault infos after (says.Commit flags lsn end_lsn time) ms) fine).0) is
+      (open_so (begin_of ms) errors.OutsideTransaction
+      (first_none (place_fault (says.Commit flags lsn end_lsn time) (is_some (begin_of ms)))
+      (own_fault infos after (says.Commit flags lsn end_lsn time) ms) fine).0) is
   piece_joins after (says.Origin l n) ms piece fine is = silent (says.Origin l n) ms piece tt refl refl is
   piece_joins after (says.TypeName o n m) ms piece fine is = silent (says.TypeName o n m) ms piece tt refl refl is
   piece_joins after (says.Relation o n m i c) ms piece fine is = silent (says.Relation o n m i c) ms piece tt refl refl is
   piece_joins after (says.Logical f l p c) ms piece fine is = silent (says.Logical f l p c) ms piece tt refl refl is
   piece_joins after (says.Insert oid new) ms piece fine is =
       stating (says.Insert oid new) ms piece tt
-      (open_so (begin_of ms) errors.OutsideTransaction (first_none (place_fault (says.Insert oid new) (is_some (begin_of ms))) (own_fault infos after (says.Insert oid new) ms) fine).0) refl is
+      (open_so (begin_of ms) errors.OutsideTransaction
+      (first_none (place_fault (says.Insert oid new) (is_some (begin_of ms))) (own_fault infos after (says.Insert oid new) ms) fine).0) refl is
   piece_joins after (says.Update oid before new) ms piece fine is =
       stating (says.Update oid before new) ms piece tt
-      (open_so (begin_of ms) errors.OutsideTransaction (first_none (place_fault (says.Update oid before new) (is_some (begin_of ms))) (own_fault infos after (says.Update oid before new) ms) fine).0) refl is
+      (open_so (begin_of ms) errors.OutsideTransaction
+      (first_none (place_fault (says.Update oid before new) (is_some (begin_of ms))) (own_fault infos after (says.Update oid before new) ms) fine).0) refl is
   piece_joins after (says.Delete oid before) ms piece fine is =
       stating (says.Delete oid before) ms piece tt
-      (open_so (begin_of ms) errors.OutsideTransaction (first_none (place_fault (says.Delete oid before) (is_some (begin_of ms))) (own_fault infos after (says.Delete oid before) ms) fine).0) refl is
+      (open_so (begin_of ms) errors.OutsideTransaction
+      (first_none (place_fault (says.Delete oid before) (is_some (begin_of ms))) (own_fault infos after (says.Delete oid before) ms) fine).0) refl is
   piece_joins after (says.Truncate options oids) ms piece fine is =
       stating (says.Truncate options oids) ms piece tt
-      (open_so (begin_of ms) errors.OutsideTransaction (first_none (place_fault (says.Truncate options oids) (is_some (begin_of ms))) (own_fault infos after (says.Truncate options oids) ms) fine).0) refl is
+      (open_so (begin_of ms) errors.OutsideTransaction
+      (first_none (place_fault (says.Truncate options oids) (is_some (begin_of ms))) (own_fault infos after (says.Truncate options oids) ms) fine).0) refl is
 
   -- ---- all pieces
 
-  all_joined : (after : Lsn) (before ms : List Message) (pieces : List Piece) → first_transaction_fault infos after before ms ≡ None → ArePieces infos before ms pieces
-      → (commits_of infos before ++ commits_by (changes_so_far infos before) pieces ≡ commits_of infos (onto before ms)) × (joined_all (changes_so_far infos before) pieces ≡ changes_so_far infos (onto before ms))
+  all_joined : (after : Lsn) (before ms : List Message) (pieces : List Piece) → first_transaction_fault infos after before ms ≡ None
+      → ArePieces infos before ms pieces
+      → (commits_of infos before ++ commits_by (changes_so_far infos before) pieces ≡ commits_of infos (onto before ms)) ×
+      (joined_all (changes_so_far infos before) pieces ≡ changes_so_far infos (onto before ms))
   all_joined after before [] [] fine are = (append-nil (commits_of infos before), refl)
   all_joined after before [] (piece ∷ pieces) fine are = absurd are
   all_joined after before (m ∷ ms) [] fine are = absurd are
@@ -126,7 +143,8 @@ module _ (infos : List TableInfo) where
       let none = first_none (transaction_fault infos after m before) (first_transaction_fault infos after (m ∷ before) ms) fine in
       let one = piece_joins after m before piece none.0 are.0 in
       let rest = all_joined after (m ∷ before) ms pieces none.1 are.1 in (
-        sym (append_assoc (commits_of infos before) (list_of (ended_by (changes_so_far infos before) piece)) (commits_by (joined (changes_so_far infos before) piece) pieces))
+        sym (append_assoc (commits_of infos before) (list_of (ended_by (changes_so_far infos before) piece))
+            (commits_by (joined (changes_so_far infos before) piece) pieces))
             ∙ (ap (λ (o : Option Commit). (commits_of infos before ++ list_of o) ++ commits_by (joined (changes_so_far infos before) piece) pieces) one.commit
             ∙ (ap (λ (l : List Change). commits_of infos (m ∷ before) ++ commits_by l pieces) one.changes ∙ rest.0)),
         ap (λ (l : List Change). joined_all l pieces) one.changes ∙ rest.1,
@@ -138,7 +156,8 @@ pieces_joined infos after ms pieces fine are = all_joined infos after [] ms piec
 -- ---- one piece
 
 module _ (infos : List TableInfo) where
-  pub stated_piece : (m : Message) (ms : List Message) (changes : List Change) → stated infos m ms ≡ Ok changes → ended_commit infos m ms ≡ None → IsPiece infos m ms (piece_of changes)
+  pub stated_piece : (m : Message) (ms : List Message) (changes : List Change) → stated infos m ms ≡ Ok changes → ended_commit infos m ms ≡ None
+      → IsPiece infos m ms (piece_of changes)
   stated_piece m ms [] states none = (states, none)
   stated_piece m ms (c ∷ changes) states none = (states, λ empty. cc)
 
@@ -200,7 +219,8 @@ module _ (infos : List TableInfo) where
       let is : IsPiece infos m ms (Ended ended) = ap (option_map (commit_of lsn end_lsn (open_mark ms) (open_changes infos ms))) begun.found in
       (Ended ended, is, λ other by. pieces_one m ms (Ended ended) other is by)
 
-  one_row : (after : Lsn) (m : Message) (ms : List Message) → own_fault infos after m ms ≡ None → own_fault infos after m ms ≡ err_of (stated infos m ms) → ended_commit infos m ms ≡ None → OnePiece m ms
+  one_row : (after : Lsn) (m : Message) (ms : List Message) → own_fault infos after m ms ≡ None → own_fault infos after m ms ≡ err_of (stated infos m ms)
+      → ended_commit infos m ms ≡ None → OnePiece m ms
   one_row after m ms fine own none = one_stated m ms (ok_or_none (stated infos m ms)) (was_ok (stated infos m ms) (sym own ∙ fine)) none
 
 pub one_piece : EachMessageHasOnePiece
@@ -211,7 +231,9 @@ one_piece infos after (says.Relation o n m i c) ms fine = one_stated infos (says
 one_piece infos after (says.Logical f l p c) ms fine = one_stated infos (says.Logical f l p c) ms [] refl refl
 one_piece infos after (says.Commit flags lsn end_lsn time) ms fine =
     one_ended infos flags lsn end_lsn time ms
-    (open_so (begin_of ms) errors.OutsideTransaction (first_none (place_fault (says.Commit flags lsn end_lsn time) (is_some (begin_of ms))) (own_fault infos after (says.Commit flags lsn end_lsn time) ms) fine).0)
+    (open_so (begin_of ms) errors.OutsideTransaction
+    (first_none (place_fault (says.Commit flags lsn end_lsn time) (is_some (begin_of ms)))
+    (own_fault infos after (says.Commit flags lsn end_lsn time) ms) fine).0)
 one_piece infos after (says.Insert oid new) ms fine =
     let m : Message = says.Insert oid new in
     one_row infos after m ms (first_none (place_fault m (is_some (begin_of ms))) (own_fault infos after m ms) fine).1 refl refl

@@ -28,8 +28,10 @@ no_last (y ∷ front) x is = cc
 -- ---- numbered events, printed
 
 module _ (identity : Identity) (commit : Commit) (now : ℤ) where
-  pub printed_on : (p o : ℕ) (ns ms : List Notice) (released : List Record) (held : Record) → ms ≢ [] → map (print identity commit now) (numbered p o ns) ≡ released ++ held ∷ []
-      → map (print identity commit now) (numbered p o (ns ++ ms)) ≡ (released ++ unmarked held ∷ []) ++ map (print identity commit now) (numbered p (o + length ns) ms)
+  pub printed_on : (p o : ℕ) (ns ms : List Notice) (released : List Record) (held : Record) → ms ≢ []
+      → map (print identity commit now) (numbered p o ns) ≡ released ++ held ∷ []
+      → map (print identity commit now) (numbered p o (ns ++ ms)) ≡ (released ++ unmarked held ∷ []) ++ map (print identity commit now)
+      (numbered p (o + length ns) ms)
   printed_on p o [] ms released held some is = absurd (no_last released held is)
   printed_on p o (n ∷ []) [] released held some is = absurd (some refl)
   printed_on p o (n ∷ []) (m ∷ ms) [] held some is =
@@ -52,21 +54,25 @@ map_same f g same [] = refl
 map_same f g same (x ∷ xs) = ap₂ (λ (y : _) (l : List _). y ∷ l) (same x) (map_same f g same xs)
 
 -- each shows its commit's head alone
-print_head : (identity : Identity) (ended : Ended) (changes : List Change) (now : ℤ) (event : Event) → print identity (commit_by ended changes) now event ≡ print identity (commit_so_far ended.head []) now event
+print_head : (identity : Identity) (ended : Ended) (changes : List Change) (now : ℤ) (event : Event)
+    → print identity (commit_by ended changes) now event ≡ print identity (commit_so_far ended.head []) now event
 unfolding source_data
 print_head identity ended changes now event = refl
 
 pub records_by_head : (identity : Identity) (infos : List TableInfo) (head : Head) (changes : List Change) (now : ℤ)
-    → envelopes identity infos (commit_so_far head changes) now ≡ map (print identity (commit_so_far head []) now) (numbered head.lsn.0 0 (flat_map (notices infos) changes))
+    → envelopes identity infos (commit_so_far head changes) now ≡ map (print identity (commit_so_far head []) now)
+    (numbered head.lsn.0 0 (flat_map (notices infos) changes))
 records_by_head identity infos head changes now =
-    map_same (print identity (commit_so_far head changes) now) (print identity (commit_so_far head []) now) (print_head identity (ended_at head head.lsn) changes now)
+    map_same (print identity (commit_so_far head changes) now) (print identity (commit_so_far head []) now)
+    (print_head identity (ended_at head head.lsn) changes now)
     (numbered head.lsn.0 0 (flat_map (notices infos) changes))
 
 -- the records so far, and those of further changes
 pub records_on : (identity : Identity) (infos : List TableInfo) (head : Head) (changes more : List Change) (now : ℤ) (released : List Record) (held : Record)
     → envelopes identity infos (commit_so_far head changes) now ≡ released ++ held ∷ [] → flat_map (notices infos) more ≢ []
     → envelopes identity infos (commit_so_far head (changes ++ more)) now
-    ≡ (released ++ unmarked held ∷ []) ++ map (print identity (commit_so_far head []) now) (numbered head.lsn.0 (length (flat_map (notices infos) changes)) (flat_map (notices infos) more))
+    ≡ (released ++ unmarked held ∷ []) ++ map (print identity (commit_so_far head []) now)
+    (numbered head.lsn.0 (length (flat_map (notices infos) changes)) (flat_map (notices infos) more))
 records_on identity infos head changes more now released held is some =
     let ns = flat_map (notices infos) changes in
     let ms = flat_map (notices infos) more in
@@ -88,8 +94,10 @@ bodies (Some value) changes none = cc
 pub records_show_no_end : RecordsShowNoEnd
 records_show_no_end identity infos ended changes now none =
     let P = print identity (commit_so_far ended.head []) now in
-    map_same (print identity (commit_by ended changes) now) P (print_head identity ended changes now) (numbered ended.head.lsn.0 0 (flat_map (notices infos) (changes_of (commit_by ended changes))))
-    ∙ ap (λ (b : Body). map P (numbered ended.head.lsn.0 0 (flat_map (notices infos) (elim b [ Changes cs ↦ cs | Mark v ↦ [] ])))) (bodies ended.mark changes none)
+    map_same (print identity (commit_by ended changes) now) P (print_head identity ended changes now)
+    (numbered ended.head.lsn.0 0 (flat_map (notices infos) (changes_of (commit_by ended changes))))
+    ∙ ap (λ (b : Body). map P (numbered ended.head.lsn.0 0 (flat_map (notices infos) (elim b [ Changes cs ↦ cs | Mark v ↦ [] ]))))
+    (bodies ended.mark changes none)
     ∙ sym (records_by_head identity infos ended.head changes now)
 
 -- ---- values equal to the placeholder
@@ -111,4 +119,5 @@ clashes_on identity infos head changes more =
 
 pub first_clashes_stay : FirstClashesStay
 first_clashes_stay identity infos head changes more clash found =
-    clashes_on identity infos head changes more ∙ ap (λ (o : Option Clash). option_or o (first_found (notice_clash identity.placeholder) (flat_map (notices infos) more))) found
+    clashes_on identity infos head changes more
+    ∙ ap (λ (o : Option Clash). option_or o (first_found (notice_clash identity.placeholder) (flat_map (notices infos) more))) found

@@ -27,7 +27,8 @@ none_buffered None = refl
 none_buffered (Some head) = refl
 
 -- a piece was taken and nothing buffered
-pub piece_taken : (infos : List TableInfo) (after : Lsn) (m : Message) (ms : List Message) (a b : Assembler) (piece : Piece) → StandsInPieces infos after ms a → b.buffered.items ≡ a.buffered.items
+pub piece_taken : (infos : List TableInfo) (after : Lsn) (m : Message) (ms : List Message) (a b : Assembler) (piece : Piece) → StandsInPieces infos after ms a
+    → b.buffered.items ≡ a.buffered.items
     → ReadPiece infos after m ms b.reader piece → TakenPiece infos after m ms b piece
 piece_taken infos after m ms a b piece s same read = record {
   clean = read.clean;
@@ -36,14 +37,17 @@ piece_taken infos after m ms a b piece s same read = record {
 }
 
 -- the effect of a piece, by the result
-pub pieces_taken : (infos : List TableInfo) (after : Lsn) (m : Message) (ms : List Message) (a b : Assembler) (r : Result Piece TxnError) → StandsInPieces infos after ms a → b.buffered.items ≡ a.buffered.items
+pub pieces_taken : (infos : List TableInfo) (after : Lsn) (m : Message) (ms : List Message) (a b : Assembler) (r : Result Piece TxnError)
+    → StandsInPieces infos after ms a → b.buffered.items ≡ a.buffered.items
     → ReadsPiece infos after m ms b.reader r → TakesPiece infos after m ms b r
 pieces_taken infos after m ms a b (Ok piece) s same read = piece_taken infos after m ms a b piece s same read
 pieces_taken infos after m ms a b (Err e) s same fails = fails
 
 -- a message was taken, and what its piece adds is buffered
-pub whole_taken : (infos : List TableInfo) (after : Lsn) (m : Message) (ms : List Message) (a b : Assembler) (piece : Piece) (o : Option Commit) → StandsWhole infos after ms a
-    → ReadPiece infos after m ms b.reader piece → b.buffered.items ≡ joined a.buffered.items piece → o ≡ ended_by a.buffered.items piece → Taken infos after m ms b o
+pub whole_taken : (infos : List TableInfo) (after : Lsn) (m : Message) (ms : List Message) (a b : Assembler) (piece : Piece) (o : Option Commit)
+    → StandsWhole infos after ms a
+    → ReadPiece infos after m ms b.reader piece → b.buffered.items ≡ joined a.buffered.items piece → o ≡ ended_by a.buffered.items piece
+    → Taken infos after m ms b o
 whole_taken infos after m ms a b piece o s read buffers ends =
     let joins = piece_joins infos after m ms piece read.clean read.is in record {
       clean = read.clean;
@@ -52,7 +56,8 @@ whole_taken infos after m ms a b piece o s read buffers ends =
     }
 
 -- one more table was learnt
-pub whole_learnt : (infos : List TableInfo) (info : TableInfo) (after : Lsn) (ms : List Message) (a b : Assembler) → StandsWhole infos after ms a → HasNoRelation info.name ms → b.buffered.items ≡ a.buffered.items
+pub whole_learnt : (infos : List TableInfo) (info : TableInfo) (after : Lsn) (ms : List Message) (a b : Assembler) → StandsWhole infos after ms a
+    → HasNoRelation info.name ms → b.buffered.items ≡ a.buffered.items
     → HasRead (infos ++ info ∷ []) after ms b.reader → StandsWhole (infos ++ info ∷ []) after ms b
 whole_learnt infos info after ms a b s none same reads = record {
   reads = reads;
@@ -63,7 +68,8 @@ others_buffered : (o : Option Head) (held other : List Change) → o ≡ None �
 others_buffered None held other none = refl
 others_buffered (Some head) held other none = cc
 
-other_stands : (infos : List TableInfo) (after : Lsn) (ms : List Message) (held other : List Change) (a : Assembler) → begin_of ms ≡ None → Stands infos after ms held a → Stands infos after ms other a
+other_stands : (infos : List TableInfo) (after : Lsn) (ms : List Message) (held other : List Change) (a : Assembler) → begin_of ms ≡ None
+    → Stands infos after ms held a → Stands infos after ms other a
 other_stands infos after ms held other a none s = record { reads = s.reads; buffers = s.buffers ∙ others_buffered (begin_of ms) held other none }
 
 pub both_stand : BetweenTransactionsBothStand

@@ -45,9 +45,11 @@ none_open mark changed (Some head) h = absurd h
 open_with : (infos : List TableInfo) (after : Lsn) (ms : List Message) (r : PieceReader) (block : Block) → HasRead infos after ms r → r.block ≡ Some block
     → IsBegun (begin_of ms) (open_mark ms) (has_some (open_changes infos ms)) block
 open_with infos after ms r block s was =
-    begun (begin_of ms) (open_mark ms) (has_some (open_changes infos ms)) block (subst (IsOpen (open_mark ms) (has_some (open_changes infos ms)) (begin_of ms)) was s.block)
+    begun (begin_of ms) (open_mark ms) (has_some (open_changes infos ms)) block
+    (subst (IsOpen (open_mark ms) (has_some (open_changes infos ms)) (begin_of ms)) was s.block)
 
-matched : (o : Option Head) (head : Head) (lsn : Lsn) (e : TxnError) → o ≡ Some head → head.lsn.0 ≡ lsn.0 → first_of (if is_some o then None else Some e) (mismatch o lsn) ≡ None
+matched : (o : Option Head) (head : Head) (lsn : Lsn) (e : TxnError) → o ≡ Some head → head.lsn.0 ≡ lsn.0
+    → first_of (if is_some o then None else Some e) (mismatch o lsn) ≡ None
 matched o head lsn e found is = rw found (rw (eq-eqb head.lsn.0 lsn.0 is) refl)
 
 -- a Commit with the Begin's LSN
@@ -92,16 +94,20 @@ truncate_read infos after ms r options oids changes said = record {
   reads = said.reads;
 }
 
-known_learnt : (infos : List TableInfo) (info : TableInfo) (o : Option Relation) → ((r : Relation) → o ≡ Some r → ¬ (r.name ≡ info.name)) → option_map (known_in infos) o ≡ option_map (known_in (infos ++ info ∷ [])) o
+known_learnt : (infos : List TableInfo) (info : TableInfo) (o : Option Relation) → ((r : Relation) → o ≡ Some r → ¬ (r.name ≡ info.name))
+    → option_map (known_in infos) o ≡ option_map (known_in (infos ++ info ∷ [])) o
 known_learnt infos info None other = refl
 known_learnt infos info (Some r) other = ap (λ t. Some (record { relation = r; target = t })) (sym (target_learnt infos info r.name (other r refl)))
 
 -- one more table was learnt
-pub reads_learnt : (infos : List TableInfo) (info : TableInfo) (after : Lsn) (ms : List Message) (a b : PieceReader) → HasRead infos after ms a → HasNoRelation info.name ms
+pub reads_learnt : (infos : List TableInfo) (info : TableInfo) (after : Lsn) (ms : List Message) (a b : PieceReader) → HasRead infos after ms a
+    → HasNoRelation info.name ms
     → b.infos.items ≡ a.infos.items ++ info ∷ [] → b.last ≡ a.last → b.relations ≡ a.relations → b.block ≡ a.block → HasRead (infos ++ info ∷ []) after ms b
 reads_learnt infos info after ms a b s none is last relations block = record {
   tables = is ∙ ap (λ (l : List TableInfo). l ++ info ∷ []) s.tables;
   last = last ∙ s.last;
-  relations = λ oid. subst (λ m. get nat_eq m oid ≡ option_map (known_in (infos ++ info ∷ [])) (relation_of oid ms)) (sym relations) (s.relations oid ∙ known_learnt infos info (relation_of oid ms) (other_relation info.name oid ms none));
-  block = subst (λ (cs : List Change). IsOpen (open_mark ms) (has_some cs) (begin_of ms) b.block) (sym (changes_learnt infos info ms none)) (subst (IsOpen (open_mark ms) (has_some (open_changes infos ms)) (begin_of ms)) (sym block) s.block);
+  relations = λ oid. subst (λ m. get nat_eq m oid ≡ option_map (known_in (infos ++ info ∷ [])) (relation_of oid ms)) (sym relations)
+      (s.relations oid ∙ known_learnt infos info (relation_of oid ms) (other_relation info.name oid ms none));
+  block = subst (λ (cs : List Change). IsOpen (open_mark ms) (has_some cs) (begin_of ms) b.block) (sym (changes_learnt infos info ms none))
+      (subst (IsOpen (open_mark ms) (has_some (open_changes infos ms)) (begin_of ms)) (sym block) s.block);
 }

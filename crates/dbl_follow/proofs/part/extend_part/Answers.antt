@@ -10,5 +10,6 @@ hold_last-requires-clause-tails c = c.requires.made.tails
 
 pub returns-clause-held : goal.returns-clause-held
 returns-clause-held c =
-    subst (λ (l : List Record). IfOk c.hold_last.result (HoldsLast c.args.writer.now c.args.part.head c.args.part.now_ms (made_by c.args.part.records) c.args.change.now l c.hold_last.new.out.items))
+    subst (λ (l : List Record). IfOk c.hold_last.result
+    (HoldsLast c.args.writer.now c.args.part.head c.args.part.now_ms (made_by c.args.part.records) c.args.change.now l c.hold_last.new.out.items))
     c.in_ok-push.ensures.items (c.hold_last.ensures.held (made_by c.args.part.records) c.requires.made)

@@ -15,8 +15,10 @@ returns-in-Some-clause-ends c = λ start changes now released amid at. (
     let old = c.args.self.now in
     let ended = c.args.ended.now in
     let none = no_part old.part ended.mark c.in-Some.value.now c.requires.mark (sym c.in-Some.is) in
-    IfOk-weaker c.end_mark.result _ _ (λ records ends. rest_ends start old c.end_mark.new.self ended changes now c.args.now_ms released records.items amid none at ends)
-    (subst (λ (m : ℤ). IfOk c.end_mark.result (λ records. EndsAs old (commit_by ended []) m records.items c.end_mark.new.self)) (to_z-of_z c.ranges.now_ms) c.end_mark.ensures.ends))
+    IfOk-weaker c.end_mark.result _ _
+    (λ records ends. rest_ends start old c.end_mark.new.self ended changes now c.args.now_ms released records.items amid none at ends)
+    (subst (λ (m : ℤ). IfOk c.end_mark.result (λ records. EndsAs old (commit_by ended []) m records.items c.end_mark.new.self))
+    (to_z-of_z c.ranges.now_ms) c.end_mark.ensures.ends))
 
 pub returns-in-Some-clause-err : goal.returns-in-Some-clause-err
 returns-in-Some-clause-err c = λ start changes now released amid. (
@@ -29,4 +31,5 @@ pub returns-clause-ends : goal.returns-clause-ends
 returns-clause-ends c = λ start changes now released amid at. c.end_changes.ensures.ends start c.args.ended.now changes now released amid (sym c.in-None.is)
 
 pub returns-clause-err : goal.returns-clause-err
-returns-clause-err c = λ start changes now released amid. IfErr-weaker c.end_changes.result _ _ (λ e memory other. absurd (other memory)) c.end_changes.ensures.err
+returns-clause-err c = λ start changes now released amid. IfErr-weaker c.end_changes.result _ _
+    (λ e memory other. absurd (other memory)) c.end_changes.ensures.err

@@ -17,7 +17,14 @@ invariant_of-self c = record {
 pub returns-clause-ends : goal.returns-clause-ends
 returns-clause-ends c = λ start ended changes now released amid unmarked. (
     let inside = c.self.inside in
-    let view : Following = record { identity = inside.writer.identity; infos = inside.writer.infos; cursors = inside.cursors.items; window = inside.window; part = option_map part_of inside.part } in
+    let view : Following = record {
+      identity = inside.writer.identity;
+      infos = inside.writer.infos;
+      cursors = inside.cursors.items;
+      window = inside.window;
+      part = option_map part_of inside.part;
+    } in
     let new : Following = record view { part = option_map part_of c.end_part.new.part } in
-    amid_ends start view new ended changes now released c.in_ok-records.records.items (subst (IsAmid start ended.head changes now released) (sym c.self.view_is) amid) unmarked c.self.invariant.window_is
+    amid_ends start view new ended changes now released c.in_ok-records.records.items
+    (subst (IsAmid start ended.head changes now released) (sym c.self.view_is) amid) unmarked c.self.invariant.window_is
     c.in_ok-records.ensures.held (ap (λ (o : Option Part). record view { part = option_map part_of o }) c.end_part.ensures.none))

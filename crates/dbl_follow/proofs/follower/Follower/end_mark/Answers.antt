@@ -13,7 +13,8 @@ returns-clause-ends c =
     let is = marked_commit c.args.ended.now c.in_ok-copy.field-0 value c.in_ok-copy.ensures c.requires.mark in
     let at = c.see_mark.ensures in
     subst (λ (x : Commit). IfOk c.see_mark.result (λ records. EndsAs c.args.self.now x c.args.now_ms records.items c.see_mark.new.self)) is
-    (marks_end c.see_mark.result (λ records. records.items) c.args.self.now c.see_mark.new.self _ value c.args.now_ms (ap (λ (l : List ℕ). Some l) c.in_ok-copy.ensures) at.records at.steps at.no_clash at.snapshot)
+    (marks_end c.see_mark.result (λ records. records.items) c.args.self.now c.see_mark.new.self _ value c.args.now_ms
+    (ap (λ (l : List ℕ). Some l) c.in_ok-copy.ensures) at.records at.steps at.no_clash at.snapshot)
 
 pub returns-clause-err : goal.returns-clause-err
 returns-clause-err c =

@@ -21,7 +21,8 @@ loop-change-init c = amid_begins c.args.self.now c.args.head.now c.args.now_ms c
 
 pub change-requires-clause-head : goal.change-requires-clause-head
 change-requires-clause-head c =
-    heads_fit c.args.self.now c.loop-change.self c.args.head.now (take c.loop-change.change-index c.args.changes.now.items) c.args.now_ms c.loop-change.records.items c.loop-change.invariant
+    heads_fit c.args.self.now c.loop-change.self c.args.head.now
+    (take c.loop-change.change-index c.args.changes.now.items) c.args.now_ms c.loop-change.records.items c.loop-change.invariant
 
 pub change-requires-clause-fits : goal.change-requires-clause-fits
 change-requires-clause-fits c =
@@ -44,8 +45,10 @@ loop-change-preserved c =
     let is : item ≡ get_or changes i item = c.change-item.is ∙ ap (λ (l : List Change). get_or l i item) items in
     let taken : take (i + 1) changes ≡ take i changes ++ item ∷ [] = take_more changes i item lt ∙ ap (λ (x : Change). take i changes ++ x ∷ []) (sym is) in
     subst (λ (l : List Change). IsAmid c.args.self.now c.args.head.now l c.args.now_ms c.append.new.self.items c.change.new.self) (sym taken)
-    (subst (λ (l : List Record). IsAmid c.args.self.now c.args.head.now (take i changes ++ item ∷ []) c.args.now_ms l c.change.new.self) (sym c.in_ok-append.ensures.items)
-    (c.in_ok-more.ensures.amid c.args.self.now (take i changes) c.args.now_ms c.loop-change.records.items c.loop-change.invariant (λ none. sym (to_z-of_z c.ranges.now_ms))))
+    (subst (λ (l : List Record). IsAmid c.args.self.now c.args.head.now (take i changes ++ item ∷ []) c.args.now_ms l c.change.new.self)
+    (sym c.in_ok-append.ensures.items)
+    (c.in_ok-more.ensures.amid c.args.self.now (take i changes) c.args.now_ms c.loop-change.records.items c.loop-change.invariant
+    (λ none. sym (to_z-of_z c.ranges.now_ms))))
 
 pub returns-in_err-more-clause-err : goal.returns-in_err-more-clause-err
 returns-in_err-more-clause-err c =
@@ -56,8 +59,10 @@ returns-in_err-more-clause-err c =
     let lt : i < length changes = subst (λ (l : List Change). i < length l) items c.loop-change-test.true in
     let is : item ≡ get_or changes i item = c.change-item.is ∙ ap (λ (l : List Change). get_or l i item) items in
     let taken : take (i + 1) changes ≡ take i changes ++ item ∷ [] = take_more changes i item lt ∙ ap (λ (x : Change). take i changes ++ x ∷ []) (sym is) in
-    let whole : (take i changes ++ item ∷ []) ++ drop (i + 1) changes ≡ changes = ap (λ (l : List Change). l ++ drop (i + 1) changes) (sym taken) ∙ take-append-drop (i + 1) changes in
+    let whole : (take i changes ++ item ∷ []) ++ drop (i + 1) changes ≡ changes = ap (λ (l : List Change). l ++ drop (i + 1) changes) (sym taken)
+    ∙ take-append-drop (i + 1) changes in
     let p = err_from_is_err_and c.from_residual.result c.from_residual.ensures.1 in
-    rw (p.1, p.2) (subst (λ (l : List Change). IsClashOf (clash_by c.args.self.now (commit_by (ended_at c.args.head.now c.args.end_lsn) l)) c.in_err-more.field-0.0) whole
+    rw (p.1, p.2) (subst (λ (l : List Change). IsClashOf
+    (clash_by c.args.self.now (commit_by (ended_at c.args.head.now c.args.end_lsn) l)) c.in_err-more.field-0.0) whole
     (clash_longer c.args.self.now c.args.head.now c.args.end_lsn (take i changes ++ item ∷ []) (drop (i + 1) changes) c.in_err-more.field-0.0
     (c.in_err-more.ensures.err c.args.self.now (take i changes) c.args.now_ms c.loop-change.records.items c.loop-change.invariant)))

@@ -11,7 +11,8 @@ returns-clause-learnt c = λ infos after ms held s none. (
 pub returns-clause-whole : goal.returns-clause-whole
 returns-clause-whole c = λ infos after ms s none. (
     let now : Assembler = record { reader = c.learn.new.self; buffered = c.args.self.now.buffered } in
-    on_ok_weaker c.learn.result (λ reads. whole_learnt infos c.args.info after ms c.args.self.now now s none refl reads) (c.learn.ensures.learnt infos after ms s.reads none))
+    on_ok_weaker c.learn.result (λ reads. whole_learnt infos c.args.info after ms c.args.self.now now s none refl reads)
+    (c.learn.ensures.learnt infos after ms s.reads none))
 
 pub returns-clause-kept : goal.returns-clause-kept
 returns-clause-kept c = λ infos after ms held s. (

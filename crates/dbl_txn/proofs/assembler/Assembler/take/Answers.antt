@@ -19,13 +19,15 @@ pub returns-in-Nothing : goal.returns-in-Nothing
 returns-in-Nothing c = λ infos after ms s. (
     let now : Assembler = record { reader = c.read.new.self; buffered = c.args.self.now.buffered } in
     whole_taken infos after c.args.message ms c.args.self.now now Nothing None s
-    (subst (λ (p : Piece). ReadPiece infos after c.args.message ms c.read.new.self p) (sym c.in-Nothing.is) (c.in_ok-piece.ensures infos after ms s.reads)) refl refl)
+    (subst (λ (p : Piece). ReadPiece infos after c.args.message ms c.read.new.self p) (sym c.in-Nothing.is) (c.in_ok-piece.ensures infos after ms s.reads))
+    refl refl)
 
 pub returns-in_ok-buffer-in-Changed : goal.returns-in_ok-buffer-in-Changed
 returns-in_ok-buffer-in-Changed c = λ infos after ms s. (
     let now : Assembler = record { reader = c.read.new.self; buffered = c.buffer.new.buffered } in
     whole_taken infos after c.args.message ms c.args.self.now now (Changed c.in-Changed.changes) None s
-    (subst (λ (p : Piece). ReadPiece infos after c.args.message ms c.read.new.self p) (sym c.in-Changed.is) (c.in_ok-piece.ensures infos after ms s.reads)) c.in_ok-buffer-in-Changed.ensures refl)
+    (subst (λ (p : Piece). ReadPiece infos after c.args.message ms c.read.new.self p) (sym c.in-Changed.is) (c.in_ok-piece.ensures infos after ms s.reads))
+    c.in_ok-buffer-in-Changed.ensures refl)
 
 pub returns : goal.returns
 returns c = λ infos after ms s. (

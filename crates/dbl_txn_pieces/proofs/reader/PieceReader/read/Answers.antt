@@ -13,5 +13,6 @@ returns-in-Origin c = λ infos after ms s. (
 
 pub returns : goal.returns
 returns c = λ infos after ms s. (
-    rw c.in-Truncate.is (subst (λ (l : List ℕ). ReadsPiece infos after (says.Truncate c.in-Truncate.options l) ms c.read_truncate.new.self c.read_truncate.result) c.items.ensures
+    rw c.in-Truncate.is (subst (λ (l : List ℕ). ReadsPiece infos after
+    (says.Truncate c.in-Truncate.options l) ms c.read_truncate.new.self c.read_truncate.result) c.items.ensures
     (c.read_truncate.ensures infos after ms c.in-Truncate.options s)))

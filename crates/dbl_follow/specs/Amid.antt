@@ -54,7 +54,8 @@ pub record EndsAs (start : Following) (commit : Commit) (now : ℤ) (records : L
 -- For private clauses: the effect of one more change on the open transaction, and the records that it releases.
 abbrev pub Extends : Captured → Head → ℤ → Change → Option OpenPart → List Record → Option OpenPart → Type 0
 Extends captured head now change None released new =
-    (held : Record) × (new ≡ Some (record { head = head; now = now; made = length (records_after captured head now 0 change); held = held }))
+    (held : Record)
+    × (new ≡ Some (record { head = head; now = now; made = length (records_after captured head now 0 change); held = held }))
     × (released ++ held ∷ [] ≡ records_after captured head now 0 change)
 Extends captured head now change (Some part) released new =
     (held : Record)

@@ -37,7 +37,7 @@ use Rattle.dbl_tables_laws.specs.SourceModel.ModelCommit.declared.message_parts.
 use Rattle.dbl_tables_laws.specs.SourceModel.ModelCommit.declared.txn_error.TxnError.{TxnError}
 use Rattle.dbl_tables_laws.specs.SourceModel.ModelCommit.declared.txn_error.TxnError.TheVariants as errors
 use Rattle.dbl_tables_laws.specs.SourceModel.ModelCommit.Blocks.{AreWithoutFault}
-use Rattle.dbl_tables_laws.specs.SourceModel.ModelCommit.Past.{Begun, begin_of, described, last_lsn, open_mark, relation_of}
+use Rattle.dbl_tables_laws.specs.SourceModel.ModelCommit.Past.{Head, begin_of, described, last_lsn, open_mark, relation_of}
 use Rattle.dbl_tables_laws.specs.SourceModel.ModelCommit.Stated.{captured_at, columns_fault, err_of, first_of, has_some, list_of, mismatch, open_changes, own_fault, place_fault, row_stated, same_column, same_columns, schema_fault, stated, stated_in, target, transaction_fault}
 use Rattle.dbl_tables_laws.specs.SourceModel.ModelCommit.Tuples.{◌>>=◌, some_or}
 use Rattle.dbl_tables_laws.proofs.SeenLemmas.{at_oid, named_there}
@@ -127,25 +127,25 @@ module _ (tables : List LogTable) (infos : List TableInfo) (after : Lsn) (named 
   pub begin_moved : (n : ℕ) (past : List Message) → begin_of past ≡ None → (last_lsn after past).0 < 256 * n → HaveMovedAtMost infos after past → HaveMovedAtMost infos after (begin_message n ∷ past)
   begin_moved n past closed below =
       fine (begin_message n) past
-      (ap (λ (o : Option Begun). first_of (place_fault (begin_message n) (is_some o)) (own_fault infos after (begin_message n) past)) closed
+      (ap (λ (o : Option Head). first_of (place_fault (begin_message n) (is_some o)) (own_fault infos after (begin_message n) past)) closed
       ∙ ap (λ (b : Bool). if b then None else Some (errors.LsnOrder (last_lsn after past) (lsn_of n))) (number_below (last_lsn after past).0 (256 * n) below))
 
   pub commit_moved : (n : ℕ) (past : List Message) → begin_of past ≡ Some (begun_of n) → HaveMovedAtMost infos after past → HaveMovedAtMost infos after (commit_message n ∷ past)
   commit_moved n past begun =
       fine (commit_message n) past
-      (ap (λ (o : Option Begun). first_of (place_fault (commit_message n) (is_some o)) (mismatch o (lsn_of n))) begun
+      (ap (λ (o : Option Head). first_of (place_fault (commit_message n) (is_some o)) (mismatch o (lsn_of n))) begun
       ∙ ap (λ (b : Bool). if b then None else Some (errors.CommitMismatch (lsn_of n) (lsn_of n))) (number_itself (256 * n)))
 
   -- ---- a change
 
   -- it is in an open transaction
-  in_place : (m : Message) (past : List Message) (begun : Begun) → begin_of past ≡ Some begun → ChangeFacts tables infos after m past → transaction_fault infos after m past ≡ err_of (stated infos m past)
+  in_place : (m : Message) (past : List Message) (begun : Head) → begin_of past ≡ Some begun → ChangeFacts tables infos after m past → transaction_fault infos after m past ≡ err_of (stated infos m past)
   in_place m past begun some f =
-      ap (λ (b : Option Begun). first_of (place_fault m (is_some b)) (own_fault infos after m past)) some
+      ap (λ (b : Option Head). first_of (place_fault m (is_some b)) (own_fault infos after m past)) some
       ∙ ap (λ (e : Option TxnError). first_of e (own_fault infos after m past)) f.placed
       ∙ f.own
 
-  pub change_moved : (m : Message) (past : List Message) (begun : Begun) → IsChangeOf tables m → MovesAtMost tables m → AreDescribed tables (oids_of m) past → begin_of past ≡ Some begun → open_mark past ≡ None
+  pub change_moved : (m : Message) (past : List Message) (begun : Head) → IsChangeOf tables m → MovesAtMost tables m → AreDescribed tables (oids_of m) past → begin_of past ≡ Some begun → open_mark past ≡ None
       → HaveMovedAtMost infos after past → HaveMovedAtMost infos after (m ∷ past)
   change_moved m past begun is moves there opened unmarked moved =
       let only : List Message = onto_relations tables (oids_of m) [] in
@@ -188,13 +188,13 @@ module _ (tables : List LogTable) (infos : List TableInfo) (after : Lsn) (named 
       ∙ ap (λ (o : Option Relation). err_of (some_or o (errors.UnknownRelation watermark_oid) >>= λ (r : Relation). row_stated infos None false r (marking value) (target infos r.name))) there
       ∙ ap err_of (marking_states value)
 
-  pub mark_moved : (value : List ℕ) (past : List Message) (begun : Begun) → AreTold tables (onto_relation tables watermark_oid past) → begin_of (onto_relation tables watermark_oid past) ≡ Some begun
+  pub mark_moved : (value : List ℕ) (past : List Message) (begun : Head) → AreTold tables (onto_relation tables watermark_oid past) → begin_of (onto_relation tables watermark_oid past) ≡ Some begun
       → open_mark (onto_relation tables watermark_oid past) ≡ None → (AreWithoutFault infos after (onto_relation tables watermark_oid past) → open_changes infos (onto_relation tables watermark_oid past) ≡ [])
       → HaveMovedAtMost infos after past → HaveMovedAtMost infos after (mark_message value ∷ onto_relation tables watermark_oid past)
   mark_moved value past begun told opened unmarked none moved =
       let now : List Message = onto_relation tables watermark_oid past in
       let there : relation_of watermark_oid now ≡ Some watermark = watermark_there now told (relation_known past) in (
-        λ accepted. subst IsMovedAtMost (sym (ap (λ (o : Option Begun). first_of (place_fault (mark_message value) (is_some o)) (err_of (stated infos (mark_message value) now))) opened
+        λ accepted. subst IsMovedAtMost (sym (ap (λ (o : Option Head). first_of (place_fault (mark_message value) (is_some o)) (err_of (stated infos (mark_message value) now))) opened
             ∙ mark_stated value now there unmarked (none accepted))) tt,
         marks_relation_moved past moved,
       )

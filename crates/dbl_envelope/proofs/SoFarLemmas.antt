@@ -1,5 +1,5 @@
 -- The records of one more change of an open transaction.
-use Rattle.std.proofs.Common.{◌≡◌, ◌∙◌, ◌+◌, ◌<◌, ◌≤◌, ℕ, ℤ, true, false, List, [], ◌∷◌, ◌++◌, length, length-append, map, replicate, Option, None, refl, sym, ap, ap₂, subst, arith}
+use Rattle.std.proofs.Common.{◌≡◌, ◌∙◌, ◌+◌, ◌≤◌, ℕ, ℤ, true, false, List, [], ◌∷◌, ◌++◌, length, length-append, map, replicate, None, refl, ap, arith}
 use Rattle.std.proofs.lemmas.List.{length-replicate}
 use Rattle.dbl_record.specs.declared.record.Record.{Record}
 use Rattle.dbl_model_table.specs.declared.change.Change.{Change}
@@ -13,7 +13,7 @@ use Rattle.dbl_envelope_json.specs.Frames.{events_from}
 use Rattle.dbl_envelope.specs.declared.so_far.OpenRecords.{OpenRecords}
 use Rattle.dbl_envelope.specs.SoFar.{records_after, made_by, HasTails, HasMade, AppendsRecords}
 use Rattle.dbl_envelope.specs.Suits.{Suits}
-use Rattle.dbl_envelope.specs.Writers.{Captured, AreTails, change_records}
+use Rattle.dbl_envelope.specs.Writers.{Captured, change_records}
 use Rattle.dbl_envelope.proofs.CommitLemmas.{change_count}
 use Rattle.dbl_envelope.proofs.TailLemmas.{no_tails}
 

@@ -7,7 +7,7 @@ use Rattle.dbl_model_table.specs.declared.change.Head.{Head}
 use Rattle.dbl_model_table.specs.Heads.{commit_so_far}
 use Rattle.dbl_model_event.specs.OpenEvents.{unmarked}
 use Rattle.dbl_envelope.specs.declared.so_far.OpenRecords.{OpenRecords}
-use Rattle.dbl_envelope.specs.SoFar.{AppendsRecords, HasMade, made_by, records_after}
+use Rattle.dbl_envelope.specs.SoFar.{AppendsRecords, made_by, records_after}
 use Rattle.dbl_envelope.specs.Writers.{Captured}
 use Rattle.dbl_follow.specs.declared.part.Part.{Part}
 use Rattle.dbl_follow.specs.Amid.{Extends, HoldsLast}

@@ -1,22 +1,18 @@
 -- The changes of the open transaction that an assembler buffers.
-use Rattle.std.proofs.Common.{◌≡◌, ◌∙◌, ℕ, List, [], ◌∷◌, ◌++◌, refl, sym, ap, subst}
+use Rattle.std.proofs.Common.{◌≡◌, ◌∙◌, List, [], ◌∷◌, ◌++◌, refl, sym, ap}
 use Rattle.std.specs.Prelude.{Option, Some, None, Result, Ok, Err}
 use Rattle.dbl_base.specs.declared.lsn.Lsn.{Lsn}
 use Rattle.dbl_pgmsg.specs.declared.messages.Message.{Message}
 use Rattle.dbl_model_table.specs.declared.table.TableInfo.{TableInfo}
 use Rattle.dbl_model_table.specs.declared.change.Change.{Change}
 use Rattle.dbl_model_table.specs.declared.change.Commit.{Commit}
-use Rattle.dbl_model_table.specs.declared.change.Ended.{Ended as End}
-use Rattle.dbl_model_table.specs.Heads.{commit_by}
 use Rattle.dbl_model_commit.specs.declared.piece.Piece.{Piece}
-use Rattle.dbl_model_commit.specs.declared.piece.Piece.TheVariants.{Nothing, Changed, Ended}
 use Rattle.dbl_model_commit.specs.declared.txn_error.TxnError.{TxnError}
 use Rattle.dbl_model_commit.specs.Past.{Head, begin_of, HasNoRelation}
-use Rattle.dbl_model_commit.specs.Stated.{open_changes, ended_commit}
+use Rattle.dbl_model_commit.specs.Stated.{open_changes}
 use Rattle.dbl_model_commit.specs.Pieces.{if_open, joined, ended_by}
 use Rattle.dbl_model_commit.proofs.Learning.{changes_learnt}
 use Rattle.dbl_model_commit.proofs.PieceLemmas.{piece_joins}
-use Rattle.dbl_txn_pieces.specs.declared.reader.PieceReader.{PieceReader}
 use Rattle.dbl_txn_pieces.specs.Reading.{HasRead, ReadPiece, ReadsPiece}
 use Rattle.dbl_txn.specs.declared.assembler.Assembler.{Assembler}
 use Rattle.dbl_txn.specs.Stands.{Stands, StandsWhole, StandsInPieces, Taken, TakenPiece, TakesPiece, BetweenTransactionsBothStand}

@@ -1,9 +1,8 @@
-use Rattle.std.proofs.Common.{◌≡◌, ◌∙◌, Option, Some, List, sym, ap, subst}
+use Rattle.std.proofs.Common.{◌∙◌, Option, Some, sym, subst}
 use Rattle.std.specs.Prelude.{option_map}
-use Rattle.dbl_record.specs.declared.record.Record.{Record}
 use Rattle.dbl_envelope.specs.SoFar.{made_by}
 use Rattle.dbl_follow.specs.declared.part.Part.{Part}
-use Rattle.dbl_follow.specs.Amid.{Extends, HoldsLast}
+use Rattle.dbl_follow.specs.Amid.{Extends}
 use Rattle.dbl_follow.specs.Followed.{IsPartOf, part_of}
 use Rattle.dbl_follow.proofs.PartLemmas.{first_extends, next_extends, part_makes}
 use Rattle.dbl_follow.proofs.part.follow_change.Goals as goal

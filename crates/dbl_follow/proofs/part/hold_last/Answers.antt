@@ -1,6 +1,3 @@
-use Rattle.std.proofs.Common.{◌≡◌, ◌∙◌, ◌++◌, ◌∷◌, [], List, ap, subst, sym}
-use Rattle.std.specs.Prelude.{Option}
-use Rattle.dbl_record.specs.declared.record.Record.{Record}
 use Rattle.dbl_follow.proofs.PartLemmas.{holds_last, all_but_last}
 use Rattle.dbl_follow.proofs.part.hold_last.Goals as goal
 

@@ -1,4 +1,4 @@
-use Rattle.std.proofs.Common.{◌≡◌, ◌+◌, length, refl, arith}
+use Rattle.std.proofs.Common.{refl, arith}
 use Rattle.dbl_envelope.specs.declared.so_far.OpenRecords.{OpenRecords}
 use Rattle.dbl_envelope.proofs.SoFarLemmas.{appends, few_more, stamp_at}
 use Rattle.dbl_envelope.proofs.so_far.OpenRecords.append.Goals as goal

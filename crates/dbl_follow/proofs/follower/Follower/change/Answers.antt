@@ -4,7 +4,6 @@ use Rattle.std.proofs.Math.Facts.{to_z-of_z}
 use Rattle.std.proofs.lemmas.Result.{err_from_is_err_and}
 use Rattle.dbl_model_history.specs.FitsInfos.{FitsInfos}
 use Rattle.dbl_model_event.specs.Clashes.{Clash}
-use Rattle.dbl_envelope.specs.Suits.{Suits}
 use Rattle.dbl_envelope.proofs.SuitLemmas.{fitting_suits}
 use Rattle.dbl_follow.specs.Amid.{Extends, IsAmid}
 use Rattle.dbl_follow.specs.Faults.{IsClashOf}

@@ -1,8 +1,7 @@
-use Rattle.std.proofs.Common.{◌≡◌, ◌∙◌, ℤ, Some, None, List, [], refl, sym, ap, subst}
+use Rattle.std.proofs.Common.{◌≡◌, ◌∙◌, ℤ, Some, List, [], sym, ap, subst}
 use Rattle.std.specs.Prelude.{IfOk}
 use Rattle.std.proofs.Math.Facts.{to_z-of_z}
 use Rattle.std.proofs.lemmas.Result.{IfOk-weaker, IfErr-weaker}
-use Rattle.dbl_model_table.specs.declared.change.Body.{Body}
 use Rattle.dbl_model_table.specs.declared.change.Body.TheVariants.{Changes}
 use Rattle.dbl_model_table.specs.declared.change.Change.{Change}
 use Rattle.dbl_model_table.specs.declared.change.Commit.{Commit}

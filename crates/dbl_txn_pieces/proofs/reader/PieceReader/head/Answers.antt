@@ -1,4 +1,4 @@
-use Rattle.std.proofs.Common.{◌∙◌, sym, subst}
+use Rattle.std.proofs.Common.{sym, subst}
 use Rattle.dbl_model_commit.specs.Past.{begin_of, open_mark}
 use Rattle.dbl_model_commit.specs.Stated.{has_some, open_changes}
 use Rattle.dbl_txn_pieces.specs.Reading.{IsOpen}

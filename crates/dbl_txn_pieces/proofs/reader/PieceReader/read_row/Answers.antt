@@ -1,5 +1,4 @@
 use Rattle.std.proofs.Common.{subst, sym}
-use Rattle.std.specs.Prelude.{Ok}
 use Rattle.dbl_model_commit.specs.declared.piece.Piece.{Piece}
 use Rattle.dbl_txn_pieces.specs.Reading.{message_of, ReadPiece}
 use Rattle.dbl_txn_pieces.proofs.Steps.{row_read}

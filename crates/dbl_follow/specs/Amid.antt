@@ -4,8 +4,9 @@ use Rattle.dbl_record.specs.declared.record.Record.{Record}
 use Rattle.dbl_model_table.specs.declared.table.TableInfo.{TableInfo}
 use Rattle.dbl_model_table.specs.declared.change.Change.{Change}
 use Rattle.dbl_model_table.specs.declared.change.Commit.{Commit}
+use Rattle.dbl_model_table.specs.declared.change.Ended.{Ended}
 use Rattle.dbl_model_table.specs.declared.change.Head.{Head}
-use Rattle.dbl_model_table.specs.Heads.{commit_so_far}
+use Rattle.dbl_model_table.specs.Heads.{commit_by, commit_so_far}
 use Rattle.dbl_model_event.specs.Clashes.{clash_of}
 use Rattle.dbl_model_event.specs.EventJson.{envelopes}
 use Rattle.dbl_model_event.specs.OpenEvents.{unmarked}
@@ -13,9 +14,11 @@ use Rattle.dbl_model_event.specs.SnapshotLists.{IsSnapshot}
 use Rattle.dbl_envelope.specs.Writers.{Captured}
 use Rattle.dbl_envelope.specs.SoFar.{HasMade, records_after}
 use Rattle.dbl_window.specs.Plans.{Chunk}
+use Rattle.dbl_follow.specs.declared.error.FollowError.{FollowError}
 use Rattle.dbl_follow.specs.declared.part.Part.{Part}
 use Rattle.dbl_follow.specs.declared.window.Window.{Window}
 use Rattle.dbl_follow.specs.declared.window.Window.TheVariants.{Armed}
+use Rattle.dbl_follow.specs.Faults.{IsClashOf}
 use Rattle.dbl_follow.specs.Followed.{OpenPart, Following}
 use Rattle.dbl_follow.specs.Steps.{mark_of, closing, closed_of, records_by, clash_by, Passes, Steps}
 
@@ -50,6 +53,30 @@ pub record EndsAs (start : Following) (commit : Commit) (now : ℤ) (records : L
   pub no_clash : clash_by start commit ≡ None
   pub snapshot : (chunk : Chunk) → closing start.window (mark_of commit) ≡ Some chunk
       → IsSnapshot start.identity start.infos (closed_of chunk) commit now records
+
+-- The effect of one more change of the transaction with this Begin on a follower: it releases these records. The records of a transaction
+-- are made at the time of its first change.
+abbrev pub FollowsChange : Following → Head → Change → ℤ → List Record → Following → Type 0
+FollowsChange old head change now_ms more new = (start : Following) (changes : List Change) (now : ℤ) (released : List Record)
+    → IsAmid start head changes now released old → (changes ≡ [] → now ≡ now_ms)
+    → IsAmid start head (changes ++ change ∷ []) now (released ++ more) new
+
+-- The error names the first value equal to the placeholder of the transaction's changes up to this one, unless memory ran out.
+abbrev pub RefusesChange : Following → Head → Change → FollowError → Type 0
+RefusesChange old head change e = (start : Following) (changes : List Change) (now : ℤ) (released : List Record)
+    → IsAmid start head changes now released old
+    → IsClashOf (clash_of start.identity start.infos (commit_so_far head (changes ++ change ∷ []))) e
+
+-- The effect of a transaction's end on a follower: with these records, all of its commit are released.
+abbrev pub EndsTransaction : Following → Ended → ℤ → List Record → Following → Type 0
+EndsTransaction old ended now_ms more new = (start : Following) (changes : List Change) (now : ℤ) (released : List Record)
+    → IsAmid start ended.head changes now released old → (changes ≡ [] → now ≡ now_ms)
+    → EndsAs start (commit_by ended changes) now (released ++ more) new
+
+-- The error names the first value equal to the placeholder of the commit's records, unless memory ran out.
+abbrev pub RefusesEnd : Following → Ended → FollowError → Type 0
+RefusesEnd old ended e = (start : Following) (changes : List Change) (now : ℤ) (released : List Record)
+    → IsAmid start ended.head changes now released old → IsClashOf (clash_by start (commit_by ended changes)) e
 
 -- For private clauses: the effect of one more change on the open transaction, and the records that it releases.
 abbrev pub Extends : Captured → Head → ℤ → Change → Option OpenPart → List Record → Option OpenPart → Type 0

@@ -1,22 +1,21 @@
-ghost use Rattle.std.specs.Prelude.{◌≡◌, ◌≤◌, not, length, None, Some, ℤ, List, [], ◌∷◌, ◌++◌};
+ghost use Rattle.std.specs.Prelude.{◌≡◌, ◌≤◌, not, length, None, Some, ℤ, List, [], ◌∷◌};
 ghost use Rattle.std.specs.Prelude.{slice_set, position, All, IfOk, IfErr, IfSome, IsSome, OnOk};
 ghost use Rattle.std.specs.Option.{option_copied};
-ghost use Rattle.dbl_record.specs.declared.record.Record.{Record};
 ghost use Rattle.dbl_model_table.specs.declared.change.Body.TheVariants as bodies;
-ghost use Rattle.dbl_model_table.specs.declared.change.Change.{Change};
 ghost use Rattle.dbl_model_table.specs.declared.change.Ended.{Ended};
 ghost use Rattle.dbl_model_table.specs.declared.table.TableInfo.{TableInfo as SpecInfo};
-ghost use Rattle.dbl_model_table.specs.Heads.{commit_by, commit_so_far, ended_at};
+ghost use Rattle.dbl_model_table.specs.Heads.{commit_by, ended_at};
 ghost use Rattle.dbl_model_table.specs.Rows.{changes_of};
 ghost use Rattle.dbl_model_history.specs.Cursors.{AreCursorsOf};
 ghost use Rattle.dbl_model_history.specs.FitsInfos.{FitsInfos};
-ghost use Rattle.dbl_model_event.specs.Clashes.{clash_of, snapshot_clash};
+ghost use Rattle.dbl_model_event.specs.Clashes.{snapshot_clash};
 ghost use Rattle.dbl_model_event.specs.Snapshots.{snapshot, FitsSnapshot};
 ghost use Rattle.dbl_model_event.specs.SnapshotLists.{IsSnapshot};
 ghost use Rattle.dbl_window.specs.Plans.{Chunk, high_text};
 ghost use Rattle.dbl_follow.specs.declared.window.Window.TheVariants as windows;
-ghost use Rattle.dbl_follow.specs.Amid.{IsAmid, EndsAs};
-ghost use Rattle.dbl_follow.specs.Followed.{awaited, Following, FitsWindow, IsPlanOfCaptured};
+ghost use Rattle.dbl_follow.specs.Amid.{EndsAs, FollowsChange, RefusesChange};
+ghost use Rattle.dbl_follow.specs.Amid.{EndsTransaction, RefusesEnd};
+ghost use Rattle.dbl_follow.specs.Followed.{awaited, FitsWindow, IsPlanOfCaptured};
 ghost use Rattle.dbl_follow.specs.Followed.{IsOpenOf, IsWindowOf};
 ghost use Rattle.dbl_follow.specs.Faults.{IsClashOf};
 ghost use Rattle.dbl_follow.specs.Steps.{Passes, Steps, clash_by, closed_of};
@@ -270,15 +269,9 @@ impl Follower {
     ) -> Result<Vec<Record>, FollowError>
         requires fits { FitsInfos self.old.infos change.now }
         requires head { IfSome self.old.part (λ part. part.head ≡ head.now) }
-        ensures amid { (start : Following) (changes : List Change) (now : ℤ)
-            (released : List Record) →
-            IsAmid start head.now changes now released self.old → (changes ≡ [] → now ≡ now_ms) →
-            IfOk result (λ more. IsAmid start head.now (changes ++ change.now ∷ []) now
-            (released ++ more.items) self.new) }
-        ensures err { (start : Following) (changes : List Change) (now : ℤ)
-            (released : List Record) → IsAmid start head.now changes now released self.old →
-            IfErr result (IsClashOf (clash_of start.identity start.infos
-            (commit_so_far head.now (changes ++ change.now ∷ [])))) }
+        ensures follows { IfOk result
+            (λ more. FollowsChange self.old head.now change.now now_ms more.items self.new) }
+        ensures err { IfErr result (RefusesChange self.old head.now change.now) }
     {
         let released = follow_change(
             &mut self.part,
@@ -294,10 +287,8 @@ impl Follower {
 
     // Ends a transaction without a watermark.
     fn end_changes(&mut self) -> Result<Vec<Record>, FollowError>
-        ensures ends { (start : Following) (ended : Ended) (changes : List Change) (now : ℤ)
-            (released : List Record) → IsAmid start ended.head changes now released self.old →
-            ended.mark ≡ None → IfOk result (λ more. EndsAs start (commit_by ended changes) now
-            (released ++ more.items) self.new) }
+        ensures ends { (ended : Ended) (now_ms : ℤ) → ended.mark ≡ None → IfOk result
+            (λ more. EndsTransaction self.old ended now_ms more.items self.new) }
         ensures err { IfErr result (λ e. e ≡ FollowError.Memory) }
     {
         // Reading the window shows the prover its invariant.
@@ -335,13 +326,9 @@ impl Follower {
     pub fn end(&mut self, ended: &Ended, now_ms: i64) -> Result<Vec<Record>, FollowError>
         requires head { IfSome self.old.part (λ part. part.head ≡ ended.now.head) }
         requires mark { IsSome self.old.part → ended.now.mark ≡ None }
-        ensures ends { (start : Following) (changes : List Change) (now : ℤ)
-            (released : List Record) → IsAmid start ended.now.head changes now released self.old →
-            (changes ≡ [] → now ≡ now_ms) → IfOk result (λ more. EndsAs start
-            (commit_by ended.now changes) now (released ++ more.items) self.new) }
-        ensures err { (start : Following) (changes : List Change) (now : ℤ)
-            (released : List Record) → IsAmid start ended.now.head changes now released self.old →
-            IfErr result (IsClashOf (clash_by start (commit_by ended.now changes))) }
+        ensures ends { IfOk result
+            (λ more. EndsTransaction self.old ended.now now_ms more.items self.new) }
+        ensures err { IfErr result (RefusesEnd self.old ended.now) }
     {
         match &ended.mark {
             Some(value) => self.end_mark(value, ended, now_ms),

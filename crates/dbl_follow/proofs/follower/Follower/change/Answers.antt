@@ -45,8 +45,8 @@ returns-in_err-released-clause-err c = λ start changes now released amid. (
     (sym (clash_more start view c.args.head.now changes c.args.change.now now released
     (subst (IsAmid start c.args.head.now changes now released) (sym c.self.view_is) amid))) c.in_err-released.ensures.err))
 
-pub returns-clause-amid : goal.returns-clause-amid
-returns-clause-amid c = λ start changes now released amid at. (
+pub returns-clause-follows : goal.returns-clause-follows
+returns-clause-follows c = λ start changes now released amid at. (
     let inside = c.self.inside in
     let view : Following = record {
       identity = inside.writer.identity;

@@ -11,25 +11,27 @@ pub end_mark-requires-clause-none : goal.end_mark-requires-clause-none
 end_mark-requires-clause-none c = no_part c.args.self.now.part c.args.ended.now.mark c.in-Some.value.now c.requires.mark (sym c.in-Some.is)
 
 pub returns-in-Some-clause-ends : goal.returns-in-Some-clause-ends
-returns-in-Some-clause-ends c = λ start changes now released amid at. (
+returns-in-Some-clause-ends c =
     let old = c.args.self.now in
     let ended = c.args.ended.now in
     let none = no_part old.part ended.mark c.in-Some.value.now c.requires.mark (sym c.in-Some.is) in
     IfOk-weaker c.end_mark.result _ _
-    (λ records ends. rest_ends start old c.end_mark.new.self ended changes now c.args.now_ms released records.items amid none at ends)
+    (λ records ends start changes now released amid at.
+    rest_ends start old c.end_mark.new.self ended changes now c.args.now_ms released records.items amid none at ends)
     (subst (λ (m : ℤ). IfOk c.end_mark.result (λ records. EndsAs old (commit_by ended []) m records.items c.end_mark.new.self))
-    (to_z-of_z c.ranges.now_ms) c.end_mark.ensures.ends))
+    (to_z-of_z c.ranges.now_ms) c.end_mark.ensures.ends)
 
 pub returns-in-Some-clause-err : goal.returns-in-Some-clause-err
-returns-in-Some-clause-err c = λ start changes now released amid. (
+returns-in-Some-clause-err c =
     let old = c.args.self.now in
     let ended = c.args.ended.now in
     let none = no_part old.part ended.mark c.in-Some.value.now c.requires.mark (sym c.in-Some.is) in
-    IfErr-weaker c.end_mark.result _ _ (λ e clashes. rest_clashes start old ended changes now released e amid none clashes) c.end_mark.ensures.err)
+    IfErr-weaker c.end_mark.result _ _
+    (λ e clashes start changes now released amid. rest_clashes start old ended changes now released e amid none clashes) c.end_mark.ensures.err
 
 pub returns-clause-ends : goal.returns-clause-ends
-returns-clause-ends c = λ start changes now released amid at. c.end_changes.ensures.ends start c.args.ended.now changes now released amid (sym c.in-None.is)
+returns-clause-ends c = c.end_changes.ensures.ends c.args.ended.now c.args.now_ms (sym c.in-None.is)
 
 pub returns-clause-err : goal.returns-clause-err
-returns-clause-err c = λ start changes now released amid. IfErr-weaker c.end_changes.result _ _
-    (λ e memory other. absurd (other memory)) c.end_changes.ensures.err
+returns-clause-err c =
+    IfErr-weaker c.end_changes.result _ _ (λ e memory start changes now released amid other. absurd (other memory)) c.end_changes.ensures.err

@@ -15,7 +15,7 @@ invariant_of-self c = record {
 }
 
 pub returns-clause-ends : goal.returns-clause-ends
-returns-clause-ends c = λ start ended changes now released amid unmarked. (
+returns-clause-ends c = λ ended now_ms unmarked start changes now released amid at. (
     let inside = c.self.inside in
     let view : Following = record {
       identity = inside.writer.identity;

@@ -1,13 +1,13 @@
-use Rattle.std.proofs.Common.{◌≡◌, ◌∙◌, ◌+◌, ◌<◌, List, [], ◌∷◌, ◌++◌, length, take, drop, get_or, sym, ap, subst}
+use Rattle.std.proofs.Common.{◌≡◌, ◌∙◌, ◌+◌, ◌<◌, List, [], ◌∷◌, ◌++◌, length, take, drop, get_or, sym, ap, subst, arith}
 use Rattle.std.proofs.Math.Facts.{to_z-of_z}
-use Rattle.std.proofs.lemmas.List.{take_more, take-append-drop}
+use Rattle.std.proofs.lemmas.List.{take_more, take_all, take-append-drop}
 use Rattle.std.proofs.lemmas.Result.{err_from_is_err_and}
 use Rattle.dbl_record.specs.declared.record.Record.{Record}
 use Rattle.dbl_model_table.specs.declared.change.Change.{Change}
 use Rattle.dbl_model_table.specs.declared.table.TableInfo.{TableInfo}
 use Rattle.dbl_model_table.specs.Heads.{commit_by, ended_at}
 use Rattle.dbl_model_history.specs.FitsInfos.{FitsInfos}
-use Rattle.dbl_follow.specs.Amid.{IsAmid}
+use Rattle.dbl_follow.specs.Amid.{EndsAs, IsAmid}
 use Rattle.dbl_follow.specs.Faults.{IsClashOf}
 use Rattle.dbl_follow.specs.Followed.{Following}
 use Rattle.dbl_follow.specs.Steps.{clash_by}
@@ -45,7 +45,7 @@ loop-change-preserved c =
     subst (λ (l : List Change). IsAmid c.args.self.now c.args.head.now l c.args.now_ms c.append.new.self.items c.change.new.self) (sym taken)
     (subst (λ (l : List Record). IsAmid c.args.self.now c.args.head.now (take i changes ++ item ∷ []) c.args.now_ms l c.change.new.self)
     (sym c.in_ok-append.ensures.items)
-    (c.in_ok-more.ensures.amid c.args.self.now (take i changes) c.args.now_ms c.loop-change.records.items c.loop-change.invariant
+    (c.in_ok-more.ensures.follows c.args.self.now (take i changes) c.args.now_ms c.loop-change.records.items c.loop-change.invariant
     (λ none. sym (to_z-of_z c.ranges.now_ms))))
 
 pub returns-in_err-more-clause-err : goal.returns-in_err-more-clause-err
@@ -64,3 +64,33 @@ returns-in_err-more-clause-err c =
     (clash_by c.args.self.now (commit_by (ended_at c.args.head.now c.args.end_lsn) l)) c.in_err-more.field-0.0) whole
     (clash_longer c.args.self.now c.args.head.now c.args.end_lsn (take i changes ++ item ∷ []) (drop (i + 1) changes) c.in_err-more.field-0.0
     (c.in_err-more.ensures.err c.args.self.now (take i changes) c.args.now_ms c.loop-change.records.items c.loop-change.invariant)))
+
+pub end-requires-clause-head : goal.end-requires-clause-head
+end-requires-clause-head c =
+    heads_fit c.args.self.now c.loop-change.self c.args.head.now (take c.loop-change.change-index c.args.changes.now.items) c.args.now_ms
+    c.loop-change.records.items c.loop-change.invariant
+
+pub returns-clause-ends : goal.returns-clause-ends
+returns-clause-ends c =
+    let old = c.args.self.now in
+    let changes = c.args.changes.now.items in
+    let items : c.deref-change-items.result.now ≡ changes = c.deref-change-items.ensures.value in
+    let all : take c.loop-change.change-index changes ≡ changes =
+    take_all c.loop-change.change-index changes (omega (arith, c.loop-change-test.false, ap length items)) in
+    let amid = subst (λ (l : List Change). IsAmid old c.args.head.now l c.args.now_ms c.loop-change.records.items c.loop-change.self) all
+    c.loop-change.invariant in
+    subst (λ (l : List Record). EndsAs old (commit_by (ended_at c.args.head.now c.args.end_lsn) changes) c.args.now_ms l c.end.new.self)
+    (sym c.in_ok-append-2.ensures.items)
+    (c.in_ok-last.ensures.ends old changes c.args.now_ms c.loop-change.records.items amid (λ none. sym (to_z-of_z c.ranges.now_ms)))
+
+pub returns-in_err-last-clause-err : goal.returns-in_err-last-clause-err
+returns-in_err-last-clause-err c =
+    let old = c.args.self.now in
+    let changes = c.args.changes.now.items in
+    let items : c.deref-change-items.result.now ≡ changes = c.deref-change-items.ensures.value in
+    let all : take c.loop-change.change-index changes ≡ changes =
+    take_all c.loop-change.change-index changes (omega (arith, c.loop-change-test.false, ap length items)) in
+    let amid = subst (λ (l : List Change). IsAmid old c.args.head.now l c.args.now_ms c.loop-change.records.items c.loop-change.self) all
+    c.loop-change.invariant in
+    let p = err_from_is_err_and c.from_residual-in_err-last.result c.from_residual-in_err-last.ensures.1 in
+    rw (p.1, p.2) (c.in_err-last.ensures.err old changes c.args.now_ms c.loop-change.records.items amid)

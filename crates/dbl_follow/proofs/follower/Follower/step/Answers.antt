@@ -76,8 +76,10 @@ returns-in_ok-copy-in-Mark-clause-records c =
     let ended : Ended = record { head = c.head.result; end_lsn = commit.end_lsn; mark = Some c.in_ok-copy-in-Mark.field-0 } in
     let whole : commit_by ended [] ≡ commit =
     mark_commit commit c.head.result c.in-Mark.value.now c.in_ok-copy-in-Mark.field-0 c.head.ensures (sym c.in-Mark.is) c.in_ok-copy-in-Mark.ensures in
-    IfOk-weaker c.end.result _ _ (λ records ends. (subst (λ (x : Commit). EndsAs old x c.args.now_ms records.items c.end.new.self) whole ends).records_are)
-    (c.end.ensures.ends old [] c.args.now_ms [] (amid_begins old c.head.result c.args.now_ms c.requires.none) (λ none. sym (to_z-of_z c.ranges.now_ms)))
+    IfOk-weaker c.end.result _ _
+    (λ records ends. (subst (λ (x : Commit). EndsAs old x c.args.now_ms records.items c.end.new.self) whole
+    (ends old [] c.args.now_ms [] (amid_begins old c.head.result c.args.now_ms c.requires.none) (λ none. sym (to_z-of_z c.ranges.now_ms)))).records_are)
+    c.end.ensures.ends
 
 pub returns-in_ok-copy-in-Mark-clause-steps : goal.returns-in_ok-copy-in-Mark-clause-steps
 returns-in_ok-copy-in-Mark-clause-steps c =
@@ -86,8 +88,10 @@ returns-in_ok-copy-in-Mark-clause-steps c =
     let ended : Ended = record { head = c.head.result; end_lsn = commit.end_lsn; mark = Some c.in_ok-copy-in-Mark.field-0 } in
     let whole : commit_by ended [] ≡ commit =
     mark_commit commit c.head.result c.in-Mark.value.now c.in_ok-copy-in-Mark.field-0 c.head.ensures (sym c.in-Mark.is) c.in_ok-copy-in-Mark.ensures in
-    IfOk-weaker c.end.result _ _ (λ records ends. (subst (λ (x : Commit). EndsAs old x c.args.now_ms records.items c.end.new.self) whole ends).steps)
-    (c.end.ensures.ends old [] c.args.now_ms [] (amid_begins old c.head.result c.args.now_ms c.requires.none) (λ none. sym (to_z-of_z c.ranges.now_ms)))
+    IfOk-weaker c.end.result _ _
+    (λ records ends. (subst (λ (x : Commit). EndsAs old x c.args.now_ms records.items c.end.new.self) whole
+    (ends old [] c.args.now_ms [] (amid_begins old c.head.result c.args.now_ms c.requires.none) (λ none. sym (to_z-of_z c.ranges.now_ms)))).steps)
+    c.end.ensures.ends
 
 pub returns-in_ok-copy-in-Mark-clause-no_clash : goal.returns-in_ok-copy-in-Mark-clause-no_clash
 returns-in_ok-copy-in-Mark-clause-no_clash c =
@@ -96,8 +100,10 @@ returns-in_ok-copy-in-Mark-clause-no_clash c =
     let ended : Ended = record { head = c.head.result; end_lsn = commit.end_lsn; mark = Some c.in_ok-copy-in-Mark.field-0 } in
     let whole : commit_by ended [] ≡ commit =
     mark_commit commit c.head.result c.in-Mark.value.now c.in_ok-copy-in-Mark.field-0 c.head.ensures (sym c.in-Mark.is) c.in_ok-copy-in-Mark.ensures in
-    IfOk-weaker c.end.result _ _ (λ records ends. (subst (λ (x : Commit). EndsAs old x c.args.now_ms records.items c.end.new.self) whole ends).no_clash)
-    (c.end.ensures.ends old [] c.args.now_ms [] (amid_begins old c.head.result c.args.now_ms c.requires.none) (λ none. sym (to_z-of_z c.ranges.now_ms)))
+    IfOk-weaker c.end.result _ _
+    (λ records ends. (subst (λ (x : Commit). EndsAs old x c.args.now_ms records.items c.end.new.self) whole
+    (ends old [] c.args.now_ms [] (amid_begins old c.head.result c.args.now_ms c.requires.none) (λ none. sym (to_z-of_z c.ranges.now_ms)))).no_clash)
+    c.end.ensures.ends
 
 pub returns-in_ok-copy-in-Mark-clause-snapshot : goal.returns-in_ok-copy-in-Mark-clause-snapshot
 returns-in_ok-copy-in-Mark-clause-snapshot c chunk told =
@@ -106,9 +112,10 @@ returns-in_ok-copy-in-Mark-clause-snapshot c chunk told =
     let ended : Ended = record { head = c.head.result; end_lsn = commit.end_lsn; mark = Some c.in_ok-copy-in-Mark.field-0 } in
     let whole : commit_by ended [] ≡ commit =
     mark_commit commit c.head.result c.in-Mark.value.now c.in_ok-copy-in-Mark.field-0 c.head.ensures (sym c.in-Mark.is) c.in_ok-copy-in-Mark.ensures in
-    IfOk-weaker c.end.result _ _ (λ records ends.
-    (subst (λ (x : Commit). EndsAs old x c.args.now_ms records.items c.end.new.self) whole ends).snapshot chunk told)
-    (c.end.ensures.ends old [] c.args.now_ms [] (amid_begins old c.head.result c.args.now_ms c.requires.none) (λ none. sym (to_z-of_z c.ranges.now_ms)))
+    IfOk-weaker c.end.result _ _
+    (λ records ends. (subst (λ (x : Commit). EndsAs old x c.args.now_ms records.items c.end.new.self) whole
+    (ends old [] c.args.now_ms [] (amid_begins old c.head.result c.args.now_ms c.requires.none) (λ none. sym (to_z-of_z c.ranges.now_ms)))).snapshot chunk told)
+    c.end.ensures.ends
 
 pub returns-in_ok-copy-in-Mark-clause-err : goal.returns-in_ok-copy-in-Mark-clause-err
 returns-in_ok-copy-in-Mark-clause-err c =
@@ -117,5 +124,6 @@ returns-in_ok-copy-in-Mark-clause-err c =
     let ended : Ended = record { head = c.head.result; end_lsn = commit.end_lsn; mark = Some c.in_ok-copy-in-Mark.field-0 } in
     let whole : commit_by ended [] ≡ commit =
     mark_commit commit c.head.result c.in-Mark.value.now c.in_ok-copy-in-Mark.field-0 c.head.ensures (sym c.in-Mark.is) c.in_ok-copy-in-Mark.ensures in
-    IfErr-weaker c.end.result _ _ (λ e clashes. subst (λ (x : Commit). IsClashOf (clash_by old x) e) whole clashes)
-    (c.end.ensures.err old [] c.args.now_ms [] (amid_begins old c.head.result c.args.now_ms c.requires.none))
+    IfErr-weaker c.end.result _ _
+    (λ e refuses. subst (λ (x : Commit). IsClashOf (clash_by old x) e) whole
+    (refuses old [] c.args.now_ms [] (amid_begins old c.head.result c.args.now_ms c.requires.none))) c.end.ensures.err

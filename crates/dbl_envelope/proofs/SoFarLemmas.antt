@@ -11,7 +11,7 @@ use Rattle.dbl_model_event.specs.EventJson.{print}
 use Rattle.dbl_envelope_json.specs.declared.stamp.Stamp.{Stamp}
 use Rattle.dbl_envelope_json.specs.Frames.{events_from}
 use Rattle.dbl_envelope.specs.declared.so_far.OpenRecords.{OpenRecords}
-use Rattle.dbl_envelope.specs.SoFar.{records_after, made_by, HasTails, HasMade, AppendsRecords}
+use Rattle.dbl_envelope.specs.SoFar.{records_after, made_by, HasTails, HasMadeRecords, AppendsRecords}
 use Rattle.dbl_envelope.specs.Suits.{Suits}
 use Rattle.dbl_envelope.specs.Writers.{Captured, change_records}
 use Rattle.dbl_envelope.proofs.CommitLemmas.{change_count}
@@ -34,7 +34,8 @@ records_last captured head now made change =
     ap (map (print captured.identity (commit_so_far head []) now)) (numbered_last head.lsn.0 made (notices captured.infos change))
 
 -- the change's records as this transaction's
-pub records_made : (captured : Captured) (head : Head) (now : ℤ) (made : ℕ) (change : Change) (records : OpenRecords) → HasMade captured head now made records
+pub records_made : (captured : Captured) (head : Head) (now : ℤ) (made : ℕ) (change : Change) (records : OpenRecords)
+    → HasMadeRecords captured head now made records
     → change_records captured records.commit records.now_ms (stamp_at (made_by records)) change ≡ records_after captured head now made change
 records_made captured head now made change records is =
     ap (λ (c : Commit). change_records captured c records.now_ms (stamp_at (made_by records)) change) is.commit
@@ -53,7 +54,7 @@ few_more captured commit now stamp change old new suits is =
     (omega (arith, count.1, long), omega (arith, count.0, long))
 
 pub appends : (captured : Captured) (head : Head) (now : ℤ) (made : ℕ) (change : Change) (old new : List Record) (before after : OpenRecords)
-    → HasMade captured head now made before
+    → HasMadeRecords captured head now made before
     → new ≡ old ++ change_records captured before.commit before.now_ms (stamp_at (made_by before)) change → after.commit ≡ before.commit
     → after.now_ms ≡ before.now_ms
     → made_by after + length old ≡ made_by before + length new → HasTails captured after → AppendsRecords captured head now made change old new after
@@ -74,7 +75,7 @@ appends captured head now made change old new before after is pushed commit time
 -- none was made yet
 pub none_made : (captured : Captured) (head : Head) (now : ℤ) (records : OpenRecords) (count : ℕ) → records.commit ≡ commit_so_far head []
     → records.now_ms ≡ now → made_by records ≡ 0 → count ≡ length captured.infos
-    → records.tails.items ≡ replicate count None → HasMade captured head now 0 records
+    → records.tails.items ≡ replicate count None → HasMadeRecords captured head now 0 records
 none_made captured head now records count commit time made long tails = record {
   commit = commit;
   now_is = time;

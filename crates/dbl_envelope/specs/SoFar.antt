@@ -24,7 +24,7 @@ pub record HasTails (captured : Captured) (records : OpenRecords) : Type 0 where
   pub tails : AreTails captured records.commit records.now_ms records.tails.items
 
 -- It makes the records of this writer's tables for the transaction with this Begin, at this time, and has made so many.
-pub record HasMade (captured : Captured) (head : Head) (now : ℤ) (made : ℕ) (records : OpenRecords) : Type 0 where
+pub record HasMadeRecords (captured : Captured) (head : Head) (now : ℤ) (made : ℕ) (records : OpenRecords) : Type 0 where
   pub commit : records.commit ≡ commit_so_far head []
   pub now_is : records.now_ms ≡ now
   pub made_is : made_by records ≡ made
@@ -34,4 +34,4 @@ pub record HasMade (captured : Captured) (head : Head) (now : ℤ) (made : ℕ) 
 pub record AppendsRecords (captured : Captured) (head : Head) (now : ℤ) (made : ℕ) (change : Change) (old new : List Record)
     (records : OpenRecords) : Type 0 where
   pub appended : new ≡ old ++ records_after captured head now made change
-  pub makes : HasMade captured head now (made + length (records_after captured head now made change)) records
+  pub makes : HasMadeRecords captured head now (made + length (records_after captured head now made change)) records

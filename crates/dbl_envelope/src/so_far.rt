@@ -4,7 +4,7 @@ ghost use Rattle.std.specs.Prelude.{◌≡◌, ◌<◌, ℕ, ℤ, [], None, IfOk
 ghost use Rattle.dbl_model_table.specs.declared.change.Head.{Head as SpecHead};
 ghost use Rattle.dbl_model_table.specs.Heads.{commit_so_far};
 ghost use Rattle.dbl_envelope.specs.Clashing.{IsClash, notices_clash};
-ghost use Rattle.dbl_envelope.specs.SoFar.{HasMade, HasTails, AppendsRecords};
+ghost use Rattle.dbl_envelope.specs.SoFar.{HasMadeRecords, HasTails, AppendsRecords};
 ghost use Rattle.dbl_envelope.specs.Suits.{Suits};
 
 use crate::clash::check_change;
@@ -50,7 +50,7 @@ impl OpenRecords {
         head: &Head,
         now_ms: i64,
     ) -> Result<OpenRecords, AllocError>
-        ensures { IfOk result (HasMade writer.now head.now now_ms 0) }
+        ensures { IfOk result (HasMadeRecords writer.now head.now now_ms 0) }
     {
         Ok(OpenRecords {
             commit: commit_so_far(alloc, head),
@@ -73,7 +73,7 @@ impl OpenRecords {
         requires suits { Suits writer.now.infos change.now }
         requires tails { HasTails writer.now self.old }
         ensures made { (head : SpecHead) (now : ℤ) (made : ℕ) →
-            HasMade writer.now head now made self.old →
+            HasMadeRecords writer.now head now made self.old →
             OnOk result (AppendsRecords writer.now head now made change.now out.old.items
             out.new.items self.new) }
         ensures some { OnOk result (length out.old.items < length out.new.items) }

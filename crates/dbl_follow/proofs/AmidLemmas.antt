@@ -11,7 +11,7 @@ use Rattle.dbl_model_table.specs.declared.change.Change.{Change}
 use Rattle.dbl_model_table.specs.declared.change.Commit.{Commit}
 use Rattle.dbl_model_table.specs.declared.change.Ended.{Ended}
 use Rattle.dbl_model_table.specs.declared.change.Head.{Head}
-use Rattle.dbl_model_table.specs.Heads.{head_of, commit_by, ended_at, commit_so_far}
+use Rattle.dbl_model_table.specs.Heads.{commit_head, commit_by, ended_at, commit_so_far}
 use Rattle.dbl_model_event.specs.Clashes.{Clash, clash_of, first_found, notice_clash}
 use Rattle.dbl_model_event.specs.Events.{Notice, notices, numbered}
 use Rattle.dbl_model_event.specs.EventJson.{print, envelopes}
@@ -27,7 +27,7 @@ use Rattle.dbl_window.specs.Plans.{Chunk}
 use Rattle.dbl_follow.specs.declared.error.FollowError.{FollowError}
 use Rattle.dbl_follow.specs.declared.window.Window.{Window}
 use Rattle.dbl_follow.specs.declared.window.Window.TheVariants.{Absent, Armed, Open}
-use Rattle.dbl_follow.specs.Amid.{PassesSoFar, AreReleased, IsAmid, EndsAs, Extends, held_of, ArmedWithinTransactions}
+use Rattle.dbl_follow.specs.Amid.{PassesSoFar, AreReleased, IsAmid, EndsWithCommit, ExtendsPart, held_records, ArmedWithinTransactions}
 use Rattle.dbl_follow.specs.Faults.{IsClashOf}
 use Rattle.dbl_follow.specs.Followed.{OpenPart, Following, IsWindowOf}
 use Rattle.dbl_follow.specs.Steps.{mark_of, closing, closed_of, records_of, records_by, clash_in, clash_by, cursors_after, Passes, Steps}
@@ -89,7 +89,7 @@ abbrev captured_by : Following → Captured
 captured_by f = record { identity = f.identity; infos = f.infos }
 
 first_released : (start : Following) (head : Head) (change : Change) (now : ℤ) (more : List Record) (new : Option OpenPart)
-    → Extends (captured_by start) head now change None more new
+    → ExtendsPart (captured_by start) head now change None more new
     → AreReleased start head (change ∷ []) now more new
 first_released start head change now more new by =
     let long : length (more ++ by.0 ∷ []) ≡ length (records_after (captured_by start) head now 0 change) = ap length by.2 in
@@ -102,7 +102,7 @@ first_released start head change now more new by =
 next_released : (start : Following) (head : Head) (c : Change) (cs : List Change) (change : Change) (now : ℤ) (released more : List Record) (held : Record)
     (new : Option OpenPart)
     → released ++ held ∷ [] ≡ envelopes start.identity start.infos (commit_so_far head (c ∷ cs)) now → Suits start.infos change
-    → Extends (captured_by start) head now change (Some (record { head = head; now = now; made = length released + 1; held = held })) more new
+    → ExtendsPart (captured_by start) head now change (Some (record { head = head; now = now; made = length released + 1; held = held })) more new
     → AreReleased start head (c ∷ (cs ++ change ∷ [])) now (released ++ more) new
 next_released start head c cs change now released more held new are suits by =
     let recs = records_after (captured_by start) head now (length released + 1) change in
@@ -120,16 +120,16 @@ next_released start head c cs change now released more held new are suits by =
 released_more : (start : Following) (head : Head) (changes : List Change) (change : Change) (now now_ms : ℤ) (released more : List Record)
     (old new : Option OpenPart)
     → AreReleased start head changes now released old → (changes ≡ [] → now ≡ now_ms) → Suits start.infos change
-    → Extends (captured_by start) head now_ms change old more new
+    → ExtendsPart (captured_by start) head now_ms change old more new
     → AreReleased start head (changes ++ change ∷ []) now (released ++ more) new
 released_more start head [] change now now_ms released more old new are at suits by =
     subst (λ (l : List Record). AreReleased start head (change ∷ []) now (l ++ more) new) (sym are.1)
     (first_released start head change now more new
-    (subst (λ (t : ℤ). Extends (captured_by start) head t change None more new) (sym (at refl))
-    (subst (λ (o : Option OpenPart). Extends (captured_by start) head now_ms change o more new) are.0 by)))
+    (subst (λ (t : ℤ). ExtendsPart (captured_by start) head t change None more new) (sym (at refl))
+    (subst (λ (o : Option OpenPart). ExtendsPart (captured_by start) head now_ms change o more new) are.0 by)))
 released_more start head (c ∷ cs) change now now_ms released more old new are at suits by =
     next_released start head c cs change now released more are.0 new are.2 suits
-    (subst (λ (o : Option OpenPart). Extends (captured_by start) head now_ms change o more new) are.1 by)
+    (subst (λ (o : Option OpenPart). ExtendsPart (captured_by start) head now_ms change o more new) are.1 by)
 
 -- ---- one more change
 
@@ -155,7 +155,7 @@ clash_more start f head changes change now released a =
 
 pub amid_more : (start old new : Following) (head : Head) (changes : List Change) (change : Change) (now now_ms : ℤ) (released more : List Record)
     → IsAmid start head changes now released old
-    → (changes ≡ [] → now ≡ now_ms) → Suits old.infos change → Extends (captured_by old) head now_ms change old.part more new.part
+    → (changes ≡ [] → now ≡ now_ms) → Suits old.infos change → ExtendsPart (captured_by old) head now_ms change old.part more new.part
     → notices_clash old.identity.placeholder old.infos change ≡ None → Passes old.infos old.window (change ∷ []) new.window
     → new ≡ record old { window = new.window; part = new.part }
     → IsAmid start head (changes ++ change ∷ []) now (released ++ more) new
@@ -168,7 +168,7 @@ amid_more start old new head changes change now now_ms released more a at suits 
       no_clash = clash_more start old head changes change now released a ∙ none;
       released_are = released_more start head changes change now now_ms released more old.part new.part a.released_are at
           (subst (λ (k : Captured). Suits k.infos change) kept suits)
-          (subst (λ (k : Captured). Extends k head now_ms change old.part more new.part) kept by);
+          (subst (λ (k : Captured). ExtendsPart k head now_ms change old.part more new.part) kept by);
     }
 
 -- ---- between transactions
@@ -219,18 +219,18 @@ passed infos [] old new is passes = subst (λ (w : Window). Passes infos w [] ne
 passed infos (c ∷ cs) old new is passes = passes
 
 all_released : (start f : Following) (head : Head) (changes : List Change) (now : ℤ) (released : List Record) → IsAmid start head changes now released f
-    → released ++ held_of f.part ≡ envelopes start.identity start.infos (commit_so_far head changes) now
+    → released ++ held_records f.part ≡ envelopes start.identity start.infos (commit_so_far head changes) now
 all_released start f head [] now released a =
-    ap (λ (l : List Record). l ++ held_of f.part) a.released_are.1 ∙ ap held_of a.released_are.0
-all_released start f head (c ∷ cs) now released a = ap (λ (o : Option OpenPart). released ++ held_of o) a.released_are.1 ∙ a.released_are.2
+    ap (λ (l : List Record). l ++ held_records f.part) a.released_are.1 ∙ ap held_records a.released_are.0
+all_released start f head (c ∷ cs) now released a = ap (λ (o : Option OpenPart). released ++ held_records o) a.released_are.1 ∙ a.released_are.2
 
 unmarked_end : (ended : Ended) → ended.mark ≡ None → ended ≡ ended_at ended.head ended.end_lsn
 unmarked_end ended none = λ i. record { head = ended.head; end_lsn = ended.end_lsn; mark = none i }
 
 ends_at : (start old new : Following) (ended : Ended) (changes : List Change) (now : ℤ) (released more : List Record)
     → IsAmid start ended.head changes now released old → IsWindowOf old.infos old.window
-    → more ≡ held_of old.part → new ≡ record old { part = None }
-    → EndsAs start (commit_by (ended_at ended.head ended.end_lsn) changes) now (released ++ more) new
+    → more ≡ held_records old.part → new ≡ record old { part = None }
+    → EndsWithCommit start (commit_by (ended_at ended.head ended.end_lsn) changes) now (released ++ more) new
 ends_at start old new ended changes now released more a window_is held same =
     let commit : Commit = commit_by (ended_at ended.head ended.end_lsn) changes in
     let closes : closing start.window None ≡ None = closing-None start.window in
@@ -257,23 +257,24 @@ ends_at start old new ended changes now released more a window_is held same =
 
 pub amid_ends : (start old new : Following) (ended : Ended) (changes : List Change) (now : ℤ) (released more : List Record)
     → IsAmid start ended.head changes now released old → ended.mark ≡ None
-    → IsWindowOf old.infos old.window → more ≡ held_of old.part → new ≡ record old { part = None }
-    → EndsAs start (commit_by ended changes) now (released ++ more) new
+    → IsWindowOf old.infos old.window → more ≡ held_records old.part → new ≡ record old { part = None }
+    → EndsWithCommit start (commit_by ended changes) now (released ++ more) new
 amid_ends start old new ended changes now released more a none window_is held same =
-    subst (λ (e : Ended). EndsAs start (commit_by e changes) now (released ++ more) new) (sym (unmarked_end ended none))
+    subst (λ (e : Ended). EndsWithCommit start (commit_by e changes) now (released ++ more) new) (sym (unmarked_end ended none))
     (ends_at start old new ended changes now released more a window_is held same)
 
 -- ---- the end of a watermark's transaction
 
 pub rest_ends : (start old new : Following) (ended : Ended) (changes : List Change) (now now_ms : ℤ) (released more : List Record)
     → IsAmid start ended.head changes now released old → old.part ≡ None
-    → (changes ≡ [] → now ≡ now_ms) → EndsAs old (commit_by ended []) now_ms more new → EndsAs start (commit_by ended changes) now (released ++ more) new
+    → (changes ≡ [] → now ≡ now_ms) → EndsWithCommit old (commit_by ended []) now_ms more new
+    → EndsWithCommit start (commit_by ended changes) now (released ++ more) new
 rest_ends start old new ended changes now now_ms released more a none at ends =
     let rests = amid_rests start old ended.head changes now released a none in
-    subst (λ (l : List Record). EndsAs start (commit_by ended changes) now (l ++ more) new) (sym rests.unreleased)
-    (subst (λ (l : List Change). EndsAs start (commit_by ended l) now more new) (sym rests.unchanged)
-    (subst (λ (t : ℤ). EndsAs start (commit_by ended []) t more new) (sym (at rests.unchanged))
-    (subst (λ (f : Following). EndsAs f (commit_by ended []) now_ms more new) (sym rests.same) ends)))
+    subst (λ (l : List Record). EndsWithCommit start (commit_by ended changes) now (l ++ more) new) (sym rests.unreleased)
+    (subst (λ (l : List Change). EndsWithCommit start (commit_by ended l) now more new) (sym rests.unchanged)
+    (subst (λ (t : ℤ). EndsWithCommit start (commit_by ended []) t more new) (sym (at rests.unchanged))
+    (subst (λ (f : Following). EndsWithCommit f (commit_by ended []) now_ms more new) (sym rests.same) ends)))
 
 pub rest_clashes : (start old : Following) (ended : Ended) (changes : List Change) (now : ℤ) (released : List Record) (e : FollowError)
     → IsAmid start ended.head changes now released old → old.part ≡ None
@@ -297,7 +298,7 @@ pub marks_end : {V : Type 0} (r : Result V FollowError) (items : V → List Reco
     → mark_of commit ≡ Some value
     → IfOk r (λ v. items v ≡ records_by old commit now) → OnOk r (Steps old commit new) → OnOk r (clash_by old commit ≡ None)
     → ((chunk : Chunk) → closing old.window (Some value) ≡ Some chunk → IfOk r (λ v. IsSnapshot old.identity old.infos (closed_of chunk) commit now (items v)))
-    → IfOk r (λ v. EndsAs old commit now (items v) new)
+    → IfOk r (λ v. EndsWithCommit old commit now (items v) new)
 marks_end (Ok v) items old new commit value now marked are steps none snapshot = record {
   records_are = are;
   steps = steps;
@@ -309,18 +310,18 @@ marks_end (Err e) items old new commit value now marked are steps none snapshot 
 -- ---- whole commits
 
 pub commit_is : (commit : Commit) (changes : List Change) → commit.body ≡ Changes changes
-    → commit_by (ended_at (head_of commit) commit.end_lsn) changes ≡ commit
+    → commit_by (ended_at (commit_head commit) commit.end_lsn) changes ≡ commit
 commit_is commit changes is = λ i. record { lsn = commit.lsn; end_lsn = commit.end_lsn; time = commit.time; xid = commit.xid; body = sym is i }
 
 -- the commit that a transaction of these changes, with this Begin, is
-pub changes_end : (old new : Following) (commit : Commit) (head : Head) (changes : List Change) (now : ℤ) (records : List Record) → head ≡ head_of commit
+pub changes_end : (old new : Following) (commit : Commit) (head : Head) (changes : List Change) (now : ℤ) (records : List Record) → head ≡ commit_head commit
     → commit.body ≡ Changes changes
-    → EndsAs old (commit_by (ended_at head commit.end_lsn) changes) now records new → EndsAs old commit now records new
+    → EndsWithCommit old (commit_by (ended_at head commit.end_lsn) changes) now records new → EndsWithCommit old commit now records new
 changes_end old new commit head changes now records at is ends =
-    subst (λ (c : Commit). EndsAs old c now records new) (commit_is commit changes is)
-    (subst (λ (h : Head). EndsAs old (commit_by (ended_at h commit.end_lsn) changes) now records new) at ends)
+    subst (λ (c : Commit). EndsWithCommit old c now records new) (commit_is commit changes is)
+    (subst (λ (h : Head). EndsWithCommit old (commit_by (ended_at h commit.end_lsn) changes) now records new) at ends)
 
-pub changes_clash : (old : Following) (commit : Commit) (head : Head) (changes : List Change) (e : FollowError) → head ≡ head_of commit
+pub changes_clash : (old : Following) (commit : Commit) (head : Head) (changes : List Change) (e : FollowError) → head ≡ commit_head commit
     → commit.body ≡ Changes changes
     → IsClashOf (clash_by old (commit_by (ended_at head commit.end_lsn) changes)) e → IsClashOf (clash_by old commit) e
 changes_clash old commit head changes e at is clashes =
@@ -328,11 +329,11 @@ changes_clash old commit head changes e at is clashes =
     (subst (λ (h : Head). IsClashOf (clash_by old (commit_by (ended_at h commit.end_lsn) changes)) e) at clashes)
 
 -- the commit of a watermark
-pub mark_commit : (commit : Commit) (head : Head) (value text : List ℕ) → head ≡ head_of commit → commit.body ≡ Mark value → text ≡ value
+pub mark_commit : (commit : Commit) (head : Head) (value text : List ℕ) → head ≡ commit_head commit → commit.body ≡ Mark value → text ≡ value
     → commit_by (record { head = head; end_lsn = commit.end_lsn; mark = Some text }) [] ≡ commit
 mark_commit commit head value text at is same =
     ap (λ (h : Head). commit_by (record { head = h; end_lsn = commit.end_lsn; mark = Some text }) []) at
-    ∙ ap (λ (l : List ℕ). commit_by (record { head = head_of commit; end_lsn = commit.end_lsn; mark = Some l }) []) same
+    ∙ ap (λ (l : List ℕ). commit_by (record { head = commit_head commit; end_lsn = commit.end_lsn; mark = Some l }) []) same
     ∙ (λ i. record { lsn = commit.lsn; end_lsn = commit.end_lsn; time = commit.time; xid = commit.xid; body = sym is i })
 
 -- the value equal to the placeholder that a transaction has so far is the first one of its commit

@@ -10,8 +10,8 @@ use Rattle.dbl_envelope.specs.declared.so_far.OpenRecords.{OpenRecords}
 use Rattle.dbl_envelope.specs.SoFar.{AppendsRecords, made_by, records_after}
 use Rattle.dbl_envelope.specs.Writers.{Captured}
 use Rattle.dbl_follow.specs.declared.part.Part.{Part}
-use Rattle.dbl_follow.specs.Amid.{Extends, HoldsLast}
-use Rattle.dbl_follow.specs.Followed.{IsPartOf, OpenPart, part_of}
+use Rattle.dbl_follow.specs.Amid.{ExtendsPart, HoldsLast}
+use Rattle.dbl_follow.specs.Followed.{IsOpenPartOf, OpenPart, part_of}
 
 -- what a list was before its last item was taken
 pub all_but_last : {A : Type 0} (all new : List A) (o : Option A) (last : A) → all ≡ new ++ option_to_list o → Some last ≡ o → all ≡ new ++ last ∷ []
@@ -30,7 +30,7 @@ holds_last captured head now made change old all new records held a popped = rec
 
 -- the records go on to be made for this transaction
 pub part_makes : (captured : Captured) (head : Head) (now : ℤ) (made : ℕ) (change : Change) (old new : List Record) (part : Part)
-    → HoldsLast captured head now made change old new part → IsPartOf captured (Some part)
+    → HoldsLast captured head now made change old new part → IsOpenPartOf captured (Some part)
 part_makes captured head now made change old new part h = record {
   commit = h.makes.commit ∙ ap (λ (x : Head). commit_so_far x []) (sym h.head_is);
   now_is = h.makes.now_is ∙ sym h.now_is;
@@ -50,7 +50,7 @@ part_is captured head now made change old new part h =
 
 pub first_extends : (captured : Captured) (head : Head) (now : ℤ) (change : Change) (released : List Record) (part : Part)
     → HoldsLast captured head now 0 change [] released part
-    → Extends captured head now change None released (Some (part_of part))
+    → ExtendsPart captured head now change None released (Some (part_of part))
 first_extends captured head now change released part h =
     let none : 0 + length (records_after captured head now 0 change) ≡ length (records_after captured head now 0 change) = omega arith in (
       part.held,
@@ -61,7 +61,7 @@ first_extends captured head now change released part h =
 
 pub next_extends : (captured : Captured) (head : Head) (now : ℤ) (change : Change) (released : List Record) (old part : Part)
     → HoldsLast captured old.head old.now_ms (made_by old.records) change (unmarked old.held ∷ []) released part
-    → Extends captured head now change (Some (part_of old)) released (Some (part_of part))
+    → ExtendsPart captured head now change (Some (part_of old)) released (Some (part_of part))
 next_extends captured head now change released old part h = (
   part.held,
   part_is captured old.head old.now_ms (made_by old.records) change (unmarked old.held ∷ []) released part h,

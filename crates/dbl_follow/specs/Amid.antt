@@ -12,7 +12,7 @@ use Rattle.dbl_model_event.specs.EventJson.{envelopes}
 use Rattle.dbl_model_event.specs.OpenEvents.{unmarked}
 use Rattle.dbl_model_event.specs.SnapshotLists.{IsSnapshot}
 use Rattle.dbl_envelope.specs.Writers.{Captured}
-use Rattle.dbl_envelope.specs.SoFar.{HasMade, records_after}
+use Rattle.dbl_envelope.specs.SoFar.{HasMadeRecords, records_after}
 use Rattle.dbl_window.specs.Plans.{Chunk}
 use Rattle.dbl_follow.specs.declared.error.FollowError.{FollowError}
 use Rattle.dbl_follow.specs.declared.part.Part.{Part}
@@ -47,7 +47,7 @@ pub record IsAmid (start : Following) (head : Head) (changes : List Change) (now
 
 -- Whether these records are those of a commit that the follower followed from `start` on: the commit's, or the snapshot of the window that
 -- it closes.
-pub record EndsAs (start : Following) (commit : Commit) (now : ℤ) (records : List Record) (new : Following) : Type 0 where
+pub record EndsWithCommit (start : Following) (commit : Commit) (now : ℤ) (records : List Record) (new : Following) : Type 0 where
   pub records_are : records ≡ records_by start commit now
   pub steps : Steps start commit new
   pub no_clash : clash_by start commit ≡ None
@@ -71,7 +71,7 @@ RefusesChange old head change e = (start : Following) (changes : List Change) (n
 abbrev pub EndsTransaction : Following → Ended → ℤ → List Record → Following → Type 0
 EndsTransaction old ended now_ms more new = (start : Following) (changes : List Change) (now : ℤ) (released : List Record)
     → IsAmid start ended.head changes now released old → (changes ≡ [] → now ≡ now_ms)
-    → EndsAs start (commit_by ended changes) now (released ++ more) new
+    → EndsWithCommit start (commit_by ended changes) now (released ++ more) new
 
 -- The error names the first value equal to the placeholder of the commit's records, unless memory ran out.
 abbrev pub RefusesEnd : Following → Ended → FollowError → Type 0
@@ -79,12 +79,12 @@ RefusesEnd old ended e = (start : Following) (changes : List Change) (now : ℤ)
     → IsAmid start ended.head changes now released old → IsClashOf (clash_by start (commit_by ended changes)) e
 
 -- For private clauses: the effect of one more change on the open transaction, and the records that it releases.
-abbrev pub Extends : Captured → Head → ℤ → Change → Option OpenPart → List Record → Option OpenPart → Type 0
-Extends captured head now change None released new =
+abbrev pub ExtendsPart : Captured → Head → ℤ → Change → Option OpenPart → List Record → Option OpenPart → Type 0
+ExtendsPart captured head now change None released new =
     (held : Record)
     × (new ≡ Some (record { head = head; now = now; made = length (records_after captured head now 0 change); held = held }))
     × (released ++ held ∷ [] ≡ records_after captured head now 0 change)
-Extends captured head now change (Some part) released new =
+ExtendsPart captured head now change (Some part) released new =
     (held : Record)
     × (new
     ≡ Some (record part { made = part.made + length (records_after captured part.head part.now part.made change); held = held }))
@@ -96,12 +96,12 @@ pub record HoldsLast (captured : Captured) (head : Head) (now : ℤ) (made : ℕ
   pub head_is : part.head ≡ head
   pub now_is : part.now_ms ≡ now
   pub appended : new ++ part.held ∷ [] ≡ old ++ records_after captured head now made change
-  pub makes : HasMade captured head now (made + length (records_after captured head now made change)) part.records
+  pub makes : HasMadeRecords captured head now (made + length (records_after captured head now made change)) part.records
 
 -- For private clauses: the record that is held, if one is.
-abbrev pub held_of : Option OpenPart → List Record
-held_of None = []
-held_of (Some part) = part.held ∷ []
+abbrev pub held_records : Option OpenPart → List Record
+held_records None = []
+held_records (Some part) = part.held ∷ []
 
 -- To arm a window within a transaction is to arm it before the transaction.
 abbrev pub ArmedWithinTransactions : Type 0

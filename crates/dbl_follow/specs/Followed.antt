@@ -8,7 +8,7 @@ use Rattle.dbl_model_table.specs.declared.change.Head.{Head}
 use Rattle.dbl_model_history.specs.declared.cursor.Cursor.{Cursor}
 use Rattle.dbl_model_history.specs.Cursors.{AreCursorsOf}
 use Rattle.dbl_envelope.specs.Writers.{Captured}
-use Rattle.dbl_envelope.specs.SoFar.{HasMade, made_by}
+use Rattle.dbl_envelope.specs.SoFar.{HasMadeRecords, made_by}
 use Rattle.dbl_model_event.specs.Snapshots.{AreInKeyOrder, FitsChunk}
 use Rattle.dbl_window.specs.Plans.{Plan, Chunk, low_text, high_text}
 use Rattle.dbl_window.specs.Promise.{closed_of}
@@ -68,13 +68,13 @@ IsWindowOf infos (Armed chunk) = IsPlanOfCaptured infos chunk.plan
 IsWindowOf infos (Open chunk) = IsOpenOf infos chunk
 
 -- For private clauses: whether the records of the open transaction, if any, are made for its Begin and for the writer's tables.
-abbrev pub IsPartOf : Captured → Option Part → Type 0
-IsPartOf captured None = Unit {0}
-IsPartOf captured (Some part) = HasMade captured part.head part.now_ms (made_by part.records) part.records
+abbrev pub IsOpenPartOf : Captured → Option Part → Type 0
+IsOpenPartOf captured None = Unit {0}
+IsOpenPartOf captured (Some part) = HasMadeRecords captured part.head part.now_ms (made_by part.records) part.records
 
 -- For private clauses: the invariant of a follower's fields.
 pub record IsFollowing (captured : Captured) (cursors : List Cursor) (window : Window) (part : Option Part) : Type 0 where
   pub few : length captured.infos ≤ 64
   pub cursors_are : AreCursorsOf captured.infos cursors
   pub window_is : IsWindowOf captured.infos window
-  pub part_is : IsPartOf captured part
+  pub part_is : IsOpenPartOf captured part

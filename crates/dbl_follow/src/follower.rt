@@ -13,7 +13,7 @@ ghost use Rattle.dbl_model_event.specs.Snapshots.{snapshot, FitsSnapshot};
 ghost use Rattle.dbl_model_event.specs.SnapshotLists.{IsSnapshot};
 ghost use Rattle.dbl_window.specs.Plans.{Chunk, high_text};
 ghost use Rattle.dbl_follow.specs.declared.window.Window.TheVariants as windows;
-ghost use Rattle.dbl_follow.specs.Amid.{EndsAs, FollowsChange, RefusesChange};
+ghost use Rattle.dbl_follow.specs.Amid.{EndsWithCommit, FollowsChange, RefusesChange};
 ghost use Rattle.dbl_follow.specs.Amid.{EndsTransaction, RefusesEnd};
 ghost use Rattle.dbl_follow.specs.Followed.{awaited, FitsWindow, IsPlanOfCaptured};
 ghost use Rattle.dbl_follow.specs.Followed.{IsOpenOf, IsWindowOf};
@@ -307,7 +307,7 @@ impl Follower {
         requires none { self.old.part ≡ None }
         requires mark { ended.now.mark ≡ Some value.now }
         ensures ends { IfOk result (λ records.
-            EndsAs self.old (commit_by ended.now []) now_ms records.items self.new) }
+            EndsWithCommit self.old (commit_by ended.now []) now_ms records.items self.new) }
         ensures err { IfErr result (IsClashOf (clash_by self.old (commit_by ended.now []))) }
     {
         let commit = Commit {
@@ -346,7 +346,7 @@ impl Follower {
     ) -> Result<Vec<Record>, FollowError>
         requires none { self.old.part ≡ None }
         requires fits { All (FitsInfos self.old.infos) changes.now.items }
-        ensures ends { IfOk result (λ records. EndsAs self.old
+        ensures ends { IfOk result (λ records. EndsWithCommit self.old
             (commit_by (ended_at head.now end_lsn) changes.now.items) now_ms records.items
             self.new) }
         ensures err { IfErr result (IsClashOf (clash_by self.old

@@ -3,11 +3,11 @@
 ghost use Rattle.std.specs.Prelude.{◌≡◌, ◌++◌, ◌∷◌, ℕ, [], None, option_map, IfOk, IfErr, OnOk};
 ghost use Rattle.dbl_model_event.specs.OpenEvents.{unmarked};
 ghost use Rattle.dbl_envelope.specs.Clashing.{notices_clash};
-ghost use Rattle.dbl_envelope.specs.SoFar.{HasMade, HasTails, made_by};
+ghost use Rattle.dbl_envelope.specs.SoFar.{HasMadeRecords, HasTails, made_by};
 ghost use Rattle.dbl_envelope.specs.Suits.{Suits};
-ghost use Rattle.dbl_follow.specs.Amid.{Extends, HoldsLast, held_of};
+ghost use Rattle.dbl_follow.specs.Amid.{ExtendsPart, HoldsLast, held_records};
 ghost use Rattle.dbl_follow.specs.Faults.{IsClashOf};
-ghost use Rattle.dbl_follow.specs.Followed.{IsPartOf, part_of};
+ghost use Rattle.dbl_follow.specs.Followed.{IsOpenPartOf, part_of};
 
 use crate::FollowError;
 use dbl_envelope::{EventWriter, OpenRecords};
@@ -38,7 +38,7 @@ fn hold_last(
 ) -> Result<Part, FollowError>
     requires suits { Suits writer.now.infos change.now }
     requires tails { HasTails writer.now records }
-    ensures held { (made : ℕ) → HasMade writer.now head now_ms made records → IfOk result
+    ensures held { (made : ℕ) → HasMadeRecords writer.now head now_ms made records → IfOk result
         (HoldsLast writer.now head now_ms made change.now out.old.items out.new.items) }
     ensures no_clash { OnOk result
         (notices_clash writer.now.identity.placeholder writer.now.infos change.now ≡ None) }
@@ -88,7 +88,8 @@ fn extend_part(
     out: &mut Vec<Record>,
 ) -> Result<Part, FollowError>
     requires suits { Suits writer.now.infos change.now }
-    requires made { HasMade writer.now part.head part.now_ms (made_by part.records) part.records }
+    requires made { HasMadeRecords writer.now part.head part.now_ms (made_by part.records)
+        part.records }
     ensures held { IfOk result
         (HoldsLast writer.now part.head part.now_ms (made_by part.records) change.now
         (out.old.items ++ unmarked part.held ∷ []) out.new.items) }
@@ -121,11 +122,11 @@ pub(crate) fn follow_change(
     now_ms: i64,
 ) -> Result<Vec<Record>, FollowError>
     requires suits { Suits writer.now.infos change.now }
-    requires part { IsPartOf writer.now part.old }
+    requires part { IsOpenPartOf writer.now part.old }
     ensures extends { IfOk result
-        (λ released. Extends writer.now head.now now_ms change.now (option_map part_of part.old)
+        (λ released. ExtendsPart writer.now head.now now_ms change.now (option_map part_of part.old)
         released.items (option_map part_of part.new)) }
-    ensures part { IsPartOf writer.now part.new }
+    ensures part { IsOpenPartOf writer.now part.new }
     ensures no_clash { OnOk result
         (notices_clash writer.now.identity.placeholder writer.now.infos change.now ≡ None) }
     ensures err { IfErr result (IsClashOf
@@ -148,12 +149,20 @@ pub(crate) fn follow_change(
 
 /// Ends the open transaction, if there is one, and returns the record that is held.
 pub(crate) fn end_part(part: &mut Option<Part>, alloc: Global) -> Result<Vec<Record>, AllocError>
-    ensures held { IfOk result (λ records. records.items ≡ held_of (option_map part_of part.old)) }
+    ensures held { IfOk result
+        (λ records. records.items ≡ held_records (option_map part_of part.old)) }
     ensures none { part.new ≡ None }
 {
     let mut records = Vec::new(alloc);
     if let Some(old) = part.take() {
-        records.push(old.held)?;
+        let Part {
+            head: _,
+            now_ms: _,
+            records: made,
+            held,
+        } = old;
+        drop(made);
+        records.push(held)?;
     }
     Ok(records)
 }

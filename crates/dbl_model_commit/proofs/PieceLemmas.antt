@@ -17,7 +17,7 @@ use Rattle.dbl_model_commit.specs.declared.txn_error.TxnError.TheVariants as err
 use Rattle.dbl_model_commit.specs.Past.{Head, begin_of, open_mark}
 use Rattle.dbl_model_commit.specs.Stated.{stated, ok_or_none, open_changes, commit_of, ended_commit, list_of, commits_of, err_of, place_fault, own_fault, transaction_fault}
 use Rattle.dbl_model_commit.specs.Blocks.{onto, IsFurther, first_transaction_fault}
-use Rattle.dbl_model_commit.specs.Pieces.{IsPiece, piece_of, ArePieces, joined, ended_by, joined_all, commits_by, if_open, changes_so_far, PiecesAreJoined, EachMessageHasOnePiece}
+use Rattle.dbl_model_commit.specs.Pieces.{IsPieceOf, piece_of, ArePiecesOf, with_piece, ended_by, with_pieces, commits_by, if_open, changes_so_far, PiecesAreJoined, EachMessageHasOnePiece}
 use Rattle.dbl_model_commit.proofs.MarkedLemmas.{was_ok, first_none}
 use Rattle.dbl_model_commit.proofs.BlockLemmas.{begin_push, changes_push}
 
@@ -42,7 +42,7 @@ changes_open o changes is = ap (λ (x : Option Head). if_open x changes) is.foun
 
 -- The piece adds to the changes so far what its message adds, and ends the commit that its message ends.
 pub record Joins (infos : List TableInfo) (m : Message) (ms : List Message) (piece : Piece) : Type 0 where
-  pub changes : joined (changes_so_far infos ms) piece ≡ changes_so_far infos (m ∷ ms)
+  pub changes : with_piece (changes_so_far infos ms) piece ≡ changes_so_far infos (m ∷ ms)
   pub commit : ended_by (changes_so_far infos ms) piece ≡ ended_commit infos m ms
 
 no_changes : (changes : List Change) (r : Result (List Change) TxnError) → r ≡ Ok [] → r ≡ Ok changes → changes ≡ []
@@ -58,7 +58,7 @@ module _ (infos : List TableInfo) where
 
   -- a message that states no change
   silent : (m : Message) (ms : List Message) (piece : Piece) → IsFurther m → stated infos m ms ≡ Ok [] → ended_commit infos m ms ≡ None
-      → IsPiece infos m ms piece → Joins infos m ms piece
+      → IsPieceOf infos m ms piece → Joins infos m ms piece
   silent m ms Nothing further none ends is = record {
     changes = sym (so_far m ms further ∙ ap (λ (r : Result (List Change) TxnError). if_open (begin_of ms) (open_changes infos ms ++ ok_or_none r)) none
         ∙ ap (if_open (begin_of ms)) (append-nil (open_changes infos ms)));
@@ -69,7 +69,7 @@ module _ (infos : List TableInfo) where
 
   -- a message that states changes
   stating : (m : Message) (ms : List Message) (piece : Piece) → IsFurther m → IsOpenAt (begin_of ms) → ended_commit infos m ms ≡ None
-      → IsPiece infos m ms piece → Joins infos m ms piece
+      → IsPieceOf infos m ms piece → Joins infos m ms piece
   stating m ms Nothing further begun ends is = silent m ms Nothing further is.0 ends is
   stating m ms (Changed changes) further begun ends is = record {
     changes = ap (λ (l : List Change). l ++ changes) (changes_open (begin_of ms) (open_changes infos ms) begun)
@@ -79,14 +79,14 @@ module _ (infos : List TableInfo) where
   }
   stating m ms (Ended ended) further begun ends is = cc
 
-  begins : (lsn : Lsn) (time : _) (xid : _) (ms : List Message) (piece : Piece) → begin_of ms ≡ None → IsPiece infos (says.Begin lsn time xid) ms piece
+  begins : (lsn : Lsn) (time : _) (xid : _) (ms : List Message) (piece : Piece) → begin_of ms ≡ None → IsPieceOf infos (says.Begin lsn time xid) ms piece
       → Joins infos (says.Begin lsn time xid) ms piece
   begins lsn time xid ms Nothing closed is = record { changes = ap (λ (o : Option Head). if_open o (open_changes infos ms)) closed; commit = refl }
   begins lsn time xid ms (Changed changes) closed is = absurd (is.1 (no_changes changes (Ok []) refl is.0))
   begins lsn time xid ms (Ended ended) closed is = cc
 
   ends : (flags : _) (lsn end_lsn : Lsn) (time : _) (ms : List Message) (piece : Piece) → IsOpenAt (begin_of ms)
-      → IsPiece infos (says.Commit flags lsn end_lsn time) ms piece
+      → IsPieceOf infos (says.Commit flags lsn end_lsn time) ms piece
       → Joins infos (says.Commit flags lsn end_lsn time) ms piece
   ends flags lsn end_lsn time ms Nothing begun is =
       let some = ap (option_map (commit_of lsn end_lsn (open_mark ms) (open_changes infos ms))) begun.found in
@@ -99,7 +99,7 @@ module _ (infos : List TableInfo) where
   }
 
   -- one more message without a fault
-  pub piece_joins : (after : Lsn) (m : Message) (ms : List Message) (piece : Piece) → transaction_fault infos after m ms ≡ None → IsPiece infos m ms piece
+  pub piece_joins : (after : Lsn) (m : Message) (ms : List Message) (piece : Piece) → transaction_fault infos after m ms ≡ None → IsPieceOf infos m ms piece
       → Joins infos m ms piece
   piece_joins after (says.Begin lsn time xid) ms piece fine is =
       begins lsn time xid ms piece (closed_so (begin_of ms) errors.NestedBegin
@@ -133,9 +133,9 @@ module _ (infos : List TableInfo) where
   -- ---- all pieces
 
   all_joined : (after : Lsn) (before ms : List Message) (pieces : List Piece) → first_transaction_fault infos after before ms ≡ None
-      → ArePieces infos before ms pieces
+      → ArePiecesOf infos before ms pieces
       → (commits_of infos before ++ commits_by (changes_so_far infos before) pieces ≡ commits_of infos (onto before ms)) ×
-      (joined_all (changes_so_far infos before) pieces ≡ changes_so_far infos (onto before ms))
+      (with_pieces (changes_so_far infos before) pieces ≡ changes_so_far infos (onto before ms))
   all_joined after before [] [] fine are = (append-nil (commits_of infos before), refl)
   all_joined after before [] (piece ∷ pieces) fine are = absurd are
   all_joined after before (m ∷ ms) [] fine are = absurd are
@@ -144,10 +144,11 @@ module _ (infos : List TableInfo) where
       let one = piece_joins after m before piece none.0 are.0 in
       let rest = all_joined after (m ∷ before) ms pieces none.1 are.1 in (
         sym (append_assoc (commits_of infos before) (list_of (ended_by (changes_so_far infos before) piece))
-            (commits_by (joined (changes_so_far infos before) piece) pieces))
-            ∙ (ap (λ (o : Option Commit). (commits_of infos before ++ list_of o) ++ commits_by (joined (changes_so_far infos before) piece) pieces) one.commit
+            (commits_by (with_piece (changes_so_far infos before) piece) pieces))
+            ∙ (ap (λ (o : Option Commit). (commits_of infos before ++ list_of o) ++ commits_by (with_piece (changes_so_far infos before) piece) pieces)
+            one.commit
             ∙ (ap (λ (l : List Change). commits_of infos (m ∷ before) ++ commits_by l pieces) one.changes ∙ rest.0)),
-        ap (λ (l : List Change). joined_all l pieces) one.changes ∙ rest.1,
+        ap (λ (l : List Change). with_pieces l pieces) one.changes ∙ rest.1,
       )
 
 pub pieces_joined : PiecesAreJoined
@@ -157,7 +158,7 @@ pieces_joined infos after ms pieces fine are = all_joined infos after [] ms piec
 
 module _ (infos : List TableInfo) where
   pub stated_piece : (m : Message) (ms : List Message) (changes : List Change) → stated infos m ms ≡ Ok changes → ended_commit infos m ms ≡ None
-      → IsPiece infos m ms (piece_of changes)
+      → IsPieceOf infos m ms (piece_of changes)
   stated_piece m ms [] states none = (states, none)
   stated_piece m ms (c ∷ changes) states none = (states, λ empty. cc)
 
@@ -190,7 +191,7 @@ module _ (infos : List TableInfo) where
       let mark : a.mark ≡ b.mark = marks_one a.mark b.mark changes (ap (λ (c : Commit). c.body) e) in
       λ i. record { head = record { lsn = lsn i; time = time i; xid = xid i }; end_lsn = end_lsn i; mark = mark i }
 
-  pieces_one : (m : Message) (ms : List Message) (a b : Piece) → IsPiece infos m ms a → IsPiece infos m ms b → b ≡ a
+  pieces_one : (m : Message) (ms : List Message) (a b : Piece) → IsPieceOf infos m ms a → IsPieceOf infos m ms b → b ≡ a
   pieces_one m ms Nothing Nothing by_a by_b = refl
   pieces_one m ms Nothing (Changed changes) by_a by_b = absurd (by_b.1 (no_changes changes (stated infos m ms) by_a.0 by_b.0))
   pieces_one m ms Nothing (Ended ended) by_a by_b = cc
@@ -205,7 +206,7 @@ module _ (infos : List TableInfo) where
       ap (λ (e : End). Ended e) (ends_one other ended (open_changes infos ms) (ended_commit infos m ms) by_b by_a)
 
   abbrev OnePiece : Message → List Message → Type 0
-  OnePiece m ms = (piece : Piece) × IsPiece infos m ms piece × ((other : Piece) → IsPiece infos m ms other → other ≡ piece)
+  OnePiece m ms = (piece : Piece) × IsPieceOf infos m ms piece × ((other : Piece) → IsPieceOf infos m ms other → other ≡ piece)
 
   one_stated : (m : Message) (ms : List Message) (changes : List Change) → stated infos m ms ≡ Ok changes → ended_commit infos m ms ≡ None → OnePiece m ms
   one_stated m ms changes states none =
@@ -216,7 +217,7 @@ module _ (infos : List TableInfo) where
   one_ended flags lsn end_lsn time ms begun =
       let m : Message = says.Commit flags lsn end_lsn time in
       let ended : End = record { head = record { lsn = lsn; time = begun.head.time; xid = begun.head.xid }; end_lsn = end_lsn; mark = open_mark ms } in
-      let is : IsPiece infos m ms (Ended ended) = ap (option_map (commit_of lsn end_lsn (open_mark ms) (open_changes infos ms))) begun.found in
+      let is : IsPieceOf infos m ms (Ended ended) = ap (option_map (commit_of lsn end_lsn (open_mark ms) (open_changes infos ms))) begun.found in
       (Ended ended, is, λ other by. pieces_one m ms (Ended ended) other is by)
 
   one_row : (after : Lsn) (m : Message) (ms : List Message) → own_fault infos after m ms ≡ None → own_fault infos after m ms ≡ err_of (stated infos m ms)

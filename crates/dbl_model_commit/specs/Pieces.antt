@@ -15,10 +15,10 @@ use Rattle.dbl_model_commit.specs.Blocks.{onto, first_transaction_fault}
 
 -- Whether this is the piece of a message after these messages: the changes that it states, or the end of its commit, which has the changes
 -- that the open transaction stated so far.
-abbrev pub IsPiece : List TableInfo → Message → List Message → Piece → Type 0
-IsPiece infos m ms Nothing = (stated infos m ms ≡ Ok []) × (ended_commit infos m ms ≡ None)
-IsPiece infos m ms (Changed changes) = (stated infos m ms ≡ Ok changes) × (changes ≢ [])
-IsPiece infos m ms (Ended ended) = ended_commit infos m ms ≡ Some (commit_by ended (open_changes infos ms))
+abbrev pub IsPieceOf : List TableInfo → Message → List Message → Piece → Type 0
+IsPieceOf infos m ms Nothing = (stated infos m ms ≡ Ok []) × (ended_commit infos m ms ≡ None)
+IsPieceOf infos m ms (Changed changes) = (stated infos m ms ≡ Ok changes) × (changes ≢ [])
+IsPieceOf infos m ms (Ended ended) = ended_commit infos m ms ≡ Some (commit_by ended (open_changes infos ms))
 
 -- The piece of a message that states these changes and ends no commit.
 abbrev pub piece_of : List Change → Piece
@@ -26,17 +26,17 @@ piece_of [] = Nothing
 piece_of (c ∷ changes) = Changed (c ∷ changes)
 
 -- Whether these are the pieces of messages in order, one for each, after the messages `before`.
-abbrev pub ArePieces : List TableInfo → List Message → List Message → List Piece → Type 0
-ArePieces infos before [] [] = Unit {0}
-ArePieces infos before [] (piece ∷ pieces) = ⊥
-ArePieces infos before (m ∷ ms) [] = ⊥
-ArePieces infos before (m ∷ ms) (piece ∷ pieces) = IsPiece infos m before piece × ArePieces infos (m ∷ before) ms pieces
+abbrev pub ArePiecesOf : List TableInfo → List Message → List Message → List Piece → Type 0
+ArePiecesOf infos before [] [] = Unit {0}
+ArePiecesOf infos before [] (piece ∷ pieces) = ⊥
+ArePiecesOf infos before (m ∷ ms) [] = ⊥
+ArePiecesOf infos before (m ∷ ms) (piece ∷ pieces) = IsPieceOf infos m before piece × ArePiecesOf infos (m ∷ before) ms pieces
 
 -- The changes since the last end after one more piece.
-abbrev pub joined : List Change → Piece → List Change
-joined so_far Nothing = so_far
-joined so_far (Changed changes) = so_far ++ changes
-joined so_far (Ended ended) = []
+abbrev pub with_piece : List Change → Piece → List Change
+with_piece so_far Nothing = so_far
+with_piece so_far (Changed changes) = so_far ++ changes
+with_piece so_far (Ended ended) = []
 
 -- The commit that a piece ends, given the changes since the last end.
 abbrev pub ended_by : List Change → Piece → Option Commit
@@ -45,14 +45,14 @@ ended_by so_far (Changed changes) = None
 ended_by so_far (Ended ended) = Some (commit_by ended so_far)
 
 -- The changes since the last end after these pieces.
-abbrev pub joined_all : List Change → List Piece → List Change
-joined_all so_far [] = so_far
-joined_all so_far (piece ∷ pieces) = joined_all (joined so_far piece) pieces
+abbrev pub with_pieces : List Change → List Piece → List Change
+with_pieces so_far [] = so_far
+with_pieces so_far (piece ∷ pieces) = with_pieces (with_piece so_far piece) pieces
 
 -- The commits that these pieces end, each with the changes since the end before it.
 abbrev pub commits_by : List Change → List Piece → List Commit
 commits_by so_far [] = []
-commits_by so_far (piece ∷ pieces) = list_of (ended_by so_far piece) ++ commits_by (joined so_far piece) pieces
+commits_by so_far (piece ∷ pieces) = list_of (ended_by so_far piece) ++ commits_by (with_piece so_far piece) pieces
 
 -- The changes, if a transaction is open; between transactions there are none.
 abbrev pub if_open : Option Head → List Change → List Change
@@ -67,11 +67,11 @@ changes_so_far infos ms = if_open (begin_of ms) (open_changes infos ms)
 -- transaction.
 abbrev pub PiecesAreJoined : Type 0
 PiecesAreJoined = (infos : List TableInfo) (after : Lsn) (ms : List Message) (pieces : List Piece)
-    → first_transaction_fault infos after [] ms ≡ None → ArePieces infos [] ms pieces
-    → (commits_by [] pieces ≡ commits_of infos (onto [] ms)) × (joined_all [] pieces ≡ changes_so_far infos (onto [] ms))
+    → first_transaction_fault infos after [] ms ≡ None → ArePiecesOf infos [] ms pieces
+    → (commits_by [] pieces ≡ commits_of infos (onto [] ms)) × (with_pieces [] pieces ≡ changes_so_far infos (onto [] ms))
 
 -- A message without an error has exactly one piece.
 abbrev pub EachMessageHasOnePiece : Type 0
 EachMessageHasOnePiece = (infos : List TableInfo) (after : Lsn) (m : Message) (ms : List Message)
     → transaction_fault infos after m ms ≡ None
-    → (piece : Piece) × IsPiece infos m ms piece × ((other : Piece) → IsPiece infos m ms other → other ≡ piece)
+    → (piece : Piece) × IsPieceOf infos m ms piece × ((other : Piece) → IsPieceOf infos m ms other → other ≡ piece)

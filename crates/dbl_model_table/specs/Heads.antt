@@ -9,8 +9,8 @@ use Rattle.dbl_model_table.specs.declared.change.Head.{Head}
 use Rattle.dbl_model_table.specs.declared.change.Ended.{Ended}
 
 -- The Begin of a commit's transaction.
-abbrev pub head_of : Commit → Head
-head_of commit = record { lsn = commit.lsn; time = commit.time; xid = commit.xid }
+abbrev pub commit_head : Commit → Head
+commit_head commit = record { lsn = commit.lsn; time = commit.time; xid = commit.xid }
 
 -- The contents of a commit: its watermark if it has one, or else its changes.
 abbrev pub body_of : Option (List ℕ) → List Change → Body

@@ -1,5 +1,5 @@
 ghost use Rattle.std.specs.Prelude.{◌≡◌};
-ghost use Rattle.dbl_model_table.specs.Heads.{head_of};
+ghost use Rattle.dbl_model_table.specs.Heads.{commit_head};
 ghost use Rattle.dbl_model_table.specs.Rows.{table_of};
 
 use crate::{Key, Row};
@@ -108,7 +108,7 @@ pub struct Ended {
 impl Commit {
     /// The Begin of its transaction. Takes no memory.
     pub fn head(&self) -> Head
-        ensures { result ≡ head_of self.now }
+        ensures { result ≡ commit_head self.now }
     {
         Head {
             lsn: self.lsn,

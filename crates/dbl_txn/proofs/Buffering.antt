@@ -10,10 +10,10 @@ use Rattle.dbl_model_commit.specs.declared.piece.Piece.{Piece}
 use Rattle.dbl_model_commit.specs.declared.txn_error.TxnError.{TxnError}
 use Rattle.dbl_model_commit.specs.Past.{Head, begin_of, HasNoRelation}
 use Rattle.dbl_model_commit.specs.Stated.{open_changes}
-use Rattle.dbl_model_commit.specs.Pieces.{if_open, joined, ended_by}
+use Rattle.dbl_model_commit.specs.Pieces.{if_open, with_piece, ended_by}
 use Rattle.dbl_model_commit.proofs.Learning.{changes_learnt}
 use Rattle.dbl_model_commit.proofs.PieceLemmas.{piece_joins}
-use Rattle.dbl_txn_pieces.specs.Reading.{HasRead, ReadPiece, ReadsPiece}
+use Rattle.dbl_txn_pieces.specs.Reading.{HasReadMessages, ReadPiece, ReadsPiece}
 use Rattle.dbl_txn.specs.declared.assembler.Assembler.{Assembler}
 use Rattle.dbl_txn.specs.Stands.{Stands, StandsWhole, StandsInPieces, Taken, TakenPiece, TakesPiece, BetweenTransactionsBothStand}
 
@@ -42,19 +42,19 @@ pieces_taken infos after m ms a b (Err e) s same fails = fails
 -- a message was taken, and what its piece adds is buffered
 pub whole_taken : (infos : List TableInfo) (after : Lsn) (m : Message) (ms : List Message) (a b : Assembler) (piece : Piece) (o : Option Commit)
     → StandsWhole infos after ms a
-    → ReadPiece infos after m ms b.reader piece → b.buffered.items ≡ joined a.buffered.items piece → o ≡ ended_by a.buffered.items piece
+    → ReadPiece infos after m ms b.reader piece → b.buffered.items ≡ with_piece a.buffered.items piece → o ≡ ended_by a.buffered.items piece
     → Taken infos after m ms b o
 whole_taken infos after m ms a b piece o s read buffers ends =
     let joins = piece_joins infos after m ms piece read.clean read.is in record {
       clean = read.clean;
       commit = ends ∙ ap (λ (l : List Change). ended_by l piece) s.buffers ∙ joins.commit;
-      stands = record { reads = read.reads; buffers = buffers ∙ ap (λ (l : List Change). joined l piece) s.buffers ∙ joins.changes };
+      stands = record { reads = read.reads; buffers = buffers ∙ ap (λ (l : List Change). with_piece l piece) s.buffers ∙ joins.changes };
     }
 
 -- one more table was learnt
 pub whole_learnt : (infos : List TableInfo) (info : TableInfo) (after : Lsn) (ms : List Message) (a b : Assembler) → StandsWhole infos after ms a
     → HasNoRelation info.name ms → b.buffered.items ≡ a.buffered.items
-    → HasRead (infos ++ info ∷ []) after ms b.reader → StandsWhole (infos ++ info ∷ []) after ms b
+    → HasReadMessages (infos ++ info ∷ []) after ms b.reader → StandsWhole (infos ++ info ∷ []) after ms b
 whole_learnt infos info after ms a b s none same reads = record {
   reads = reads;
   buffers = same ∙ s.buffers ∙ ap (if_open (begin_of ms)) (sym (changes_learnt infos info ms none));

@@ -10,14 +10,14 @@ use Rattle.dbl_model_commit.specs.declared.txn_error.TxnError.{TxnError}
 use Rattle.dbl_model_commit.specs.declared.txn_error.TxnError.TheVariants as errors
 use Rattle.dbl_model_commit.specs.Past.{begin_of}
 use Rattle.dbl_model_commit.specs.Stated.{open_changes, ended_commit, transaction_fault}
-use Rattle.dbl_model_commit.specs.Pieces.{if_open, IsPiece}
-use Rattle.dbl_txn_pieces.specs.Reading.{HasRead}
+use Rattle.dbl_model_commit.specs.Pieces.{if_open, IsPieceOf}
+use Rattle.dbl_txn_pieces.specs.Reading.{HasReadMessages}
 use Rattle.dbl_txn.specs.declared.assembler.Assembler.{Assembler}
 
 -- The state of the assembler of these tables, for reading after this LSN, after these messages, when it buffers these changes of the open
 -- transaction. Between transactions it buffers none.
 pub record Stands (infos : List TableInfo) (after : Lsn) (ms : List Message) (held : List Change) (a : Assembler) : Type 0 where
-  pub reads : HasRead infos after ms a.reader
+  pub reads : HasReadMessages infos after ms a.reader
   pub buffers : a.buffered.items ≡ if_open (begin_of ms) held
 
 -- The assembler buffers all changes of the open transaction.
@@ -43,7 +43,7 @@ Takes infos after m ms a (Err e) = (e ≡ errors.Memory) ⊎ (transaction_fault 
 pub record TakenPiece (infos : List TableInfo) (after : Lsn) (m : Message) (ms : List Message) (a : Assembler) (piece : Piece)
     : Type 0 where
   pub clean : transaction_fault infos after m ms ≡ None
-  pub is : IsPiece infos m ms piece
+  pub is : IsPieceOf infos m ms piece
   pub stands : StandsInPieces infos after (m ∷ ms) a
 
 -- The effect of processing one more message in pieces: an error is the message's, unless memory ran out.

@@ -21,7 +21,7 @@ use Rattle.dbl_model_commit.proofs.PieceLemmas.{stated_piece}
 use Rattle.dbl_txn_changes.specs.KnownTables.{known_in}
 use Rattle.dbl_txn_pieces.specs.declared.reader.Block.{Block}
 use Rattle.dbl_txn_pieces.specs.declared.reader.PieceReader.{PieceReader}
-use Rattle.dbl_txn_pieces.specs.Reading.{message_of, IsBlock, IsOpen, HasRead, ReadPiece, StatedChanges}
+use Rattle.dbl_txn_pieces.specs.Reading.{message_of, IsBlock, IsOpen, HasReadMessages, ReadPiece, StatedChanges}
 
 -- the Begin of an open transaction
 pub record IsBegun (o : Option Head) (mark : Option (List ℕ)) (changed : Bool) (block : Block) : Type 0 where
@@ -42,7 +42,8 @@ pub none_open : (mark : Option (List ℕ)) (changed : Bool) (o : Option Head) �
 none_open mark changed None h = refl
 none_open mark changed (Some head) h = absurd h
 
-open_with : (infos : List TableInfo) (after : Lsn) (ms : List Message) (r : PieceReader) (block : Block) → HasRead infos after ms r → r.block ≡ Some block
+open_with : (infos : List TableInfo) (after : Lsn) (ms : List Message) (r : PieceReader) (block : Block) → HasReadMessages infos after ms r
+    → r.block ≡ Some block
     → IsBegun (begin_of ms) (open_mark ms) (has_some (open_changes infos ms)) block
 open_with infos after ms r block s was =
     begun (begin_of ms) (open_mark ms) (has_some (open_changes infos ms)) block
@@ -54,7 +55,7 @@ matched o head lsn e found is = rw found (rw (eq-eqb head.lsn.0 lsn.0 is) refl)
 
 -- a Commit with the Begin's LSN
 pub committed : (infos : List TableInfo) (after : Lsn) (ms : List Message) (r : PieceReader) (block : Block) (flags : ℕ) (lsn end_lsn : Lsn) (time : ℤ)
-    → HasRead infos after ms r → r.block ≡ Some block → block.head.lsn.0 ≡ lsn.0
+    → HasReadMessages infos after ms r → r.block ≡ Some block → block.head.lsn.0 ≡ lsn.0
     → ReadPiece infos after (says.Commit flags lsn end_lsn time) ms (record { infos = r.infos; last = lsn; relations = r.relations; block = None })
     (Ended (record { head = block.head; end_lsn = end_lsn; mark = block.mark }))
 committed infos after ms r block flags lsn end_lsn time s was same =
@@ -100,9 +101,10 @@ known_learnt infos info None other = refl
 known_learnt infos info (Some r) other = ap (λ t. Some (record { relation = r; target = t })) (sym (target_learnt infos info r.name (other r refl)))
 
 -- one more table was learnt
-pub reads_learnt : (infos : List TableInfo) (info : TableInfo) (after : Lsn) (ms : List Message) (a b : PieceReader) → HasRead infos after ms a
+pub reads_learnt : (infos : List TableInfo) (info : TableInfo) (after : Lsn) (ms : List Message) (a b : PieceReader) → HasReadMessages infos after ms a
     → HasNoRelation info.name ms
-    → b.infos.items ≡ a.infos.items ++ info ∷ [] → b.last ≡ a.last → b.relations ≡ a.relations → b.block ≡ a.block → HasRead (infos ++ info ∷ []) after ms b
+    → b.infos.items ≡ a.infos.items ++ info ∷ [] → b.last ≡ a.last → b.relations ≡ a.relations → b.block ≡ a.block
+    → HasReadMessages (infos ++ info ∷ []) after ms b
 reads_learnt infos info after ms a b s none is last relations block = record {
   tables = is ∙ ap (λ (l : List TableInfo). l ++ info ∷ []) s.tables;
   last = last ∙ s.last;

@@ -13,7 +13,7 @@ use Rattle.dbl_model_commit.specs.declared.txn_error.TxnError.{TxnError}
 use Rattle.dbl_model_commit.specs.declared.txn_error.TxnError.TheVariants as errors
 use Rattle.dbl_model_commit.specs.Past.{relation_of, Head, begin_of, last_lsn, open_mark}
 use Rattle.dbl_model_commit.specs.Stated.{has_some, open_changes, stated, transaction_fault}
-use Rattle.dbl_model_commit.specs.Pieces.{IsPiece}
+use Rattle.dbl_model_commit.specs.Pieces.{IsPieceOf}
 use Rattle.dbl_txn_changes.specs.declared.known.Known.{Known}
 use Rattle.dbl_txn_changes.specs.KnownTables.{known_in}
 use Rattle.dbl_txn_pieces.specs.declared.reader.Block.{Block}
@@ -39,7 +39,7 @@ IsOpen mark changed (Some head) None = ⊥
 IsOpen mark changed (Some head) (Some block) = IsBlock mark changed head block
 
 -- The state of the reader of these tables, for reading after this LSN, after these messages.
-pub record HasRead (infos : List TableInfo) (after : Lsn) (ms : List Message) (r : PieceReader) : Type 0 where
+pub record HasReadMessages (infos : List TableInfo) (after : Lsn) (ms : List Message) (r : PieceReader) : Type 0 where
   pub tables : r.infos.items ≡ infos
   pub last : r.last ≡ last_lsn after ms
   pub relations : (oid : ℕ) → get nat_eq r.relations oid ≡ option_map (known_in infos) (relation_of oid ms)
@@ -53,8 +53,8 @@ pub record Recalls (infos : List TableInfo) (ms : List Message) (look : ℕ → 
 pub record ReadPiece (infos : List TableInfo) (after : Lsn) (m : Message) (ms : List Message) (r : PieceReader) (piece : Piece)
     : Type 0 where
   pub clean : transaction_fault infos after m ms ≡ None
-  pub is : IsPiece infos m ms piece
-  pub reads : HasRead infos after (m ∷ ms) r
+  pub is : IsPieceOf infos m ms piece
+  pub reads : HasReadMessages infos after (m ∷ ms) r
 
 -- The effect of reading one more message: an error is the message's, unless memory ran out.
 abbrev pub ReadsPiece : List TableInfo → Lsn → Message → List Message → PieceReader → Result Piece TxnError → Type 0
@@ -66,7 +66,7 @@ pub record StatedChanges (infos : List TableInfo) (after : Lsn) (m : Message) (m
     (changes : List Change) : Type 0 where
   pub clean : transaction_fault infos after m ms ≡ None
   pub some : stated infos m ms ≡ Ok changes
-  pub reads : HasRead infos after (m ∷ ms) r
+  pub reads : HasReadMessages infos after (m ∷ ms) r
 
 -- For private clauses: the effect of reading such a message, by the result.
 abbrev pub StatesChanges : List TableInfo → Lsn → Message → List Message → PieceReader → Result (List Change) TxnError → Type 0

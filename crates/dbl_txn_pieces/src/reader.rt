@@ -10,7 +10,7 @@ ghost use Rattle.dbl_model_commit.specs.Stated.{has_some, row_stated, targets_at
 ghost use Rattle.dbl_model_commit.specs.Stated.{is_the_watermark, truncated_tables};
 ghost use Rattle.dbl_model_commit.specs.Pieces.{piece_of};
 ghost use Rattle.dbl_txn_changes.specs.Answers.{ReturnsAssembled};
-ghost use Rattle.dbl_txn_pieces.specs.Reading.{message_of, Recalls, HasRead};
+ghost use Rattle.dbl_txn_pieces.specs.Reading.{message_of, Recalls, HasReadMessages};
 ghost use Rattle.dbl_txn_pieces.specs.Reading.{ReadsPiece, StatesChanges};
 
 use dbl_base::{Lsn, Seq, Text};
@@ -138,7 +138,7 @@ impl PieceReader {
     /// Makes a reader of these captured tables that has read no message, for reading after the LSN
     /// `after`. Takes no memory.
     pub fn make(alloc: Global, infos: Vec<TableInfo>, after: Lsn) -> PieceReader
-        ensures { HasRead infos.items after [] result }
+        ensures { HasReadMessages infos.items after [] result }
     {
         PieceReader {
             infos,
@@ -151,7 +151,7 @@ impl PieceReader {
     /// The captured tables.
     pub fn infos(&self) -> &Vec<TableInfo>
         ensures { (infos : List TableInfo) (after : Lsn) (ms : List Message) →
-            HasRead infos after ms self.now → result.now.items ≡ infos }
+            HasReadMessages infos after ms self.now → result.now.items ≡ infos }
     {
         &self.infos
     }
@@ -160,7 +160,7 @@ impl PieceReader {
     /// memory.
     pub fn head(&self) -> Option<Head>
         ensures { (infos : List TableInfo) (after : Lsn) (ms : List Message) →
-            HasRead infos after ms self.now → result ≡ begin_of ms }
+            HasReadMessages infos after ms self.now → result ≡ begin_of ms }
     {
         match &self.block {
             Some(block) => Some(block.head),
@@ -172,10 +172,11 @@ impl PieceReader {
     /// unchanged.
     pub fn learn(&mut self, info: TableInfo) -> Result<(), TxnError>
         ensures learnt { (infos : List TableInfo) (after : Lsn) (ms : List Message) →
-            HasRead infos after ms self.old → HasNoRelation info.name ms →
-            OnOk result (HasRead (infos ++ info ∷ []) after ms self.new) }
+            HasReadMessages infos after ms self.old → HasNoRelation info.name ms →
+            OnOk result (HasReadMessages (infos ++ info ∷ []) after ms self.new) }
         ensures kept { (infos : List TableInfo) (after : Lsn) (ms : List Message) →
-            HasRead infos after ms self.old → OnErr result (HasRead infos after ms self.new) }
+            HasReadMessages infos after ms self.old →
+            OnErr result (HasReadMessages infos after ms self.new) }
         ensures err { IfErr result (λ e. e ≡ TxnError.Memory) }
     {
         self.infos.push(info)?;
@@ -184,7 +185,7 @@ impl PieceReader {
 
     fn begin(&mut self, lsn: Lsn, time: &i64, xid: u32) -> Result<Piece, TxnError>
         ensures { (infos : List TableInfo) (after : Lsn) (ms : List Message) →
-            HasRead infos after ms self.old →
+            HasReadMessages infos after ms self.old →
             ReadsPiece infos after (says.Begin lsn time.now xid) ms self.new result }
     {
         if self.block.is_some() {
@@ -210,7 +211,7 @@ impl PieceReader {
 
     fn commit(&mut self, lsn: Lsn, end_lsn: Lsn) -> Result<Piece, TxnError>
         ensures { (infos : List TableInfo) (after : Lsn) (ms : List Message) (flags : ℕ) (time : ℤ)
-            → HasRead infos after ms self.old →
+            → HasReadMessages infos after ms self.old →
             ReadsPiece infos after (says.Commit flags lsn end_lsn time) ms self.new result }
     {
         let Some(block) = self.block.take() else {
@@ -232,7 +233,7 @@ impl PieceReader {
 
     fn origin(&self) -> Result<Piece, TxnError>
         ensures { (infos : List TableInfo) (after : Lsn) (ms : List Message) (lsn : Lsn)
-            (name : List ℕ) → HasRead infos after ms self.now →
+            (name : List ℕ) → HasReadMessages infos after ms self.now →
             ReadsPiece infos after (says.Origin lsn name) ms self.now result }
     {
         if self.block.is_some() {
@@ -252,7 +253,7 @@ impl PieceReader {
         columns: Seq<RelationColumn>,
     ) -> Result<Piece, TxnError>
         ensures { (infos : List TableInfo) (after : Lsn) (ms : List Message) →
-            HasRead infos after ms self.old → ReadsPiece infos after
+            HasReadMessages infos after ms self.old → ReadsPiece infos after
             (says.Relation oid namespace name identity columns) ms self.new result }
     {
         let known = read_relation(alloc, &self.infos, namespace, name, identity, columns)?;
@@ -263,7 +264,7 @@ impl PieceReader {
     // The changes that a row message states.
     fn row(&mut self, alloc: Global, oid: u32, change: RowChange) -> Result<Seq<Change>, TxnError>
         ensures { (infos : List TableInfo) (after : Lsn) (ms : List Message) →
-            HasRead infos after ms self.old →
+            HasReadMessages infos after ms self.old →
             StatesChanges infos after (message_of oid change) ms self.new result }
     {
         let Some(block) = &mut self.block else {
@@ -281,7 +282,7 @@ impl PieceReader {
     // The changes that a Truncate states.
     fn truncate(&mut self, alloc: Global, oids: &Vec<u32>) -> Result<Seq<Change>, TxnError>
         ensures { (infos : List TableInfo) (after : Lsn) (ms : List Message) (options : ℕ) →
-            HasRead infos after ms self.old →
+            HasReadMessages infos after ms self.old →
             StatesChanges infos after (says.Truncate options oids.now.items) ms self.new result }
     {
         let Some(block) = &mut self.block else {
@@ -293,7 +294,7 @@ impl PieceReader {
 
     fn read_row(&mut self, alloc: Global, oid: u32, change: RowChange) -> Result<Piece, TxnError>
         ensures { (infos : List TableInfo) (after : Lsn) (ms : List Message) →
-            HasRead infos after ms self.old →
+            HasReadMessages infos after ms self.old →
             ReadsPiece infos after (message_of oid change) ms self.new result }
     {
         let stated = self.row(alloc, oid, change)?;
@@ -302,7 +303,7 @@ impl PieceReader {
 
     fn read_truncate(&mut self, alloc: Global, oids: &Vec<u32>) -> Result<Piece, TxnError>
         ensures { (infos : List TableInfo) (after : Lsn) (ms : List Message) (options : ℕ) →
-            HasRead infos after ms self.old →
+            HasReadMessages infos after ms self.old →
             ReadsPiece infos after (says.Truncate options oids.now.items) ms self.new result }
     {
         let stated = self.truncate(alloc, oids)?;
@@ -313,7 +314,8 @@ impl PieceReader {
     /// be used after an error.
     pub fn read(&mut self, alloc: Global, message: Message) -> Result<Piece, TxnError>
         ensures { (infos : List TableInfo) (after : Lsn) (ms : List Message) →
-            HasRead infos after ms self.old → ReadsPiece infos after message ms self.new result }
+            HasReadMessages infos after ms self.old →
+            ReadsPiece infos after message ms self.new result }
     {
         match message {
             Message::Begin { lsn, time, xid } => self.begin(lsn, &time, xid),

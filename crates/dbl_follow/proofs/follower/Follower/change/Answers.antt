@@ -5,7 +5,7 @@ use Rattle.std.proofs.lemmas.Result.{err_from_is_err_and}
 use Rattle.dbl_model_history.specs.FitsInfos.{FitsInfos}
 use Rattle.dbl_model_event.specs.Clashes.{Clash}
 use Rattle.dbl_envelope.proofs.SuitLemmas.{fitting_suits}
-use Rattle.dbl_follow.specs.Amid.{Extends, IsAmid}
+use Rattle.dbl_follow.specs.Amid.{ExtendsPart, IsAmid}
 use Rattle.dbl_follow.specs.Faults.{IsClashOf}
 use Rattle.dbl_follow.specs.Followed.{Following, OpenPart, part_of}
 use Rattle.dbl_follow.proofs.AmidLemmas.{amid_more, captured_by, clash_more}
@@ -63,8 +63,8 @@ returns-clause-follows c = λ start changes now released amid at. (
     let same : new ≡ record view { window = new.window; part = new.part } = c.see_change.ensures.same
     ∙ ap (λ (o : Option OpenPart). record view { window = new.window; part = o }) (sym part) in
     let suits = (fitting_suits inside.writer.infos).0 change (subst (λ (f : Following). FitsInfos f.infos change) (sym c.self.view_is) c.requires.fits) in
-    let extends = subst (λ (o : Option OpenPart). Extends (captured_by view) head c.args.now_ms change view.part c.in_ok-released.released.items o) (sym part)
-    (subst (λ (m : ℤ). Extends (captured_by view) head m change view.part c.in_ok-released.released.items next)
+    let extends = subst (λ (o : Option OpenPart). ExtendsPart (captured_by view) head c.args.now_ms change view.part c.in_ok-released.released.items o) (sym part)
+    (subst (λ (m : ℤ). ExtendsPart (captured_by view) head m change view.part c.in_ok-released.released.items next)
     (to_z-of_z c.ranges.now_ms) c.in_ok-released.ensures.extends) in
     amid_more start view new head changes change now c.args.now_ms released c.in_ok-released.released.items
     (subst (IsAmid start head changes now released) (sym c.self.view_is) amid) at suits extends

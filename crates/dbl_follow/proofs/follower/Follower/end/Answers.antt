@@ -3,7 +3,7 @@ use Rattle.std.specs.Prelude.{IfOk}
 use Rattle.std.proofs.Math.Facts.{to_z-of_z}
 use Rattle.std.proofs.lemmas.Result.{IfOk-weaker, IfErr-weaker}
 use Rattle.dbl_model_table.specs.Heads.{commit_by}
-use Rattle.dbl_follow.specs.Amid.{EndsAs}
+use Rattle.dbl_follow.specs.Amid.{EndsWithCommit}
 use Rattle.dbl_follow.proofs.AmidLemmas.{no_part, rest_clashes, rest_ends}
 use Rattle.dbl_follow.proofs.follower.Follower.end.Goals as goal
 
@@ -18,7 +18,7 @@ returns-in-Some-clause-ends c =
     IfOk-weaker c.end_mark.result _ _
     (λ records ends start changes now released amid at.
     rest_ends start old c.end_mark.new.self ended changes now c.args.now_ms released records.items amid none at ends)
-    (subst (λ (m : ℤ). IfOk c.end_mark.result (λ records. EndsAs old (commit_by ended []) m records.items c.end_mark.new.self))
+    (subst (λ (m : ℤ). IfOk c.end_mark.result (λ records. EndsWithCommit old (commit_by ended []) m records.items c.end_mark.new.self))
     (to_z-of_z c.ranges.now_ms) c.end_mark.ensures.ends)
 
 pub returns-in-Some-clause-err : goal.returns-in-Some-clause-err

@@ -2,7 +2,7 @@ use Rattle.std.proofs.Common.{Option, sym, ap, subst}
 use Rattle.std.specs.Prelude.{option_map}
 use Rattle.dbl_follow.specs.declared.part.Part.{Part}
 use Rattle.dbl_follow.specs.Amid.{IsAmid}
-use Rattle.dbl_follow.specs.Followed.{Following, IsPartOf, part_of}
+use Rattle.dbl_follow.specs.Followed.{Following, IsOpenPartOf, part_of}
 use Rattle.dbl_follow.proofs.AmidLemmas.{amid_ends}
 use Rattle.dbl_follow.proofs.follower.Follower.end_changes.Goals as goal
 
@@ -11,7 +11,7 @@ invariant_of-self c = record {
   few = c.self.invariant.few;
   cursors_are = c.self.invariant.cursors_are;
   window_is = c.self.invariant.window_is;
-  part_is = subst (IsPartOf c.self.inside.writer) (sym c.end_part.ensures.none) tt;
+  part_is = subst (IsOpenPartOf c.self.inside.writer) (sym c.end_part.ensures.none) tt;
 }
 
 pub returns-clause-ends : goal.returns-clause-ends

@@ -7,7 +7,7 @@ use Rattle.dbl_model_table.specs.declared.change.Change.{Change}
 use Rattle.dbl_model_table.specs.declared.table.TableInfo.{TableInfo}
 use Rattle.dbl_model_table.specs.Heads.{commit_by, ended_at}
 use Rattle.dbl_model_history.specs.FitsInfos.{FitsInfos}
-use Rattle.dbl_follow.specs.Amid.{EndsAs, IsAmid}
+use Rattle.dbl_follow.specs.Amid.{EndsWithCommit, IsAmid}
 use Rattle.dbl_follow.specs.Faults.{IsClashOf}
 use Rattle.dbl_follow.specs.Followed.{Following}
 use Rattle.dbl_follow.specs.Steps.{clash_by}
@@ -79,7 +79,7 @@ returns-clause-ends c =
     take_all c.loop-change.change-index changes (omega (arith, c.loop-change-test.false, ap length items)) in
     let amid = subst (λ (l : List Change). IsAmid old c.args.head.now l c.args.now_ms c.loop-change.records.items c.loop-change.self) all
     c.loop-change.invariant in
-    subst (λ (l : List Record). EndsAs old (commit_by (ended_at c.args.head.now c.args.end_lsn) changes) c.args.now_ms l c.end.new.self)
+    subst (λ (l : List Record). EndsWithCommit old (commit_by (ended_at c.args.head.now c.args.end_lsn) changes) c.args.now_ms l c.end.new.self)
     (sym c.in_ok-append-2.ensures.items)
     (c.in_ok-last.ensures.ends old changes c.args.now_ms c.loop-change.records.items amid (λ none. sym (to_z-of_z c.ranges.now_ms)))
 

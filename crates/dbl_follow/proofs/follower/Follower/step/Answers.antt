@@ -7,7 +7,7 @@ use Rattle.dbl_model_table.specs.declared.change.Change.{Change}
 use Rattle.dbl_model_table.specs.declared.change.Commit.{Commit}
 use Rattle.dbl_model_table.specs.declared.change.Ended.{Ended}
 use Rattle.dbl_model_table.specs.Heads.{commit_by, ended_at}
-use Rattle.dbl_follow.specs.Amid.{EndsAs}
+use Rattle.dbl_follow.specs.Amid.{EndsWithCommit}
 use Rattle.dbl_follow.specs.Faults.{IsClashOf}
 use Rattle.dbl_follow.specs.Steps.{clash_by}
 use Rattle.dbl_follow.proofs.AmidLemmas.{amid_begins, changes_clash, changes_end, mark_commit}
@@ -22,7 +22,7 @@ returns-in-Changes-clause-records c =
     (λ records ends. (changes_end old c.follow_changes.new.self commit c.head.result c.items.result.now.items c.args.now_ms records.items c.head.ensures body
     ends).records_are)
     (subst (λ (m : ℤ). IfOk c.follow_changes.result
-    (λ records. EndsAs old (commit_by (ended_at c.head.result commit.end_lsn) c.items.result.now.items) m records.items c.follow_changes.new.self))
+    (λ records. EndsWithCommit old (commit_by (ended_at c.head.result commit.end_lsn) c.items.result.now.items) m records.items c.follow_changes.new.self))
     (to_z-of_z c.ranges.now_ms) c.follow_changes.ensures.ends)
 
 pub returns-in-Changes-clause-steps : goal.returns-in-Changes-clause-steps
@@ -34,7 +34,7 @@ returns-in-Changes-clause-steps c =
     (λ records ends. (changes_end old c.follow_changes.new.self commit c.head.result c.items.result.now.items c.args.now_ms records.items c.head.ensures body
     ends).steps)
     (subst (λ (m : ℤ). IfOk c.follow_changes.result
-    (λ records. EndsAs old (commit_by (ended_at c.head.result commit.end_lsn) c.items.result.now.items) m records.items c.follow_changes.new.self))
+    (λ records. EndsWithCommit old (commit_by (ended_at c.head.result commit.end_lsn) c.items.result.now.items) m records.items c.follow_changes.new.self))
     (to_z-of_z c.ranges.now_ms) c.follow_changes.ensures.ends)
 
 pub returns-in-Changes-clause-no_clash : goal.returns-in-Changes-clause-no_clash
@@ -46,7 +46,7 @@ returns-in-Changes-clause-no_clash c =
     (λ records ends. (changes_end old c.follow_changes.new.self commit c.head.result c.items.result.now.items c.args.now_ms records.items c.head.ensures body
     ends).no_clash)
     (subst (λ (m : ℤ). IfOk c.follow_changes.result
-    (λ records. EndsAs old (commit_by (ended_at c.head.result commit.end_lsn) c.items.result.now.items) m records.items c.follow_changes.new.self))
+    (λ records. EndsWithCommit old (commit_by (ended_at c.head.result commit.end_lsn) c.items.result.now.items) m records.items c.follow_changes.new.self))
     (to_z-of_z c.ranges.now_ms) c.follow_changes.ensures.ends)
 
 pub returns-in-Changes-clause-snapshot : goal.returns-in-Changes-clause-snapshot
@@ -58,7 +58,7 @@ returns-in-Changes-clause-snapshot c chunk told =
     (λ records ends. (changes_end old c.follow_changes.new.self commit c.head.result c.items.result.now.items c.args.now_ms records.items c.head.ensures body
     ends).snapshot chunk told)
     (subst (λ (m : ℤ). IfOk c.follow_changes.result
-    (λ records. EndsAs old (commit_by (ended_at c.head.result commit.end_lsn) c.items.result.now.items) m records.items c.follow_changes.new.self))
+    (λ records. EndsWithCommit old (commit_by (ended_at c.head.result commit.end_lsn) c.items.result.now.items) m records.items c.follow_changes.new.self))
     (to_z-of_z c.ranges.now_ms) c.follow_changes.ensures.ends)
 
 pub returns-in-Changes-clause-err : goal.returns-in-Changes-clause-err
@@ -77,7 +77,7 @@ returns-in_ok-copy-in-Mark-clause-records c =
     let whole : commit_by ended [] ≡ commit =
     mark_commit commit c.head.result c.in-Mark.value.now c.in_ok-copy-in-Mark.field-0 c.head.ensures (sym c.in-Mark.is) c.in_ok-copy-in-Mark.ensures in
     IfOk-weaker c.end.result _ _
-    (λ records ends. (subst (λ (x : Commit). EndsAs old x c.args.now_ms records.items c.end.new.self) whole
+    (λ records ends. (subst (λ (x : Commit). EndsWithCommit old x c.args.now_ms records.items c.end.new.self) whole
     (ends old [] c.args.now_ms [] (amid_begins old c.head.result c.args.now_ms c.requires.none) (λ none. sym (to_z-of_z c.ranges.now_ms)))).records_are)
     c.end.ensures.ends
 
@@ -89,7 +89,7 @@ returns-in_ok-copy-in-Mark-clause-steps c =
     let whole : commit_by ended [] ≡ commit =
     mark_commit commit c.head.result c.in-Mark.value.now c.in_ok-copy-in-Mark.field-0 c.head.ensures (sym c.in-Mark.is) c.in_ok-copy-in-Mark.ensures in
     IfOk-weaker c.end.result _ _
-    (λ records ends. (subst (λ (x : Commit). EndsAs old x c.args.now_ms records.items c.end.new.self) whole
+    (λ records ends. (subst (λ (x : Commit). EndsWithCommit old x c.args.now_ms records.items c.end.new.self) whole
     (ends old [] c.args.now_ms [] (amid_begins old c.head.result c.args.now_ms c.requires.none) (λ none. sym (to_z-of_z c.ranges.now_ms)))).steps)
     c.end.ensures.ends
 
@@ -101,7 +101,7 @@ returns-in_ok-copy-in-Mark-clause-no_clash c =
     let whole : commit_by ended [] ≡ commit =
     mark_commit commit c.head.result c.in-Mark.value.now c.in_ok-copy-in-Mark.field-0 c.head.ensures (sym c.in-Mark.is) c.in_ok-copy-in-Mark.ensures in
     IfOk-weaker c.end.result _ _
-    (λ records ends. (subst (λ (x : Commit). EndsAs old x c.args.now_ms records.items c.end.new.self) whole
+    (λ records ends. (subst (λ (x : Commit). EndsWithCommit old x c.args.now_ms records.items c.end.new.self) whole
     (ends old [] c.args.now_ms [] (amid_begins old c.head.result c.args.now_ms c.requires.none) (λ none. sym (to_z-of_z c.ranges.now_ms)))).no_clash)
     c.end.ensures.ends
 
@@ -113,7 +113,7 @@ returns-in_ok-copy-in-Mark-clause-snapshot c chunk told =
     let whole : commit_by ended [] ≡ commit =
     mark_commit commit c.head.result c.in-Mark.value.now c.in_ok-copy-in-Mark.field-0 c.head.ensures (sym c.in-Mark.is) c.in_ok-copy-in-Mark.ensures in
     IfOk-weaker c.end.result _ _
-    (λ records ends. (subst (λ (x : Commit). EndsAs old x c.args.now_ms records.items c.end.new.self) whole
+    (λ records ends. (subst (λ (x : Commit). EndsWithCommit old x c.args.now_ms records.items c.end.new.self) whole
     (ends old [] c.args.now_ms [] (amid_begins old c.head.result c.args.now_ms c.requires.none) (λ none. sym (to_z-of_z c.ranges.now_ms)))).snapshot chunk told)
     c.end.ensures.ends
 

@@ -15,7 +15,7 @@ use Rattle.dbl_model_commit.proofs.Learning.{changes_learnt}
 use Rattle.dbl_model_commit.proofs.PieceLemmas.{piece_joins}
 use Rattle.dbl_txn_pieces.specs.Reading.{HasReadMessages, ReadPiece, ReadsPiece}
 use Rattle.dbl_txn.specs.declared.assembler.Assembler.{Assembler}
-use Rattle.dbl_txn.specs.Stands.{Stands, StandsWhole, StandsInPieces, Taken, TakenPiece, TakesPiece, BetweenTransactionsBothStand}
+use Rattle.dbl_txn.specs.Stands.{Stands, StandsWhole, StandsInPieces, Taken, TakenPiece, TakesPiece, EitherCallMayBegin}
 
 -- no change is buffered, whether a transaction is open or not
 pub none_buffered : (o : Option Head) → if_open o [] ≡ []
@@ -68,7 +68,7 @@ other_stands : (infos : List TableInfo) (after : Lsn) (ms : List Message) (held 
     → Stands infos after ms held a → Stands infos after ms other a
 other_stands infos after ms held other a none s = record { reads = s.reads; buffers = s.buffers ∙ others_buffered (begin_of ms) held other none }
 
-pub both_stand : BetweenTransactionsBothStand
+pub both_stand : EitherCallMayBegin
 both_stand infos after ms a none = (
   other_stands infos after ms (open_changes infos ms) [] a none,
   other_stands infos after ms [] (open_changes infos ms) a none,

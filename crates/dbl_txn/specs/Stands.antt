@@ -52,6 +52,6 @@ TakesPiece infos after m ms a (Ok piece) = TakenPiece infos after m ms a piece
 TakesPiece infos after m ms a (Err e) = (e ≡ errors.Memory) ⊎ (transaction_fault infos after m ms ≡ Some e)
 
 -- Between transactions an assembler may go on with either call.
-abbrev pub BetweenTransactionsBothStand : Type 0
-BetweenTransactionsBothStand = (infos : List TableInfo) (after : Lsn) (ms : List Message) (a : Assembler) → begin_of ms ≡ None
+abbrev pub EitherCallMayBegin : Type 0
+EitherCallMayBegin = (infos : List TableInfo) (after : Lsn) (ms : List Message) (a : Assembler) → begin_of ms ≡ None
     → (StandsWhole infos after ms a → StandsInPieces infos after ms a) × (StandsInPieces infos after ms a → StandsWhole infos after ms a)

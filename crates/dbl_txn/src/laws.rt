@@ -1,8 +1,8 @@
 //! Theorems about assemblers, as contracts of empty functions.
 
-ghost use Rattle.dbl_txn.specs.Stands.{BetweenTransactionsBothStand};
+ghost use Rattle.dbl_txn.specs.Stands.{EitherCallMayBegin};
 
-/// Between transactions an assembler may go on with either call, `take` or `piece`.
-pub fn between_transactions_both_calls_stand()
-    ensures { BetweenTransactionsBothStand }
+/// Between transactions an assembler may go on by either call, `take` or `piece`.
+pub fn either_call_may_begin()
+    ensures { EitherCallMayBegin }
 {}

@@ -9,5 +9,5 @@ mod whole;
 pub use assembler::Assembler;
 pub use dbl_model_commit::{Piece, TxnError};
 pub use dbl_model_table::{Ended, Head};
-pub use laws::between_transactions_both_calls_stand;
+pub use laws::either_call_may_begin;
 pub use whole::take_all;

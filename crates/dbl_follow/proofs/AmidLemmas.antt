@@ -45,10 +45,10 @@ one_change : (infos : List TableInfo) (change : Change) → flat_map (notices in
 one_change infos change = append-nil (notices infos change)
 
 some_events : (infos : List TableInfo) (change : Change) → Suits infos change → flat_map (notices infos) (change ∷ []) ≢ []
-some_events infos change suits none =
+some_events infos change suits = λ none. (
     let some = notices_count infos change suits in
     let empty : length (notices infos change) ≡ 0 = ap length (sym (one_change infos change) ∙ none) in
-    absurd (omega (arith, some.1, empty))
+    omega (arith, some.1, empty))
 
 module _ (identity : Identity) (infos : List TableInfo) (head : Head) (now : ℤ) where
   abbrev captured : Captured
@@ -353,7 +353,7 @@ clash_longer start head end_lsn changes more e h = by (clash_of start.identity s
 -- a watermark's transaction has followed no change
 pub no_part : (o : Option OpenPart) (mark : Option (List ℕ)) (value : List ℕ) → (IsSome o → mark ≡ None) → mark ≡ Some value → o ≡ None
 no_part None mark value unmarked_if is = refl
-no_part (Some part) mark value unmarked_if is = let none = unmarked_if tt in absurd (cc (none, is))
+no_part (Some part) mark value unmarked_if is = let none = unmarked_if refl in absurd (cc (none, is))
 
 -- an open transaction's head, as a condition
 pub heads_fit : (start f : Following) (head : Head) (changes : List Change) (now : ℤ) (released : List Record) → IsAmid start head changes now released f

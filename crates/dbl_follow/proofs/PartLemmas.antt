@@ -15,7 +15,7 @@ use Rattle.dbl_follow.specs.Followed.{IsOpenPartOf, OpenPart, part_of}
 
 -- what a list was before its last item was taken
 pub all_but_last : {A : Type 0} (all new : List A) (o : Option A) (last : A) → all ≡ new ++ option_to_list o → Some last ≡ o → all ≡ new ++ last ∷ []
-all_but_last all new o last is some = is ∙ ap (λ (x : Option _). new ++ option_to_list x) (sym some)
+all_but_last {A = A} all new o last is some = is ∙ ap (λ (x : Option A). new ++ option_to_list x) (sym some)
 
 -- all records of the change but the last one are appended
 pub holds_last : (captured : Captured) (head : Head) (now : ℤ) (made : ℕ) (change : Change) (old all new : List Record) (records : OpenRecords) (held : Record)

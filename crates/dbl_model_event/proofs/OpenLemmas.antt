@@ -51,7 +51,7 @@ module _ (identity : Identity) (commit : Commit) (now : ℤ) where
 
 map_same : {A B : Type 0} (f g : A → B) → ((x : A) → f x ≡ g x) → (xs : List A) → map f xs ≡ map g xs
 map_same f g same [] = refl
-map_same f g same (x ∷ xs) = ap₂ (λ (y : _) (l : List _). y ∷ l) (same x) (map_same f g same xs)
+map_same {B = B} f g same (x ∷ xs) = ap₂ (λ (y : B) (l : List B). y ∷ l) (same x) (map_same f g same xs)
 
 -- each shows its commit's head alone
 print_head : (identity : Identity) (ended : Ended) (changes : List Change) (now : ℤ) (event : Event)

@@ -1,5 +1,5 @@
 -- Calls fail exactly as planned: what `begin` promises of a source whose move is past, of the source before it.
-use Rattle.std.proofs.Common.{◌≡◌, ◌∙◌, inl, inr, ℕ, List, length, ap, subst}
+use Rattle.std.proofs.Common.{◌≡◌, ◌∙◌, inl, inr, ℕ, List, [], length, ap, subst}
 use Rattle.std.specs.Prelude.{Result, Ok, Err, IsErr, IfErr, OnOk, OnErr}
 use Rattle.dbl_pgmsg.specs.declared.messages.Message.{Message}
 use Rattle.dbl_source_log.specs.declared.error.SourceError.{SourceError}
@@ -13,8 +13,9 @@ released_so old mid new before past items is =
     is ∙ ap (λ (b : List (List Message)). committed b (with_counted_call mid)) items ∙ ap (λ (m : Played). committed (before_of old) (with_counted_call m)) past
 
 pub planned_after : {T : Type 0} (old mid new : Played) (before : List (List Message)) (own : ℕ) (result : Result T SourceError) → mid ≡ past_move old → before ≡ before_of old → (IsFullBy (length before) own mid → result ≡ Err Failed)
-    → (IsPlannedToFail mid → IsErr result) → (result ≡ Err Failed → HasFailed before own mid new) → FailsAsPlanned own ⊥ old new result
-planned_after old mid new before own result past is full listed failed =
+    → (IsPlannedToFail mid → IsErr result) → (IsPlannedToFail mid → before ≡ [] → result ≡ Err Failed) → (result ≡ Err Failed → HasFailed before own mid new)
+    → FailsAsPlanned own ⊥ old new result
+planned_after old mid new before own result past is full listed failing failed =
     let fails : result ≡ Err Failed → HasFailed (before_of old) own (past_move old) new =
     subst (λ (b : List (List Message)). result ≡ Err Failed → HasFailed b own (past_move old) new) is
     (subst (λ (m : Played). result ≡ Err Failed → HasFailed before own m new) past failed) in
@@ -23,6 +24,9 @@ planned_after old mid new before own result past is full listed failed =
           subst (λ (b : List (List Message)). IsFullBy (length b) own old → result ≡ Err Failed) is
           (subst (λ (m : Played). IsFullBy (length before) own m → result ≡ Err Failed) past full);
       listed = subst (λ (m : Played). IsPlannedToFail m → IsErr result) past listed;
+      failing =
+          subst (λ (b : List (List Message)). IsPlannedToFail old → b ≡ [] → result ≡ Err Failed) is
+          (subst (λ (m : Played). IsPlannedToFail m → before ≡ [] → result ≡ Err Failed) past failing);
       also = λ never. absurd never;
       failed = λ told. elim (fails told) [ inl none ↦ inl none | inr subsequent ↦ inr (inl subsequent) ];
     }
@@ -48,6 +52,7 @@ pub planned_on : {T U : Type 0} (own : ℕ) (old mid new : Played) (u : U) (r : 
 planned_on own old mid new u r planned never = record {
   full = λ full. absurd (no_err u Failed (planned.full full));
   listed = λ listed. absurd (no_listed u (planned.listed listed));
+  failing = λ listed none. absurd (no_listed u (planned.listed listed));
   also = λ it. absurd it;
   failed = λ told. absurd (never told);
 }

@@ -17,6 +17,7 @@ wanted {T = T} own more commits done old mid new e u is kept later planned added
   planned = record {
     full = λ full. absurd (no_err u Failed (planned.full full));
     listed = λ listed. refl;
+    failing = λ listed none. absurd (no_listed u (planned.listed listed));
     also = λ it. refl;
     failed = λ told. absurd (two_errs (error_is T e) (ap (error_is T) is) told);
   };
@@ -33,6 +34,7 @@ answered own more commits done old mid new u x kept later planned never it = rec
   planned = record {
     full = λ full. absurd (no_err u Failed (planned.full full));
     listed = λ listed. absurd (no_listed u (planned.listed listed));
+    failing = λ listed none. absurd (no_listed u (planned.listed listed));
     also = λ more. absurd (never more);
     failed = λ told. absurd (no_err x Failed told);
   };

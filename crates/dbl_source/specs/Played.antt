@@ -152,10 +152,11 @@ abbrev pub with_fault : Played → Played
 with_fault s = record s { plan = record s.plan { faults = incremented s.plan.faults } }
 
 -- Whether a call fails exactly if it has to: with nothing committed if the history is full, otherwise after the commits before it, as
--- planned or for the further reason `more`.
+-- planned or for the further reason `more`. A planned failure before which nothing is committed is never out of memory.
 pub record FailsAsPlanned {T : Type 0} (own : ℕ) (more : Type 0) (old new : Played) (result : Result T SourceError) : Type 0 where
   pub full : IsFull own old → result ≡ Err Failed
   pub listed : IsPlannedToFail old → IsErr result
+  pub failing : IsPlannedToFail old → before_of old ≡ [] → result ≡ Err Failed
   pub also : more → IsErr result
   pub failed : result ≡ Err Failed
       → (IsFull own old × (new ≡ with_fault (called old)))

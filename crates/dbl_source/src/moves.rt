@@ -44,6 +44,7 @@ pub(crate) fn no_move(alloc: Global) -> Move
 pub(crate) fn append(log: &mut Vec<Logged>, commits: Vec<Seq<Message>>) -> Result<(), AllocError>
     ensures ok { OnOk result (log.new.items ≡ log.old.items ++ map Changes commits.items) }
     ensures err { OnErr result (HasPlayed commits.items log.old.items log.new.items) }
+    ensures none { commits.items ≡ [] → OnErr result ⊥ }
 {
     for messages in commits {
         log.push(Logged::Changes(messages))?;

@@ -54,6 +54,7 @@ impl ScriptedSource {
         ensures err { OnErr result (HasPlayed commits.items self.old.log self.new.log) }
         ensures kept { OnErr result (self.new ≡ record self.old { log = self.new.log }) }
         ensures memory { IfErr result (λ e. e ≡ Memory) }
+        ensures none { commits.items ≡ [] → OnErr result ⊥ }
     {
         append(&mut self.log, commits)?;
         Ok(())
@@ -66,6 +67,7 @@ impl ScriptedSource {
         ensures room { OnOk result (HasRoom (length self.old.log) (length before.items) own) }
         ensures full { IsFullBy (length before.items) own self.old → result ≡ Err Failed }
         ensures listed { IsPlannedToFail self.old → IsErr result }
+        ensures failing { IsPlannedToFail self.old → before.items ≡ [] → result ≡ Err Failed }
         ensures failed { result ≡ Err Failed → HasFailed before.items own self.old self.new }
         ensures memory { result ≡ Err Memory → AddedFirst before.items self.old self.new }
         ensures later { self.old.plan.faults ≤ self.new.plan.faults }

@@ -23,3 +23,13 @@ returns-in_err-push-clause-err c =
       is = c.in_err-push.ensures.items ∙ c.loop-messages.invariant ∙ ap (λ (l : List (List Message)). c.args.log.now.items ++ map Changes l) front;
     } in
     on_err _ subsequent
+
+-- an error comes at a commit
+pub returns-in_err-push-clause-none : goal.returns-in_err-push-clause-none
+returns-in_err-push-clause-none c = λ none.
+    let gives = c.into_iter-messages-iterator.ensures.into_iter_gives in
+    let commits = c.args.commits.items in
+    let yielded = c.loop-messages.yielded in
+    let road = YieldsList-from_vec commits gives.0 (omega (arith, gives.1, c.args.commits.ok.0)) in
+    let turn = YieldsList-turn road yielded c.loop-messages.messages-iterator c.loop-messages.yielded_by c.next.result c.next.new.self c.in-Some.messages c.in-Some.is c.next.ensures.steps in
+    absurd (omega (arith, turn.0, ap (λ (l : List (List Message)). length l) none))

@@ -13,7 +13,7 @@ returns-clause-room c =
     (subst (λ (m : Played). OnOk c.begin.result (HasRoom (length m.log) (length c.into_items.result.items) c.args.own)) c.next_move-before.ensures.past c.begin.ensures.room)
 
 pub returns-clause-planned : goal.returns-clause-planned
-returns-clause-planned c = planned_after _ _ _ _ _ _ c.next_move-before.ensures.past (c.into_items.ensures ∙ c.next_move-before.ensures.before) c.begin.ensures.full c.begin.ensures.listed c.begin.ensures.failed
+returns-clause-planned c = planned_after _ _ _ _ _ _ c.next_move-before.ensures.past (c.into_items.ensures ∙ c.next_move-before.ensures.before) c.begin.ensures.full c.begin.ensures.listed c.begin.ensures.failing c.begin.ensures.failed
 
 pub returns-clause-memory : goal.returns-clause-memory
 returns-clause-memory c memory = added_after c.args.self.now c.next_move-before.new.self c.begin.new.self c.into_items.result.items c.next_move-before.ensures.past (c.into_items.ensures ∙ c.next_move-before.ensures.before) (c.begin.ensures.memory memory)

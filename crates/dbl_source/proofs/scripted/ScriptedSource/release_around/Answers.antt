@@ -30,7 +30,7 @@ begun c = released_so c.args.self.now c.next_move-before.new.self c.begin.new.se
 planned : (c : In_ok-begin) → FailsAsPlanned c.len.result ⊥ c.args.self.now c.begin.new.self (answer_is c.in_ok-begin.field-0)
 planned c =
     planned_after c.args.self.now c.next_move-before.new.self c.begin.new.self c.into_items.result.items c.len.result (answer_is c.in_ok-begin.field-0) c.next_move-before.ensures.past (c.into_items.ensures ∙ c.next_move-before.ensures.before)
-    c.in_ok-begin.ensures.full c.in_ok-begin.ensures.listed c.in_ok-begin.ensures.failed
+    c.in_ok-begin.ensures.full c.in_ok-begin.ensures.listed c.in_ok-begin.ensures.failing c.in_ok-begin.ensures.failed
 
 unlisted : (c : In_ok-begin) → ¬ IsPlannedToFail c.args.self.now
 unlisted c listed = no_listed c.in_ok-begin.field-0 ((planned c).listed listed)

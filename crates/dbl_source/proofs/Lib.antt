@@ -9,6 +9,7 @@ pub mod CallLemmas
 pub mod PlannedLemmas
 pub mod NewLemmas
 mod FairExample
+pub mod ConformLaws
 pub mod KeptLemmas
 pub mod EntryLemmas
 pub mod StepLemmas

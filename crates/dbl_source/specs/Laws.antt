@@ -1,5 +1,5 @@
 -- Theorems about fair scripts.
-use Rattle.std.specs.Prelude.{◌≡◌, ◌+◌, ◌<◌, ◌≤◌, ℕ, Option, Some, List, length, map, slice_get}
+use Rattle.std.specs.Prelude.{◌≡◌, ◌+◌, ◌<◌, ◌≤◌, ℕ, Option, Some, List, length, map, slice_get, slice_index_or}
 use Rattle.std.specs.List.{AllByRecursion}
 use Rattle.std.specs.Str.{IsUtf8}
 use Rattle.dbl_pgmsg.specs.declared.messages.Message.{Message}
@@ -12,13 +12,30 @@ use Rattle.dbl_source_model.specs.ModelHistory.Ranges.{IsEntryInRange}
 use Rattle.dbl_source_model.specs.ModelHistory.Fit.{IsFitHistory}
 use Rattle.dbl_source_log.specs.Relations.{catalogue, all_relations}
 use Rattle.dbl_source_log.specs.Histories.{history_of}
+use Rattle.dbl_source_model.specs.Stated.{IsReadRight}
+use Rattle.dbl_source_log.specs.declared.reader_position.ReaderPosition.{ReaderPosition}
 use Rattle.dbl_source_log.specs.Fair.{AreNamed, IsFairLog}
+use Rattle.dbl_source_log.specs.Sent.{told_at}
 use Rattle.dbl_source.specs.declared.asked.Asked.{Asked}
 use Rattle.dbl_source.specs.declared.moves.Move.{Move}
 use Rattle.dbl_source_log.specs.Numbers.{commit_limit}
-use Rattle.dbl_source.specs.Fairness.{IsAnswered}
+use Rattle.dbl_source.specs.Fairness.{IsAnswered, no_rows_selected}
 use Rattle.dbl_source.specs.Played.{Played, keyed_table, new_played, committed, with_mark, next_selected, question_of, with_select}
 use Rattle.dbl_source.specs.Steps.{WasFair, AddedFirst}
+
+-- What a fair script means for its players: the history is valid; the messages read of it state it, at any position of a reader and for any
+-- captured tables; and each select so far answered the rows of one position between its call and its return.
+pub record IsConforming (s : Played) : Type 0 where
+  pub fit : IsFitHistory (history_of s.tables s.log)
+  pub right : (place : ReaderPosition)
+      → IsReadRight (history_of s.tables s.log) (record { after = place.after; messages = told_at s.tables s.log place })
+  pub selects : (n : ℕ) (question : Asked) → slice_get s.asked n ≡ Some question
+      → IsAnswered s.tables s.log question (slice_index_or s.rows n no_rows_selected)
+
+-- A source whose script was fair so far conforms; and one that conforms, and whose changes are such as a server sends, was fair.
+pub record FairScriptsConform : Type 0 where
+  pub conform : (s : Played) → WasFair s → IsConforming s
+  pub were_fair : (s : Played) → IsConforming s → IsFairLog s.tables s.log → WasFair s
 
 -- A source before its first call was fair so far, for any script, if its tables have distinct names, version 1 and Relations with an
 -- encoding.

@@ -3,15 +3,19 @@
 ghost use Rattle.std.specs.Prelude.{◌↔◌};
 ghost use Rattle.dbl_source.specs.Played.{Played};
 ghost use Rattle.dbl_source.specs.Steps.{WasFair};
-ghost use Rattle.dbl_source.specs.Laws.{NewSourcesAreFair, FirstCommitsAreFair, MarksKeepFair};
+ghost use Rattle.dbl_source.specs.Laws.{FairScriptsConform, NewSourcesAreFair};
+ghost use Rattle.dbl_source.specs.Laws.{FirstCommitsAreFair, MarksKeepFair};
 ghost use Rattle.dbl_source.specs.Laws.{CommitsKeepFair, SelectsKeepFair, SelectsHaveReturned};
 ghost use Rattle.dbl_source.specs.FairExample.{FairSourcesStand};
 
 use crate::{ScriptedSource, Source};
 
-/// A played source conforms if and only if its script was fair so far.
+/// A played source conforms if and only if its script was fair so far: then its history is valid,
+/// the messages read state it, and each select answered the rows of one position.
 pub fn fair_scripts_are_honest()
-    ensures { (source : Played) → ⟦<ScriptedSource as Source>⟧.honest source ↔ WasFair source }
+    ensures honest { (source : Played) →
+        ⟦<ScriptedSource as Source>⟧.honest source ↔ WasFair source }
+    ensures conform { FairScriptsConform }
 {}
 
 /// A played source before its first call was fair so far.

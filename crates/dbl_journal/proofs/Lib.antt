@@ -1,4 +1,5 @@
 pub mod Appends
+pub mod Called
 pub mod Growth
 pub mod Crashes
 pub mod Reading

@@ -3,6 +3,7 @@ ghost use Rattle.std.specs.Prelude.{length, drop, max, Some, IfOk, OnOk, IsErr};
 ghost use Rattle.std.specs.Int.{to_be_bytes, w32};
 ghost use Rattle.dbl_base.specs.Streams.{FailsOnlyIfCounted};
 ghost use Rattle.dbl_disk.specs.Disks.{Follows, IsOnly, Torn, disk_limit};
+ghost use Rattle.dbl_journal.specs.Calls.{WasCalled};
 ghost use Rattle.dbl_journal.specs.Form.{IsEntry, IsJournal, body, up_to_gate, entry_limit};
 ghost use Rattle.dbl_journal.specs.Steps.{Stages};
 ghost use Rattle.dbl_journal.specs.Stored.{LeavesEntries};
@@ -69,6 +70,7 @@ pub(crate) fn write_entry<D: Disk>(disk: &mut D, gate: u64, bytes: &[u8]) -> Res
     ensures cause { FailsOnlyIfCounted (IsErr result) (D.faults disk.old) (D.faults disk.new) }
     ensures steady { (old : List ℕ) → D.seen disk.old ≡ Some old →
         OnOk result (D.faults disk.new ≡ D.faults disk.old) }
+    ensures calls { OnOk result (WasCalled D.Disk 2 disk.old disk.new) }
 {
     disk.write_at(gate + 1, bytes)?;
     disk.sync()
@@ -94,6 +96,7 @@ pub(crate) fn set_commit_byte<D: Disk>(disk: &mut D, gate: u64) -> Result<(), Fa
     ensures cause { FailsOnlyIfCounted (IsErr result) (D.faults disk.old) (D.faults disk.new) }
     ensures steady { (old : List ℕ) → D.seen disk.old ≡ Some old →
         OnOk result (D.faults disk.new ≡ D.faults disk.old) }
+    ensures calls { OnOk result (WasCalled D.Disk 2 disk.old disk.new) }
 {
     disk.write_at(gate, &[1])?;
     disk.sync()
@@ -111,6 +114,7 @@ pub(crate) fn start<D: Disk>(disk: &mut D, bytes: &[u8]) -> Result<(), Failed>
     ensures cause { FailsOnlyIfCounted (IsErr result) (D.faults disk.old) (D.faults disk.new) }
     ensures steady { (old : List ℕ) → D.seen disk.old ≡ Some old →
         OnOk result (D.faults disk.new ≡ D.faults disk.old) }
+    ensures calls { OnOk result (WasCalled D.Disk 2 disk.old disk.new) }
 {
     disk.write_at(0, bytes)?;
     disk.sync()

@@ -6,7 +6,7 @@ ghost use Rattle.dbl_disk.specs.Disks.{Follows, IsOnly, Torn, disk_limit};
 ghost use Rattle.dbl_journal.specs.Form.{IsFaultAt, IsJournal, entry_limit};
 ghost use Rattle.dbl_journal.specs.Growth.{ExtendsJournal};
 ghost use Rattle.dbl_journal.specs.Stored.{IsSteady, LeavesEntries, Lists, count_of, size};
-ghost use Rattle.dbl_journal.specs.Calls.{Keeps, Makes, PutLeaves};
+ghost use Rattle.dbl_journal.specs.Calls.{Keeps, Makes, PutLeaves, WasCalled};
 
 use crate::JournalError;
 use crate::appending::{entry_after_room, frame_entry, set_commit_byte, start, write_entry};
@@ -58,6 +58,7 @@ impl<D: Disk> Journal<D> {
             IfOk result (λ journal. Lists D.Disk journal []) }
         ensures live { IfOk result (λ journal. IsTrue journal.live) }
         ensures count { IfOk result (λ journal. count_of journal ≡ 0) }
+        ensures calls { IfOk result (λ journal. WasCalled D.Disk 2 disk journal.disk) }
         ensures refused { IfErr result (λ refused. refused.error ≡ JournalError.Failed) }
         ensures left { IfErr result
             (λ refused. Follows (Torn 0 9) (D.may_leave disk) (D.may_leave refused.disk)) }
@@ -133,6 +134,7 @@ impl<D: Disk> Journal<D> {
         ensures puts { PutLeaves D.Disk (result ≡ Err JournalError.Failed) self.old self.new }
         ensures live { OnOk result (IsTrue self.new.live) }
         ensures count { OnOk result (count_of self.new ≡ count_of self.old + 1) }
+        ensures calls { OnOk result (WasCalled D.Disk 4 self.old.disk self.new.disk) }
         ensures too_long { (len : ℕ) → (result ≡ Err (JournalError.EntryTooLong len)) ↔
             ((entry_limit < length entry.now) × (len ≡ length entry.now)) }
         ensures journal { (at : ℕ) → result ≢ Err (JournalError.NotAJournal at) }
@@ -165,6 +167,7 @@ impl<D: Disk> Journal<D> {
         ensures puts { PutLeaves D.Disk (result ≡ Err JournalError.Failed) self.old self.new }
         ensures live { OnOk result (IsTrue self.new.live) }
         ensures count { OnOk result (count_of self.new ≡ count_of self.old + 1) }
+        ensures calls { OnOk result (WasCalled D.Disk 4 self.old.disk self.new.disk) }
         ensures too_long { (len : ℕ) → (result ≡ Err (JournalError.EntryTooLong len)) ↔
             ((entry_limit < length (drop 4 bytes.items)) × (len ≡ length (drop 4 bytes.items))) }
         ensures journal { (at : ℕ) → result ≢ Err (JournalError.NotAJournal at) }
@@ -205,6 +208,7 @@ impl<D: Disk> Journal<D> {
         ensures short { (len : ℕ) → result ≢ Err (JournalError.EntryTooLong len) }
         ensures steady { result ≢ Err JournalError.Failed →
             IsSteady D.Disk self.old.disk self.new.disk }
+        ensures calls { OnOk result (WasCalled D.Disk 1 self.old.disk self.new.disk) }
     {
         let place = self.places[number as usize];
         let mut bytes = vec![in alloc; 0u8; place.length as usize]?;

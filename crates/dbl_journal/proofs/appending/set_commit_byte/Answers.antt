@@ -3,6 +3,7 @@ use Rattle.std.proofs.lemmas.Result.{on_ok_weaker}
 use Rattle.dbl_disk.specs.Disks.{written}
 use Rattle.dbl_journal.proofs.Appends.{gate_written}
 use Rattle.dbl_journal.proofs.Crashes.{gate_crash, longest_done, longest_torn, on_ok, reaches_old}
+use Rattle.dbl_journal.proofs.Called.{called_twice}
 use Rattle.dbl_journal.proofs.appending.set_commit_byte.Goals as goal
 
 pub returns-in_err-write_at-clause-one_of : goal.returns-in_err-write_at-clause-one_of
@@ -46,3 +47,6 @@ returns-clause-cause g c = record {
       let rose = c.sync.ensures.cause.cause is in
       omega (arith, c.write_at.ensures.cause.later, rose);
 }
+
+pub returns-clause-calls : goal.returns-clause-calls
+returns-clause-calls g c = on_ok c.sync.result (called_twice g.D.Disk _ _ _ c.write_at.ensures.called c.sync.ensures.called)

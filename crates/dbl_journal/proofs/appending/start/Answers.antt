@@ -6,6 +6,7 @@ use Rattle.dbl_disk.specs.Disks.{Torn, written}
 use Rattle.dbl_journal.specs.Form.{IsEntry, IsJournal, up_to_gate, magic}
 use Rattle.dbl_journal.proofs.Appends.{up_to_gate-nil, length-magic}
 use Rattle.dbl_journal.proofs.Crashes.{longest_done, longest_torn, on_ok, reaches}
+use Rattle.dbl_journal.proofs.Called.{called_twice}
 use Rattle.dbl_journal.proofs.appending.start.Goals as goal
 
 nine : (bytes : List ℕ) → bytes ≡ up_to_gate [] ++ 0 ∷ [] → length bytes ≡ 9
@@ -65,3 +66,6 @@ returns-clause-cause g c = record {
       let rose = c.sync.ensures.cause.cause is in
       omega (arith, c.write_at.ensures.cause.later, rose);
 }
+
+pub returns-clause-calls : goal.returns-clause-calls
+returns-clause-calls g c = on_ok c.sync.result (called_twice g.D.Disk _ _ _ c.write_at.ensures.called c.sync.ensures.called)

@@ -4,6 +4,7 @@ use Rattle.dbl_disk.specs.Disks.{written}
 use Rattle.dbl_journal.specs.Steps.{IsStaged}
 use Rattle.dbl_journal.proofs.Appends.{staged}
 use Rattle.dbl_journal.proofs.Crashes.{behind_crash, longest_done, longest_torn, on_ok, reaches}
+use Rattle.dbl_journal.proofs.Called.{called_twice}
 use Rattle.dbl_journal.proofs.appending.write_entry.Goals as goal
 
 pub write_at-requires : goal.write_at-requires
@@ -51,3 +52,6 @@ returns-clause-cause g c = record {
       let rose = c.sync.ensures.cause.cause is in
       omega (arith, c.write_at.ensures.cause.later, rose);
 }
+
+pub returns-clause-calls : goal.returns-clause-calls
+returns-clause-calls g c = on_ok c.sync.result (called_twice g.D.Disk _ _ _ c.write_at.ensures.called c.sync.ensures.called)

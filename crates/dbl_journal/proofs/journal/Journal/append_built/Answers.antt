@@ -4,6 +4,8 @@ use Rattle.dbl_disk.specs.Model.{DiskModel}
 use Rattle.dbl_journal.specs.Form.{IsEntry}
 use Rattle.dbl_journal.specs.Stored.{Lists, OnDisk}
 use Rattle.dbl_journal.proofs.Appends.{places-add, size-push}
+use Rattle.dbl_journal.specs.Calls.{WasCalled}
+use Rattle.dbl_journal.proofs.Called.{called_on}
 use Rattle.dbl_journal.proofs.Growth.{comes_by_append}
 use Rattle.std.proofs.lemmas.Result.{err_from_is_err_and}
 use Rattle.dbl_journal.specs.declared.error.JournalError.{JournalError}
@@ -160,3 +162,8 @@ returns-clause-puts g c = record {
       let staged = c.write_entry.ensures.told before was in
       c.in_ok-set_commit_byte.ensures.steady staged.0 staged.1 ∙ c.in_ok-write_entry.ensures.steady before was ∙ ap (λ (j : OnDisk _). g.D.Disk.faults j.disk) c.self.view_is;
 }
+
+pub returns-clause-calls : goal.returns-clause-calls
+returns-clause-calls g c =
+    subst (λ (j : OnDisk _). WasCalled g.D.Disk 4 j.disk c.set_commit_byte.new.disk) c.self.view_is
+    (called_on g.D.Disk _ c.write_entry.new.disk _ 2 2 c.in_ok-write_entry.ensures.calls c.in_ok-set_commit_byte.ensures.calls)

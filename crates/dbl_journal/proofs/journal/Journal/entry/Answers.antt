@@ -4,6 +4,8 @@ use Rattle.dbl_disk.specs.declared.extent.Extent.{Extent}
 use Rattle.dbl_journal.specs.Stored.{Lists, OnDisk, places_from}
 use Rattle.dbl_journal.proofs.Appends.{length-places}
 use Rattle.dbl_journal.proofs.Scans.{HasPlace, has_place, read_whole, slice_get_at}
+use Rattle.dbl_journal.specs.Calls.{WasCalled}
+use Rattle.dbl_journal.proofs.Called.{called_once}
 use Rattle.dbl_journal.proofs.journal.Journal.entry.Goals as goal
 
 pub returns-clause-found : goal.returns-clause-found
@@ -17,3 +19,6 @@ returns-clause-found g c entries lists =
     let whole = read_whole held.bytes c.read_at.new.buffer place (get_or entries c.args.number []) c.in_ok-read_at.field-0 long (c.in_ok-read_at.ensures.told held.bytes held.told ∙ ap (λ (n : ℕ). min n (length held.bytes - place.at)) (sym c.read_at.auto.buffer)) (c.in_ok-read_at.ensures.moved held.bytes held.told) here in
     slice_get_at entries c.args.number below
     ∙ ap (λ (l : List ℕ). Some l) (sym (c.make.ensures ∙ with_items_is c.in_ok-bytes.bytes c.read_at.new.buffer (c.read_at.auto.buffer ∙ c.deref_mut.ensures.len) ∙ whole))
+
+pub returns-clause-calls : goal.returns-clause-calls
+returns-clause-calls g c = subst (λ (j : OnDisk _). WasCalled g.D.Disk 1 j.disk c.read_at.new.self) c.self.view_is (called_once g.D.Disk _ _ _ c.read_at.ensures.called)

@@ -60,6 +60,19 @@ abbrev pub Starts : Lsn → Started → SourceState → SourceState → Type 0
 Starts after Ready s t = IsBegun after s t
 Starts after (Gone first) s t = IsGone after first s t
 
+-- Whether the answer of a start is exact: whether the log after the LSN is still there, and if it is gone, where the log begins.
+abbrev pub TellsLog : (keeps_from begins_at : SourceState → Lsn → Type 0) → SourceState → Lsn → Started → Type 0
+TellsLog keeps_from begins_at s after Ready = keeps_from s after
+TellsLog keeps_from begins_at s after (Gone first) = (¬ keeps_from s after) × begins_at s first
+
+-- Whether the LSN isn't below the confirmed position: a source that drops all of its log up to there still has the log after such an LSN.
+abbrev pub IsConfirmedUpTo : SourceState → Lsn → Type 0
+IsConfirmedUpTo s after = s.confirmed.0 ≤ after.0
+
+-- Whether the LSN is the confirmed position, where the log of such a source begins.
+abbrev pub IsConfirmedAt : SourceState → Lsn → Type 0
+IsConfirmedAt s first = first ≡ s.confirmed
+
 -- Whether one more message was read.
 pub record HasReadOneMore (message : Message) (s t : SourceState) : Type 0 where
   pub grows : Grows s.history t.history

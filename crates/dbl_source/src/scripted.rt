@@ -10,7 +10,8 @@ ghost use Rattle.dbl_source_model.specs.ModelHistory.Ranges.{IsEntryInRange};
 ghost use Rattle.dbl_source_model.specs.Standings.{SourceState, HasState, MovesTo};
 ghost use Rattle.dbl_source_model.specs.Answered.{IsDescribed, IsHeaded, IsSelectAnswer};
 ghost use Rattle.dbl_source_model.specs.Calls.{Moved, IsMarked, Starts, HasReadOneMore};
-ghost use Rattle.dbl_source_model.specs.Calls.{HasReadAll, IsConfirmed};
+ghost use Rattle.dbl_source_model.specs.Calls.{HasReadAll, IsConfirmed, TellsLog};
+ghost use Rattle.dbl_source_model.specs.Calls.{IsConfirmedAt, IsConfirmedUpTo};
 ghost use Rattle.dbl_source_model.specs.Leaves.{Leaves, LeavesSome, MayFollow};
 ghost use Rattle.dbl_source_model.specs.Leaves.{MayFollowMark, MayFollowConfirm};
 ghost use Rattle.dbl_source_model.specs.Trace.{Described, Head, Began, Read, RowsSelected, Done};
@@ -129,6 +130,7 @@ impl ScriptedSource {
 
 impl Source for ScriptedSource {
     ghost use Rattle.std.specs.Prelude.{◌≡◌, IsTrue, Some, is_some};
+    ghost use Rattle.dbl_source_model.specs.Calls.{IsConfirmedAt, IsConfirmedUpTo};
     ghost use Rattle.dbl_source.specs.Played.{Played, trace_of};
     ghost use Rattle.dbl_source.specs.Steps.{HasPlayedState, MayLeavePlayed, WasFair};
     ghost use Rattle.dbl_source.specs.ScriptLaws.{one_standing, only_left, may_leave_so};
@@ -151,6 +153,10 @@ impl Source for ScriptedSource {
     ghost has_ended = { λ s. s.ended };
 
     ghost faults = { λ s. s.plan.faults };
+
+    ghost keeps_from = { IsConfirmedUpTo };
+
+    ghost begins_at = { IsConfirmedAt };
 
     ghost lives = { λ source s a. a.0 };
 
@@ -228,6 +234,8 @@ impl Source for ScriptedSource {
     fn start(&mut self, after: Lsn) -> Result<Started, SourceError>
         requires { IsTrue self.old.live }
         ensures started { MovesTo HasPlayedState self.old self.new result (Starts after) }
+        ensures exact { (s : SourceState) → HasPlayedState self.old s →
+            IfOk result (TellsLog IsConfirmedUpTo IsConfirmedAt s after) }
         ensures left { Leaves HasPlayedState MayLeavePlayed self.old self.new MayFollow }
         ensures some { LeavesSome HasPlayedState MayLeavePlayed self.old self.new }
         ensures told { IfOk result

@@ -12,7 +12,7 @@ ghost use Rattle.dbl_source_model.specs.Standings.{left_of, HasState, MovesTo};
 ghost use Rattle.dbl_source_model.specs.Answered.{IsDescribed, IsHeaded, IsSelectAnswer};
 ghost use Rattle.dbl_source_model.specs.Stated.{IsReadRight};
 ghost use Rattle.dbl_source_model.specs.Calls.{Moved, IsMarked, Starts, HasReadOneMore};
-ghost use Rattle.dbl_source_model.specs.Calls.{HasReadAll, IsConfirmed};
+ghost use Rattle.dbl_source_model.specs.Calls.{HasReadAll, IsConfirmed, TellsLog};
 ghost use Rattle.dbl_source_model.specs.Leaves.{Leaves, LeavesSome, MayFollow};
 ghost use Rattle.dbl_source_model.specs.Leaves.{MayFollowMark, MayFollowConfirm};
 ghost use Rattle.dbl_source_model.specs.Trace.{Described, Head, Began, Read, RowsSelected, Done};
@@ -61,6 +61,12 @@ pub trait Source {
     /// The number of failures of the source. A count of 2^64 - 1 stays so.
     ghost faults: { Self → ℕ };
 
+    /// Whether a source in this state still has the log after the LSN.
+    ghost keeps_from: { SourceState → Lsn → Type 0 };
+
+    /// Whether the log of a source in this state begins after the LSN.
+    ghost begins_at: { SourceState → Lsn → Type 0 };
+
     /// The catalogue's entry of the table of this name, which never changes; None if there is no
     /// such table. Its version is 1 if the source conforms.
     fn describe(&mut self, name: &TableName) -> Result<Option<RawTable>, SourceError>
@@ -98,12 +104,13 @@ pub trait Source {
             (faults self.old) (faults self.new) };
 
     /// Begins reading again, with the first commit after the LSN; or answers `Gone` if the log
-    /// after it was dropped, with a position above the LSN and not above the confirmed one, since
-    /// only log up to there is ever dropped. (It is to be the first one after which reading can
-    /// begin, which no clause says.)
+    /// after it was dropped, with the first position after which reading can begin. It is above the
+    /// LSN and not above the confirmed position, since only log up to there is ever dropped.
     fn start(&mut self, after: Lsn) -> Result<Started, SourceError>
         requires { IsTrue (is_live self.old) }
         ensures started { MovesTo stands self.old self.new result (Starts after) }
+        ensures exact { (s : SourceState) → stands self.old s →
+            IfOk result (TellsLog keeps_from begins_at s after) }
         ensures left { Leaves stands may_leave self.old self.new MayFollow }
         ensures some { LeavesSome stands may_leave self.old self.new }
         ensures told { IfOk result (λ started. LastAnswerIs (told self.new) (Began started)) }

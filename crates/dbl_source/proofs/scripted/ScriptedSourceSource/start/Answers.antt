@@ -1,13 +1,17 @@
+use Rattle.std.proofs.lemmas.Result.{IfOk-weaker}
 use Rattle.dbl_source.proofs.ExitLemmas.{still}
+use Rattle.dbl_source.proofs.StartLemmas.{start_exact}
 use Rattle.dbl_source.proofs.EndLemmas.{start_held, start_unended, start_played}
 use Rattle.dbl_source.proofs.scripted.ScriptedSourceSource.start.Goals as goal
 
 pub returns : goal.returns
 returns c =
     let plays = c.play_start.ensures in
+    let played = start_played c.args.after c.args.self.now c.play_start.new.self c.play_start.result plays in
     let held = start_held c.args.after c.args.self.now c.play_start.new.self c.play_start.result plays in
     record {
       started = held.leads;
+      exact = start_exact c.args.after c.args.self.now c.play_start.new.self c.play_start.result (IfOk-weaker c.play_start.result _ _ (λ answer both. both.0) played);
       left = held.left;
       some = held.some;
       told = held.told;
@@ -24,5 +28,5 @@ returns c =
       cause = record { later = plays.later; cause = held.failed };
       planned = plays.planned;
       memory = plays.memory;
-      played = start_played c.args.after c.args.self.now c.play_start.new.self c.play_start.result plays;
+      played = played;
     }

@@ -11,7 +11,7 @@ use Rattle.dbl_source.specs.ModelHistory.History.{entry_of}
 use Rattle.dbl_source.specs.SourceModel.declared.started.Started.{Started}
 use Rattle.dbl_source.specs.SourceModel.declared.started.Started.TheVariants.{Ready, Gone}
 use Rattle.dbl_source.specs.SourceModel.Answered.{IsDescribed, IsHeaded}
-use Rattle.dbl_source.specs.SourceModel.Calls.{Moved, IsMarked, IsHead, Starts, IsConfirmed}
+use Rattle.dbl_source.specs.SourceModel.Calls.{Moved, IsMarked, IsHead, Starts, IsConfirmed, IsConfirmedAt, IsConfirmedUpTo, TellsLog}
 use Rattle.dbl_source.specs.SourceModel.Standings.{SourceState, HasState}
 use Rattle.dbl_source.specs.SourceModel.Leaves.{Leaves, MayFollowMark, MayFollowConfirm}
 use Rattle.dbl_source.specs.SourceModel.Trace.{is_ready}
@@ -32,7 +32,7 @@ use Rattle.dbl_demo_workload.specs.DemoWal.CrashState.{added_by, with_entries}
 use Rattle.dbl_demo_workload.proofs.DemoWalGroupLemmas.{released_are}
 use Rattle.dbl_demo_workload.proofs.DemoWalGrowsLemmas.{confirmed_stays, history_grows, standing_moves}
 use Rattle.dbl_demo_laws.specs.Answers.{AnswersEntry, AnswersHead, AnswersStart, place_after}
-use Rattle.dbl_demo_laws.specs.Calls.{LeavesFirst, Released, confirm_of, mark_entries}
+use Rattle.dbl_demo_laws.specs.Calls.{LeavesFirst, Released, confirm_of, mark_entries, start_answer}
 use Rattle.dbl_demo_laws.specs.Demo.{Demo, IsDemo, HasDemoState}
 use Rattle.dbl_demo_laws.proofs.CallLemmas.{leads, leads_confirmed, leads_marked, leads_moved, left_confirmed, left_marked, left_moved, stood_for}
 use Rattle.dbl_demo_laws.proofs.HoldLemmas.{count_places}
@@ -109,6 +109,22 @@ module _ {D : Type 0} (model : DiskModel D) (old new : Demo D) (wal : Wal) (of_o
 
     pub lead_moved : (P : SourceState → Type 0) → new.place ≡ old.place → ((t : SourceState) → Moved s t → P t) → HasState (HasDemoState model) new (λ t. Moved s t × P t)
     lead_moved P place holds = stood_as (HasDemoState model) new (Moved s) (λ t. Moved s t × P t) (λ t moved. (moved, holds t moved)) (moved_on place)
+
+  -- ---- the answer of a start is exact
+
+  told_exact : (s : SourceState) → s.confirmed ≡ old.confirmed → (after : Lsn) (below : Bool) → nat_lt after.0 old.confirmed.0 ≡ below
+      → TellsLog IsConfirmedUpTo IsConfirmedAt s after (if below then Gone old.confirmed else Ready)
+  told_exact s same after true is =
+      let low : after.0 < old.confirmed.0 = (Decides-ltb after.0 old.confirmed.0).0 is in
+      (λ high. omega (arith, low, high, ap (λ (l : Lsn). l.0) same), sym same)
+  told_exact s same after false is =
+      let high : old.confirmed.0 ≤ after.0 = ltb-false after.0 old.confirmed.0 is in
+      omega (arith, high, ap (λ (l : Lsn). l.0) same)
+
+  pub start_is_exact : (after : Lsn) (started : Started) → started ≡ start_answer after old.confirmed → (s : SourceState) → HasDemoState model old s → TellsLog IsConfirmedUpTo IsConfirmedAt s after started
+  start_is_exact after started is s stands =
+      let same : s.confirmed ≡ old.confirmed = ap (λ (t : SourceState). t.confirmed) stands.2 ∙ sym stands.1.running.confirmed in
+      subst (TellsLog IsConfirmedUpTo IsConfirmedAt s after) (sym is) (told_exact s same after (nat_lt after.0 old.confirmed.0) refl)
 
   -- ---- a watermark
 

@@ -10,7 +10,8 @@ ghost use Rattle.dbl_source_log.specs.declared.error.SourceError.TheVariants.{Fa
 ghost use Rattle.dbl_source_model.specs.Standings.{SourceState, HasState, MovesTo};
 ghost use Rattle.dbl_source_model.specs.Answered.{IsDescribed, IsHeaded, IsSelectAnswer};
 ghost use Rattle.dbl_source_model.specs.Calls.{Moved, IsMarked, Starts, HasReadOneMore};
-ghost use Rattle.dbl_source_model.specs.Calls.{HasReadAll, IsConfirmed};
+ghost use Rattle.dbl_source_model.specs.Calls.{HasReadAll, IsConfirmed, TellsLog};
+ghost use Rattle.dbl_source_model.specs.Calls.{IsConfirmedAt, IsConfirmedUpTo};
 ghost use Rattle.dbl_source_model.specs.Leaves.{Leaves, LeavesSome, MayFollow};
 ghost use Rattle.dbl_source_model.specs.Leaves.{MayFollowMark, MayFollowConfirm};
 ghost use Rattle.dbl_source_model.specs.Trace.{Described, Head, Began, Read, RowsSelected, Done};
@@ -35,6 +36,7 @@ use dbl_source_model::{Selected, Started};
 
 impl<D: Disk> Source for DemoSource<D> {
     ghost use Rattle.std.specs.Prelude.{None, is_some};
+    ghost use Rattle.dbl_source_model.specs.Calls.{IsConfirmedAt, IsConfirmedUpTo};
     ghost use Rattle.dbl_demo_wal.specs.Standings.{MayLeaveWal};
     ghost use Rattle.dbl_demo_laws.specs.Demo.{ExtendsDemo, HasDemoState};
     ghost use Rattle.dbl_demo_laws.specs.SourceLaws.{lives_so, one_standing, only_left};
@@ -59,6 +61,10 @@ impl<D: Disk> Source for DemoSource<D> {
     ghost has_ended = { λ source. source.ended };
 
     ghost faults = { λ source. D.faults source.journal.disk };
+
+    ghost keeps_from = { IsConfirmedUpTo };
+
+    ghost begins_at = { IsConfirmedAt };
 
     ghost lives = { λ source s a. lives_so _ source s a };
 
@@ -141,6 +147,8 @@ impl<D: Disk> Source for DemoSource<D> {
     fn start(&mut self, after: Lsn) -> Result<Started, SourceError>
         requires { IsTrue self.old.live }
         ensures started { MovesTo (HasDemoState D.Disk) self.old self.new result (Starts after) }
+        ensures exact { (s : SourceState) → HasDemoState D.Disk self.old s →
+            IfOk result (TellsLog IsConfirmedUpTo IsConfirmedAt s after) }
         ensures gone { IfOk result (λ started.
             started ≡ start_answer after self.old.confirmed) }
         ensures left { Leaves (HasDemoState D.Disk)

@@ -4,7 +4,7 @@ use Rattle.std.proofs.lemmas.Result.{IfOk-weaker}
 use Rattle.dbl_source_model.specs.Calls.{Starts}
 use Rattle.dbl_source_model.specs.Trace.{Began, IsTakenAnew, IsTakenBy}
 use Rattle.dbl_demo_laws.specs.Answers.{AnswersStart}
-use Rattle.dbl_demo_laws.proofs.LeadLemmas.{lead_start, started_reads}
+use Rattle.dbl_demo_laws.proofs.LeadLemmas.{lead_start, start_is_exact, started_reads}
 use Rattle.dbl_demo_laws.proofs.PromiseLemmas.{comes_held, err_ended, err_reader, leads_held, left_held, ok_ended, on_err, on_ok, some_held, tells_of}
 use Rattle.dbl_demo.proofs.calls.DemoSourceSource.start.Goals as goal
 
@@ -13,6 +13,8 @@ returns g c =
     let adds = c.answer_start.ensures in
     record {
       started = leads_held g.D.Disk c.args.self.now c.answer_start.new.self _ _ (λ x. AnswersStart c.args.after c.args.self.now c.answer_start.new.self x) (Starts c.args.after) c.answer_start.result adds.released adds.answers (λ x says wal of_old done s stands. lead_start g.D.Disk c.args.self.now c.answer_start.new.self wal of_old _ s stands done c.args.after x says);
+      exact = λ s stands.
+          IfOk-weaker c.answer_start.result _ _ (λ x says. start_is_exact g.D.Disk c.args.self.now c.answer_start.new.self stands.0 stands.1 c.args.after x says.is s stands) adds.answers;
       gone = IfOk-weaker c.answer_start.result _ _ (λ x says. says.is) adds.answers;
       left = left_held g.D.Disk c.args.self.now c.answer_start.new.self _ adds.first;
       some = some_held g.D.Disk c.args.self.now c.answer_start.new.self g.met.D.Disk.seen_may_be_left adds.come _ _ adds.first;

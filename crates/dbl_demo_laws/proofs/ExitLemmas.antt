@@ -16,7 +16,7 @@ use Rattle.dbl_demo_workload.proofs.DemoWalGroupLemmas.{end_later, released_plus
 use Rattle.dbl_demo_laws.specs.Answers.{RunsStepsAndWrites, IsReaderKept}
 use Rattle.dbl_demo_laws.specs.Calls.{LeavesFirst, ReleasesSteps, next_end}
 use Rattle.dbl_demo_laws.specs.Demo.{Demo, IsRunning}
-use Rattle.dbl_demo_laws.specs.Running.{IsRunOf, LeavesRun, Ran}
+use Rattle.dbl_demo_laws.specs.Running.{IsRunOf, LeavesRun, Ran, StaysKnown}
 use Rattle.dbl_demo_laws.proofs.CallLemmas.{running_live}
 use Rattle.dbl_demo_laws.proofs.LoopLemmas.{end_none}
 use Rattle.dbl_demo_laws.proofs.EndedLemmas.{AreMarks, ended_on}
@@ -110,14 +110,15 @@ module _ {D : Type 0} (model : DiskModel D) (old : Demo D) where
           come = come;
           later = later;
           failed = λ same. failed (let inside : Err e ≡ Err Failed = same in cc);
+          known = tt;
           reader = reader;
           answers = tt;
         })
 
     -- it answered
     pub answers : (x : T) → result ≡ Ok x → ReleasesSteps model upto own old new → new.done ≡ upto → Leaves upto own new → IsTrue new.live → journals.ExtendsJournal model old.journal new.journal → model.faults old.journal.disk ≤ model.faults new.journal.disk → Answers new x
-        → RunsStepsAndWrites model upto own Answers old new result
-    answers x is releases group leaves live come later holds =
+        → StaysKnown model old.journal.disk new.journal.disk → RunsStepsAndWrites model upto own Answers old new result
+    answers x is releases group leaves live come later holds known =
         subst (λ (r : Result T SourceError). RunsStepsAndWrites model upto own Answers old new r) (sym is) (record {
           released = releases;
           group = group;
@@ -127,6 +128,7 @@ module _ {D : Type 0} (model : DiskModel D) (old : Demo D) where
           come = come;
           later = later;
           failed = λ same. absurd (let wrong : Ok x ≡ Err Failed = same in cc);
+          known = known;
           reader = tt;
           answers = holds;
         })
@@ -143,10 +145,11 @@ module _ {D : Type 0} (model : DiskModel D) (old mid : Demo D) (same : IsRunOf (
       (dead_is model old mid same) (kept_is model old mid same) come later failed
 
   -- it answers there, and writes nothing of its own
-  pub answers_there : {T : Type 0} (Answers : Demo D → T → Type 0) (x : T) → Runs model old (next_end old) [] mid → mid.done ≡ next_end old → Answers (answering mid) x → RunsStepsAndWrites model (next_end old) [] Answers old (answering mid) (Ok x)
-  answers_there Answers x runs done holds =
+  pub answers_there : {T : Type 0} (Answers : Demo D → T → Type 0) (x : T) → Runs model old (next_end old) [] mid → mid.done ≡ next_end old → Answers (answering mid) x → StaysKnown model old.journal.disk mid.journal.disk
+      → RunsStepsAndWrites model (next_end old) [] Answers old (answering mid) (Ok x)
+  answers_there Answers x runs done holds known =
       answers model old (next_end old) [] Answers (answering mid) (Ok x) x refl
-      (releases_is model old (next_end old) [] mid (λ all. end_none old.steps old.done (omega (arith, all))) tt same runs) done left refl come later holds
+      (releases_is model old (next_end old) [] mid (λ all. end_none old.steps old.done (omega (arith, all))) tt same runs) done left refl come later holds known
 
 -- ---- the same of a source that is known by its parts
 
@@ -159,7 +162,7 @@ module _ {D T : Type 0} (model : DiskModel D) {parts whole : Demo D} (is : parts
       (fails_there model parts mid same left come later (upto parts) (own parts) (Answers parts) result e told above failed)
 
   pub answers_from : (Answers : Demo D → Demo D → T → Type 0) (x : T) → Runs model parts (next_end parts) [] mid → mid.done ≡ next_end parts → Answers parts (answering mid) x
-      → RunsStepsAndWrites model (next_end whole) [] (Answers whole) whole (answering mid) (Ok x)
-  answers_from Answers x runs done holds =
+      → StaysKnown model parts.journal.disk mid.journal.disk → RunsStepsAndWrites model (next_end whole) [] (Answers whole) whole (answering mid) (Ok x)
+  answers_from Answers x runs done holds known =
       subst (λ (s : Demo D). RunsStepsAndWrites model (next_end s) [] (Answers s) s (answering mid) (Ok x)) is
-      (answers_there model parts mid same left come later (Answers parts) x runs done holds)
+      (answers_there model parts mid same left come later (Answers parts) x runs done holds known)

@@ -2,6 +2,7 @@ pub use Rattle.dbl_demo_workload.proofs.DemoWalFitLaws
 pub use Rattle.dbl_demo_workload.proofs.DemoWalRangeLaws
 pub use Rattle.dbl_demo_workload.proofs.DemoWalTableLemmas
 pub use Rattle.dbl_demo_workload.proofs.DemoWalWalLaws
+pub mod KnownLemmas
 pub mod RunLemmas
 pub mod LoopLemmas
 pub mod ComesLemmas

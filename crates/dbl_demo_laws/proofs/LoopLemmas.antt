@@ -17,7 +17,8 @@ use Rattle.dbl_demo_laws.proofs.HoldLemmas.{count_places}
 use Rattle.dbl_demo_laws.specs.Calls.{next_end}
 use Rattle.dbl_demo_laws.specs.Demo.{Demo, IsRunning}
 use Rattle.dbl_demo_laws.specs.Reading.{has_unread, HasRunOn, IsReadingOn, LeavesReadRun, RanOn}
-use Rattle.dbl_demo_laws.specs.Running.{IsReleasing, IsRunOf, LeavesRun, Ran}
+use Rattle.dbl_demo_laws.specs.Running.{IsReleasing, IsRunOf, LeavesRun, Ran, StaysKnown}
+use Rattle.dbl_demo_laws.proofs.KnownLemmas.{known_on, known_self}
 use Rattle.dbl_demo_workload.proofs.StepLemmas.{drop_there}
 use Rattle.dbl_demo_workload.specs.Steps.{is_tick}
 use Rattle.std.specs.Prelude.{IsTrue, ◌<◌}
@@ -188,6 +189,7 @@ module _ {D : Type 0} (model : DiskModel D) where
     same = refl;
     comes = λ gate most come. come;
     counted = omega arith;
+    known = known_self model old.journal.disk;
   }
 
   module _ (old now new : Demo D) (so : IsReleasing model old now) (left : now.done < length now.steps) (ran : (wal : Wal) → IsRunning model wal now → Ran model wal (now.done + 1) [] now new) where
@@ -205,8 +207,8 @@ module _ {D : Type 0} (model : DiskModel D) where
 
     -- another one
     pub release_goes : (s : Step) → slice_get now.steps now.done ≡ Some s → is_tick s ≡ false → new.done ≡ now.done + 1 → IsTrue new.journal.live → IsRunOf now new → ExtendsJournal model now.journal new.journal → model.faults now.journal.disk ≤ model.faults new.journal.disk
-        → IsReleasing model old new
-    release_goes s there other one live same comes counted = record {
+        → StaysKnown model now.journal.disk new.journal.disk → IsReleasing model old new
+    release_goes s there other one live same comes counted known = record {
       ran = λ wal running. subst (λ (n : ℕ). Ran model wal n [] old new) (sym one) (ran_more wal running);
       ends = so.ends ∙ end_on now.steps now.done s there other ∙ ap (group_end now.steps) (sym one) ∙ ap (λ (steps : List Step). group_end steps new.done) (sym (ap (λ (d : Demo D). d.steps) same));
       later = omega (arith, so.later, one);
@@ -214,6 +216,7 @@ module _ {D : Type 0} (model : DiskModel D) where
       same = same ∙ ap (λ (d : Demo D). let x : Demo D = record d { journal = new.journal; store = new.store; done = new.done; commits = new.commits } in x) so.same;
       comes = λ gate most come. comes gate most (so.comes gate most come);
       counted = omega (arith, so.counted, counted);
+      known = known_on model old.journal.disk now.journal.disk new.journal.disk so.known known;
     }
 
   module _ (old now : Demo D) (so : IsReleasing model old now) where
@@ -259,8 +262,8 @@ module _ {D : Type 0} (model : DiskModel D) (old now : Demo D) (later : old.done
 module _ {D : Type 0} (model : DiskModel D) where
   -- the first group
   pub reads_first : (old new : Demo D) → ((wal : Wal) → IsRunning model wal old → Ran model wal (next_end old) [] old new) → new.done ≡ next_end old → IsTrue new.journal.live → IsRunOf old new → ExtendsJournal model old.journal new.journal → model.faults old.journal.disk ≤ model.faults new.journal.disk
-      → HasRunOn model old new
-  reads_first old new ran end live same comes counted = record {
+      → StaysKnown model old.journal.disk new.journal.disk → HasRunOn model old new
+  reads_first old new ran end live same comes counted known = record {
     ran = λ wal place running at. (
         let steps : next_end old ≡ group_end (steps_of wal.workload) old.done = ap (λ (l : List Step). group_end l old.done) running.steps in
         (reading_begins wal.workload wal.entries place old.done new.done (end ∙ steps), subst (λ (n : ℕ). Ran model wal n [] old new) (sym end) (ran wal running)));
@@ -269,6 +272,7 @@ module _ {D : Type 0} (model : DiskModel D) where
     same = same;
     comes = comes;
     counted = counted;
+    known = known;
   }
 
   module _ (old now : Demo D) (so : HasRunOn model old now) where
@@ -298,8 +302,8 @@ module _ {D : Type 0} (model : DiskModel D) where
 
       -- one more group
       pub reads_on : ((wal : Wal) → IsRunning model wal now → Ran model wal (next_end now) [] now new) → new.done ≡ next_end now → IsTrue new.journal.live → IsRunOf now new → ExtendsJournal model now.journal new.journal → model.faults now.journal.disk ≤ model.faults new.journal.disk
-          → HasRunOn model old new
-      reads_on ran end live same comes counted = record {
+          → StaysKnown model now.journal.disk new.journal.disk → HasRunOn model old new
+      reads_on ran end live same comes counted known = record {
         ran = λ wal place running at. (
             let run = so.ran wal place running at in
             let second = subst (λ (n : ℕ). Ran model (wal_between model wal old now now.done so.later run.1) n [] now new) (sym end) (ran (wal_between model wal old now now.done so.later run.1) run.1.running) in (
@@ -311,6 +315,7 @@ module _ {D : Type 0} (model : DiskModel D) where
         same = same ∙ ap (λ (d : Demo D). let x : Demo D = record d { journal = new.journal; store = new.store; done = new.done; commits = new.commits } in x) so.same;
         comes = λ gate most come. comes gate most (so.comes gate most come);
         counted = omega (arith, so.counted, counted);
+        known = known_on model old.journal.disk now.journal.disk new.journal.disk so.known known;
       }
 
   -- what a crash leaves while so many steps are run is left while more are

@@ -27,7 +27,8 @@ use Rattle.dbl_demo_laws.specs.Answers.{RunsStepsAndWrites, AddsRead, AnswersSta
 use Rattle.dbl_demo_laws.specs.Calls.{next_end, start_answer}
 use Rattle.dbl_demo_laws.specs.Demo.{Demo, IsReader, IsRunning}
 use Rattle.dbl_demo_laws.specs.Reading.{has_unread, LeavesReadRun, RanOn, ReadsNext}
-use Rattle.dbl_demo_laws.specs.Running.{IsRunOf}
+use Rattle.dbl_demo_laws.specs.Running.{IsRunOf, StaysKnown}
+use Rattle.dbl_demo_laws.proofs.KnownLemmas.{known_on}
 use Rattle.dbl_demo_laws.proofs.CallLemmas.{running_live}
 use Rattle.dbl_demo_laws.proofs.ExitLemmas.{Leaves, Runs, answers, within}
 
@@ -83,8 +84,9 @@ module _ {D : Type 0} (model : DiskModel D) {parts whole : Demo D} (is : parts �
   starting place described = record mid { place = place; described = described; held = None; ended = false; live = true }
 
   pub starts_from : (after : Lsn) (place : Option ReaderPosition) (described : BTreeSet ℕ) (started : Started) → ((tables : List LogTable) (log : List Logged) → IsReader tables log place described None) → started ≡ start_answer after parts.confirmed
-      → place ≡ place_after after started → RunsStepsAndWrites model (next_end whole) [] (AnswersStart after whole) whole (starting place described) (Ok started)
-  starts_from after place described started reader tells there =
+      → place ≡ place_after after started → StaysKnown model parts.journal.disk mid.journal.disk
+      → RunsStepsAndWrites model (next_end whole) [] (AnswersStart after whole) whole (starting place described) (Ok started)
+  starts_from after place described started reader tells there known =
       subst (λ (s : Demo D). RunsStepsAndWrites model (next_end s) [] (AnswersStart after s) s (starting place described) (Ok started)) is
       (answers model parts (next_end parts) [] (AnswersStart after parts) (starting place described) (Ok started) started refl
       (λ wal of_old. (
@@ -98,7 +100,7 @@ module _ {D : Type 0} (model : DiskModel D) {parts whole : Demo D} (is : parts �
         };
         done = ran.done;
       }))
-      done left refl come later (record { is = tells; place = there; ended = refl }))
+      done left refl come later (record { is = tells; place = there; ended = refl }) known)
 
 -- ---- a read
 
@@ -119,6 +121,7 @@ module _ {D : Type 0} (model : DiskModel D) {parts whole : Demo D} (is : parts �
         come = come;
         later = later;
         failed = λ same. failed (let inside : Err e ≡ Err Failed = same in cc);
+        known = tt;
         reading = reading;
         ended = tt;
         still = still;
@@ -128,8 +131,9 @@ module _ {D : Type 0} (model : DiskModel D) {parts whole : Demo D} (is : parts �
   pub read_answers : (new : Demo D) (read : Option (List ℕ)) → (read ≡ None → new.done ≡ length new.steps)
       → ((wal : Wal) (place : ReaderPosition) → IsRunning model wal (within parts) → parts.place ≡ Some place → ReadAfter model wal place parts new read)
       → ((wal : Wal) (place : ReaderPosition) → IsRunning model wal (within parts) → parts.place ≡ Some place → LeavesReadRun model wal place (within parts) new) → IsTrue new.live
-      → journals.ExtendsJournal model parts.journal new.journal → model.faults parts.journal.disk ≤ model.faults new.journal.disk → is_some new.place ≡ is_some parts.place → new.ended ≡ is_none read → AddsRead model whole new (Ok read)
-  read_answers new read all reads left live come later reading ended =
+      → journals.ExtendsJournal model parts.journal new.journal → model.faults parts.journal.disk ≤ model.faults new.journal.disk → is_some new.place ≡ is_some parts.place → new.ended ≡ is_none read → StaysKnown model parts.journal.disk new.journal.disk
+      → AddsRead model whole new (Ok read)
+  read_answers new read all reads left live come later reading ended known =
       subst (λ (s : Demo D). AddsRead model s new (Ok read)) is (record {
         all = all;
         reads = λ wal place of_old there. reads wal place (running_live model wal parts false of_old.running) there;
@@ -139,6 +143,7 @@ module _ {D : Type 0} (model : DiskModel D) {parts whole : Demo D} (is : parts �
         come = come;
         later = later;
         failed = λ same. absurd (let wrong : Ok read ≡ Err Failed = same in cc);
+        known = known;
         reading = reading;
         ended = ended;
         still = tt;
@@ -197,15 +202,16 @@ module _ {D : Type 0} (model : DiskModel D) {parts whole : Demo D} (is : parts �
   -- it answers, and the source is live again
   pub read_answers_there : (read : Option (List ℕ)) (ended : Bool) → ended ≡ is_none read → ((wal : Wal) (place : ReaderPosition) → IsRunning model wal (within parts) → parts.place ≡ Some place → RanOn model wal place (within parts) mid)
       → ((wal : Wal) (place : ReaderPosition) → IsRunning model wal mid → mid.place ≡ Some place → ReadsNext model wal place new read) → (has_unread mid.place (length mid.commits) ≡ true) ⊎ (length mid.steps ≤ mid.done)
-      → (read ≡ None → has_unread mid.place (length mid.commits) ≡ false) → mid.done ≤ length mid.steps → AddsRead model whole (record new { ended = ended; live = true }) (Ok read)
-  read_answers_there read ended tells ran next end none upto =
+      → (read ≡ None → has_unread mid.place (length mid.commits) ≡ false) → mid.done ≤ length mid.steps → StaysKnown model parts.journal.disk mid.journal.disk
+      → StaysKnown model mid.journal.disk new.journal.disk → AddsRead model whole (record new { ended = ended; live = true }) (Ok read)
+  read_answers_there read ended tells ran next end none upto known known_read =
       read_answers model is (record new { ended = ended; live = true }) read (λ nothing. all_done nothing end)
       (λ wal place r there. (
       let on = ran wal place r there in
       let one = next (with_entries wal (added_by wal parts.done mid.done [])) place on.running (ap (λ (d : Demo D). d.place) same ∙ there) in
       let subsequent = read_after model wal place (within parts) mid new read ended on done_read one in
       record { on = subsequent.on; next = subsequent.next }))
-      left_read refl come_read (omega (arith, later, read_later)) reading_read tells
+      left_read refl come_read (omega (arith, later, read_later)) reading_read tells (known_on model parts.journal.disk mid.journal.disk new.journal.disk known known_read)
     where
       all_done : read ≡ None → (has_unread mid.place (length mid.commits) ≡ true) ⊎ (length mid.steps ≤ mid.done) → new.done ≡ length new.steps
       all_done nothing (inl unread) = absurd (let wrong : true ≡ false = sym unread ∙ none nothing in cc)

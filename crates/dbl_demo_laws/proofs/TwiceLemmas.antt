@@ -21,7 +21,7 @@ use Rattle.dbl_demo_laws.specs.Answers.{RunsStepsAndWrites, IsReaderKept}
 use Rattle.dbl_demo_workload.specs.DemoWal.Shown.{AreRowsShown}
 use Rattle.dbl_demo_laws.specs.Calls.{next_end, second_end}
 use Rattle.dbl_demo_laws.specs.Demo.{Demo, IsDemo, IsRunning}
-use Rattle.dbl_demo_laws.specs.Running.{IsRunOf, LeavesRun, Ran}
+use Rattle.dbl_demo_laws.specs.Running.{IsRunOf, LeavesRun, Ran, StaysKnown}
 use Rattle.dbl_demo_laws.proofs.CallLemmas.{running_live}
 use Rattle.dbl_demo_laws.proofs.ExitLemmas.{Leaves, Runs, answering, answers, dead_is, fails, kept_is, releases_is, within}
 use Rattle.dbl_demo_laws.proofs.LoopLemmas.{end_none, left_all, ran_on, wal_between}
@@ -74,11 +74,11 @@ module _ {D : Type 0} (model : DiskModel D) {parts whole : Demo D} (is : parts �
 
     -- it answers after both
     pub answers_again : {T : Type 0} (Answers : Demo D → Demo D → T → Type 0) (x : T) → ((wal : Wal) → IsRunning model wal mid → Ran model wal (next_end mid) [] mid new) → new.done ≡ next_end mid → Answers parts (answering new) x
-        → RunsStepsAndWrites model (second_end whole) [] (Answers whole) whole (answering new) (Ok x)
-    answers_again Answers x second done holds =
+        → StaysKnown model parts.journal.disk new.journal.disk → RunsStepsAndWrites model (second_end whole) [] (Answers whole) whole (answering new) (Ok x)
+    answers_again Answers x second done holds known =
         subst (λ (s : Demo D). RunsStepsAndWrites model (second_end s) [] (Answers s) s (answering new) (Ok x)) is
         (answers model parts (second_end parts) [] (Answers parts) (answering new) (Ok x) x refl (releases_is model parts (second_end parts) [] new (second_none parts.steps parts.done) tt same_both (runs_both second)) (done ∙ ends) left_both refl come_both
-        (omega (arith, later, later_again)) holds)
+        (omega (arith, later, later_again)) holds known)
 
     pub kept_both : IsReaderKept parts (answering new)
     kept_both = let kept = kept_is model parts new same_both in record { place = kept.place; ended = kept.ended }

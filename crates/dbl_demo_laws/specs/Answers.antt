@@ -26,6 +26,7 @@ use Rattle.dbl_demo_workload.specs.DemoWal.Shown.{AreRowsShown}
 use Rattle.dbl_demo_laws.specs.Calls.{LeavesFirst, LeavesRead, ReleasesSteps, next_end, start_answer}
 use Rattle.dbl_demo_laws.specs.Demo.{Demo, IsDemo}
 use Rattle.dbl_demo_laws.specs.Reading.{ReadsNext}
+use Rattle.dbl_demo_laws.specs.Running.{StaysKnown}
 
 -- The reader's position is the same, and so is the answer of its last read.
 pub record IsReaderKept {D : Type 0} (old new : Demo D) : Type 0 where
@@ -43,6 +44,7 @@ pub record RunsStepsAndWrites {D T : Type 0} (model : DiskModel D) (upto : ℕ) 
   pub come : journals.ExtendsJournal model old.journal new.journal
   pub later : model.faults old.journal.disk ≤ model.faults new.journal.disk
   pub failed : result ≡ Err Failed → FaultCounted (model.faults old.journal.disk) (model.faults new.journal.disk)
+  pub known : OnOk result (StaysKnown model old.journal.disk new.journal.disk)
   pub reader : OnErr result (IsReaderKept old new)
   pub answers : IfOk result (λ answer. Answers new answer)
 
@@ -96,6 +98,7 @@ pub record AddsRead {D : Type 0} (model : DiskModel D) (old new : Demo D) (resul
   pub come : journals.ExtendsJournal model old.journal new.journal
   pub later : model.faults old.journal.disk ≤ model.faults new.journal.disk
   pub failed : result ≡ Err Failed → FaultCounted (model.faults old.journal.disk) (model.faults new.journal.disk)
+  pub known : OnOk result (StaysKnown model old.journal.disk new.journal.disk)
   pub reading : is_some new.place ≡ is_some old.place
   pub ended : IfOk result (λ read. new.ended ≡ is_none read)
   pub still : OnErr result (new.ended ≡ old.ended)

@@ -16,7 +16,7 @@ use Rattle.dbl_demo_workload.specs.DemoWal.Sound.{logged_in}
 use Rattle.dbl_demo_workload.specs.DemoWal.Wals.{Wal}
 use Rattle.dbl_demo_workload.specs.DemoWal.CrashState.{LeavesWal, IsLeftOf, added_by, with_entries}
 use Rattle.dbl_demo_laws.specs.Demo.{Demo, IsRunning}
-use Rattle.dbl_demo_laws.specs.Running.{IsRunOf, Ran}
+use Rattle.dbl_demo_laws.specs.Running.{IsRunOf, Ran, StaysKnown}
 
 -- The commit of the last step that was done is in the journal, and its number is known.
 pub record IsLogged {D : Type 0} (model : DiskModel D) (messages : List Message) (old new : Demo D) : Type 0 where
@@ -55,6 +55,7 @@ pub record HasRunOn {D : Type 0} (model : DiskModel D) (old now : Demo D) : Type
   pub same : IsRunOf old now
   pub comes : ExtendsJournal model old.journal now.journal
   pub counted : model.faults old.journal.disk ≤ model.faults now.journal.disk
+  pub known : StaysKnown model old.journal.disk now.journal.disk
 
 -- A crash within a read leaves a first part of the entries of the groups that it runs.
 abbrev pub LeavesReadRun : {D : Type 0} → DiskModel D → Wal → ReaderPosition → Demo D → Demo D → Type 0

@@ -1,5 +1,5 @@
 -- How a run of steps changes the source within a call.
-use Rattle.std.specs.Prelude.{◌≡◌, ℕ, ◌≤◌, IsTrue, List, []}
+use Rattle.std.specs.Prelude.{◌≡◌, ℕ, ◌≤◌, IsTrue, Some, List, []}
 use Rattle.dbl_disk.specs.Model.{DiskModel}
 use Rattle.dbl_journal.specs.Growth.{ExtendsJournal}
 use Rattle.dbl_demo_workload.specs.DemoWal.declared.entry.Entry.{Entry}
@@ -23,6 +23,11 @@ IsRunOf old new = new ≡ record old { journal = new.journal; store = new.store;
 abbrev pub LeavesRun : {D : Type 0} → DiskModel D → Wal → ℕ → List Entry → Demo D → Demo D → Type 0
 LeavesRun model wal upto own old new = LeavesWal model new.journal.disk (IsLeftOf wal (added_by wal old.done upto own))
 
+-- The contents of the disk stay known, and none of its calls failed.
+abbrev pub StaysKnown : {D : Type 0} → DiskModel D → D → D → Type 0
+StaysKnown model old new = (bytes : List ℕ) → model.seen old ≡ Some bytes
+    → ((now : List ℕ) × (model.seen new ≡ Some now)) × (model.faults new ≡ model.faults old)
+
 -- Some steps of a group were run, and none of them ended it.
 pub record IsReleasing {D : Type 0} (model : DiskModel D) (old now : Demo D) : Type 0 where
   pub ran : (wal : Wal) → IsRunning model wal old → Ran model wal now.done [] old now
@@ -32,3 +37,4 @@ pub record IsReleasing {D : Type 0} (model : DiskModel D) (old now : Demo D) : T
   pub same : IsRunOf old now
   pub comes : ExtendsJournal model old.journal now.journal
   pub counted : model.faults old.journal.disk ≤ model.faults now.journal.disk
+  pub known : StaysKnown model old.journal.disk now.journal.disk

@@ -20,7 +20,7 @@ use Rattle.dbl_demo_wal.specs.CrashState.{added_by, with_entries}
 use Rattle.dbl_demo_laws.specs.Answers.{RunsStepsAndWrites, AnswersNothing, IsReaderKept}
 use Rattle.dbl_demo_laws.specs.Calls.{LeavesFirst, confirm_of, mark_entries, next_end, start_answer}
 use Rattle.dbl_demo_laws.specs.Demo.{Demo, IsRunning}
-use Rattle.dbl_demo_laws.specs.Running.{IsRunOf}
+use Rattle.dbl_demo_laws.specs.Running.{IsRunOf, StaysKnown}
 use Rattle.dbl_demo_laws.proofs.CallLemmas.{running_live}
 use Rattle.dbl_demo_laws.proofs.EndedLemmas.{AreMarks, ended_on}
 use Rattle.dbl_demo_laws.proofs.ExitLemmas.{Leaves, Runs, answering, answers, fails, first_is, within}
@@ -96,8 +96,8 @@ module _ {D : Type 0} (model : DiskModel D) {parts whole : Demo D} (is : parts �
 
     own_answers : AreMarks (logged_in (own parts)) → new.done ≡ next_end parts → new.steps ≡ parts.steps
         → ((wal : Wal) → IsRunning model wal (within parts) → IsRunning model (with_entries wal (added_by wal parts.done (next_end parts) (own parts))) new)
-        → RunsStepsAndWrites model (next_end whole) (own whole) (AnswersNothing whole) whole (answering new) (Ok tt)
-    own_answers marks done steps runs =
+        → StaysKnown model parts.journal.disk new.journal.disk → RunsStepsAndWrites model (next_end whole) (own whole) (AnswersNothing whole) whole (answering new) (Ok tt)
+    own_answers marks done steps runs known =
         let kept : IsReaderKept parts (answering new) = record { place = reader.place; ended = reader.ended } in
         subst (λ (s : Demo D). RunsStepsAndWrites model (next_end s) (own s) (AnswersNothing s) s (answering new) (Ok tt)) is
         (answers model parts (next_end parts) (own parts) (AnswersNothing parts) (answering new) (Ok tt) tt refl
@@ -112,7 +112,7 @@ module _ {D : Type 0} (model : DiskModel D) {parts whole : Demo D} (is : parts �
           };
           done = done;
         }))
-        done left refl come later (record { reader = kept }))
+        done left refl come later (record { reader = kept }) known)
 
   module _ (mid : Demo D) (same : IsRunOf (within parts) mid) (runs : Runs model parts (next_end parts) [] mid) (end : mid.done ≡ next_end parts) (come : journals.ExtendsJournal model parts.journal mid.journal) (later : model.faults parts.journal.disk ≤ model.faults mid.journal.disk) (small : count_of mid.journal < 2 ^ 40) (new : Demo D)
       (come_own : journals.ExtendsJournal model mid.journal new.journal) (later_own : model.faults mid.journal.disk ≤ model.faults new.journal.disk) (bytes : List ℕ)
@@ -140,8 +140,8 @@ module _ {D : Type 0} (model : DiskModel D) {parts whole : Demo D} (is : parts �
           own_fails (λ s. mark_entries value (next_end s)) new mark_reader mark_left come_both later_both result e told (ap (λ (d : Demo D). d.live) logged ∙ ap (λ (d : Demo D). d.live) same) (λ is. omega (arith, later, failed is))
 
       pub mark_answers : new.commits ≡ mid.commits ++ count_of mid.journal ∷ [] → ((forms : List (List ℕ)) → Lists model mid.journal forms → Lists model new.journal (forms ++ bytes ∷ []))
-          → RunsStepsAndWrites model (next_end whole) (mark_entries value (next_end whole)) (AnswersNothing whole) whole (answering new) (Ok tt)
-      mark_answers commits lists =
+          → StaysKnown model parts.journal.disk new.journal.disk → RunsStepsAndWrites model (next_end whole) (mark_entries value (next_end whole)) (AnswersNothing whole) whole (answering new) (Ok tt)
+      mark_answers commits lists known =
           let is_new : record mid { journal = new.journal; commits = mid.commits ++ count_of mid.journal ∷ [] } ≡ new = ap (λ (l : List ℕ). let d : Demo D = record mid { journal = new.journal; commits = l } in d) (sym commits) ∙ sym logged in
           own_answers (λ s. mark_entries value (next_end s)) new mark_reader mark_left come_both later_both (tt, tt) (ap (λ (d : Demo D). d.done) logged ∙ end) (ap (λ (d : Demo D). d.steps) logged ∙ ap (λ (d : Demo D). d.steps) same)
           (λ wal r. (
@@ -150,6 +150,7 @@ module _ {D : Type 0} (model : DiskModel D) {parts whole : Demo D} (is : parts �
           subst (IsRunning model (with_entries wal (added_by wal parts.done (next_end parts) (mark_entries value (next_end parts))))) is_new
           (mark_running model wal (within parts) mid (next_end parts) ran small value spells.fits new.journal
           (entry_listed model new.journal base bytes (Marks (next_end parts) value) spells (lists base ran.running.lists)))))
+          known
 
     -- ---- a confirmed position that rises
 
@@ -169,8 +170,8 @@ module _ {D : Type 0} (model : DiskModel D) {parts whole : Demo D} (is : parts �
           own_fails (λ s. confirm_of s.confirmed lsn) new confirm_reader confirm_left come_both later_both result e told (ap (λ (d : Demo D). d.live) logged ∙ ap (λ (d : Demo D). d.live) same) (λ is. omega (arith, later, failed is))
 
       pub confirm_answers : new.confirmed ≡ lsn → ((forms : List (List ℕ)) → Lists model mid.journal forms → Lists model new.journal (forms ++ bytes ∷ []))
-          → RunsStepsAndWrites model (next_end whole) (confirm_of whole.confirmed lsn) (AnswersNothing whole) whole (answering new) (Ok tt)
-      confirm_answers confirmed lists =
+          → StaysKnown model parts.journal.disk new.journal.disk → RunsStepsAndWrites model (next_end whole) (confirm_of whole.confirmed lsn) (AnswersNothing whole) whole (answering new) (Ok tt)
+      confirm_answers confirmed lists known =
           let is_new : record mid { journal = new.journal; confirmed = lsn } ≡ new = ap (λ (l : Lsn). let d : Demo D = record mid { journal = new.journal; confirmed = l } in d) (sym confirmed) ∙ sym logged in
           own_answers (λ s. confirm_of s.confirmed lsn) new confirm_reader confirm_left come_both later_both (subst (λ (l : List Entry). AreMarks (logged_in l)) (sym own) tt) (ap (λ (d : Demo D). d.done) logged ∙ end) (ap (λ (d : Demo D). d.steps) logged ∙ ap (λ (d : Demo D). d.steps) same)
           (λ wal r. (
@@ -180,12 +181,14 @@ module _ {D : Type 0} (model : DiskModel D) {parts whole : Demo D} (is : parts �
           (subst (IsRunning model (with_entries wal (added_by wal parts.done (next_end parts) (Confirms lsn ∷ [])))) is_new
           (confirm_running model wal (within parts) mid (next_end parts) ran small lsn spells.fits rises new.journal
           (entry_listed model new.journal base bytes (Confirms lsn) spells (lists base ran.running.lists))))))
+          known
 
   -- ---- a confirmed position that doesn't rise is written nowhere
 
   pub unrisen_answers : (mid : Demo D) (same : IsRunOf (within parts) mid) → Runs model parts (next_end parts) [] mid → mid.done ≡ next_end parts → Leaves model parts (next_end parts) [] mid → journals.ExtendsJournal model parts.journal mid.journal
-      → model.faults parts.journal.disk ≤ model.faults mid.journal.disk → (lsn : Lsn) → confirm_of parts.confirmed lsn ≡ [] → RunsStepsAndWrites model (next_end whole) (confirm_of whole.confirmed lsn) (AnswersNothing whole) whole (answering mid) (Ok tt)
-  unrisen_answers mid same runs end left come later lsn own =
+      → model.faults parts.journal.disk ≤ model.faults mid.journal.disk → (lsn : Lsn) → confirm_of parts.confirmed lsn ≡ [] → StaysKnown model parts.journal.disk mid.journal.disk → RunsStepsAndWrites model (next_end whole) (confirm_of whole.confirmed lsn) (AnswersNothing whole) whole (answering mid) (Ok tt)
+  unrisen_answers mid same runs end left come later lsn own known =
       own_answers (λ s. confirm_of s.confirmed lsn) mid (record { place = ap (λ (d : Demo D). d.place) same; ended = ap (λ (d : Demo D). d.ended) same })
       (subst (λ (l : List Entry). Leaves model parts (next_end parts) l mid) (sym own) left) come later (subst (λ (l : List Entry). AreMarks (logged_in l)) (sym own) tt) end (ap (λ (d : Demo D). d.steps) same)
       (λ wal r. subst (λ (l : List Entry). IsRunning model (with_entries wal (added_by wal parts.done (next_end parts) l)) mid) (sym own) (runs wal r).running)
+      known

@@ -6,6 +6,7 @@ ghost use Rattle.dbl_base.specs.Streams.{FailsOnlyIfCounted};
 ghost use Rattle.dbl_journal.specs.Growth.{ExtendsJournal};
 ghost use Rattle.dbl_journal.specs.Stored.{LeavesEntries, Lists, count_of};
 ghost use Rattle.dbl_demo.specs.Errors.{source_error};
+ghost use Rattle.dbl_demo_laws.specs.Running.{StaysKnown};
 
 use dbl_base::Bytes;
 use dbl_disk::Disk;
@@ -42,6 +43,7 @@ pub(crate) fn append<D: Disk>(journal: &mut Journal<D>, entry: Vec<u8>) -> Resul
     ensures comes { ExtendsJournal D.Disk journal.old journal.new }
     ensures cause { FailsOnlyIfCounted (result ≡ Err SourceError.Failed)
         (D.faults journal.old.disk) (D.faults journal.new.disk) }
+    ensures steady { OnOk result (StaysKnown D.Disk journal.old.disk journal.new.disk) }
 {
     match journal.append_built(entry) {
         Ok(()) => Ok(()),
@@ -67,6 +69,7 @@ pub(crate) fn entry<D: Disk>(
         → D.may_leave journal.old.disk crashed }
     ensures cause { FailsOnlyIfCounted (result ≡ Err SourceError.Failed)
         (D.faults journal.old.disk) (D.faults journal.new.disk) }
+    ensures steady { OnOk result (StaysKnown D.Disk journal.old.disk journal.new.disk) }
 {
     match journal.entry(alloc, number) {
         Ok(bytes) => Ok(bytes),

@@ -7,6 +7,7 @@ ghost use Rattle.dbl_journal.specs.Growth.{ExtendsJournal};
 ghost use Rattle.dbl_journal.specs.Stored.{LeavesEntries, Lists, count_of};
 ghost use Rattle.dbl_demo_laws.specs.Answers.{RunsStepsAndWrites, AnswersNothing};
 ghost use Rattle.dbl_demo_laws.specs.Calls.{LeavesFirst, confirm_of, next_end};
+ghost use Rattle.dbl_demo_laws.specs.Running.{StaysKnown};
 ghost use Rattle.dbl_disk.specs.Disks.{disk_limit};
 
 use crate::DemoSource;
@@ -38,6 +39,8 @@ impl<D: Disk> DemoSource<D> {
         ensures comes { ExtendsJournal D.Disk self.old.journal self.new.journal }
         ensures cause { FailsOnlyIfCounted (result ≡ Err SourceError.Failed)
             (D.faults self.old.journal.disk) (D.faults self.new.journal.disk) }
+        ensures steady { OnOk result
+            (StaysKnown D.Disk self.old.journal.disk self.new.journal.disk) }
     {
         // For the prover alone: a journal has fewer than 2^40 entries.
         let _entries = self.journal.count();

@@ -1,7 +1,7 @@
 //! The next message of the log. The entry of a commit is read once from the disk.
 
 ghost use Rattle.std.specs.Prelude.{◌≡◌, ◌⊎◌, ◌<◌, ℕ, List, None, Some, Err, IfOk, IsTrue};
-ghost use Rattle.std.specs.Prelude.{slice_get, IfErr, IsSome, is_some, false, length};
+ghost use Rattle.std.specs.Prelude.{slice_get, IfErr, OnOk, IsSome, is_some, false, length};
 ghost use Rattle.dbl_base.specs.Streams.{FailsOnlyIfCounted};
 ghost use Rattle.dbl_source_log.specs.declared.reader_position.ReaderPosition.{ReaderPosition};
 ghost use Rattle.dbl_source_log.specs.Sent.{index_of};
@@ -13,6 +13,7 @@ ghost use Rattle.dbl_demo_wal.specs.Sound.{logged_by, logged_in};
 ghost use Rattle.dbl_demo_wal.specs.Wals.{Wal};
 ghost use Rattle.dbl_demo_laws.specs.Demo.{IsRunning};
 ghost use Rattle.dbl_demo_laws.specs.Reading.{CachesCommit, ReadsNext, has_unread};
+ghost use Rattle.dbl_demo_laws.specs.Running.{StaysKnown};
 ghost use Rattle.dbl_disk.specs.Disks.{disk_limit};
 
 use crate::DemoSource;
@@ -71,6 +72,8 @@ impl<D: Disk> DemoSource<D> {
         ensures comes { ExtendsJournal D.Disk self.old.journal self.new.journal }
         ensures cause { FailsOnlyIfCounted (result ≡ Err SourceError.Failed)
             (D.faults self.old.journal.disk) (D.faults self.new.journal.disk) }
+        ensures steady { OnOk result
+            (StaysKnown D.Disk self.old.journal.disk self.new.journal.disk) }
     {
         if self.held.is_some() {
             return Ok(None);
@@ -145,6 +148,8 @@ impl<D: Disk> DemoSource<D> {
         ensures comes { ExtendsJournal D.Disk self.old.journal self.new.journal }
         ensures cause { FailsOnlyIfCounted (result ≡ Err SourceError.Failed)
             (D.faults self.old.journal.disk) (D.faults self.new.journal.disk) }
+        ensures steady { OnOk result
+            (StaysKnown D.Disk self.old.journal.disk self.new.journal.disk) }
     {
         let Some(place) = self.place else {
             return Ok(None);

@@ -14,7 +14,7 @@ ghost use Rattle.dbl_demo_laws.specs.Calls.{next_end};
 ghost use Rattle.dbl_demo_laws.specs.Demo.{IsRunning};
 ghost use Rattle.dbl_demo_laws.specs.Reading.{has_unread, IsLogged, LeavesLogged};
 ghost use Rattle.dbl_demo_laws.specs.Reading.{LeavesReadRun, RanOn};
-ghost use Rattle.dbl_demo_laws.specs.Running.{IsRunOf, LeavesRun, Ran};
+ghost use Rattle.dbl_demo_laws.specs.Running.{IsRunOf, LeavesRun, Ran, StaysKnown};
 ghost use Rattle.dbl_demo_workload.specs.Steps.{FitAnEntry, is_tick};
 ghost use Rattle.dbl_disk.specs.Disks.{disk_limit};
 
@@ -43,6 +43,8 @@ impl<D: Disk> DemoSource<D> {
         ensures comes { ExtendsJournal D.Disk self.old.journal self.new.journal }
         ensures cause { FailsOnlyIfCounted (result ≡ Err SourceError.Failed)
             (D.faults self.old.journal.disk) (D.faults self.new.journal.disk) }
+        ensures steady { OnOk result
+            (StaysKnown D.Disk self.old.journal.disk self.new.journal.disk) }
     {
         let number = self.journal.count();
         let entry = commit_entry(self.alloc, self.done as u64, messages.items().as_slice())?;
@@ -68,6 +70,8 @@ impl<D: Disk> DemoSource<D> {
         ensures comes { ExtendsJournal D.Disk self.old.journal self.new.journal }
         ensures cause { FailsOnlyIfCounted (result ≡ Err SourceError.Failed)
             (D.faults self.old.journal.disk) (D.faults self.new.journal.disk) }
+        ensures steady { OnOk result
+            (StaysKnown D.Disk self.old.journal.disk self.new.journal.disk) }
     {
         let ends = is_tick(&self.steps[self.done]);
         let committed = run_next(&mut self.store, self.steps.as_slice(), self.done)?;
@@ -92,6 +96,8 @@ impl<D: Disk> DemoSource<D> {
         ensures comes { ExtendsJournal D.Disk self.old.journal self.new.journal }
         ensures cause { FailsOnlyIfCounted (result ≡ Err SourceError.Failed)
             (D.faults self.old.journal.disk) (D.faults self.new.journal.disk) }
+        ensures steady { OnOk result
+            (StaysKnown D.Disk self.old.journal.disk self.new.journal.disk) }
     {
         'steps: while self.done < self.steps.len() {
             if self.run_one()? {
@@ -129,6 +135,8 @@ impl<D: Disk> DemoSource<D> {
         ensures comes { ExtendsJournal D.Disk self.old.journal self.new.journal }
         ensures cause { FailsOnlyIfCounted (result ≡ Err SourceError.Failed)
             (D.faults self.old.journal.disk) (D.faults self.new.journal.disk) }
+        ensures steady { OnOk result
+            (StaysKnown D.Disk self.old.journal.disk self.new.journal.disk) }
     {
         self.run_to_tick()?;
         'groups: while self.done < self.steps.len() {

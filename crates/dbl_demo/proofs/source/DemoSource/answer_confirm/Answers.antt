@@ -8,6 +8,7 @@ use Rattle.dbl_demo_laws.specs.Calls.{confirm_of, next_end}
 use Rattle.dbl_demo_laws.proofs.ExitLemmas.{answering, fails_from}
 use Rattle.dbl_demo_laws.specs.Demo.{Demo}
 use Rattle.dbl_demo.proofs.OwnExits.{confirm_answers, confirm_fails, first_from, rises_not, rises_so, starved_from, unrisen_answers}
+use Rattle.dbl_demo_laws.proofs.KnownLemmas.{known_on}
 use Rattle.dbl_demo.proofs.source.DemoSource.answer_confirm.Goals as goal
 
 pub run_to_tick-requires-clause-live : goal.run_to_tick-requires-clause-live
@@ -67,11 +68,12 @@ returns-clause-added g c =
     let own = rises_so c.self.inside.confirmed c.args.upto (omega (arith, c.if-upto-self.false, ap (λ (d : Demo _). d.confirmed.0) (c.self-2.view_is ∙ c.run_to_tick.ensures.same))) in
     subst (λ (d : Demo _). RunsStepsAndWrites g.D.Disk (next_end c.args.self.now) (confirm_of c.args.self.now.confirmed c.args.upto) (AnswersNothing c.args.self.now) c.args.self.now (answering d) (Ok tt)) (sym c.self-3.view_is)
     (confirm_answers g.D.Disk c.self.view_is c.run_to_tick.new.self c.run_to_tick.ensures.same c.in_ok-run_to_tick.ensures.ran c.in_ok-run_to_tick.ensures.end c.run_to_tick.ensures.comes c.run_to_tick.ensures.cause.later log.small c.log_confirm.new.self log.comes log.cause.later (drop 4 c.in_ok-entry.entry.items) log.left
-    c.args.upto c.in_ok-entry.ensures.entry (omega (arith, c.if-upto-self.false, ap (λ (d : Demo _). d.confirmed.0) c.self-2.view_is)) own log.same c.in_ok-log_confirm.ensures.confirmed c.in_ok-log_confirm.ensures.added)
+    c.args.upto c.in_ok-entry.ensures.entry (omega (arith, c.if-upto-self.false, ap (λ (d : Demo _). d.confirmed.0) c.self-2.view_is)) own log.same c.in_ok-log_confirm.ensures.confirmed c.in_ok-log_confirm.ensures.added
+    (known_on g.D.Disk _ _ _ c.in_ok-run_to_tick.ensures.steady c.in_ok-log_confirm.ensures.steady))
 
 -- a position that doesn't rise
 pub returns-then-upto-self-clause-added : goal.returns-then-upto-self-clause-added
 returns-then-upto-self-clause-added g c =
     let own = rises_not c.self.inside.confirmed c.args.upto (omega (arith, c.if-upto-self.true, ap (λ (d : Demo _). d.confirmed.0) (c.self-2.view_is ∙ c.run_to_tick.ensures.same))) in
     subst (λ (d : Demo _). RunsStepsAndWrites g.D.Disk (next_end c.args.self.now) (confirm_of c.args.self.now.confirmed c.args.upto) (AnswersNothing c.args.self.now) c.args.self.now (answering d) (Ok tt)) (sym c.self-2.view_is)
-    (unrisen_answers g.D.Disk c.self.view_is c.run_to_tick.new.self c.run_to_tick.ensures.same c.in_ok-run_to_tick.ensures.ran c.in_ok-run_to_tick.ensures.end c.run_to_tick.ensures.crash c.run_to_tick.ensures.comes c.run_to_tick.ensures.cause.later c.args.upto own)
+    (unrisen_answers g.D.Disk c.self.view_is c.run_to_tick.new.self c.run_to_tick.ensures.same c.in_ok-run_to_tick.ensures.ran c.in_ok-run_to_tick.ensures.end c.run_to_tick.ensures.crash c.run_to_tick.ensures.comes c.run_to_tick.ensures.cause.later c.args.upto own c.in_ok-run_to_tick.ensures.steady)

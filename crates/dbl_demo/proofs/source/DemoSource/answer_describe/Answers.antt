@@ -38,4 +38,4 @@ returns g c =
     let entry = c.in_ok-entry.ensures.entry ∙ ap (λ (d : Demo _). entry_of (history_of d.tables []) c.args.name.now) c.run_to_tick.ensures.same in
     subst (λ (d : Demo _). RunsStepsAndWrites g.D.Disk (next_end c.args.self.now) [] (AnswersEntry c.args.name.now c.args.self.now) c.args.self.now (answering d) (Ok c.in_ok-entry.entry)) (sym c.self-2.view_is)
     (answers_from g.D.Disk c.self.view_is c.run_to_tick.new.self c.run_to_tick.ensures.same c.run_to_tick.ensures.crash c.run_to_tick.ensures.comes c.run_to_tick.ensures.cause.later (AnswersEntry c.args.name.now) c.in_ok-entry.entry c.in_ok-run_to_tick.ensures.ran c.in_ok-run_to_tick.ensures.end
-    (record { reader = record { place = ap (λ (d : Demo _). d.place) c.run_to_tick.ensures.same; ended = ap (λ (d : Demo _). d.ended) c.run_to_tick.ensures.same }; is = entry }))
+    (record { reader = record { place = ap (λ (d : Demo _). d.place) c.run_to_tick.ensures.same; ended = ap (λ (d : Demo _). d.ended) c.run_to_tick.ensures.same }; is = entry }) c.in_ok-run_to_tick.ensures.steady)

@@ -32,4 +32,4 @@ returns g c =
     let count : c.len.result ≡ length c.run_to_tick.new.self.commits = omega (arith, c.len.ensures, c.self-2.inside.commits.ok.0, commits) in
     subst (λ (d : Demo _). RunsStepsAndWrites g.D.Disk (next_end c.args.self.now) [] (AnswersHead c.args.self.now) c.args.self.now (answering d) (Ok c.lsn_of.result)) (sym c.self-2.view_is)
     (answers_from g.D.Disk c.self.view_is c.run_to_tick.new.self c.run_to_tick.ensures.same c.run_to_tick.ensures.crash c.run_to_tick.ensures.comes c.run_to_tick.ensures.cause.later AnswersHead c.lsn_of.result c.in_ok-run_to_tick.ensures.ran c.in_ok-run_to_tick.ensures.end
-    (record { reader = record { place = ap (λ (d : Demo _). d.place) c.run_to_tick.ensures.same; ended = ap (λ (d : Demo _). d.ended) c.run_to_tick.ensures.same }; is = c.lsn_of.ensures ∙ ap lsn_of count }))
+    (record { reader = record { place = ap (λ (d : Demo _). d.place) c.run_to_tick.ensures.same; ended = ap (λ (d : Demo _). d.ended) c.run_to_tick.ensures.same }; is = c.lsn_of.ensures ∙ ap lsn_of count }) c.in_ok-run_to_tick.ensures.steady)

@@ -10,6 +10,7 @@ use Rattle.dbl_demo_laws.specs.Calls.{mark_entries, next_end}
 use Rattle.dbl_demo_laws.proofs.ExitLemmas.{answering, fails_from}
 use Rattle.dbl_demo_laws.specs.Demo.{Demo}
 use Rattle.dbl_demo.proofs.OwnExits.{first_from, mark_answers, mark_fails, starved_from}
+use Rattle.dbl_demo_laws.proofs.KnownLemmas.{known_on}
 use Rattle.dbl_demo.proofs.source.DemoSource.answer_mark.Goals as goal
 
 pub run_to_tick-requires-clause-live : goal.run_to_tick-requires-clause-live
@@ -76,4 +77,4 @@ returns-clause-added g c =
     let spells = spelled c.run_to_tick.new.self c.self-2.inside.done _ (drop 4 c.in_ok-entry.entry.items) c.args.value.now (ap (λ (d : Demo _). d.done) c.self-2.view_is) c.in_ok-run_to_tick.ensures.end c.in_ok-entry.ensures.entry in
     subst (λ (d : Demo _). RunsStepsAndWrites g.D.Disk (next_end c.args.self.now) (mark_entries c.args.value.now (next_end c.args.self.now)) (AnswersNothing c.args.self.now) c.args.self.now (answering d) (Ok tt)) (sym c.self-3.view_is)
     (mark_answers g.D.Disk c.self.view_is c.run_to_tick.new.self c.run_to_tick.ensures.same c.in_ok-run_to_tick.ensures.ran c.in_ok-run_to_tick.ensures.end c.run_to_tick.ensures.comes c.run_to_tick.ensures.cause.later log.small c.log_mark.new.self log.comes log.cause.later (drop 4 c.in_ok-entry.entry.items) log.left c.args.value.now spells log.same
-    c.in_ok-log_mark.ensures.commits c.in_ok-log_mark.ensures.added)
+    c.in_ok-log_mark.ensures.commits c.in_ok-log_mark.ensures.added (known_on g.D.Disk _ _ _ c.in_ok-run_to_tick.ensures.steady c.in_ok-log_mark.ensures.steady))

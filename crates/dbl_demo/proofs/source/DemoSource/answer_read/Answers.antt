@@ -55,4 +55,5 @@ returns g c =
     let upto : c.run_to_unread_commit.new.self.done ≤ length c.run_to_unread_commit.new.self.steps = omega (arith, c.self-2.invariant.has_run.there, ap (λ (d : Demo _). d.done) same, ap (λ (d : Demo _). length d.steps) same) in
     subst (λ (d : Demo _). AddsRead g.D.Disk c.args.self.now (read_so d c.is_none-self-inside.result) (Ok c.in_ok-read.read)) (sym c.self-2.view_is)
     (read_answers_there g.D.Disk c.self.view_is c.run_to_unread_commit.new.self c.next_bytes.new.self ran.same ran.crash ran.comes ran.cause.later next.same next.crash next.comes next.cause.later next.reading c.in_ok-read.read c.is_none-self-inside.result (none_is c.is_none-self-inside.result _ c.is_none-self-inside.ensures)
-    c.in_ok-run_to_unread_commit.ensures.ran c.in_ok-read.ensures.read c.in_ok-run_to_unread_commit.ensures.end c.in_ok-read.ensures.none upto)
+    c.in_ok-run_to_unread_commit.ensures.ran c.in_ok-read.ensures.read c.in_ok-run_to_unread_commit.ensures.end c.in_ok-read.ensures.none upto
+    c.in_ok-run_to_unread_commit.ensures.steady c.in_ok-read.ensures.steady)

@@ -12,6 +12,7 @@ use Rattle.dbl_demo_laws.specs.Calls.{next_end, second_end}
 use Rattle.dbl_demo_laws.proofs.ExitLemmas.{answering, fails_from}
 use Rattle.dbl_demo_laws.specs.Demo.{Demo, IsDemo}
 use Rattle.dbl_demo_laws.proofs.TwiceLemmas.{answers_again, fails_again, kept_both, rows_shown}
+use Rattle.dbl_demo_laws.proofs.KnownLemmas.{known_on}
 use Rattle.dbl_demo.proofs.source.DemoSource.answer_select.Goals as goal
 
 pub run_to_tick-requires-clause-live : goal.run_to_tick-requires-clause-live
@@ -54,7 +55,8 @@ pub returns-clause-added : goal.returns-clause-added
 returns-clause-added g c =
     live_again g.D.Disk (second_end c.args.self.now) (λ new rows. IsReaderKept c.args.self.now new) c.args.self.now c.self-2.view_is _
     (answers_again g.D.Disk c.self.view_is c.run_to_tick.new.self c.run_to_tick.ensures.same c.in_ok-run_to_tick.ensures.ran c.in_ok-run_to_tick.ensures.end c.run_to_tick-2.new.self c.run_to_tick-2.ensures.same c.run_to_tick-2.ensures.crash c.run_to_tick.ensures.comes c.run_to_tick.ensures.cause.later c.run_to_tick-2.ensures.comes c.run_to_tick-2.ensures.cause.later (λ s new rows. IsReaderKept s new) _ c.in_ok-run_to_tick-2.ensures.ran c.in_ok-run_to_tick-2.ensures.end
-    (kept_both g.D.Disk c.self.view_is c.run_to_tick.new.self c.run_to_tick.ensures.same c.in_ok-run_to_tick.ensures.ran c.in_ok-run_to_tick.ensures.end c.run_to_tick-2.new.self c.run_to_tick-2.ensures.same c.run_to_tick-2.ensures.crash c.run_to_tick.ensures.comes c.run_to_tick.ensures.cause.later c.run_to_tick-2.ensures.comes c.run_to_tick-2.ensures.cause.later))
+    (kept_both g.D.Disk c.self.view_is c.run_to_tick.new.self c.run_to_tick.ensures.same c.in_ok-run_to_tick.ensures.ran c.in_ok-run_to_tick.ensures.end c.run_to_tick-2.new.self c.run_to_tick-2.ensures.same c.run_to_tick-2.ensures.crash c.run_to_tick.ensures.comes c.run_to_tick.ensures.cause.later c.run_to_tick-2.ensures.comes c.run_to_tick-2.ensures.cause.later)
+    (known_on g.D.Disk _ _ _ c.in_ok-run_to_tick.ensures.steady c.in_ok-run_to_tick-2.ensures.steady))
 
 -- the rows are those of the store between the groups
 pub returns-clause-shown : goal.returns-clause-shown

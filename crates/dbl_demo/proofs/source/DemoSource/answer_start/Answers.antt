@@ -42,7 +42,7 @@ returns-then-after-self g c =
     let says : gone ≡ start_answer c.args.after c.self.inside.confirmed = sym (gone_so c.args.after c.self-2.inside.confirmed c.if-after-self.true) ∙ ap (start_answer c.args.after) confirmed in
     subst (λ (d : Demo _). RunsStepsAndWrites g.D.Disk (next_end c.args.self.now) [] (AnswersStart c.args.after c.args.self.now) c.args.self.now (reading d None) (Ok gone)) (sym at)
     (starts_from g.D.Disk c.self.view_is c.run_to_tick.new.self c.run_to_tick.ensures.crash c.run_to_tick.ensures.comes c.run_to_tick.ensures.cause.later c.in_ok-run_to_tick.ensures.ran c.in_ok-run_to_tick.ensures.end c.args.after None c.forget_reader.new.self.described gone
-    (λ tables log. gone_reader tables log c.forget_reader.new.self.described None) says refl)
+    (λ tables log. gone_reader tables log c.forget_reader.new.self.described None) says refl c.in_ok-run_to_tick.ensures.steady)
 
 pub returns : goal.returns
 returns g c =
@@ -53,4 +53,4 @@ returns g c =
     subst (λ (d : Demo _). RunsStepsAndWrites g.D.Disk (next_end c.args.self.now) [] (AnswersStart c.args.after c.args.self.now) c.args.self.now (reading d (Some first)) (Ok Ready)) (sym at)
     (starts_from g.D.Disk c.self.view_is c.run_to_tick.new.self c.run_to_tick.ensures.crash c.run_to_tick.ensures.comes c.run_to_tick.ensures.cause.later c.in_ok-run_to_tick.ensures.ran c.in_ok-run_to_tick.ensures.end c.args.after
     (Some first) c.forget_reader.new.self.described Ready
-    (λ tables log. begun_reader tables log c.args.after c.forget_reader.new.self.described (nothing_in c.forget_reader.new.self.described c.forget_reader.ensures.undescribed)) says refl)
+    (λ tables log. begun_reader tables log c.args.after c.forget_reader.new.self.described (nothing_in c.forget_reader.new.self.described c.forget_reader.ensures.undescribed)) says refl c.in_ok-run_to_tick.ensures.steady)

@@ -6,6 +6,7 @@ use Rattle.dbl_demo_wal.specs.Entries.{EncodesEntry}
 use Rattle.dbl_demo_wal.specs.Wals.{forms_of}
 use Rattle.dbl_demo_laws.specs.Demo.{Demo, IsRunning}
 use Rattle.dbl_demo.proofs.HeldLemmas.{holding, read_is, read_some}
+use Rattle.dbl_demo_laws.proofs.KnownLemmas.{known_from, known_self}
 use Rattle.dbl_demo.proofs.source.DemoSource.cache_commit.Goals as goal
 
 pub returns-in_err-bytes-clause-comes : goal.returns-in_err-bytes-clause-comes
@@ -41,3 +42,12 @@ returns-clause-held g c = λ wal place running at numbered.
       holding g.D.Disk _ wal place (subst (IsRunning g.D.Disk wal) (sym c.self.view_is) running) (ap (λ (d : Demo _). d.place) c.self.view_is ∙ at) c.entry.new.journal (c.entry.ensures.lists (forms_of wal) lists) (Some c.in-Some.logged) held,
       held,
     )
+
+pub returns-then-is_some-clause-steady : goal.returns-then-is_some-clause-steady
+returns-then-is_some-clause-steady g c = known_from g.D.Disk c.self.view_is _ (known_self g.D.Disk _)
+
+pub returns-in_default-clause-steady : goal.returns-in_default-clause-steady
+returns-in_default-clause-steady g c = known_from g.D.Disk c.self.view_is c.entry.new.journal.disk c.in_ok-bytes.ensures.steady
+
+pub returns-clause-steady : goal.returns-clause-steady
+returns-clause-steady g c = known_from g.D.Disk c.self.view_is c.entry.new.journal.disk c.in_ok-bytes.ensures.steady

@@ -9,6 +9,7 @@ use Rattle.dbl_demo_wal.proofs.SizeLemmas.{few_in}
 use Rattle.dbl_demo_laws.specs.Demo.{Demo}
 use Rattle.dbl_demo.proofs.AppendLemmas.{entry_left, fits_done, spells_at}
 use Rattle.dbl_demo.proofs.OneLemmas.{one_ends_well, one_fails, one_same}
+use Rattle.dbl_demo_laws.proofs.KnownLemmas.{known_from}
 use Rattle.dbl_demo.proofs.source.DemoSource.log_commit.Goals as goal
 
 pub commit_entry-requires-clause-few : goal.commit_entry-requires-clause-few
@@ -80,3 +81,6 @@ pub returns-in_err-append-clause-cause : goal.returns-in_err-append-clause-cause
 returns-in_err-append-clause-cause g c =
     let p = err_from_is_err_and c.from_residual-in_err-append.result c.from_residual-in_err-append.ensures.1 in
     one_fails g.D.Disk c.self.view_is c.append.result _ c.in_err-append.field-0.0 _ c.in_err-append.was (p.1 ∙ ap Err p.2) c.append.ensures.cause
+
+pub returns-clause-steady : goal.returns-clause-steady
+returns-clause-steady g c = known_from g.D.Disk c.self.view_is c.append.new.journal.disk c.in_ok-append.ensures.steady

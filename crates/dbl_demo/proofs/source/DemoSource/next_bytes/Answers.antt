@@ -9,6 +9,9 @@ use Rattle.dbl_demo_wal.specs.Sound.{logged_in}
 use Rattle.dbl_demo_laws.specs.Demo.{Demo}
 use Rattle.dbl_demo_laws.specs.Reading.{ReadsNext}
 use Rattle.dbl_demo.proofs.HeldLemmas.{number_none, number_some, read_nothing}
+use Rattle.dbl_demo_laws.specs.Running.{StaysKnown}
+use Rattle.dbl_demo_laws.proofs.KnownLemmas.{known_from, known_self}
+use Rattle.dbl_demo_laws.proofs.PromiseLemmas.{on_ok}
 use Rattle.dbl_demo.proofs.source.DemoSource.next_bytes.Goals as goal
 
 number_at : (xs ys : List ℕ) (i j number : ℕ) → xs ≡ ys → i ≡ j → slice_get xs i ≡ Some number → slice_get ys j ≡ Some number
@@ -51,3 +54,17 @@ returns-clause-reading g c =
 pub returns-clause-comes : goal.returns-clause-comes
 returns-clause-comes g c = λ gate most come.
     subst (λ (j : OnDisk _). HasCome g.D.Disk gate most j) (sym (ap (λ (d : Demo _). d.journal) c.step_on.ensures.same)) (c.cache_commit.ensures.comes gate most come)
+
+pub returns-in_default-clause-steady : goal.returns-in_default-clause-steady
+returns-in_default-clause-steady g c = known_from g.D.Disk c.self.view_is _ (known_self g.D.Disk _)
+
+pub returns-in_default-copied-clause-steady : goal.returns-in_default-copied-clause-steady
+returns-in_default-copied-clause-steady g c = known_from g.D.Disk c.self.view_is _ (known_self g.D.Disk _)
+
+pub returns-in-Some-2-clause-steady : goal.returns-in-Some-2-clause-steady
+returns-in-Some-2-clause-steady g c = c.in_ok-other.ensures.steady
+
+pub returns-clause-steady : goal.returns-clause-steady
+returns-clause-steady g c =
+    let journal = sym (ap (λ (d : Demo _). d.journal) c.step_on.ensures.same) in
+    on_ok _ c.step_on.result (subst (λ (j : OnDisk _). StaysKnown g.D.Disk c.args.self.now.journal.disk j.disk) journal c.in_ok-other.ensures.steady)

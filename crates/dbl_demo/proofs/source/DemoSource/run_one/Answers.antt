@@ -4,6 +4,7 @@ use Rattle.std.specs.Prelude.{Err}
 use Rattle.dbl_journal.proofs.Growth.{comes_at}
 use Rattle.dbl_demo_laws.specs.Demo.{Demo}
 use Rattle.dbl_demo.proofs.OneLemmas.{one_alone, one_ends, one_ends_well, one_fails, one_left, one_logged, one_same, one_silent}
+use Rattle.dbl_demo_laws.proofs.KnownLemmas.{known_from, known_self}
 use Rattle.dbl_demo.proofs.source.DemoSource.run_one.Goals as goal
 
 -- memory ran out
@@ -58,3 +59,9 @@ returns-in_default-clause-crash g c = λ wal running. one_alone g.D.Disk c.self.
 
 pub returns-in_default-clause-ends : goal.returns-in_default-clause-ends
 returns-in_default-clause-ends g c = λ step there. one_ends g.D.Disk c.self.view_is c.requires.left c.is_tick-ends.result c.index.result.now step c.index.ensures c.is_tick-ends.ensures there
+
+pub returns-in_ok-log_commit-clause-steady : goal.returns-in_ok-log_commit-clause-steady
+returns-in_ok-log_commit-clause-steady g c = known_from g.D.Disk c.self.view_is c.log_commit.new.self.journal.disk c.in_ok-log_commit.ensures.steady
+
+pub returns-in_default-clause-steady : goal.returns-in_default-clause-steady
+returns-in_default-clause-steady g c = known_from g.D.Disk c.self.view_is c.self.inside.journal.disk (known_self g.D.Disk c.self.inside.journal.disk)

@@ -1,6 +1,6 @@
 use Rattle.std.proofs.Common.{◌≡◌, ◌<◌, ◌≤◌, length, ap, refl, arith}
 use Rattle.dbl_demo_laws.specs.Demo.{Demo}
-use Rattle.dbl_demo.proofs.GroupLemmas.{group_comes, group_end_is, group_goes, group_left, group_over, group_over_left, group_ran}
+use Rattle.dbl_demo.proofs.GroupLemmas.{group_comes, group_end_is, group_goes, group_left, group_over, group_known, group_over_left, group_ran}
 use Rattle.dbl_demo.proofs.source.DemoSource.run_to_tick.Goals as goal
 
 -- the step failed
@@ -40,7 +40,7 @@ pub steps-preserved : goal.steps-preserved
 steps-preserved g c =
     let steps : length c.self.inside.steps.items ≡ length c.steps.self.steps = ap (λ (s : Demo _). length s.steps) c.self.view_is in
     let left : c.steps.self.done < length c.steps.self.steps = omega (arith, steps, ap (λ (s : Demo _). s.done) c.self.view_is) in
-    group_goes g.D.Disk c.args.self.now refl c.steps.invariant c.run_one.new.self left c.in_ok-run_one.ensures.ran c.in_ok-run_one.field-0 c.in_ok-run_one.ensures.ends c.if-branch.false c.in_ok-run_one.ensures.one c.in_ok-run_one.ensures.live c.run_one.ensures.same c.run_one.ensures.comes c.run_one.ensures.cause.later
+    group_goes g.D.Disk c.args.self.now refl c.steps.invariant c.run_one.new.self left c.in_ok-run_one.ensures.ran c.in_ok-run_one.field-0 c.in_ok-run_one.ensures.ends c.if-branch.false c.in_ok-run_one.ensures.one c.in_ok-run_one.ensures.live c.run_one.ensures.same c.run_one.ensures.comes c.run_one.ensures.cause.later c.in_ok-run_one.ensures.steady
 
 -- no step is left
 pub returns-clause-ran : goal.returns-clause-ran
@@ -54,3 +54,9 @@ returns-clause-crash g c =
     let steps : length c.self.inside.steps.items ≡ length c.steps.self.steps = ap (λ (s : Demo _). length s.steps) c.self.view_is in
     let none : length c.steps.self.steps ≤ c.steps.self.done = omega (arith, steps, ap (λ (s : Demo _). s.done) c.self.view_is) in
     group_over_left g.D.Disk c.args.self.now c.steps.self c.steps.invariant none
+
+pub returns-then-branch-clause-steady : goal.returns-then-branch-clause-steady
+returns-then-branch-clause-steady g c = group_known g.D.Disk c.args.self.now refl c.steps.invariant c.run_one.new.self c.in_ok-run_one.ensures.steady
+
+pub returns-clause-steady : goal.returns-clause-steady
+returns-clause-steady g c = c.steps.invariant.known

@@ -10,7 +10,7 @@ pub returns-in_err-run_to_tick-clause-crash : goal.returns-in_err-run_to_tick-cl
 returns-in_err-run_to_tick-clause-crash g c = λ wal place running at. first_left g.D.Disk c.args.self.now c.run_to_tick.new.self c.run_to_tick.ensures.crash wal place running
 
 pub groups-init : goal.groups-init
-groups-init g c = let r = c.in_ok-run_to_tick.ensures in reads_first g.D.Disk c.args.self.now c.run_to_tick.new.self r.ran r.end r.live r.same r.comes r.cause.later
+groups-init g c = let r = c.in_ok-run_to_tick.ensures in reads_first g.D.Disk c.args.self.now c.run_to_tick.new.self r.ran r.end r.live r.same r.comes r.cause.later r.steady
 
 -- a commit stands there to be read
 pub returns-then-has_unread-clause-ran : goal.returns-then-has_unread-clause-ran
@@ -33,7 +33,7 @@ returns-in_err-run_to_tick-2-clause-comes g c = comes_on g.D.Disk c.args.self.no
 pub groups-preserved : goal.groups-preserved
 groups-preserved g c =
     let r = c.in_ok-run_to_tick-2.ensures in
-    reads_on g.D.Disk c.args.self.now c.groups.self c.groups.invariant c.run_to_tick-in-groups.new.self (sym c.has_unread.ensures ∙ c.if-has_unread.false) r.ran r.end r.live r.same r.comes r.cause.later
+    reads_on g.D.Disk c.args.self.now c.groups.self c.groups.invariant c.run_to_tick-in-groups.new.self (sym c.has_unread.ensures ∙ c.if-has_unread.false) r.ran r.end r.live r.same r.comes r.cause.later r.steady
 
 -- no step is left
 pub returns-clause-ran : goal.returns-clause-ran
@@ -61,3 +61,9 @@ groups-smaller g c =
     let steps : length c.self.inside.steps.items ≡ length c.groups.self.steps = ap (λ (s : Demo _). length s.steps) c.self.view_is in
     let left : c.groups.self.done < length c.groups.self.steps = omega (arith, steps, ap (λ (s : Demo _). s.done) c.self.view_is) in
     omega (arith, left, r.end, ap (λ (s : Demo _). length s.steps) r.same, end_above c.groups.self.steps c.groups.self.done left)
+
+pub returns-then-has_unread-clause-steady : goal.returns-then-has_unread-clause-steady
+returns-then-has_unread-clause-steady g c = c.groups.invariant.known
+
+pub returns-clause-steady : goal.returns-clause-steady
+returns-clause-steady g c = c.groups.invariant.known

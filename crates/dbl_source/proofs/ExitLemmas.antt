@@ -1,6 +1,6 @@
 -- What a source promises of each call, from what the call made of the script.
 use Rattle.std.proofs.Common.{◌≡◌, ◌∙◌, inl, inr, ◌≤◌, ℕ, false, List, [], map, take, refl, sym, ap, subst, arith}
-use Rattle.std.specs.Prelude.{IsTrue, is_some, Option, Some, Result, Ok, Err, IfOk, OnOk, OnErr}
+use Rattle.std.specs.Prelude.{IsTrue, is_some, Option, None, Some, Result, Ok, Err, IfOk, OnOk, OnErr}
 use Rattle.std.proofs.lemmas.List.{append-nil}
 use Rattle.dbl_base.specs.Streams.{FaultCounted, incremented}
 use Rattle.dbl_pgmsg.specs.declared.messages.Message.{Message}
@@ -13,7 +13,7 @@ use Rattle.dbl_source_log.specs.declared.error.SourceError.{SourceError}
 use Rattle.dbl_source_log.specs.declared.error.SourceError.TheVariants.{Failed, Memory}
 use Rattle.dbl_source.specs.Played.{Played, played_messages, standing_of, trace_of, before_of, past_move, called, with_release, with_fault}
 use Rattle.dbl_source.specs.Steps.{KeepsPlayed, AddedFirst, HasPlayedState, MayLeavePlayed, WasFair}
-use Rattle.dbl_source.specs.Exits.{Plays}
+use Rattle.dbl_source.specs.Exits.{AnswersRead, Plays}
 use Rattle.dbl_source.proofs.PlannedLemmas.{no_err}
 use Rattle.dbl_source.proofs.CallLemmas.{WentOn, went_follows, went_fair, went_read}
 
@@ -81,6 +81,16 @@ pub stays : {T : Type 0} (own : ℕ) (more : Type 0) (commits : List (List Messa
     → ((x : T) → done x new → new.ended ≡ old.ended) → new.ended ≡ old.ended
 stays own more commits done old new (Ok x) p leaves = leaves x p.played
 stays own more commits done old new (Err e) p leaves = (ended own more commits done old new e p).went.ended
+
+-- a call that answers has counted no fault
+pub unfaulted : {T : Type 0} (own : ℕ) (more : Type 0) (commits : List (List Message)) (done : T → Played → Type 0) (old new : Played) (r : Result T SourceError) → Plays own more commits done old new r
+    → ((x : T) → done x new → new.plan.faults ≡ old.plan.faults) → OnOk r (new.plan.faults ≡ old.plan.faults)
+unfaulted own more commits done old new (Ok x) p leaves = leaves x p.played
+unfaulted own more commits done old new (Err e) p leaves = tt
+
+pub read_unfaulted : (old new : Played) (read : Option (List ℕ)) → AnswersRead old read new → new.plan.faults ≡ old.plan.faults
+read_unfaulted old new None says = ap (λ (p : Played). p.plan.faults) says.is ∙ ap (λ (p : Played). p.plan.faults) says.has.is
+read_unfaulted old new (Some bytes) says = ap (λ (p : Played). p.plan.faults) says.is ∙ ap (λ (p : Played). p.plan.faults) says.has.is
 
 -- ---- the call answered
 

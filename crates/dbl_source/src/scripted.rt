@@ -198,6 +198,8 @@ impl Source for ScriptedSource {
         ensures comes { Unit {0} }
         ensures cause { FailsOnlyIfCounted (result ≡ Err Failed)
             self.old.plan.faults self.new.plan.faults }
+        ensures steady { (s : SourceState) → HasPlayedState self.old s
+            → OnOk result (self.new.plan.faults ≡ self.old.plan.faults) }
         ensures planned { FailsAsPlanned 0 ⊥ self.old self.new result }
         ensures memory { result ≡ Err Memory
             → AddedFirst (before_of self.old) (past_move self.old) self.new }
@@ -222,6 +224,8 @@ impl Source for ScriptedSource {
         ensures comes { Unit {0} }
         ensures cause { FailsOnlyIfCounted (result ≡ Err Failed)
             self.old.plan.faults self.new.plan.faults }
+        ensures steady { (s : SourceState) → HasPlayedState self.old s
+            → OnOk result (self.new.plan.faults ≡ self.old.plan.faults) }
         ensures planned { FailsAsPlanned 0 ⊥ self.old self.new result }
         ensures memory { result ≡ Err Memory
             → AddedFirst (before_of self.old) (past_move self.old) self.new }
@@ -254,6 +258,8 @@ impl Source for ScriptedSource {
         ensures comes { Unit {0} }
         ensures cause { FailsOnlyIfCounted (result ≡ Err Failed)
             self.old.plan.faults self.new.plan.faults }
+        ensures steady { (s : SourceState) → HasPlayedState self.old s
+            → OnOk result (self.new.plan.faults ≡ self.old.plan.faults) }
         ensures planned { FailsAsPlanned 0 ⊥ self.old self.new result }
         ensures memory { result ≡ Err Memory
             → AddedFirst (before_of self.old) (past_move self.old) self.new }
@@ -291,6 +297,8 @@ impl Source for ScriptedSource {
         ensures comes { Unit {0} }
         ensures cause { FailsOnlyIfCounted (result ≡ Err Failed)
             self.old.plan.faults self.new.plan.faults }
+        ensures steady { (s : SourceState) → HasPlayedState self.old s
+            → OnOk result (self.new.plan.faults ≡ self.old.plan.faults) }
         ensures planned { FailsAsPlanned 0 (IsUnfit (with_release self.old)) self.old
             self.new result }
         ensures memory { result ≡ Err Memory
@@ -327,6 +335,8 @@ impl Source for ScriptedSource {
         ensures comes { Unit {0} }
         ensures cause { FailsOnlyIfCounted (result ≡ Err Failed)
             self.old.plan.faults self.new.plan.faults }
+        ensures steady { (s : SourceState) → HasPlayedState self.old s
+            → OnOk result (self.new.plan.faults ≡ self.old.plan.faults) }
         ensures planned { FailsAsPlanned (length (inside_of self.old)) ⊥ self.old self.new result }
         ensures memory { result ≡ Err Memory
             → AddedFirst (before_of self.old ++ inside_of self.old) (past_move self.old) self.new }
@@ -359,6 +369,8 @@ impl Source for ScriptedSource {
         ensures comes { Unit {0} }
         ensures cause { FailsOnlyIfCounted (result ≡ Err Failed)
             self.old.plan.faults self.new.plan.faults }
+        ensures steady { (s : SourceState) → HasPlayedState self.old s
+            → OnOk result (self.new.plan.faults ≡ self.old.plan.faults) }
         ensures planned { FailsAsPlanned 1 ⊥ self.old self.new result }
         ensures memory { result ≡ Err Memory
             → AddedFirst (before_of self.old) (past_move self.old) self.new }
@@ -386,6 +398,8 @@ impl Source for ScriptedSource {
         ensures comes { Unit {0} }
         ensures cause { FailsOnlyIfCounted (result ≡ Err Failed)
             self.old.plan.faults self.new.plan.faults }
+        ensures steady { (s : SourceState) → HasPlayedState self.old s
+            → OnOk result (self.new.plan.faults ≡ self.old.plan.faults) }
         ensures planned { FailsAsPlanned 0 ⊥ self.old self.new result }
         ensures memory { result ≡ Err Memory
             → AddedFirst (before_of self.old) (past_move self.old) self.new }

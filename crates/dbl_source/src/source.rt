@@ -58,7 +58,8 @@ pub trait Source {
     /// is left.
     ghost has_ended: { Self → Bool };
 
-    /// The number of failures of the source. A count of 2^64 - 1 stays so.
+    /// The number of failures of the source. A count of 2^64 - 1 stays so. A call that succeeds
+    /// leaves it as it is if the source reported its state.
     ghost faults: { Self → ℕ };
 
     /// Whether a source in this state still has the log after the LSN.
@@ -84,7 +85,9 @@ pub trait Source {
         ensures honest { honest self.new → honest self.old }
         ensures comes { comes_of self.old self.new }
         ensures cause { FailsOnlyIfCounted (result ≡ Err Failed)
-            (faults self.old) (faults self.new) };
+            (faults self.old) (faults self.new) }
+        ensures steady { (s : SourceState) → stands self.old s
+            → OnOk result (faults self.new ≡ faults self.old) };
 
     /// The LSN of the last commit at one time during the call, 0 if there was none.
     fn head(&mut self) -> Result<Lsn, SourceError>
@@ -101,7 +104,9 @@ pub trait Source {
         ensures honest { honest self.new → honest self.old }
         ensures comes { comes_of self.old self.new }
         ensures cause { FailsOnlyIfCounted (result ≡ Err Failed)
-            (faults self.old) (faults self.new) };
+            (faults self.old) (faults self.new) }
+        ensures steady { (s : SourceState) → stands self.old s
+            → OnOk result (faults self.new ≡ faults self.old) };
 
     /// Begins reading again, with the first commit after the LSN; or answers `Gone` if the log
     /// after it was dropped, with the first position after which reading can begin. It is above the
@@ -125,7 +130,9 @@ pub trait Source {
         ensures honest { honest self.new → honest self.old }
         ensures comes { comes_of self.old self.new }
         ensures cause { FailsOnlyIfCounted (result ≡ Err Failed)
-            (faults self.old) (faults self.new) };
+            (faults self.old) (faults self.new) }
+        ensures steady { (s : SourceState) → stands self.old s
+            → OnOk result (faults self.new ≡ faults self.old) };
 
     /// The bytes of the next message, or None. If the source conforms and the messages that it sent
     /// have no error, None says that every commit that existed at the call was read.
@@ -151,7 +158,9 @@ pub trait Source {
         ensures honest { honest self.new → honest self.old }
         ensures comes { comes_of self.old self.new }
         ensures cause { FailsOnlyIfCounted (result ≡ Err Failed)
-            (faults self.old) (faults self.new) };
+            (faults self.old) (faults self.new) }
+        ensures steady { (s : SourceState) → stands self.old s
+            → OnOk result (faults self.new ≡ faults self.old) };
 
     /// The version of the table, which is 1, and its first `limit` rows with a key above `above`
     /// (all if None), in key order, at one position between the call and the return, if the source
@@ -177,7 +186,9 @@ pub trait Source {
         ensures honest { honest self.new → honest self.old }
         ensures comes { comes_of self.old self.new }
         ensures cause { FailsOnlyIfCounted (result ≡ Err Failed)
-            (faults self.old) (faults self.new) };
+            (faults self.old) (faults self.new) }
+        ensures steady { (s : SourceState) → stands self.old s
+            → OnOk result (faults self.new ≡ faults self.old) };
 
     /// Writes the watermark as a commit of its own. After `Failed` it may be in the log, after
     /// `Memory` it isn't.
@@ -198,7 +209,9 @@ pub trait Source {
         ensures honest { honest self.new → honest self.old }
         ensures comes { comes_of self.old self.new }
         ensures cause { FailsOnlyIfCounted (result ≡ Err Failed)
-            (faults self.old) (faults self.new) };
+            (faults self.old) (faults self.new) }
+        ensures steady { (s : SourceState) → stands self.old s
+            → OnOk result (faults self.new ≡ faults self.old) };
 
     /// Confirms that the log up to this LSN isn't needed any more; one that is below the confirmed
     /// position changes nothing. After `Failed` it may be confirmed, after `Memory` it isn't.
@@ -218,7 +231,9 @@ pub trait Source {
         ensures honest { honest self.new → honest self.old }
         ensures comes { comes_of self.old self.new }
         ensures cause { FailsOnlyIfCounted (result ≡ Err Failed)
-            (faults self.old) (faults self.new) };
+            (faults self.old) (faults self.new) }
+        ensures steady { (s : SourceState) → stands self.old s
+            → OnOk result (faults self.new ≡ faults self.old) };
 
     /// A source that reports a state can be used.
     ghost lives: { (source : Self) (s : SourceState) → stands source s → IsTrue (is_live source) };

@@ -1,4 +1,6 @@
-use Rattle.dbl_source.proofs.ExitLemmas.{both}
+use Rattle.std.proofs.Common.{ap}
+use Rattle.dbl_source.specs.Played.{Played}
+use Rattle.dbl_source.proofs.ExitLemmas.{both, unfaulted}
 use Rattle.dbl_source.proofs.EndLemmas.{confirm_held, confirm_still}
 use Rattle.dbl_source.proofs.scripted.ScriptedSourceSource.confirm.Goals as goal
 
@@ -20,6 +22,7 @@ returns c =
       honest = held.honest;
       comes = tt;
       cause = record { later = plays.later; cause = held.failed };
+      steady = λ s stands. unfaulted _ _ _ _ c.args.self.now c.play_confirm.new.self c.play_confirm.result plays (λ x says. ap (λ (p : Played). p.plan.faults) says);
       planned = plays.planned;
       memory = plays.memory;
       played = plays.played;

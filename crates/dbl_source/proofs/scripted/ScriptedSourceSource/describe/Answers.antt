@@ -1,4 +1,6 @@
-use Rattle.dbl_source.proofs.ExitLemmas.{both}
+use Rattle.std.proofs.Common.{ap}
+use Rattle.dbl_source.specs.Played.{Played}
+use Rattle.dbl_source.proofs.ExitLemmas.{both, unfaulted}
 use Rattle.dbl_source.proofs.EndLemmas.{describe_held, describe_named, describe_played, describe_still}
 use Rattle.dbl_source.proofs.scripted.ScriptedSourceSource.describe.Goals as goal
 
@@ -20,6 +22,7 @@ returns c =
       honest = held.honest;
       comes = tt;
       cause = record { later = plays.later; cause = held.failed };
+      steady = λ s stands. unfaulted _ _ _ _ c.args.self.now c.play_describe.new.self c.play_describe.result plays (λ x says. ap (λ (p : Played). p.plan.faults) says.is);
       planned = plays.planned;
       memory = plays.memory;
       played = describe_played c.args.name.now c.args.self.now c.play_describe.new.self c.play_describe.result plays;

@@ -1,4 +1,6 @@
-use Rattle.dbl_source.proofs.ExitLemmas.{both}
+use Rattle.std.proofs.Common.{ap}
+use Rattle.dbl_source.specs.Played.{Played}
+use Rattle.dbl_source.proofs.ExitLemmas.{both, unfaulted}
 use Rattle.dbl_source.proofs.EndLemmas.{head_held, head_played, head_still}
 use Rattle.dbl_source.proofs.scripted.ScriptedSourceSource.head.Goals as goal
 
@@ -19,6 +21,7 @@ returns c =
       honest = held.honest;
       comes = tt;
       cause = record { later = plays.later; cause = held.failed };
+      steady = λ s stands. unfaulted _ _ _ _ c.args.self.now c.play_head.new.self c.play_head.result plays (λ x says. ap (λ (p : Played). p.plan.faults) says.is);
       planned = plays.planned;
       memory = plays.memory;
       played = head_played c.args.self.now c.play_head.new.self c.play_head.result plays;

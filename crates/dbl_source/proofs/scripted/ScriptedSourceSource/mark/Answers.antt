@@ -1,4 +1,6 @@
-use Rattle.dbl_source.proofs.ExitLemmas.{both}
+use Rattle.std.proofs.Common.{ap}
+use Rattle.dbl_source.specs.Played.{Played}
+use Rattle.dbl_source.proofs.ExitLemmas.{both, unfaulted}
 use Rattle.dbl_source.proofs.EndLemmas.{mark_held, mark_still}
 use Rattle.dbl_source.proofs.scripted.ScriptedSourceSource.mark.Goals as goal
 
@@ -20,6 +22,7 @@ returns c =
       honest = held.honest;
       comes = tt;
       cause = record { later = plays.later; cause = held.failed };
+      steady = λ s stands. unfaulted _ _ _ _ c.args.self.now c.play_mark.new.self c.play_mark.result plays (λ x says. ap (λ (p : Played). p.plan.faults) says);
       planned = plays.planned;
       memory = plays.memory;
       played = plays.played;

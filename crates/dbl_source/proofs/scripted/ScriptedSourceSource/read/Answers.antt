@@ -1,4 +1,4 @@
-use Rattle.dbl_source.proofs.ExitLemmas.{still, both}
+use Rattle.dbl_source.proofs.ExitLemmas.{both, read_unfaulted, still, unfaulted}
 use Rattle.dbl_source.proofs.EndLemmas.{read_held, read_none, read_played, read_ended}
 use Rattle.dbl_source.proofs.scripted.ScriptedSourceSource.read.Goals as goal
 
@@ -21,6 +21,7 @@ returns c =
       honest = held.honest;
       comes = tt;
       cause = record { later = plays.later; cause = held.failed };
+      steady = λ s stands. unfaulted _ _ _ _ c.args.self.now c.play_read.new.self c.play_read.result plays (λ x says. read_unfaulted c.args.self.now c.play_read.new.self x says);
       planned = plays.planned;
       memory = plays.memory;
       played = read_played c.args.self.now c.play_read.new.self c.play_read.result c.requires.reading plays;

@@ -1,5 +1,7 @@
+use Rattle.std.proofs.Common.{ap}
 use Rattle.std.specs.Prelude.{option_copied}
-use Rattle.dbl_source.proofs.ExitLemmas.{both}
+use Rattle.dbl_source.specs.Played.{Played}
+use Rattle.dbl_source.proofs.ExitLemmas.{both, unfaulted}
 use Rattle.dbl_source.proofs.EndLemmas.{select_held, select_played, select_still}
 use Rattle.dbl_source.proofs.scripted.ScriptedSourceSource.select.Goals as goal
 
@@ -20,6 +22,7 @@ returns c =
       honest = held.honest;
       comes = tt;
       cause = record { later = plays.later; cause = held.failed };
+      steady = λ s stands. unfaulted _ _ _ _ c.args.self.now c.play_select.new.self c.play_select.result plays (λ x says. ap (λ (p : Played). p.plan.faults) says.is);
       planned = plays.planned;
       memory = plays.memory;
       listed = c.play_select.ensures.listed;

@@ -1,5 +1,7 @@
+use Rattle.std.proofs.Common.{ap}
 use Rattle.std.proofs.lemmas.Result.{IfOk-weaker}
-use Rattle.dbl_source.proofs.ExitLemmas.{still}
+use Rattle.dbl_source.specs.Played.{Played}
+use Rattle.dbl_source.proofs.ExitLemmas.{still, unfaulted}
 use Rattle.dbl_source.proofs.StartLemmas.{start_exact}
 use Rattle.dbl_source.proofs.EndLemmas.{start_held, start_unended, start_played}
 use Rattle.dbl_source.proofs.scripted.ScriptedSourceSource.start.Goals as goal
@@ -26,6 +28,7 @@ returns c =
       honest = held.honest;
       comes = tt;
       cause = record { later = plays.later; cause = held.failed };
+      steady = λ s stands. unfaulted _ _ _ _ c.args.self.now c.play_start.new.self c.play_start.result plays (λ x says. ap (λ (p : Played). p.plan.faults) says.is);
       planned = plays.planned;
       memory = plays.memory;
       played = played;

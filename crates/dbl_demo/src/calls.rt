@@ -110,6 +110,8 @@ impl<D: Disk> Source for DemoSource<D> {
         ensures comes { ExtendsDemo D.Disk self.old self.new }
         ensures cause { FailsOnlyIfCounted (result ≡ Err Failed)
             (D.faults self.old.journal.disk) (D.faults self.new.journal.disk) }
+        ensures steady { (s : SourceState) → HasDemoState D.Disk self.old s → OnOk result
+            (D.faults self.new.journal.disk ≡ D.faults self.old.journal.disk) }
         ensures group { OnOk result (self.new.done ≡ next_end self.old) }
         ensures released { OnOk result (ReleasesSteps D.Disk
             (next_end self.old) [] self.old self.new) }
@@ -135,6 +137,8 @@ impl<D: Disk> Source for DemoSource<D> {
         ensures comes { ExtendsDemo D.Disk self.old self.new }
         ensures cause { FailsOnlyIfCounted (result ≡ Err Failed)
             (D.faults self.old.journal.disk) (D.faults self.new.journal.disk) }
+        ensures steady { (s : SourceState) → HasDemoState D.Disk self.old s → OnOk result
+            (D.faults self.new.journal.disk ≡ D.faults self.old.journal.disk) }
         ensures last { IfOk result (λ lsn. lsn ≡ lsn_of (length self.new.commits)) }
         ensures group { OnOk result (self.new.done ≡ next_end self.old) }
         ensures released { OnOk result (ReleasesSteps D.Disk
@@ -168,6 +172,8 @@ impl<D: Disk> Source for DemoSource<D> {
         ensures comes { ExtendsDemo D.Disk self.old self.new }
         ensures cause { FailsOnlyIfCounted (result ≡ Err Failed)
             (D.faults self.old.journal.disk) (D.faults self.new.journal.disk) }
+        ensures steady { (s : SourceState) → HasDemoState D.Disk self.old s → OnOk result
+            (D.faults self.new.journal.disk ≡ D.faults self.old.journal.disk) }
         ensures group { OnOk result (self.new.done ≡ next_end self.old) }
         ensures released { OnOk result (ReleasesSteps D.Disk
             (next_end self.old) [] self.old self.new) }
@@ -202,6 +208,8 @@ impl<D: Disk> Source for DemoSource<D> {
         ensures comes { ExtendsDemo D.Disk self.old self.new }
         ensures cause { FailsOnlyIfCounted (result ≡ Err Failed)
             (D.faults self.old.journal.disk) (D.faults self.new.journal.disk) }
+        ensures steady { (s : SourceState) → HasDemoState D.Disk self.old s → OnOk result
+            (D.faults self.new.journal.disk ≡ D.faults self.old.journal.disk) }
         ensures released { OnOk result (ReadsOnTo D.Disk self.old self.new) }
         ensures first { LeavesRead D.Disk self.old self.new }
         // None means that no step is left, and no commit to be read.
@@ -243,6 +251,8 @@ impl<D: Disk> Source for DemoSource<D> {
         ensures comes { ExtendsDemo D.Disk self.old self.new }
         ensures cause { FailsOnlyIfCounted (result ≡ Err Failed)
             (D.faults self.old.journal.disk) (D.faults self.new.journal.disk) }
+        ensures steady { (s : SourceState) → HasDemoState D.Disk self.old s → OnOk result
+            (D.faults self.new.journal.disk ≡ D.faults self.old.journal.disk) }
         ensures group { OnOk result (self.new.done ≡ second_end self.old) }
         ensures released { OnOk result (ReleasesSteps D.Disk
             (second_end self.old) [] self.old self.new) }
@@ -273,6 +283,8 @@ impl<D: Disk> Source for DemoSource<D> {
         ensures comes { ExtendsDemo D.Disk self.old self.new }
         ensures cause { FailsOnlyIfCounted (result ≡ Err Failed)
             (D.faults self.old.journal.disk) (D.faults self.new.journal.disk) }
+        ensures steady { (s : SourceState) → HasDemoState D.Disk self.old s → OnOk result
+            (D.faults self.new.journal.disk ≡ D.faults self.old.journal.disk) }
         ensures group { OnOk result (self.new.done ≡ next_end self.old) }
         ensures released { OnOk result (ReleasesSteps D.Disk
             (next_end self.old) (mark_entries value.now (next_end self.old)) self.old self.new) }
@@ -303,6 +315,8 @@ impl<D: Disk> Source for DemoSource<D> {
         ensures comes { ExtendsDemo D.Disk self.old self.new }
         ensures cause { FailsOnlyIfCounted (result ≡ Err Failed)
             (D.faults self.old.journal.disk) (D.faults self.new.journal.disk) }
+        ensures steady { (s : SourceState) → HasDemoState D.Disk self.old s → OnOk result
+            (D.faults self.new.journal.disk ≡ D.faults self.old.journal.disk) }
         ensures group { OnOk result (self.new.done ≡ next_end self.old) }
         ensures released { OnOk result (ReleasesSteps D.Disk
             (next_end self.old) (confirm_of self.old.confirmed upto) self.old self.new) }

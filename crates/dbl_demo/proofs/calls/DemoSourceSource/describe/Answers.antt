@@ -5,6 +5,7 @@ use Rattle.dbl_source_model.specs.Trace.{Described}
 use Rattle.dbl_demo_laws.specs.Answers.{AnswersEntry}
 use Rattle.dbl_demo_laws.proofs.LeadLemmas.{lead_entry}
 use Rattle.dbl_demo_laws.proofs.PromiseLemmas.{comes_held, entry_named, leads_held, left_held, kept_reader, same_reader, some_held, tells_of}
+use Rattle.dbl_demo_laws.proofs.KnownLemmas.{steady_from}
 use Rattle.dbl_demo.proofs.calls.DemoSourceSource.describe.Goals as goal
 
 pub returns : goal.returns
@@ -25,6 +26,7 @@ returns g c =
       honest = λ u. u;
       comes = comes_held g.D.Disk c.args.self.now c.answer_describe.new.self _ _ c.answer_describe.result c.requires adds.come adds.first adds.released adds.dead;
       cause = record { later = adds.later; cause = adds.failed };
+      steady = λ s stands. steady_from g.D.Disk c.args.self.now c.answer_describe.new.self c.answer_describe.result s stands adds.known;
       group = adds.group;
       released = adds.released;
       first = adds.first;

@@ -4,6 +4,7 @@ use Rattle.dbl_source_model.specs.Trace.{Head}
 use Rattle.dbl_demo_laws.specs.Answers.{AnswersHead}
 use Rattle.dbl_demo_laws.proofs.LeadLemmas.{lead_head}
 use Rattle.dbl_demo_laws.proofs.PromiseLemmas.{comes_held, leads_held, left_held, kept_reader, same_reader, some_held, tells_of}
+use Rattle.dbl_demo_laws.proofs.KnownLemmas.{steady_from}
 use Rattle.dbl_demo.proofs.calls.DemoSourceSource.head.Goals as goal
 
 pub returns : goal.returns
@@ -24,6 +25,7 @@ returns g c =
       honest = λ u. u;
       comes = comes_held g.D.Disk c.args.self.now c.answer_head.new.self _ _ c.answer_head.result c.requires adds.come adds.first adds.released adds.dead;
       cause = record { later = adds.later; cause = adds.failed };
+      steady = λ s stands. steady_from g.D.Disk c.args.self.now c.answer_head.new.self c.answer_head.result s stands adds.known;
       group = adds.group;
       released = adds.released;
       first = adds.first;

@@ -3,6 +3,7 @@ use Rattle.dbl_source_model.specs.Trace.{Done}
 use Rattle.dbl_demo_laws.specs.Answers.{AnswersNothing}
 use Rattle.dbl_demo_laws.proofs.LeadLemmas.{lead_mark, left_mark}
 use Rattle.dbl_demo_laws.proofs.PromiseLemmas.{comes_held, leads_held, left_held, kept_reader, same_reader, some_held, told_of}
+use Rattle.dbl_demo_laws.proofs.KnownLemmas.{steady_from}
 use Rattle.dbl_demo.proofs.calls.DemoSourceSource.mark.Goals as goal
 
 pub returns : goal.returns
@@ -23,6 +24,7 @@ returns g c =
       honest = λ u. u;
       comes = comes_held g.D.Disk c.args.self.now c.answer_mark.new.self _ _ c.answer_mark.result c.requires.live adds.come adds.first adds.released adds.dead;
       cause = record { later = adds.later; cause = adds.failed };
+      steady = λ s stands. steady_from g.D.Disk c.args.self.now c.answer_mark.new.self c.answer_mark.result s stands adds.known;
       group = adds.group;
       released = adds.released;
       first = adds.first;

@@ -2,6 +2,7 @@ use Rattle.std.proofs.Common.{None, []}
 use Rattle.dbl_source_model.specs.Trace.{IsTakenBy, Read}
 use Rattle.dbl_demo_laws.proofs.PromiseLemmas.{on_err, tells_of}
 use Rattle.dbl_demo_laws.proofs.ReadLemmas.{read_comes, read_ended, read_left, read_released, read_some, read_taken, read_took}
+use Rattle.dbl_demo_laws.proofs.KnownLemmas.{steady_from}
 use Rattle.dbl_demo.proofs.calls.DemoSourceSource.read.Goals as goal
 
 pub returns : goal.returns
@@ -22,6 +23,7 @@ returns g c =
       honest = λ u. u;
       comes = read_comes g.D.Disk c.args.self.now c.answer_read.new.self c.answer_read.result adds c.requires.reading c.requires.live;
       cause = record { later = adds.later; cause = adds.failed };
+      steady = λ s stands. steady_from g.D.Disk c.args.self.now c.answer_read.new.self c.answer_read.result s stands adds.known;
       released = read_released g.D.Disk c.args.self.now c.answer_read.new.self c.answer_read.result adds c.requires.reading;
       first = adds.first;
       all = adds.all;

@@ -15,6 +15,7 @@ use Rattle.dbl_demo_laws.specs.Calls.{next_end}
 use Rattle.dbl_demo_laws.specs.Demo.{Demo, IsDemo}
 use Rattle.dbl_demo_laws.proofs.SelectLemmas.{lead_select}
 use Rattle.dbl_demo_laws.proofs.PromiseLemmas.{comes_held, leads_held, left_held, kept_reader, same_reader, some_held, tells_of}
+use Rattle.dbl_demo_laws.proofs.KnownLemmas.{steady_from}
 use Rattle.dbl_demo.proofs.calls.DemoSourceSource.select.Goals as goal
 
 -- the reader stays, and the rows are those after the first group
@@ -42,6 +43,7 @@ returns g c =
       honest = λ u. u;
       comes = comes_held g.D.Disk c.args.self.now c.answer_select.new.self _ _ c.answer_select.result c.requires.live adds.come adds.first adds.released adds.dead;
       cause = record { later = adds.later; cause = adds.failed };
+      steady = λ s stands. steady_from g.D.Disk c.args.self.now c.answer_select.new.self c.answer_select.result s stands adds.known;
       group = adds.group;
       released = adds.released;
       first = adds.first;

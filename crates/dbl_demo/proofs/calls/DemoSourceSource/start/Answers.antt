@@ -6,6 +6,7 @@ use Rattle.dbl_source_model.specs.Trace.{Began, IsTakenAnew, IsTakenBy}
 use Rattle.dbl_demo_laws.specs.Answers.{AnswersStart}
 use Rattle.dbl_demo_laws.proofs.LeadLemmas.{lead_start, start_is_exact, started_reads}
 use Rattle.dbl_demo_laws.proofs.PromiseLemmas.{comes_held, err_ended, err_reader, leads_held, left_held, ok_ended, on_err, on_ok, some_held, tells_of}
+use Rattle.dbl_demo_laws.proofs.KnownLemmas.{steady_from}
 use Rattle.dbl_demo.proofs.calls.DemoSourceSource.start.Goals as goal
 
 pub returns : goal.returns
@@ -30,6 +31,7 @@ returns g c =
       honest = λ u. u;
       comes = comes_held g.D.Disk c.args.self.now c.answer_start.new.self _ _ c.answer_start.result c.requires adds.come adds.first adds.released adds.dead;
       cause = record { later = adds.later; cause = adds.failed };
+      steady = λ s stands. steady_from g.D.Disk c.args.self.now c.answer_start.new.self c.answer_start.result s stands adds.known;
       group = adds.group;
       released = adds.released;
       first = adds.first;

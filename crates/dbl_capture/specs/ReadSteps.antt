@@ -20,6 +20,7 @@ use Rattle.dbl_capture_work.specs.declared.work.SessionState.{SessionState}
 use Rattle.dbl_capture_laws.specs.Awaited.{Awaits}
 use Rattle.dbl_capture_laws.specs.Carried.{Beginning}
 use Rattle.dbl_capture_laws.specs.Caused.{Halts, IsNotGone, IsQuiet}
+use Rattle.dbl_capture_laws.specs.Closed.{HasClosedRead}
 use Rattle.dbl_capture_laws.specs.Gained.{read_limit}
 use Rattle.dbl_capture_laws.specs.Nevers.{IsFaithfulHalt, IsHonestHalt}
 use Rattle.dbl_capture_laws.specs.Putting.{PutsOn}
@@ -64,6 +65,10 @@ pub record KeepsRead {S K D : Type 0} (source_model : SourceModel S) (sink_model
       → InSession true source_model sink_model model entry work src sink store
       → IsUnderWay source_model at found b store.offset work report src → WasFaithful entry → source_model.honest new_src
       → IfErr result (IsFaithfulHalt entry store.offset new_report (source_model.stands new_src) (sink_model.holds new_sink))
+  pub unclosed : (entry : SessionStart) (first : SourceState) (found : Option Trace) (b : Beginning)
+      → InSession true source_model sink_model model entry work src sink store
+      → IsUnderWay source_model (Some first) found b store.offset work report src → WasFaithful entry → source_model.honest new_src
+      → (t : SourceState) → source_model.stands new_src t → OnErr result (HasClosedRead store.offset new_report t)
 
 -- The sink gains the records of the commit that the message ends, and before an error those that the report counts.
 pub record PutsRead {S K D : Type 0} (source_model : SourceModel S) (sink_model : SinkModel K) (work new_work : SessionState)

@@ -18,6 +18,7 @@ use Rattle.dbl_capture_work.specs.declared.work.SessionState.{SessionState}
 use Rattle.dbl_capture_laws.specs.Awaited.{Awaits}
 use Rattle.dbl_capture_laws.specs.Carried.{Beginning}
 use Rattle.dbl_capture_laws.specs.Caused.{Halts, IsNotGone, IsQuiet}
+use Rattle.dbl_capture_laws.specs.Closed.{HasClosedRead}
 use Rattle.dbl_capture_laws.specs.Ends.{CacheMatchesDisk, IsReportAt}
 use Rattle.dbl_capture_laws.specs.Nevers.{IsFaithfulHalt, IsHonestHalt}
 use Rattle.dbl_capture_laws.specs.Sessions.{InSession, LeavesBy}
@@ -48,6 +49,10 @@ pub record KeepsStored {S K D T : Type 0} (source_model : SourceModel S) (sink_m
       → OnErr result ((left : CrashState) → source_model.may_leave new_src left → AddsNoMore new_report.chunks entry.history left.history)
   pub content : (entry : SessionStart) → InSession true source_model sink_model model entry work src sink store → WasFaithful entry
       → IfErr result (IsFaithfulHalt entry new_store.offset new_report (source_model.stands new_src) (sink_model.holds sink))
+  pub unclosed : (entry : SessionStart) (first : SourceState) (found : Option Trace) (b : Beginning)
+      → InSession true source_model sink_model model entry work src sink store
+      → HasCommitted source_model (Some first) found b store.offset work report src → WasFaithful entry → source_model.honest new_src
+      → (t : SourceState) → source_model.stands new_src t → OnErr result (HasClosedRead new_store.offset new_report t)
 
 -- Storing the offset appends nothing.
 pub record PutsStored {S K D T : Type 0} (source_model : SourceModel S) (sink_model : SinkModel K) (work new_work : SessionState)
@@ -100,6 +105,10 @@ pub record KeepsFinished {S K D T : Type 0} (source_model : SourceModel S) (sink
       → OnErr result ((left : CrashState) → source_model.may_leave new_src left → AddsNoMore new_report.chunks entry.history left.history)
   pub content : (entry : SessionStart) → InSession true source_model sink_model model entry work src sink store → WasFaithful entry
       → IfErr result (IsFaithfulHalt entry new_store.offset new_report (source_model.stands new_src) (sink_model.holds sink))
+  pub unclosed : (entry : SessionStart) (first : SourceState) (found : Option Trace) (b : Beginning)
+      → InSession true source_model sink_model model entry work src sink store
+      → IsUnderWay source_model (Some first) found b store.offset work report src → WasFaithful entry → source_model.honest new_src
+      → (t : SourceState) → source_model.stands new_src t → OnErr result (HasClosedRead new_store.offset new_report t)
 
 -- Finishing appends nothing.
 pub record PutsFinished {S K D T : Type 0} (source_model : SourceModel S) (sink_model : SinkModel K) (work new_work : SessionState)

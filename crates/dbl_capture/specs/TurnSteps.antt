@@ -24,6 +24,7 @@ use Rattle.dbl_capture_work.specs.declared.work.SessionState.{SessionState}
 use Rattle.dbl_capture_laws.specs.Awaited.{Awaits}
 use Rattle.dbl_capture_laws.specs.Carried.{Beginning}
 use Rattle.dbl_capture_laws.specs.Caused.{Halts, IsNotGone, IsQuiet}
+use Rattle.dbl_capture_laws.specs.Closed.{HasClosedRead}
 use Rattle.dbl_capture_laws.specs.Ends.{AreAllDone, IsAtPosition, CacheMatchesDisk, HasNoneNext, HasOwnStored}
 use Rattle.dbl_capture_laws.specs.Gained.{read_limit}
 use Rattle.dbl_capture_laws.specs.Nevers.{IsFaithfulHalt, IsHonestHalt}
@@ -71,6 +72,10 @@ pub record KeepsProcessed {S K D : Type 0} (source_model : SourceModel S) (sink_
       → InSession true source_model sink_model model entry work src sink store
       → IsUnderWay source_model at found b store.offset work report src → WasFaithful entry → source_model.honest new_src
       → IfErr result (IsFaithfulHalt entry new_store.offset new_report (source_model.stands new_src) (sink_model.holds new_sink))
+  pub unclosed : (entry : SessionStart) (first : SourceState) (found : Option Trace) (b : Beginning)
+      → InSession true source_model sink_model model entry work src sink store
+      → IsUnderWay source_model (Some first) found b store.offset work report src → WasFaithful entry → source_model.honest new_src
+      → (t : SourceState) → source_model.stands new_src t → OnErr result (HasClosedRead new_store.offset new_report t)
 
 -- The sink has gained the records of the commits that were read, and after an error those that the report counts.
 pub record PutsProcessed {S K D T : Type 0} (source_model : SourceModel S) (sink_model : SinkModel K) (work new_work : SessionState)
@@ -163,6 +168,10 @@ pub record KeepsRun {S K D : Type 0} (source_model : SourceModel S) (sink_model 
       → InSession true source_model sink_model model entry work src sink store
       → IsUnderWay source_model at found b store.offset work report src → WasFaithful entry → source_model.honest new_src
       → IfErr result (IsFaithfulHalt entry new_store.offset new_report (source_model.stands new_src) (sink_model.holds new_sink))
+  pub unclosed : (entry : SessionStart) (first : SourceState) (found : Option Trace) (b : Beginning)
+      → InSession true source_model sink_model model entry work src sink store
+      → IsUnderWay source_model (Some first) found b store.offset work report src → WasFaithful entry → source_model.honest new_src
+      → (t : SourceState) → source_model.stands new_src t → OnErr result (HasClosedRead new_store.offset new_report t)
 
 -- When the session ends normally, what is stored, and what the report counts.
 pub record RunsMessages {S D : Type 0} (source_model : SourceModel S) (model : DiskModel D) (budget : ℕ) (work new_work : SessionState)

@@ -74,6 +74,7 @@ pub record ReportsWindow {S D T : Type 0} (source_model : SourceModel S) (work n
       → IsUnderWay source_model at found b store.offset work report src
       → IfErr result (Halts source_model at found b.config b.now b.held store.offset report new_src)
   pub awaits : Awaits source_model.stands work src → OnOk result (Awaits source_model.stands new_work new_src)
+  pub still : (s t : SourceState) → source_model.stands src s → source_model.stands new_src t → t.reading ≡ s.reading
 
 -- The errors that reading a window never returns.
 pub record StopsAtSource {T : Type 0} (result : Result T Halt) : Type 0 where

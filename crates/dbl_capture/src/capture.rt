@@ -1,6 +1,6 @@
 //! The session of a connector.
 
-ghost use Rattle.std.specs.Prelude.{Some, None, IfErr, IsTrue, OnOk};
+ghost use Rattle.std.specs.Prelude.{Some, None, IfErr, IsTrue};
 ghost use Rattle.dbl_model_table.specs.Configs.{IsGoodConfig};
 ghost use Rattle.dbl_source.specs.SourceModel.Standings.{SourceState};
 ghost use Rattle.dbl_offset.specs.Stores.{IsLive};
@@ -67,12 +67,12 @@ pub fn session<S: Source, K: Sink, D: Disk>(
     ensures counts { CountsWithin config.now offsets.old offsets.new report.new }
     ensures tallies { TalliesRecords S.Source K.Sink config.now now_ms src.old src.new sink.old
         sink.new offsets.old offsets.new report.new result }
-    // Over a conforming source and faithful stores, after a normal end: each window whose high
-    // watermark is counted was closed.
+    // Over a conforming source and faithful stores: each window whose high watermark is counted was
+    // closed.
     ensures unclosed { (entry : SessionStart) → IsEntryOf config.now now_ms entry →
         Found S.stands K.holds D.Disk entry src.old sink.old offsets.old → S.honest src.new →
         WasFaithful entry → (t : SourceState) → S.stands src.new t →
-        OnOk result (HasClosedRead offsets.new.offset report.new t) }
+        HasClosedRead offsets.new.offset report.new t }
 
     // Why it stops.
     ensures ends { EndsNormally S.Source config.now src.new offsets.new report.new result }

@@ -122,7 +122,7 @@ counted_fault r h before is = counted_err r h before (record before { messages =
 between : (a b : ℕ) → b ≡ a + 1 → (a ≤ b) × (b ≤ a + 1)
 between a b is = (omega (arith, is), omega (arith, is))
 
-none_more : (a b : ℕ) → b ≡ a + 0 → b ≡ a
+pub none_more : (a b : ℕ) → b ≡ a + 0 → b ≡ a
 none_more a b is = omega (arith, is)
 
 -- one was, and the records of the commit that it ends weren't all put

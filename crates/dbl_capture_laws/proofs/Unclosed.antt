@@ -1,7 +1,9 @@
 -- Each window whose high watermark was read was closed: what a window waits for wasn't read yet, and no watermark of the next one is written before it.
-use Rattle.std.proofs.Common.{◌≡◌, ◌≢◌, ◌∙◌, ◌+◌, ◌≤◌, ◌<◌, ◌^◌, ℕ, Bool, Option, Some, List, ◌++◌, length, take, refl, sym, ap, ap₂, subst, arith, length-append}
-use Rattle.std.specs.Prelude.{slice_get}
+use Rattle.std.proofs.Common.{◌≡◌, ◌≢◌, ◌∙◌, ◌⊎◌, inl, inr, ◌+◌, ◌≤◌, ◌<◌, ◌^◌, ℕ, Bool, Option, Some, List, [], ◌∷◌, ◌++◌, length, take, refl, sym, ap, ap₂, subst, arith, length-append, append-nil, append_assoc}
+use Rattle.std.specs.Prelude.{slice_get, Result, Ok, Err, OnErr, OnOk}
 use Rattle.std.specs.List.{AllByRecursion}
+use Rattle.std.proofs.Math.Seq.{take-append_seam}
+use Rattle.dbl_pgmsg.specs.declared.messages.Message.{Message}
 use Rattle.dbl_record.specs.declared.record.Record.{Record}
 use Rattle.dbl_topic.specs.Model.{SinkModel}
 use Rattle.dbl_capture_work.specs.Source.Model.{SourceModel}
@@ -15,8 +17,9 @@ use Rattle.dbl_capture_work.specs.ModelHistory.History as raw
 use Rattle.dbl_capture_work.specs.ModelHistory.MarkTexts.{mark_text}
 use Rattle.dbl_capture_work.specs.ModelHistory.MarkTexts.Side.{High}
 use Rattle.dbl_capture_work.specs.ModelHistory.Typed.{typed_commit}
-use Rattle.dbl_capture_work.specs.ModelCommit.Stated.{commits_of}
+use Rattle.dbl_capture_work.specs.ModelCommit.Stated.{commits_of, ended_commit, list_of}
 use Rattle.dbl_capture_work.specs.SourceModel.Standings.{Reading, SourceState}
+use Rattle.dbl_capture_work.specs.SourceModel.Trace.{Trace}
 use Rattle.dbl_capture_work.specs.Offset.declared.offset.Offset.{Offset}
 use Rattle.dbl_capture_work.specs.OffsetStore.Stores.{StoreOn}
 use Rattle.dbl_capture_work.proofs.FaithfulItems.{all_by_place, at_all, at_left, at_right, first_some, mapped, taken_at}
@@ -34,12 +37,36 @@ use Rattle.dbl_capture_work.proofs.CaptureModelWindowing.{raw_mark}
 use Rattle.dbl_capture_work.specs.declared.report.Report.{Report}
 use Rattle.dbl_capture_work.specs.declared.work.SessionState.{SessionState}
 use Rattle.dbl_capture_work.specs.Works.{next_offset_of}
+use Rattle.dbl_capture_laws.specs.Carried.{Beginning}
 use Rattle.dbl_capture_laws.specs.Closed.{HasClosedRead, HasNoHigh}
 use Rattle.dbl_capture_laws.specs.Sessions.{InSession, state_at_stage}
+use Rattle.dbl_capture_laws.specs.Sources.{HasCommitted}
+use Rattle.dbl_capture_laws.proofs.Halting.{incarnation_stored, infos_stored}
+use Rattle.dbl_capture_laws.proofs.Sources.{reading_of}
 
 -- some first ones of a list are as all of it
 all_taken : (P : Commit → Type 0) (n : ℕ) (commits : List Commit) → AllByRecursion P commits → AllByRecursion P (take n commits)
 all_taken P n commits all = all_by_place P (take n commits) (λ k commit is. at_all P commits k commit all (taken_at n commits k commit is).1)
+
+-- messages that are read after others state commits after theirs
+more_read : (infos : List TableInfo) (newest ms : List Message) → (more : List Commit) × (commits_of infos (newest ++ ms) ≡ commits_of infos ms ++ more)
+more_read infos [] ms = ([], sym (append-nil (commits_of infos ms)))
+more_read infos (m ∷ newest) ms =
+    let r = more_read infos newest ms in
+    let one = list_of (ended_commit infos m (newest ++ ms)) in
+    (r.0 ++ one, ap (λ (l : List Commit). l ++ one) r.1 ∙ append_assoc (commits_of infos ms) r.0 one)
+
+fewer : (a b c : ℕ) → a ≤ b → b < c → a < c
+fewer a b c le lt = omega (arith, le, lt)
+
+-- where no commit is counted there is none
+pub closed_unread : (stored : Option Offset) (report : Report) (t : SourceState) → report.commits ≡ 0 → HasClosedRead stored report t
+closed_unread stored report t none offset reading held reads number subsequent small =
+    subst (λ (n : ℕ). HasNoHigh offset.incarnation number (take n (commits_of offset.infos reading.messages))) (sym none) tt
+
+pub closed_either : {T E : Type 0} (r : Result T E) (P : Type 0) → OnOk r P → OnErr r P → P
+closed_either (Ok x) P ok err = ok
+closed_either (Err e) P ok err = err
 
 no_more : (chunks number last : ℕ) → last ≡ chunks + 0 → chunks < number → number ≤ last → ⊥
 no_more chunks number last is subsequent le = omega (arith, is, subsequent, le)
@@ -144,3 +171,47 @@ module _ {S K D : Type 0} {tell : Bool} {source_model : SourceModel S} {sink_mod
       (all_taken (λ (commit : Commit). commit.body ≢ Mark (mark_text s.stage.first.incarnation number High)) report.commits (read_at s.stage)
       (none_unclosed entry s.stage faithful s.going report.chunks
       (sym s.work_is.number_is ∙ (windows ∙ ap (λ (f : Following). report.chunks + waiting f.window) s.work_is.follower_is)) number subsequent small)))))
+
+  -- where it stopped, the newest messages aren't counted
+  counted_are : (newest : List Message) (commits : ℕ) → commits ≡ length (read_at s.stage) → take commits (commits_of s.stage.first.infos (newest ++ s.stage.messages)) ≡ read_at s.stage
+  counted_are newest commits counted =
+      let more = more_read s.stage.first.infos newest s.stage.messages in
+      ap₂ take counted more.1 ∙ take-append_seam (read_at s.stage) more.0
+
+  module _ {first : SourceState} {found : Option Trace} {b : Beginning} {stored : Option Offset} {before : Report} (one : (x y : SourceState) → source_model.stands src x → source_model.stands src y → x ≡ y)
+      (faithful : WasFaithful entry) (here : HasCommitted source_model (Some first) found b stored work before src) where
+    reading_is : reading_of b.first.lsn here.messages ≡ reading_of s.stage.first.lsn s.stage.messages
+    reading_is =
+        let was = here.stood first refl in
+        first_some (reading_of b.first.lsn here.messages) (reading_of s.stage.first.lsn s.stage.messages)
+        (sym was.holds ∙ ap (λ (x : SourceState). x.reading) (one was.standing (state_at_stage s.stage) was.is s.source_is))
+
+    commits_are : before.commits ≡ length (read_at s.stage)
+    commits_are =
+        here.is.followed
+        ∙ (ap (λ (l : List TableInfo). length (commits_of l here.messages)) infos_are
+        ∙ ap (λ (r : Reading). length (commits_of s.stage.first.infos r.messages)) reading_is)
+
+    -- what is stored is of the session
+    own_of : (offset : Offset) → (stored ≡ Some offset) ⊎ (offset ≡ next_offset_of work) → (offset.incarnation ≡ s.stage.first.incarnation) × (offset.infos ≡ s.stage.first.infos)
+    own_of offset (inl held) =
+        let same : here.is.offset ≡ offset = first_some here.is.offset offset (sym here.is.stored_is ∙ held) in
+        (sym (ap (λ (o : Offset). o.incarnation) same) ∙ (sym (incarnation_stored b.config b.now b.held b.first here.is.offset work here.is.of) ∙ incarnation_is),
+        sym (ap (λ (o : Offset). o.infos) same) ∙ (sym (infos_stored b.config b.now b.held b.first here.is.offset work here.is.of) ∙ infos_are))
+    own_of offset (inr next) = (ap (λ (o : Offset). o.incarnation) next ∙ incarnation_is, ap (λ (o : Offset). o.infos) next ∙ infos_are)
+
+    which : (later : Option Offset) (offset : Offset) → (later ≡ stored) ⊎ (later ≡ Some (next_offset_of work)) → later ≡ Some offset → (stored ≡ Some offset) ⊎ (offset ≡ next_offset_of work)
+    which later offset (inl same) held = inl (sym same ∙ held)
+    which later offset (inr next) held = inr (sym (first_some (next_offset_of work) offset (sym next ∙ held)))
+
+    pub closed_at_halt : (later : Option Offset) → (later ≡ stored) ⊎ (later ≡ Some (next_offset_of work)) → (report : Report) → report.commits ≡ before.commits → before.chunks ≤ report.chunks → (newest : List Message) (t : SourceState)
+        → t.reading ≡ Some (reading_of s.stage.first.lsn (newest ++ s.stage.messages)) → HasClosedRead later report t
+    closed_at_halt later is report counted more newest t now offset reading held reads number subsequent small =
+        let own = own_of offset (which later offset is held) in
+        let same : reading_of s.stage.first.lsn (newest ++ s.stage.messages) ≡ reading = first_some (reading_of s.stage.first.lsn (newest ++ s.stage.messages)) reading (sym now ∙ reads) in
+        subst (λ (r : Reading). HasNoHigh offset.incarnation number (take report.commits (commits_of offset.infos r.messages))) same
+        (subst (λ (i : ℕ). HasNoHigh i number (take report.commits (commits_of offset.infos (newest ++ s.stage.messages)))) (sym own.0)
+        (subst (λ (l : List TableInfo). HasNoHigh s.stage.first.incarnation number (take report.commits (commits_of l (newest ++ s.stage.messages)))) (sym own.1)
+        (subst (λ (commits : List Commit). HasNoHigh s.stage.first.incarnation number commits) (sym (counted_are newest report.commits (counted ∙ commits_are)))
+        (none_unclosed entry s.stage faithful s.going before.chunks
+        (sym s.work_is.number_is ∙ (here.is.windows ∙ ap (λ (f : Following). before.chunks + waiting f.window) s.work_is.follower_is)) number (fewer before.chunks report.chunks number more subsequent) small))))

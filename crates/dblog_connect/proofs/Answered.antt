@@ -336,8 +336,7 @@ module _ {W T F : Type 0} (wal_model : DiskModel W) (topics_model : DiskModel T)
         let settled = settled_at ending is stands.0 stands.1 in
         let here : SourceState = standing_in stands.0 sn.place in
         let front = sent_front here settled.reading stands.0 sn.place refl settled.reading_is in
-        let closed = ok_is result ending (λ e. HasClosedRead fn.offset report here)
-        (ran.unclosed entry (record { config_is = refl; now_is = refl }) (found_of wal_model topics_model offsets_model w t f so lo fo src lg st config now) kept.faithful here (stands.0, stands.1, refl)) is in
+        let closed = ran.unclosed entry (record { config_is = refl; now_is = refl }) (found_of wal_model topics_model offsets_model w t f so lo fo src lg st config now) kept.faithful here (stands.0, stands.1, refl) in
         record {
           reading = settled.reading;
           was = record { by = settled.stored; begins_after = settled.begins_after; rest = front.0; front = front.1 };

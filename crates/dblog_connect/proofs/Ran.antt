@@ -56,7 +56,7 @@ pub record Ran {W T F : Type 0} (wal_model : DiskModel W) (topics_model : DiskMo
   pub exactly : (s : SourceState) → HasDemoState wal_model so s → HadOwnTables (session_start_at config now s fo.offset)
       → IfOk result (λ ending. (left : CrashState) → SourceLeaves wal_model sn left → EndsExactly (session_start_at config now s fo.offset) fn.offset report.chunks (marks_more ending fn.offset) left.history)
   pub unclosed : (entry : SessionStart) → IsEntryOf config now entry → Found (HasDemoState wal_model) (HoldsGroups topics_model) offsets_model entry so lo fo
-      → WasFaithful entry → (t : SourceState) → HasDemoState wal_model sn t → OnOk result (HasClosedRead fn.offset report t)
+      → WasFaithful entry → (t : SourceState) → HasDemoState wal_model sn t → HasClosedRead fn.offset report t
   pub stores : (fn.offset ≡ fo.offset) ⊎ HasStored config fo.offset fn.offset
   pub firsts : (s : SourceState) → HasDemoState wal_model so s → IsFirstStored config s.history fo.offset fn.offset
   pub few : result ≡ Ok Complete → report.messages < config.messages

@@ -14,7 +14,7 @@ use Rattle.dbl_capture_laws.proofs.Endings.{complete_left, first_of_stored, firs
 use Rattle.dbl_capture_laws.proofs.Keeping.{either_answer, ok_then, rests, some_chunk}
 use Rattle.dbl_capture_laws.proofs.Openings.{going_left, source_found, told_found}
 use Rattle.dbl_capture_laws.specs.Closed.{HasClosedRead}
-use Rattle.dbl_capture_laws.proofs.Unclosed.{closed_read}
+use Rattle.dbl_capture_laws.proofs.Unclosed.{closed_either, closed_read, closed_unread}
 use Rattle.dbl_source.specs.SourceModel.Standings.{SourceState, HasState}
 use Rattle.dbl_capture_laws.specs.Musts.{MustHalt, MustHaltStood, MustHaltTold}
 use Rattle.dbl_capture_laws.specs.Reported.{HasReadMessages, HasSettled, HasStoodAfter, IsFollowed, StoodAtLast}
@@ -446,16 +446,18 @@ returns-clause-content g c entry asked f honest faithful =
     c.process_messages.ensures.session.content entry None (g.S.Source.told c.args.src.now) b in_session u faithful honest
 
 pub returns-in_err-work-clause-unclosed : goal.returns-in_err-work-clause-unclosed
-returns-in_err-work-clause-unclosed g c entry asked f honest faithful t now = residual_as c.from_residual.result _ (λ x. OnOk x (HasClosedRead c.open_session.new.store.offset c.open_session.new.report t)) c.from_residual.ensures.1 tt
+returns-in_err-work-clause-unclosed g c entry asked f honest faithful t now = closed_unread c.open_session.new.store.offset c.open_session.new.report t c.open_session.ensures.state.uncounted.1
 
 pub returns-clause-unclosed : goal.returns-clause-unclosed
 returns-clause-unclosed g c entry asked f honest faithful t now =
     let in_session = c.in_ok-work.ensures.session.next true entry asked.config_is (asked.now_is ∙ sym (to_z-of_z c.ranges.now_ms)) (told_found f) (c.process_messages.ensures.source.honest honest) (had_of entry faithful) in
-    let way = c.in_ok-work.ensures.report.under_way None (at_none g.S.Source.stands c.args.src.now) (refl, refl, refl) in
+    let way = c.in_ok-work.ensures.report.under_way (Some f.standing) (at_some g.S.Source.stands c.args.src.now f.standing f.source_is) (refl, refl, refl) in
     let b = beginning_at c.args.config.now c.args.now_ms c.args.offsets.now.offset way.0 in
-    let u = subst (λ (n : ℤ). IsUnderWay g.S.Source None (g.S.Source.told c.args.src.now) (beginning_at c.args.config.now n c.args.offsets.now.offset way.0) c.open_session.new.store.offset c.in_ok-work.work c.open_session.new.report c.open_session.new.src) (to_z-of_z c.ranges.now_ms) way.1 in
-    ok_then c.process_messages.result _ _ (ok_pair c.process_messages.result _ _ (c.process_messages.ensures.session.next true entry in_session honest) (c.process_messages.ensures.report.all None (g.S.Source.told c.args.src.now) b u))
-    (λ x. closed_read x.0 faithful c.process_messages.new.store.offset c.process_messages.new.report t x.1.stored_is (g.met.S.Source.one c.process_messages.new.src t (state_at_stage x.0.stage) now x.0.source_is) x.1.is.is.windows)
+    let u = subst (λ (n : ℤ). IsUnderWay g.S.Source (Some f.standing) (g.S.Source.told c.args.src.now) (beginning_at c.args.config.now n c.args.offsets.now.offset way.0) c.open_session.new.store.offset c.in_ok-work.work c.open_session.new.report c.open_session.new.src) (to_z-of_z c.ranges.now_ms) way.1 in
+    closed_either c.process_messages.result (HasClosedRead c.process_messages.new.store.offset c.process_messages.new.report t)
+    (ok_then c.process_messages.result _ _ (ok_pair c.process_messages.result _ _ (c.process_messages.ensures.session.next true entry in_session honest) (c.process_messages.ensures.report.all (Some f.standing) (g.S.Source.told c.args.src.now) b u))
+    (λ x. closed_read x.0 faithful c.process_messages.new.store.offset c.process_messages.new.report t x.1.stored_is (g.met.S.Source.one c.process_messages.new.src t (state_at_stage x.0.stage) now x.0.source_is) x.1.is.is.windows))
+    (c.process_messages.ensures.session.unclosed entry f.standing (g.S.Source.told c.args.src.now) b in_session u faithful honest t now)
 
 -- ---- whose fault it is
 

@@ -1,4 +1,4 @@
-use Rattle.std.proofs.Common.{◌≡◌, ◌∙◌, ◌+◌, true, ◌++◌, ◌<◌, inl, length, ℕ, List, Some, None, Option, Err, refl, sym, ap, subst, arith, le_refl, rules}
+use Rattle.std.proofs.Common.{◌≡◌, ◌∙◌, ◌+◌, true, ◌++◌, ◌<◌, inl, length, ℕ, List, Some, None, Option, Err, refl, sym, ap, subst, arith, le_refl, rules, ◌∷◌, [], false}
 use Rattle.std.specs.Prelude.{IfSome, All, is_none}
 use Rattle.std.proofs.lemmas.Result.{err_from_is_err_and}
 use Rattle.dbl_model_table.specs.declared.change.Commit.{Commit}
@@ -10,7 +10,7 @@ use Rattle.dbl_capture_laws.specs.Sessions.{state_at_stage}
 use Rattle.dbl_capture_laws.proofs.StepCauses.{OfNone, OfSink, OfSource, err_at, follow_of, residual_of, source_of, taken_of, residual_is, residual_source}
 use Rattle.dbl_capture_laws.proofs.Keeping.{capturing, moved_on, on_err}
 use Rattle.dbl_capture_laws.proofs.Nexts.{none_read, read_whole, some_read, step_fails, stepped_on, taken_on}
-use Rattle.dbl_capture_laws.proofs.Reporting.{counted_fault, counted_none, counted_torn, step_counts}
+use Rattle.dbl_capture_laws.proofs.Reporting.{counted_fault, counted_none, counted_torn, step_counts, none_more}
 use Rattle.dbl_capture_laws.proofs.Settles.{follow_fails}
 use Rattle.dbl_capture_laws.proofs.Taken.{stepped_next, stepped_ready, stepped_since, taken_next, taken_ready}
 use Rattle.dbl_capture_work.specs.declared.halt.Halt.{Halt}
@@ -40,6 +40,8 @@ use Rattle.dbl_capture_laws.specs.Nevers.{IsFaithfulHalt}
 use Rattle.dbl_capture_laws.proofs.Owning.{follow_own, free_own, source_free, taken_free}
 use Rattle.dbl_capture_laws.proofs.HasState.{commits_stood, messages_stood, source_stood}
 use Rattle.dbl_capture_laws.proofs.Awaited.{awaits_commit, awaits_message, awaits_nothing, awaits_still, work_at}
+use Rattle.dbl_capture_laws.proofs.Unclosed.{closed_at_halt}
+use Rattle.dbl_source.specs.SourceModel.Standings.{SourceState}
 use Rattle.dbl_capture.proofs.messages.read_and_deliver.Goals as goal
 
 pub returns-in_err-bytes-clause-session : goal.returns-in_err-bytes-clause-session
@@ -54,6 +56,8 @@ returns-in_err-bytes-clause-session g c = record {
   content = λ entry at found b s u faithful honest.
       residual_of c.from_residual.result _ (IsFaithfulHalt entry c.args.store.now.offset c.args.report.now (g.S.Source.stands c.read.new.self) (g.K.Sink.holds c.args.sink.now)) c.from_residual.ensures.1
       (free_own entry c.args.store.now.offset c.args.report.now (g.S.Source.stands c.read.new.self) (g.K.Sink.holds c.args.sink.now) _ (source_free c.in_err-bytes.field-0.0));
+  unclosed = λ entry first found b s u faithful honest t now.
+      absurd (dead_source (g.S.Source.is_live c.read.new.self) (g.met.S.Source.lives c.read.new.self t now) c.in_err-bytes.ensures.dead);
 }
 
 pub returns-in_err-commit-in-Some-clause-session : goal.returns-in_err-commit-in-Some-clause-session
@@ -79,6 +83,10 @@ returns-in_err-commit-in-Some-clause-session g c = record {
       let report = record c.args.report.now { messages = c.args.report.now.messages + 1 } in
       residual_of c.from_residual-in_err-commit-in-Some.result _ (IsFaithfulHalt entry c.args.store.now.offset report (g.S.Source.stands c.read.new.self) (g.K.Sink.holds c.args.sink.now)) c.from_residual-in_err-commit-in-Some.ensures.1
       (free_own entry c.args.store.now.offset report (g.S.Source.stands c.read.new.self) (g.K.Sink.holds c.args.sink.now) _ (taken_free _ s.stage.first.lsn s.stage.messages c.in-Some.bytes c.args.work.now _ (c.in_err-commit-in-Some.ensures.halt s.stage.first.lsn s.stage.messages s.work_is.is)));
+  unclosed = λ entry first found b s u faithful honest t now.
+      let T = some_read _ _ _ _ c.in-Some.is (c.in_ok-bytes.ensures.took (state_at_stage s.stage) s.source_is) in
+      on_err _ _ (closed_at_halt s (g.met.S.Source.one c.args.src.now) faithful (at_rest g.S.Source (Some first) found b c.args.store.now.offset c.args.work.now c.args.report.now c.args.src.now u) c.args.store.now.offset (inl refl) (record c.args.report.now { messages = c.args.report.now.messages + 1 }) refl (le_refl _) (T.0 ∷ []) t
+      (ap (λ (x : SourceState). x.reading) (g.met.S.Source.one c.read.new.self t T.2.standing now T.2.is) ∙ took_at (state_at_stage s.stage) T.2.standing T.0 s.stage.first.lsn s.stage.messages T.2.holds refl));
 }
 
 pub returns-clause-session : goal.returns-clause-session
@@ -93,6 +101,7 @@ returns-clause-session g c = record {
   own = search rules;
   most = search rules;
   content = search rules;
+  unclosed = search rules;
 }
 
 pub returns-in_err-closed-in-Some-2-clause-session : goal.returns-in_err-closed-in-Some-2-clause-session
@@ -118,6 +127,14 @@ returns-in_err-closed-in-Some-2-clause-session g c = record {
       residual_of c.from_residual-in_err-closed-in-Some-2.result _ (IsFaithfulHalt entry c.args.store.now.offset c.deliver_commit.new.report (g.S.Source.stands c.read.new.self) (g.K.Sink.holds c.deliver_commit.new.sink)) c.from_residual-in_err-closed-in-Some-2.ensures.1
       (follow_own s faithful T.0 T.2.standing T.2.holds (g.met.S.Source.fit _ _ (g.met.S.Source.may _ T.2.standing T.2.is) honest) (λ r at. g.met.S.Source.right _ T.2.standing r T.2.is honest at) c.in-Some.bytes T.1 c.take_message.new.work c.in-Some-2.commit (subst (WasTaken s.stage.first.lsn s.stage.messages c.in-Some.bytes c.args.work.now c.take_message.new.work) c.in-Some-2.is (c.in_ok-commit-in-Some.ensures.taken s.stage.first.lsn s.stage.messages s.work_is.is))
       b u.messages c.args.store.now.offset c.args.report.now c.deliver_commit.new.report u.is c.in_err-closed-in-Some-2.ensures.counts c.read.new.self c.deliver_commit.new.sink T.2.is _ c.in_err-closed-in-Some-2.ensures.halt);
+  unclosed = λ entry first found b s u faithful honest t now.
+      let T = some_read _ _ _ _ c.in-Some.is (c.in_ok-bytes.ensures.took (state_at_stage s.stage) s.source_is) in
+      let before = record c.args.report.now { messages = c.args.report.now.messages + 1 } in
+      let counts = (step_counts c.in-Some-2.commit c.take_message.new.work before c.deliver_commit.new.report false c.in_err-closed-in-Some-2.ensures.noted).commits in
+      on_err _ _
+      (closed_at_halt s (g.met.S.Source.one c.args.src.now) faithful (at_rest g.S.Source (Some first) found b c.args.store.now.offset c.args.work.now c.args.report.now c.args.src.now u) c.args.store.now.offset (inl refl) c.deliver_commit.new.report (none_more c.args.report.now.commits c.deliver_commit.new.report.commits counts)
+      (torn_more c.in-Some-2.commit c.args.work.now c.take_message.new.work c.args.report.now c.deliver_commit.new.report u.is.is.windows c.requires.number c.in_err-closed-in-Some-2.ensures.noted) (T.0 ∷ []) t
+      (ap (λ (x : SourceState). x.reading) (g.met.S.Source.one c.read.new.self t T.2.standing now T.2.is) ∙ took_at (state_at_stage s.stage) T.2.standing T.0 s.stage.first.lsn s.stage.messages T.2.holds refl));
 }
 
 pub returns-in-Some-2-clause-session : goal.returns-in-Some-2-clause-session
@@ -131,6 +148,7 @@ returns-in-Some-2-clause-session g c = record {
   own = search rules;
   most = search rules;
   content = search rules;
+  unclosed = search rules;
 }
 
 pub returns-in-Some-clause-session : goal.returns-in-Some-clause-session
@@ -143,6 +161,7 @@ returns-in-Some-clause-session g c = record {
   own = search rules;
   most = search rules;
   content = search rules;
+  unclosed = search rules;
 }
 
 pub returns-in-Some-2-clause-state : goal.returns-in-Some-2-clause-state

@@ -1,4 +1,4 @@
-use Rattle.std.proofs.Common.{◌∙◌, ℕ, Err, List, None, Some, ap, inl, refl, sym, le_refl, rules}
+use Rattle.std.proofs.Common.{◌∙◌, ℕ, Err, List, None, Some, ap, inl, refl, sym, le_refl, rules, []}
 use Rattle.std.proofs.lemmas.Result.{err_from_is_err_and}
 use Rattle.dbl_capture_work.specs.declared.halt.Halt.TheVariants as halt
 use Rattle.dbl_capture_laws.proofs.Reporting.{report_err}
@@ -22,6 +22,7 @@ use Rattle.dbl_capture_laws.specs.Sessions.{state_at_stage}
 use Rattle.dbl_capture_laws.proofs.Asking.{quiet_asks, read_quiet}
 use Rattle.dbl_capture_laws.specs.Nevers.{IsFaithfulHalt}
 use Rattle.dbl_capture_laws.proofs.HasState.{marks_stood, memory_stood}
+use Rattle.dbl_capture_laws.proofs.Unclosed.{closed_at_halt}
 use Rattle.dbl_capture.proofs.settle.finish_complete.Goals as goal
 
 pub returns-in_err-copy-in-Some-clause-session : goal.returns-in_err-copy-in-Some-clause-session
@@ -33,6 +34,8 @@ returns-in_err-copy-in-Some-clause-session g c = record {
       leaves_most _ g.S.Source.may_leave c.args.src.now c.args.report.now.chunks entry.history (λ left may. others_leave_few_marks entry s.stage c.args.work.now left.history c.args.report.now.chunks c.args.report.now.chunks s.work_is s.going closed (same_most c.args.report.now.chunks)
       (left_rests s.stage.history (state_at_stage s.stage) left s.going.reading.fit.rising refl (g.met.S.Source.only c.args.src.now (state_at_stage s.stage) left s.source_is may)));
   content = λ entry s faithful. residual_of c.from_residual.result halt.Memory (IsFaithfulHalt entry c.args.store.now.offset c.args.report.now (g.S.Source.stands c.args.src.now) (g.K.Sink.holds c.args.sink.now)) c.from_residual.ensures.1 tt;
+  unclosed = λ entry first found b s u faithful honest t now.
+      on_err _ _ (closed_at_halt s (g.met.S.Source.one c.args.src.now) faithful (at_rest g.S.Source (Some first) found b c.args.store.now.offset c.args.work.now c.args.report.now c.args.src.now u) c.args.store.now.offset (inl refl) c.args.report.now refl (le_refl _) [] t (ap (λ (x : SourceState). x.reading) (g.met.S.Source.one c.args.src.now t (state_at_stage s.stage) now s.source_is)));
 }
 
 pub returns-in_ok-copy-in-Some-clause-session : goal.returns-in_ok-copy-in-Some-clause-session
@@ -44,6 +47,8 @@ returns-in_ok-copy-in-Some-clause-session g c = record {
       others_leave_few_marks entry s.stage c.args.work.now left.history c.args.report.now.chunks c.args.report.now.chunks s.work_is s.going closed (same_most c.args.report.now.chunks)
       (left_rests s.stage.history (state_at_stage s.stage) left s.going.reading.fit.rising refl (g.met.S.Source.only c.args.src.now (state_at_stage s.stage) left s.source_is may));
   content = λ entry s faithful. tt;
+  unclosed = λ entry first found b s u faithful honest t now.
+      closed_at_halt s (g.met.S.Source.one c.args.src.now) faithful (at_rest g.S.Source (Some first) found b c.args.store.now.offset c.args.work.now c.args.report.now c.args.src.now u) c.args.store.now.offset (inl refl) c.args.report.now refl (le_refl _) [] t (ap (λ (x : SourceState). x.reading) (g.met.S.Source.one c.args.src.now t (state_at_stage s.stage) now s.source_is));
 }
 
 pub returns-in_ok-copy-in-Some-clause-state : goal.returns-in_ok-copy-in-Some-clause-state
@@ -75,6 +80,7 @@ returns-in-None-clause-session g c = record {
   own = c.store_and_confirm.ensures.session.own;
   most = c.store_and_confirm.ensures.session.most;
   content = c.store_and_confirm.ensures.session.content;
+  unclosed = λ entry first found b s u. c.store_and_confirm.ensures.session.unclosed entry first found b s (at_rest g.S.Source (Some first) found b c.args.store.now.offset c.args.work.now c.args.report.now c.args.src.now u);
 }
 
 -- ---- counts, and what no call undoes

@@ -1,4 +1,4 @@
-use Rattle.std.proofs.Common.{◌≡◌, ◌∙◌, ◌⊎◌, Err, Option, Some, subst, inl, inr, refl, sym, ap, le_refl, rules}
+use Rattle.std.proofs.Common.{◌≡◌, ◌∙◌, ◌⊎◌, Err, Option, Some, subst, inl, inr, refl, sym, ap, le_refl, rules, []}
 use Rattle.dbl_source.specs.SourceModel.Calls.{IsConfirmed}
 use Rattle.dbl_source.specs.SourceModel.Leaves.{MayFollowConfirm}
 use Rattle.dbl_offset_content.specs.declared.offset.Offset.{Offset}
@@ -34,6 +34,7 @@ use Rattle.dbl_capture_laws.proofs.Owning.{free_own, source_free, store_own}
 use Rattle.dbl_capture_laws.proofs.HasState.{memory_stood, offsets_stood, source_stood}
 use Rattle.dbl_capture_laws.proofs.Awaited.{awaits_still}
 use Rattle.dbl_capture_laws.specs.HasState.{IsHaltStanding}
+use Rattle.dbl_capture_laws.proofs.Unclosed.{closed_at_halt}
 use Rattle.dbl_capture.proofs.settle.store_and_confirm.Goals as goal
 
 -- nothing was asked of the three yet
@@ -48,6 +49,8 @@ returns-in_err-offset-clause-session g c = record {
       leaves_most _ g.S.Source.may_leave c.args.src.now c.args.report.now.chunks entry.history (λ left may. others_leave_few_marks entry s.stage c.args.work.now left.history c.args.report.now.chunks c.args.report.now.chunks s.work_is s.going closed (same_most c.args.report.now.chunks)
       (left_rests s.stage.history (state_at_stage s.stage) left s.going.reading.fit.rising refl (g.met.S.Source.only c.args.src.now (state_at_stage s.stage) left s.source_is may)));
   content = λ entry s faithful. residual_of c.from_residual.result halt.Memory (IsFaithfulHalt entry c.args.store.now.offset c.args.report.now (g.S.Source.stands c.args.src.now) (g.K.Sink.holds c.args.sink.now)) c.from_residual.ensures.1 tt;
+  unclosed = λ entry first found b s u faithful honest t now.
+      on_err _ _ (closed_at_halt s (g.met.S.Source.one c.args.src.now) faithful u c.args.store.now.offset (inl refl) c.args.report.now refl (le_refl _) [] t (ap (λ (x : SourceState). x.reading) (g.met.S.Source.one c.args.src.now t (state_at_stage s.stage) now s.source_is)));
 }
 
 -- the store failed
@@ -69,6 +72,8 @@ returns-in_err-put_offset-clause-session g c = record {
   content = λ entry s faithful.
       residual_of c.from_residual-in_err-put_offset.result _ (IsFaithfulHalt entry c.put_offset.new.store.offset c.args.report.now (g.S.Source.stands c.args.src.now) (g.K.Sink.holds c.args.sink.now)) c.from_residual-in_err-put_offset.ensures.1
       (store_own s faithful c.put_offset.new.store.offset c.args.report.now _ (subst (λ (o : Offset). (c.in_err-put_offset.field-0.0 ≡ halt.Memory) ⊎ ((c.in_err-put_offset.field-0.0 ≡ halt.Offsets) ⊎ IsTooLong o c.in_err-put_offset.field-0.0)) c.in_ok-offset.ensures.next c.in_err-put_offset.ensures.halt));
+  unclosed = λ entry first found b s u faithful honest t now.
+      on_err _ _ (closed_at_halt s (g.met.S.Source.one c.args.src.now) faithful u c.put_offset.new.store.offset (inl c.in_err-put_offset.ensures.keeps) c.args.report.now refl (le_refl _) [] t (ap (λ (x : SourceState). x.reading) (g.met.S.Source.one c.args.src.now t (state_at_stage s.stage) now s.source_is)));
 }
 
 -- the confirm after it failed
@@ -91,6 +96,8 @@ returns-in_err-confirm-clause-session g c = record {
   content = λ entry s faithful.
       residual_of c.from_residual-in_err-confirm.result _ (IsFaithfulHalt entry c.put_offset.new.store.offset (record c.args.report.now { position = c.in_ok-offset.offset.lsn.0 }) (g.S.Source.stands c.confirm.new.self) (g.K.Sink.holds c.args.sink.now)) c.from_residual-in_err-confirm.ensures.1
       (free_own entry c.put_offset.new.store.offset (record c.args.report.now { position = c.in_ok-offset.offset.lsn.0 }) (g.S.Source.stands c.confirm.new.self) (g.K.Sink.holds c.args.sink.now) _ (source_free c.in_err-confirm.field-0.0));
+  unclosed = λ entry first found b s u faithful honest t now.
+      absurd (dead_source (g.S.Source.is_live c.confirm.new.self) (g.met.S.Source.lives c.confirm.new.self t now) c.in_err-confirm.ensures.dead);
 }
 
 -- both were answered
@@ -112,6 +119,7 @@ returns-clause-session g c = record {
   own = search rules;
   most = search rules;
   content = search rules;
+  unclosed = search rules;
 }
 
 -- ---- counts, and what no call undoes

@@ -1,6 +1,7 @@
-use Rattle.std.proofs.Common.{sym, rules}
+use Rattle.std.proofs.Common.{sym, rules, ap}
 use Rattle.dbl_capture_laws.proofs.Keeping.{ok_then}
 use Rattle.dbl_capture_laws.proofs.Turning.{armed_next, none_waits, open_table, rested_next}
+use Rattle.dbl_source.specs.SourceModel.Standings.{SourceState}
 use Rattle.dbl_capture.proofs.turns.open_next_window.Goals as goal
 
 pub arm-requires : goal.arm-requires
@@ -65,6 +66,7 @@ returns-in-Some-clause-report g c = record {
   under_way = c.arm.ensures.report.under_way;
   halted = c.arm.ensures.report.halted;
   awaits = c.arm.ensures.report.awaits;
+  still = c.arm.ensures.report.still;
 }
 
 pub returns-in-None-clause-report : goal.returns-in-None-clause-report
@@ -72,6 +74,7 @@ returns-in-None-clause-report g c = record {
   under_way = λ at found b report u. u;
   halted = search rules;
   awaits = λ a. a;
+  still = λ s t before after. ap (λ (x : SourceState). x.reading) (g.met.S.Source.one c.args.src.now t s after before);
 }
 
 pub returns-in-Some-clause-puts : goal.returns-in-Some-clause-puts

@@ -1,4 +1,4 @@
-use Rattle.std.proofs.Common.{◌∙◌, Bool, IsTrue, Ok, Option, Some, sym, ap, subst, arith, true, le_refl, rules}
+use Rattle.std.proofs.Common.{◌∙◌, Bool, IsTrue, Ok, Option, Some, sym, ap, subst, arith, true, le_refl, rules, inl, refl, []}
 use Rattle.dbl_model_history.specs.Ranges.{IsMomentInRange}
 use Rattle.dbl_capture_work.specs.declared.halt.Halt.TheVariants as halt
 use Rattle.dbl_capture_work.specs.declared.report.Report.{Report}
@@ -11,7 +11,7 @@ use Rattle.dbl_capture_laws.proofs.Endings.{done_at}
 use Rattle.dbl_capture_laws.proofs.Keeping.{on_err, settled_ready, settled_since}
 use Rattle.dbl_capture_laws.proofs.Reporting.{IsPlacedOf, at_same, at_stored, counts_stored, not_due, own_stored, placed_on, placed_same}
 use Rattle.dbl_capture_laws.specs.Caused.{Halts, IsNotGone}
-use Rattle.dbl_capture_laws.proofs.Sources.{settled_rests}
+use Rattle.dbl_capture_laws.proofs.Sources.{settled_rests, at_rest}
 use Rattle.dbl_capture_laws.proofs.Telling.{goes_false, goes_none, goes_true, not_both, residual_on}
 use Rattle.dbl_capture_laws.proofs.Marking.{absent_settled, none_settled}
 use Rattle.dbl_capture_laws.specs.Sinks.{HasHaltedPut}
@@ -19,6 +19,8 @@ use Rattle.dbl_capture_laws.proofs.Sinking.{puts_false, puts_none, puts_true}
 use Rattle.dbl_capture_laws.specs.Nevers.{IsHonestHalt}
 use Rattle.dbl_capture_laws.specs.Nevers.{IsFaithfulHalt}
 use Rattle.dbl_capture_laws.proofs.Owning.{free_own}
+use Rattle.dbl_capture_laws.proofs.Unclosed.{closed_at_halt}
+use Rattle.dbl_capture_laws.specs.Sessions.{state_at_stage}
 use Rattle.dbl_capture.proofs.turns.process_message.Goals as goal
 
 pub read_and_deliver-requires : goal.read_and_deliver-requires
@@ -45,6 +47,8 @@ returns-in_err-open_next_window-clause-session g c = record {
   content = λ entry at found b s u faithful honest.
       residual_of c.from_residual.result _ (IsFaithfulHalt entry c.args.store.now.offset c.args.report.now (g.S.Source.stands c.open_next_window.new.src) (g.K.Sink.holds c.args.sink.now)) c.from_residual.ensures.1
       (free_own entry c.args.store.now.offset c.args.report.now (g.S.Source.stands c.open_next_window.new.src) (g.K.Sink.holds c.args.sink.now) _ c.in_err-open_next_window.ensures.stops.free);
+  unclosed = λ entry first found b s u faithful honest t now.
+      on_err _ _ (closed_at_halt s (g.met.S.Source.one c.args.src.now) faithful (at_rest g.S.Source (Some first) found b c.args.store.now.offset c.args.work.now c.args.report.now c.args.src.now u) c.args.store.now.offset (inl refl) c.args.report.now refl (le_refl _) [] t (c.open_next_window.ensures.report.still (state_at_stage s.stage) t s.source_is now));
 }
 
 pub returns-in_err-read_and_deliver-clause-session : goal.returns-in_err-read_and_deliver-clause-session
@@ -60,6 +64,8 @@ returns-in_err-read_and_deliver-clause-session g c = record {
   content = λ entry at found b s u faithful honest.
       residual_of c.from_residual-in_err-read_and_deliver.result _ (IsFaithfulHalt entry c.args.store.now.offset c.read_and_deliver.new.report (g.S.Source.stands c.read_and_deliver.new.src) (g.K.Sink.holds c.read_and_deliver.new.sink)) c.from_residual-in_err-read_and_deliver.ensures.1
       (c.in_err-read_and_deliver.ensures.session.content entry at found b (c.in_ok-open_next_window.ensures.session.next true entry s (c.read_and_deliver.ensures.source.honest honest)) (c.in_ok-open_next_window.ensures.report.under_way at found b c.args.report.now u) faithful honest);
+  unclosed = λ entry first found b s u faithful honest t now.
+      on_err _ _ (c.in_err-read_and_deliver.ensures.session.unclosed entry first found b (c.in_ok-open_next_window.ensures.session.next true entry s (c.read_and_deliver.ensures.source.honest honest)) (c.in_ok-open_next_window.ensures.report.under_way (Some first) found b c.args.report.now u) faithful honest t now);
 }
 
 pub returns-in_err-read_and_deliver-clause-state : goal.returns-in_err-read_and_deliver-clause-state
@@ -102,6 +108,10 @@ returns-in_err-store_and_confirm-in-Some-true-clause-session g c = record {
       let before = c.store_and_confirm.ensures.source.honest honest in
       residual_of c.from_residual-in_err-store_and_confirm-in-Some-true.result _ (IsFaithfulHalt entry c.store_and_confirm.new.store.offset c.store_and_confirm.new.report (g.S.Source.stands c.store_and_confirm.new.src) (g.K.Sink.holds c.read_and_deliver.new.sink)) c.from_residual-in_err-store_and_confirm-in-Some-true.ensures.1
       (c.in_err-store_and_confirm-in-Some-true.ensures.session.content entry (c.in_ok-read_and_deliver.ensures.session.next true entry (c.in_ok-open_next_window.ensures.session.next true entry s (c.read_and_deliver.ensures.source.honest before)) before) faithful);
+  unclosed = λ entry first found b s u faithful honest t now.
+      let before = c.store_and_confirm.ensures.source.honest honest in
+      on_err _ _ (c.in_err-store_and_confirm-in-Some-true.ensures.session.unclosed entry first found b (c.in_ok-read_and_deliver.ensures.session.next true entry (c.in_ok-open_next_window.ensures.session.next true entry s (c.read_and_deliver.ensures.source.honest before)) before)
+      (goes_true g.S.Source at found b c.args.store.now.offset c.read_and_deliver.new.work c.read_and_deliver.new.report c.read_and_deliver.new.src _ c.in-Some-true.field-0 c.in-Some-true.is c.in-Some-true.field-0-test (c.in_ok-read_and_deliver.ensures.report.under_way (Some first) found b (c.in_ok-open_next_window.ensures.report.under_way (Some first) found b c.args.report.now u))) faithful honest t now);
 }
 
 pub returns-in_ok-store_and_confirm-in-Some-true-clause-session : goal.returns-in_ok-store_and_confirm-in-Some-true-clause-session
@@ -114,6 +124,7 @@ returns-in_ok-store_and_confirm-in-Some-true-clause-session g c = record {
   own = search rules;
   most = search rules;
   content = search rules;
+  unclosed = search rules;
 }
 
 pub returns-in_ok-store_and_confirm-in-Some-true-clause-state : goal.returns-in_ok-store_and_confirm-in-Some-true-clause-state
@@ -190,6 +201,10 @@ returns-in_err-finish_complete-in-None-clause-session g c = record {
       let before = c.finish_complete.ensures.source.honest honest in
       residual_of c.from_residual-in_err-finish_complete-in-None.result _ (IsFaithfulHalt entry c.finish_complete.new.store.offset c.finish_complete.new.report (g.S.Source.stands c.finish_complete.new.src) (g.K.Sink.holds c.read_and_deliver.new.sink)) c.from_residual-in_err-finish_complete-in-None.ensures.1
       (c.in_err-finish_complete-in-None.ensures.session.content entry (c.in_ok-read_and_deliver.ensures.session.next true entry (c.in_ok-open_next_window.ensures.session.next true entry s (c.read_and_deliver.ensures.source.honest before)) before) faithful);
+  unclosed = λ entry first found b s u faithful honest t now.
+      let before = c.finish_complete.ensures.source.honest honest in
+      on_err _ _ (c.in_err-finish_complete-in-None.ensures.session.unclosed entry first found b (c.in_ok-read_and_deliver.ensures.session.next true entry (c.in_ok-open_next_window.ensures.session.next true entry s (c.read_and_deliver.ensures.source.honest before)) before)
+      (goes_none g.S.Source at found b c.args.store.now.offset c.read_and_deliver.new.work c.read_and_deliver.new.report c.read_and_deliver.new.src _ c.in-None.is (c.in_ok-read_and_deliver.ensures.report.under_way (Some first) found b (c.in_ok-open_next_window.ensures.report.under_way (Some first) found b c.args.report.now u))) faithful honest t now);
 }
 
 pub returns-in_ok-finish_complete-in-None-clause-session : goal.returns-in_ok-finish_complete-in-None-clause-session
@@ -204,6 +219,7 @@ returns-in_ok-finish_complete-in-None-clause-session g c = record {
   own = search rules;
   most = search rules;
   content = search rules;
+  unclosed = search rules;
 }
 
 pub returns-in_ok-finish_complete-in-None-clause-state : goal.returns-in_ok-finish_complete-in-None-clause-state
@@ -297,6 +313,7 @@ returns-in-Some-false-clause-session g c = record {
   own = search rules;
   most = search rules;
   content = search rules;
+  unclosed = search rules;
 }
 
 -- ---- counts, and what no call undoes

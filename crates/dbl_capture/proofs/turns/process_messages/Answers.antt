@@ -1,4 +1,4 @@
-use Rattle.std.proofs.Common.{◌≡◌, ◌∙◌, ◌+◌, ℕ, Bool, Ok, IsTrue, le_refl, refl, sym, ap, subst, arith, true, rules}
+use Rattle.std.proofs.Common.{◌≡◌, ◌∙◌, ◌+◌, ℕ, Bool, Ok, IsTrue, le_refl, refl, sym, ap, subst, arith, true, rules, inl, [], Some}
 use Rattle.dbl_model_history.specs.Ranges.{IsMomentInRange}
 use Rattle.dbl_offset.specs.Stores.{disk_of}
 use Rattle.dbl_capture_work.specs.declared.halt.Halt.TheVariants as halt
@@ -16,6 +16,8 @@ use Rattle.dbl_capture_laws.specs.Nevers.{IsHonestHalt}
 use Rattle.dbl_capture_laws.specs.Nevers.{IsFaithfulHalt}
 use Rattle.dbl_capture_laws.proofs.Owning.{free_own}
 use Rattle.dbl_capture_laws.proofs.Telling.{not_both, residual_on}
+use Rattle.dbl_capture_laws.proofs.Unclosed.{closed_at_halt}
+use Rattle.dbl_capture_laws.specs.Sessions.{state_at_stage}
 use Rattle.dbl_capture.proofs.turns.process_messages.Goals as goal
 
 pub turns-init : goal.turns-init
@@ -91,6 +93,8 @@ returns-in_err-process_message-clause-session g c = record {
   content = λ entry at found b s u faithful honest.
       residual_of c.from_residual.result _ (IsFaithfulHalt entry c.process_message.new.store.offset c.process_message.new.report (g.S.Source.stands c.process_message.new.src) (g.K.Sink.holds c.process_message.new.sink)) c.from_residual.ensures.1
       (c.in_err-process_message.ensures.session.content entry at found b (c.turns.invariant.kept true entry s (c.process_message.ensures.source.honest honest)) (c.turns.invariant.under_way at found b u) faithful honest);
+  unclosed = λ entry first found b s u faithful honest t now.
+      on_err _ _ (c.in_err-process_message.ensures.session.unclosed entry first found b (c.turns.invariant.kept true entry s (c.process_message.ensures.source.honest honest)) (c.turns.invariant.under_way (Some first) found b u) faithful honest t now);
 }
 
 pub returns-in_err-open_next_window-clause-session : goal.returns-in_err-open_next_window-clause-session
@@ -106,6 +110,10 @@ returns-in_err-open_next_window-clause-session g c = record {
   content = λ entry at found b s u faithful honest.
       residual_of c.from_residual-in_err-open_next_window.result _ (IsFaithfulHalt entry c.turns.store.offset c.turns.report (g.S.Source.stands c.open_next_window.new.src) (g.K.Sink.holds c.turns.sink)) c.from_residual-in_err-open_next_window.ensures.1
       (free_own entry c.turns.store.offset c.turns.report (g.S.Source.stands c.open_next_window.new.src) (g.K.Sink.holds c.turns.sink) _ c.in_err-open_next_window.ensures.stops.free);
+  unclosed = λ entry first found b s u faithful honest t now.
+      let k = (c.turns.invariant.kept true entry s (c.open_next_window.ensures.source.honest honest)) in
+      on_err _ _ (closed_at_halt k (g.met.S.Source.one c.turns.src) faithful (at_rest g.S.Source (Some first) found b c.turns.store.offset c.turns.work c.turns.report c.turns.src (c.turns.invariant.under_way (Some first) found b u)) c.turns.store.offset (inl refl) c.turns.report refl (le_refl _) [] t
+      (c.open_next_window.ensures.report.still (state_at_stage k.stage) t k.source_is now));
 }
 
 pub returns-in_err-store_and_confirm-clause-session : goal.returns-in_err-store_and_confirm-clause-session
@@ -125,6 +133,10 @@ returns-in_err-store_and_confirm-clause-session g c = record {
       let before = c.store_and_confirm.ensures.source.honest honest in
       residual_of c.from_residual-in_err-store_and_confirm.result _ (IsFaithfulHalt entry c.store_and_confirm.new.store.offset c.store_and_confirm.new.report (g.S.Source.stands c.store_and_confirm.new.src) (g.K.Sink.holds c.turns.sink)) c.from_residual-in_err-store_and_confirm.ensures.1
       (c.in_err-store_and_confirm.ensures.session.content entry (c.in_ok-open_next_window.ensures.session.next true entry (c.turns.invariant.kept true entry s (c.open_next_window.ensures.source.honest before)) before) faithful);
+  unclosed = λ entry first found b s u faithful honest t now.
+      let before = c.store_and_confirm.ensures.source.honest honest in
+      on_err _ _ (c.in_err-store_and_confirm.ensures.session.unclosed entry first found b (c.in_ok-open_next_window.ensures.session.next true entry (c.turns.invariant.kept true entry s (c.open_next_window.ensures.source.honest before)) before)
+      (at_rest g.S.Source (Some first) found b c.turns.store.offset c.open_next_window.new.work c.turns.report c.open_next_window.new.src (c.in_ok-open_next_window.ensures.report.under_way (Some first) found b c.turns.report (c.turns.invariant.under_way (Some first) found b u))) faithful honest t now);
 }
 
 -- ---- counts, and what no call undoes
@@ -254,6 +266,7 @@ returns-clause-session g c = record {
   own = search rules;
   most = search rules;
   content = search rules;
+  unclosed = search rules;
 }
 
 pub process_message-requires : goal.process_message-requires
@@ -280,6 +293,7 @@ returns-then-branch-clause-session g c = record {
   own = search rules;
   most = search rules;
   content = search rules;
+  unclosed = search rules;
 }
 
 pub returns-then-branch-clause-state : goal.returns-then-branch-clause-state

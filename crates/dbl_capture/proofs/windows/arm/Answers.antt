@@ -78,6 +78,7 @@ returns-clause-report g c = record {
   awaits = λ a.
       ok_then c.read_window.result _ _ (c.read_window.ensures.windowed a.standing a.is)
       (λ w. awaits_armed g.S.Source c.args.table c.args.work.now c.read_window.new.work c.args.src.now c.read_window.new.src a w);
+  still = c.read_window.ensures.still;
 }
 
 pub returns-clause-puts : goal.returns-clause-puts

@@ -195,9 +195,10 @@ module _ {S K D : Type 0} {tell : Bool} {source_model : SourceModel S} {sink_mod
     -- what is stored is of the session
     own_of : (offset : Offset) → (stored ≡ Some offset) ⊎ (offset ≡ next_offset_of work) → (offset.incarnation ≡ s.stage.first.incarnation) × (offset.infos ≡ s.stage.first.infos)
     own_of offset (inl held) =
-        let same : here.is.offset ≡ offset = first_some here.is.offset offset (sym here.is.stored_is ∙ held) in
-        (sym (ap (λ (o : Offset). o.incarnation) same) ∙ (sym (incarnation_stored b.config b.now b.held b.first here.is.offset work here.is.of) ∙ incarnation_is),
-        sym (ap (λ (o : Offset). o.infos) same) ∙ (sym (infos_stored b.config b.now b.held b.first here.is.offset work here.is.of) ∙ infos_are))
+        let same : here.is.offset ≡ offset = first_some here.is.offset offset (sym here.is.stored_is ∙ held) in (
+          sym (ap (λ (o : Offset). o.incarnation) same) ∙ (sym (incarnation_stored b.config b.now b.held b.first here.is.offset work here.is.of) ∙ incarnation_is),
+          sym (ap (λ (o : Offset). o.infos) same) ∙ (sym (infos_stored b.config b.now b.held b.first here.is.offset work here.is.of) ∙ infos_are),
+        )
     own_of offset (inr next) = (ap (λ (o : Offset). o.incarnation) next ∙ incarnation_is, ap (λ (o : Offset). o.infos) next ∙ infos_are)
 
     which : (later : Option Offset) (offset : Offset) → (later ≡ stored) ⊎ (later ≡ Some (next_offset_of work)) → later ≡ Some offset → (stored ≡ Some offset) ⊎ (offset ≡ next_offset_of work)

@@ -1,5 +1,5 @@
 -- What storing and confirming an offset keeps of a session.
-use Rattle.std.specs.Prelude.{◌≡◌, ◌≢◌, ℕ, Option, None, Result, Err, Bool, true, List, IfErr, IsTrue, OnErr, OnOk, is_ok}
+use Rattle.std.specs.Prelude.{◌≡◌, ◌≢◌, ℕ, Option, Some, None, Result, Err, Bool, true, List, IfErr, IsTrue, OnErr, OnOk, is_ok}
 use Rattle.dbl_base.specs.declared.lsn.Lsn.{Lsn}
 use Rattle.dbl_disk.specs.Model.{DiskModel}
 use Rattle.dbl_record.specs.declared.record.Record.{Record}

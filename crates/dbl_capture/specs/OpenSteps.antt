@@ -149,6 +149,8 @@ pub record OpensSession {S D : Type 0} (source_model : SourceModel S) (model : D
       (new_report.snapshot_rows ≡ report.snapshot_rows)
   pub reading : OnOk result (IsTrue (source_model.is_reading new_src))
   pub uncounted : (new_report.messages ≡ report.messages) × (new_report.commits ≡ report.commits)
+  pub first : OnErr result ((new_store.offset ≡ store.offset)
+      ⊎ ((offset : Offset) × (new_store.offset ≡ Some offset) × IsOffsetFor config store.offset offset))
 
 -- What the session's state and an error say of the source's state.
 pub record OpensByState {S D : Type 0} (source_model : SourceModel S) (config : Config) (src new_src : S) (store new_store : StoreOn D)

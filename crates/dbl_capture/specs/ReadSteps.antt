@@ -28,7 +28,8 @@ use Rattle.dbl_capture_laws.specs.Sessions.{InSession, LeavesBy}
 use Rattle.dbl_capture_laws.specs.Sinks.{IsPutting, HasHaltedPut}
 use Rattle.dbl_capture_laws.specs.Sources.{IsUnderWay, GoesOn}
 use Rattle.dbl_capture_laws.specs.Turns.{HasReadAllAt, IsCountedNext, IsDue, IsNextOf}
-use Rattle.dbl_capture_laws.specs.Written.{AddsNoMore, AreClosed}
+use Rattle.dbl_capture_laws.specs.Written.{AddsNoMore, AreClosed, IsLonger}
+use Rattle.dbl_source.specs.SourceModel.Leaves.{Leaves}
 
 -- A message can be read, followed and counted.
 pub record IsReadyToRead {S K : Type 0} (source_model : SourceModel S) (sink_model : SinkModel K) (work : SessionState) (src : S) (sink : K)
@@ -92,6 +93,7 @@ pub record ReadsMessage {S : Type 0} (source_model : SourceModel S) (work new_wo
   pub nothing : result ≡ Ok None → LastAnswerIs (source_model.told new_src) (Read None)
   pub reading : source_model.is_reading new_src ≡ source_model.is_reading src
   pub quiet : OnOk result (IsQuiet (source_model.told new_src))
+  pub windows : AreClosed work report.chunks → report.chunks ≤ new_report.chunks
 
 -- The message is the next one of the source's trace and state; an error agrees with them.
 pub record ReportsRead {S D : Type 0} (source_model : SourceModel S) (work new_work : SessionState) (src new_src : S) (store : StoreOn D)
@@ -108,6 +110,7 @@ pub record ReportsRead {S D : Type 0} (source_model : SourceModel S) (work new_w
   pub waits : (at : Option SourceState) (found : Option Trace) (b : Beginning)
       → IsUnderWay source_model at found b store.offset work report src → (s : SourceState) → at ≡ Some s → source_model.honest new_src
       → Awaits source_model.stands work src → result ≡ Ok None → new_work.follower.window ≡ windows.Absent
+  pub grows : Leaves source_model.stands source_model.may_leave src new_src (λ s left. IsLonger s.history left.history)
 
 -- The errors that reading a message never returns.
 pub record StopsAtRead {T : Type 0} (result : Result T Halt) : Type 0 where

@@ -30,7 +30,7 @@ use Rattle.dbl_capture_laws.specs.Owned.{IsLongBy}
 use Rattle.dbl_capture_laws.specs.Reported.{HasReadMessages, HasSettled, HasStoodAfter, IsFollowed, StoodAtLast}
 use Rattle.dbl_capture_laws.specs.Sessions.{AddsFewOrNoMarks, LeavesGoing}
 use Rattle.dbl_capture_laws.specs.Tallied.{IsTallied, IsTalliedAfter}
-use Rattle.dbl_capture_laws.specs.Written.{AddsAtMost, EndsExactly, marks_more}
+use Rattle.dbl_capture_laws.specs.Written.{AddsAtMost, EndsExactly, marks_more, AdvancesAtMost}
 
 -- Over a conforming source with the stored tables: stores that were found faithful are left faithful at every exit, and complete after
 -- `Complete`.
@@ -51,7 +51,8 @@ pub record MayStoreOffset {S D : Type 0} (source_model : SourceModel S) (model :
   pub firsts : (s : SourceState) → source_model.stands src s → IsFirstStored config s.history store.offset new_store.offset
 
 -- Over a conforming source with the stored tables: at most how many watermarks are added, after a normal end exactly how many, with
--- the closed windows accounting for the stored cursors, and after any end at most two for each reported window, and two more.
+-- the closed windows accounting for the stored cursors, and after any end at most two for each reported window, and two more, with closed
+-- windows that are reported accounting for the stored cursors.
 pub record AddsMarks {S D : Type 0} (source_model : SourceModel S) (config : Config) (now : ℤ) (src new_src : S)
     (store new_store : StoreOn D) (new_report : Report) (result : Result Ending Halt) : Type 0 where
   pub marks : (s : SourceState) → source_model.stands src s → source_model.honest new_src
@@ -64,6 +65,9 @@ pub record AddsMarks {S D : Type 0} (source_model : SourceModel S) (config : Con
   pub most : (s : SourceState) → source_model.stands src s → source_model.honest new_src
       → HadOwnTables (session_start_at config now s store.offset) → (left : CrashState) → source_model.may_leave new_src left
       → AddsAtMost new_store.offset new_report.chunks s.history left.history
+  pub advances : (s : SourceState) → source_model.stands src s → source_model.honest new_src
+      → HadOwnTables (session_start_at config now s store.offset) → (left : CrashState) → source_model.may_leave new_src left
+      → AdvancesAtMost config.chunk new_report.chunks left.history store.offset new_store.offset
 
 -- What the sink gained, for any source.
 pub record AddsRecords {K D : Type 0} (sink_model : SinkModel K) (config : Config) (now : ℤ) (sink new_sink : K)

@@ -25,7 +25,8 @@ use Rattle.dbl_capture_laws.specs.Sessions.{InSession, LeavesBy}
 use Rattle.dbl_capture_laws.specs.Sinks.{IsPutting, HasHaltedPut, HasPutCommit}
 use Rattle.dbl_capture_laws.specs.Sources.{IsUnderWay, HasSettledAll, HasCommitted}
 use Rattle.dbl_capture_laws.specs.Turns.{IsSettledWhole, HasReadAllAt, IsSettled}
-use Rattle.dbl_capture_laws.specs.Written.{AddsNoMore, AreClosed}
+use Rattle.dbl_capture_laws.specs.Written.{AddsNoMore, AreClosed, IsLonger}
+use Rattle.dbl_source.specs.SourceModel.Leaves.{Leaves}
 
 -- The next offset can be stored and confirmed.
 pub record IsReadyToStore {S D : Type 0} (source_model : SourceModel S) (work : SessionState) (src : S) (store : StoreOn D) : Type 0 where
@@ -84,6 +85,7 @@ pub record ReportsStored {S D T : Type 0} (source_model : SourceModel S) (work n
       → HasCommitted source_model at found b store.offset work report src → IsQuiet (source_model.told src)
       → IfErr result (Halts source_model at found b.config b.now b.held new_store.offset new_report new_src)
   pub awaits : Awaits source_model.stands work src → OnOk result (Awaits source_model.stands new_work new_src)
+  pub grows : Leaves source_model.stands source_model.may_leave src new_src (λ s left. IsLonger s.history left.history)
 
 -- The errors that storing the offset never returns.
 pub record StopsStoring {T : Type 0} (result : Result T Halt) : Type 0 where
@@ -140,6 +142,7 @@ pub record ReportsFinished {S D T : Type 0} (source_model : SourceModel S) (work
   pub halted : (at : Option SourceState) (found : Option Trace) (b : Beginning)
       → IsUnderWay source_model at found b store.offset work report src → LastAnswerIs (source_model.told src) (Read None)
       → IfErr result (Halts source_model at found b.config b.now b.held new_store.offset new_report new_src)
+  pub grows : Leaves source_model.stands source_model.may_leave src new_src (λ s left. IsLonger s.history left.history)
 
 -- The errors that finishing never returns.
 pub record StopsFinishing {T : Type 0} (work : SessionState) (result : Result T Halt) : Type 0 where

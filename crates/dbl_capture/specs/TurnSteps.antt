@@ -32,7 +32,7 @@ use Rattle.dbl_capture_laws.specs.Sessions.{InSession, LeavesBy}
 use Rattle.dbl_capture_laws.specs.Sinks.{IsPutting, HasHaltedPut}
 use Rattle.dbl_capture_laws.specs.Sources.{IsUnderWay, HasSettledAll}
 use Rattle.dbl_capture_laws.specs.Turns.{IsSettledWhole}
-use Rattle.dbl_capture_laws.specs.Written.{AddsNoMore}
+use Rattle.dbl_capture_laws.specs.Written.{AddsNoMore, AdvancesAtMost}
 
 -- A message can be processed.
 pub record IsReadyToProcess {S K D : Type 0} (source_model : SourceModel S) (sink_model : SinkModel K) (work : SessionState) (src : S)
@@ -76,6 +76,11 @@ pub record KeepsProcessed {S K D : Type 0} (source_model : SourceModel S) (sink_
       → InSession true source_model sink_model model entry work src sink store
       → IsUnderWay source_model (Some first) found b store.offset work report src → WasFaithful entry → source_model.honest new_src
       → (t : SourceState) → source_model.stands new_src t → OnErr result (HasClosedRead new_store.offset new_report t)
+  pub advances : (tell : Bool) (entry : SessionStart) (at : Option SourceState) (found : Option Trace) (b : Beginning)
+      → InSession tell source_model sink_model model entry work src sink store
+      → IsUnderWay source_model at found b store.offset work report src → source_model.honest new_src
+      → OnErr result ((left : CrashState) → source_model.may_leave new_src left
+      → AdvancesAtMost entry.config.chunk new_report.chunks left.history entry.offset new_store.offset)
 
 -- The sink has gained the records of the commits that were read, and after an error those that the report counts.
 pub record PutsProcessed {S K D T : Type 0} (source_model : SourceModel S) (sink_model : SinkModel K) (work new_work : SessionState)
@@ -172,6 +177,11 @@ pub record KeepsRun {S K D : Type 0} (source_model : SourceModel S) (sink_model 
       → InSession true source_model sink_model model entry work src sink store
       → IsUnderWay source_model (Some first) found b store.offset work report src → WasFaithful entry → source_model.honest new_src
       → (t : SourceState) → source_model.stands new_src t → OnErr result (HasClosedRead new_store.offset new_report t)
+  pub advances : (tell : Bool) (entry : SessionStart) (at : Option SourceState) (found : Option Trace) (b : Beginning)
+      → InSession tell source_model sink_model model entry work src sink store
+      → IsUnderWay source_model at found b store.offset work report src → source_model.honest new_src
+      → OnErr result ((left : CrashState) → source_model.may_leave new_src left
+      → AdvancesAtMost entry.config.chunk new_report.chunks left.history entry.offset new_store.offset)
 
 -- When the session ends normally, what is stored, and what the report counts.
 pub record RunsMessages {S D : Type 0} (source_model : SourceModel S) (model : DiskModel D) (budget : ℕ) (work new_work : SessionState)

@@ -24,7 +24,8 @@ use Rattle.dbl_capture_laws.specs.Owned.{IsContentFree}
 use Rattle.dbl_capture_laws.specs.Sessions.{InSession, LeavesBy}
 use Rattle.dbl_capture_laws.specs.Sinks.{IsPutting, HasHaltedPut}
 use Rattle.dbl_capture_laws.specs.Sources.{IsUnderWay}
-use Rattle.dbl_capture_laws.specs.Written.{AddsNoMore, AreClosed}
+use Rattle.dbl_capture_laws.specs.Written.{AddsNoMore, AreClosed, IsLonger}
+use Rattle.dbl_source.specs.SourceModel.Leaves.{Leaves}
 
 -- The next window of this table can be read: no other one is awaited, and the table is unfinished.
 pub record IsReadyToArm {S : Type 0} (source_model : SourceModel S) (table : ℕ) (work : SessionState) (src : S) : Type 0 where
@@ -75,6 +76,7 @@ pub record ReportsWindow {S D T : Type 0} (source_model : SourceModel S) (work n
       → IfErr result (Halts source_model at found b.config b.now b.held store.offset report new_src)
   pub awaits : Awaits source_model.stands work src → OnOk result (Awaits source_model.stands new_work new_src)
   pub still : (s t : SourceState) → source_model.stands src s → source_model.stands new_src t → t.reading ≡ s.reading
+  pub grows : Leaves source_model.stands source_model.may_leave src new_src (λ s left. IsLonger s.history left.history)
 
 -- The errors that reading a window never returns.
 pub record StopsAtSource {T : Type 0} (result : Result T Halt) : Type 0 where

@@ -1,5 +1,5 @@
 -- How many watermarks are left where a session ends.
-use Rattle.std.proofs.Common.{◌≡◌, ◌∙◌, ◌+◌, ℕ, Option, Some, None, List, Result, Ok, Err, sym, ap, subst, ◌≤◌, ◌<◌, ◌^◌, ◌-◌, ◌*◌, min, inl, inr, length, take, arith, false}
+use Rattle.std.proofs.Common.{◌≡◌, ◌∙◌, ◌+◌, ℕ, Option, Some, None, List, Result, Ok, Err, sym, ap, subst, ◌≤◌, ◌<◌, ◌^◌, ◌-◌, ◌*◌, min, inl, inr, length, take, arith, false, true, refl}
 use Rattle.std.specs.Prelude.{OnErr, OnOk, is_some}
 use Rattle.dbl_capture_work.specs.SourceModel.Standings.{CrashState, SourceState, left_of}
 use Rattle.dbl_capture_work.specs.Offset.declared.offset.Offset.{Offset}
@@ -37,6 +37,13 @@ torn_more commit old work before after closed small reports =
     more_counted before.chunks (chunks_of (is_some (mark_of commit)) (take reports.records_are.count (records_by work.follower commit work.now_ms))) after.chunks
     (few_closed old.number before.chunks (waiting old.follower.window) closed small)
     (ap (λ (r : Report). r.chunks) reports.is ∙ ap (λ (r : Report). r.chunks) reports.records_are.report)
+
+-- nor after one that was
+pub step_more : (commit : Commit) (old work : SessionState) (before after : Report) → AreClosed old before.chunks → old.number < 2 ^ 64 → ReportsStep commit work (record before { messages = before.messages + 1 }) after true → before.chunks ≤ after.chunks
+step_more commit old work before after closed small reports =
+    more_counted before.chunks (chunks_of (is_some (mark_of commit)) (records_by work.follower commit work.now_ms)) after.chunks
+    (few_closed old.number before.chunks (waiting old.follower.window) closed small)
+    (ap (λ (r : Report). r.chunks) reports.is ∙ ap (λ (r : Report). r.chunks) (reports.all refl))
 
 -- nothing happened
 pub left_rests : (history : History) (s : SourceState) (left : CrashState) → IsRising history → s.history ≡ history → left ≡ left_of s → Grows history left.history

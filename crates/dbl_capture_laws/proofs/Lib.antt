@@ -65,6 +65,7 @@ pub mod Honest
 pub mod Owned
 pub mod Nevers
 pub mod Lasting
+pub mod Advancing
 pub mod Reporting
 pub mod Due
 pub mod StepCauses

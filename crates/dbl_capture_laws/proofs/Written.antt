@@ -31,7 +31,8 @@ use Rattle.dbl_capture_work.specs.Follow.Followed.{Following}
 use Rattle.dbl_capture_work.specs.Follow.Steps.{Becomes, closed_of, closing, watermark_in, mark_of, records_by, records_of, seen_by}
 use Rattle.dbl_capture_work.specs.CaptureModel.Counted.{HaveComeOn, IsWaiting, waiting}
 use Rattle.dbl_capture_work.specs.CaptureModel.Entries.{SessionStart}
-use Rattle.dbl_capture_work.specs.CaptureModel.Going.{IsFirstOf}
+use Rattle.dbl_capture_work.specs.CaptureModel.Stages.{Stage}
+use Rattle.dbl_capture_work.specs.CaptureModel.Going.{IsFirstOf, IsReading}
 use Rattle.dbl_capture_work.specs.declared.report.Report.{Report}
 use Rattle.dbl_capture_work.specs.declared.work.SessionState.{SessionState}
 use Rattle.dbl_capture_work.specs.Groups.{chunks_of, counted, lasts}
@@ -242,23 +243,26 @@ were_begun : (entry : SessionStart) (history : History) (first : Offset) (found 
 were_begun entry history first None began = all_unread first.infos first.cursors began.2
 were_begun entry history first (Some found) began = began.0.cursors
 
+-- the closed windows account for an offset with the follower's cursors
+pub brought_by : (entry : SessionStart) (stage : Stage) (offset : Offset) (chunks : ℕ) → stage.number ≡ chunks + waiting stage.following.window
+    → offset.infos ≡ stage.first.infos → offset.cursors ≡ stage.following.cursors → IsReading entry stage
+    → HaveBrought entry.config.chunk chunks stage.history entry.offset (Some offset)
+brought_by entry stage offset chunks windows infos cursors reading = record {
+  begun = stage.first.cursors;
+  begun_with = were_begun entry stage.history stage.first entry.offset reading.began;
+  offset = offset;
+  is = refl;
+  advanced = subst (λ (l : List TableInfo). HaveComeOn l entry.config.chunk chunks stage.history stage.first.cursors offset.cursors) (sym infos)
+      (subst (HaveComeOn stage.first.infos entry.config.chunk chunks stage.history stage.first.cursors) (sym cursors)
+      (subst (λ (n : ℕ). HaveComeOn stage.first.infos entry.config.chunk n stage.history stage.first.cursors stage.following.cursors)
+      (as_many stage.number reading.closed chunks (waiting stage.following.window) reading.counted.windows windows) reading.counted.come));
+}
+
 pub marks_are_exact : MarksAreExact
 marks_are_exact entry stage offset chunks windows infos cursors none reading = ((exactly budget, brought), λ absent. (exactly_none absent, brought))
   where
-    come : HaveComeOn stage.first.infos entry.config.chunk chunks stage.history stage.first.cursors stage.following.cursors
-    come =
-        subst (λ (n : ℕ). HaveComeOn stage.first.infos entry.config.chunk n stage.history stage.first.cursors stage.following.cursors)
-        (as_many stage.number reading.closed chunks (waiting stage.following.window) reading.counted.windows windows) reading.counted.come
-
     brought : HaveBrought entry.config.chunk chunks stage.history entry.offset (Some offset)
-    brought = record {
-      begun = stage.first.cursors;
-      begun_with = were_begun entry stage.history stage.first entry.offset reading.began;
-      offset = offset;
-      is = refl;
-      advanced = subst (λ (l : List TableInfo). HaveComeOn l entry.config.chunk chunks stage.history stage.first.cursors offset.cursors) (sym infos)
-          (subst (HaveComeOn stage.first.infos entry.config.chunk chunks stage.history stage.first.cursors) (sym cursors) come);
-    }
+    brought = brought_by entry stage offset chunks windows infos cursors reading
 
     budget : marks_more Budget (Some offset) ≡ 2 * waiting stage.following.window
     budget =

@@ -1,5 +1,5 @@
 -- How many watermarks a session writes, compared with the windows that it closes, and how far these advance its cursors.
-use Rattle.std.specs.Prelude.{◌≡◌, ℕ, ◌+◌, ◌*◌, ◌<◌, ◌^◌, ◌≤◌, true, if◌then◌else◌, not, position, Option, Some, None, List, length}
+use Rattle.std.specs.Prelude.{◌≡◌, ◌⊎◌, ℕ, ◌+◌, ◌*◌, ◌<◌, ◌^◌, ◌≤◌, true, if◌then◌else◌, not, position, Option, Some, None, List, length}
 use Rattle.std.specs.List.{AllByRecursion, list_all}
 use Rattle.dbl_model_table.specs.declared.change.Commit.{Commit}
 use Rattle.dbl_capture_work.specs.ModelHistory.declared.cursor.Cursor.{Cursor}
@@ -59,6 +59,15 @@ pub record HaveBrought (chunk chunks : ℕ) (history : History) (found stored : 
   pub offset : Offset
   pub is : stored ≡ Some offset
   pub advanced : HaveComeOn offset.infos chunk chunks history begun offset.cursors
+
+-- The history is the older one with further commits.
+abbrev pub IsLonger : History → History → Type 0
+IsLonger old new = (more : List RawCommit) × HasGrown old new more
+
+-- The stored offset is the one that was found, or at most so many closed windows advanced the cursors to its own.
+abbrev pub AdvancesAtMost : ℕ → ℕ → History → Option Offset → Option Offset → Type 0
+AdvancesAtMost chunk chunks history found stored =
+    (stored ≡ found) ⊎ ((windows : ℕ) × (windows ≤ chunks) × HaveBrought chunk windows history found stored)
 
 -- Exactly so many watermarks were added, and the closed windows advanced the cursors to those of the stored offset.
 abbrev pub EndsExactly : SessionStart → Option Offset → ℕ → ℕ → History → Type 0

@@ -41,7 +41,7 @@ use Rattle.dbl_capture_work.specs.Begins.{IsAbsentHalt}
 use Rattle.dbl_capture_laws.proofs.Telling.{caused_absent}
 use Rattle.dbl_capture_laws.specs.Nevers.{IsHonestHalt}
 use Rattle.dbl_capture_laws.proofs.StepMarks.{others_leave_few_marks}
-use Rattle.dbl_capture_laws.specs.Written.{AddsNoMore}
+use Rattle.dbl_capture_laws.specs.Written.{AddsNoMore, AdvancesAtMost}
 use Rattle.dbl_capture_laws.proofs.Asking.{ok_pair, quiet_asks}
 use Rattle.dbl_capture_laws.specs.Owned.{IsLongBy}
 use Rattle.dbl_capture_laws.specs.Nevers.{IsFaithfulHalt}
@@ -50,6 +50,7 @@ use Rattle.dbl_capture_laws.specs.Captured.{CapturesOrHalts}
 use Rattle.dbl_capture_laws.proofs.Captured.{captures_by, must_absent, must_captured}
 use Rattle.dbl_capture_laws.specs.HasState.{IsGoneBelow, IsHaltStanding}
 use Rattle.dbl_capture_laws.proofs.Going.{free_below}
+use Rattle.dbl_capture_laws.proofs.Advancing.{advances_by, advances_or_first, brought_rest, longer_left}
 use Rattle.dbl_capture.proofs.capture.session.Goals as goal
 
 -- it didn't begin
@@ -65,6 +66,8 @@ returns-in_err-work-clause-marks g c = record {
       (c.in_err-work.ensures.session.left false (session_start_at c.args.config.now c.args.now_ms s c.args.offsets.now.offset) refl (source_found _ _ _ c.args.config.now c.args.now_ms s _ _ c.args.offsets.now is) honest had).few left may;
   exactly = search rules;
   most = λ s was honest had left may. none_most c.open_session.new.store.offset c.open_session.new.report.chunks s.history left.history (c.open_session.ensures.by_state.unmarked s left was may);
+  advances = λ s was honest had left may.
+      advances_or_first c.args.config.now c.args.offsets.now.offset c.open_session.new.store.offset c.open_session.new.report.chunks left.history c.in_err-work.ensures.state.first;
 }
 
 pub returns-in_err-work-clause-stores : goal.returns-in_err-work-clause-stores
@@ -144,6 +147,18 @@ returns-clause-marks g c = record {
       (λ t e. others_leave_few_marks entry t.stage c.process_messages.new.work left.history c.process_messages.new.report.chunks c.process_messages.new.report.chunks t.work_is t.going e.is.is.windows (same_most c.process_messages.new.report.chunks)
       (left_rests t.stage.history (state_at_stage t.stage) left t.going.reading.fit.rising refl (g.met.S.Source.only c.process_messages.new.src (state_at_stage t.stage) left t.source_is may)))
       (λ few. few left may));
+  advances = λ s was honest had left may.
+      let entry = session_start_at c.args.config.now c.args.now_ms s c.args.offsets.now.offset in
+      let chunks = c.process_messages.new.report.chunks in
+      let stored = c.process_messages.new.store.offset in
+      let in_session = c.in_ok-work.ensures.session.next false entry refl (sym (to_z-of_z c.ranges.now_ms)) (source_found _ _ _ c.args.config.now c.args.now_ms s _ _ c.args.offsets.now was) (c.process_messages.ensures.source.honest honest) had in
+      let way = c.in_ok-work.ensures.report.under_way None (at_none g.S.Source.stands c.args.src.now) (refl, refl, refl) in
+      let b = beginning_at c.args.config.now c.args.now_ms c.args.offsets.now.offset way.0 in
+      let u = subst (λ (n : ℤ). IsUnderWay g.S.Source None (g.S.Source.told c.args.src.now) (beginning_at c.args.config.now n c.args.offsets.now.offset way.0) c.open_session.new.store.offset c.in_ok-work.work c.open_session.new.report c.open_session.new.src) (to_z-of_z c.ranges.now_ms) way.1 in
+      either_most c.process_messages.result _ _ (AdvancesAtMost c.args.config.now.chunk chunks left.history c.args.offsets.now.offset stored) (c.process_messages.ensures.session.next false entry in_session honest) (c.process_messages.ensures.report.all None (g.S.Source.told c.args.src.now) b u) (c.process_messages.ensures.session.advances false entry None (g.S.Source.told c.args.src.now) b in_session u honest)
+      (λ t e. advances_by c.args.config.now.chunk chunks chunks t.stage.history left.history c.args.offsets.now.offset stored (brought_rest t b e.messages stored c.process_messages.new.report e.is) (same_most chunks)
+      (longer_left (state_at_stage t.stage) left (g.met.S.Source.only c.process_messages.new.src (state_at_stage t.stage) left t.source_is may)))
+      (λ stops. stops left may);
 }
 
 pub returns-clause-stores : goal.returns-clause-stores

@@ -34,7 +34,7 @@ use Rattle.dbl_source.specs.ModelCommit.Blocks.{AreWithoutFault}
 use Rattle.dbl_capture_laws.specs.Nevers.{IsHonestHalt}
 use Rattle.dbl_capture_work.proofs.WindowHonestLemmas.{captured_stays}
 use Rattle.dbl_capture_laws.proofs.StepMarks.{others_leave_few_marks}
-use Rattle.dbl_capture_laws.proofs.Lasting.{leaves_most, left_grows, same_most, torn_more}
+use Rattle.dbl_capture_laws.proofs.Lasting.{leaves_most, left_grows, same_most, torn_more, step_more}
 use Rattle.dbl_capture_laws.proofs.Asking.{failure_asks, newest_asks, read_quiet, source_fails}
 use Rattle.dbl_capture_laws.specs.Nevers.{IsFaithfulHalt}
 use Rattle.dbl_capture_laws.proofs.Owning.{follow_own, free_own, source_free, taken_free}
@@ -42,6 +42,7 @@ use Rattle.dbl_capture_laws.proofs.HasState.{commits_stood, messages_stood, sour
 use Rattle.dbl_capture_laws.proofs.Awaited.{awaits_commit, awaits_message, awaits_nothing, awaits_still, work_at}
 use Rattle.dbl_capture_laws.proofs.Unclosed.{closed_at_halt}
 use Rattle.dbl_source.specs.SourceModel.Standings.{SourceState}
+use Rattle.dbl_capture_laws.proofs.Advancing.{longer_grows}
 use Rattle.dbl_capture.proofs.messages.read_and_deliver.Goals as goal
 
 pub returns-in_err-bytes-clause-session : goal.returns-in_err-bytes-clause-session
@@ -179,6 +180,7 @@ returns-in-Some-2-clause-state g c = record {
   nothing = search rules;
   reading = search rules;
   quiet = read_quiet (g.S.Source.told c.read.new.self) (Some c.in-Some.bytes) (subst (λ (o : Option (List ℕ)). LastAnswerIs (g.S.Source.told c.read.new.self) (Read o)) c.in-Some.is c.in_ok-bytes.ensures.told);
+  windows = λ closed. step_more c.in-Some-2.commit c.args.work.now c.take_message.new.work c.args.report.now c.deliver_commit.new.report closed c.requires.number c.in_ok-closed-in-Some-2.ensures.noted;
 }
 
 pub returns-in-Some-clause-state : goal.returns-in-Some-clause-state
@@ -191,6 +193,7 @@ returns-in-Some-clause-state g c = record {
   nothing = search rules;
   reading = search rules;
   quiet = read_quiet (g.S.Source.told c.read.new.self) (Some c.in-Some.bytes) (subst (λ (o : Option (List ℕ)). LastAnswerIs (g.S.Source.told c.read.new.self) (Read o)) c.in-Some.is c.in_ok-bytes.ensures.told);
+  windows = λ closed. le_refl _;
 }
 
 pub returns-clause-state : goal.returns-clause-state
@@ -203,6 +206,7 @@ returns-clause-state g c = record {
   nothing = λ is. subst (λ (o : Option (List ℕ)). LastAnswerIs (g.S.Source.told c.read.new.self) (Read o)) c.in-None.is c.in_ok-bytes.ensures.told;
   reading = search rules;
   quiet = read_quiet (g.S.Source.told c.read.new.self) None (subst (λ (o : Option (List ℕ)). LastAnswerIs (g.S.Source.told c.read.new.self) (Read o)) c.in-None.is c.in_ok-bytes.ensures.told);
+  windows = λ closed. le_refl _;
 }
 
 pub is_due-requires : goal.is_due-requires
@@ -280,6 +284,7 @@ returns-in_err-bytes-clause-state g c = record {
   nothing = search rules;
   reading = search rules;
   quiet = search rules;
+  windows = λ closed. le_refl _;
 }
 
 pub returns-in_err-commit-in-Some-clause-state : goal.returns-in_err-commit-in-Some-clause-state
@@ -294,6 +299,7 @@ returns-in_err-commit-in-Some-clause-state g c = record {
   nothing = search rules;
   reading = search rules;
   quiet = search rules;
+  windows = λ closed. le_refl _;
 }
 
 pub returns-in_err-closed-in-Some-2-clause-state : goal.returns-in_err-closed-in-Some-2-clause-state
@@ -308,6 +314,7 @@ returns-in_err-closed-in-Some-2-clause-state g c = record {
   nothing = search rules;
   reading = search rules;
   quiet = search rules;
+  windows = λ closed. torn_more c.in-Some-2.commit c.args.work.now c.take_message.new.work c.args.report.now c.deliver_commit.new.report closed c.requires.number c.in_err-closed-in-Some-2.ensures.noted;
 }
 
 pub returns-in-Some-2-clause-stops : goal.returns-in-Some-2-clause-stops
@@ -348,6 +355,7 @@ returns-in_err-bytes-clause-report g c = record {
       });
   awaits = search rules;
   waits = search rules;
+  grows = λ s left is may. longer_grows s.history left.history (c.read.ensures.left s left is may).grows;
 }
 
 pub returns-in_err-commit-in-Some-clause-report : goal.returns-in_err-commit-in-Some-clause-report
@@ -365,6 +373,7 @@ returns-in_err-commit-in-Some-clause-report g c = record {
       });
   awaits = search rules;
   waits = search rules;
+  grows = λ s left is may. longer_grows s.history left.history (c.read.ensures.left s left is may).grows;
 }
 
 pub returns-in_err-closed-in-Some-2-clause-report : goal.returns-in_err-closed-in-Some-2-clause-report
@@ -383,6 +392,7 @@ returns-in_err-closed-in-Some-2-clause-report g c = record {
       });
   awaits = search rules;
   waits = search rules;
+  grows = λ s left is may. longer_grows s.history left.history (c.read.ensures.left s left is may).grows;
 }
 
 pub returns-in-Some-2-clause-report : goal.returns-in-Some-2-clause-report
@@ -399,6 +409,7 @@ returns-in-Some-2-clause-report g c = record {
       (subst (WasTaken a.reading.after a.reading.messages c.in-Some.bytes c.args.work.now c.take_message.new.work) c.in-Some-2.is (c.in_ok-commit-in-Some.ensures.taken a.reading.after a.reading.messages own)) own.accepted
       c.in_ok-closed-in-Some-2.ensures.stepped (λ is. g.met.S.Source.right c.read.new.self read.2.standing _ read.2.is honest is);
   waits = search rules;
+  grows = λ s left is may. longer_grows s.history left.history (c.read.ensures.left s left is may).grows;
 }
 
 pub returns-in-Some-clause-report : goal.returns-in-Some-clause-report
@@ -412,6 +423,7 @@ returns-in-Some-clause-report g c = record {
       awaits_message g.S.Source c.args.work.now c.args.src.now c.read.new.self a c.in-Some.bytes read.0 read.2.standing read.1 read.2.is read.2.holds c.take_message.new.work
       (subst (WasTaken a.reading.after a.reading.messages c.in-Some.bytes c.args.work.now c.take_message.new.work) c.in-None-2.is (c.in_ok-commit-in-Some.ensures.taken a.reading.after a.reading.messages own));
   waits = search rules;
+  grows = λ s left is may. longer_grows s.history left.history (c.read.ensures.left s left is may).grows;
 }
 
 pub returns-clause-report : goal.returns-clause-report
@@ -427,6 +439,7 @@ returns-clause-report g c = record {
       let own = (work_at g.S.Source at found b c.args.store.now.offset c.args.work.now c.args.report.now c.args.src.now u (g.met.S.Source.one c.args.src.now) s first a) in
       let t = none_read _ _ _ c.in-None.is (c.in_ok-bytes.ensures.took a.standing a.is) in
       awaits_nothing g.S.Source c.args.work.now c.args.src.now t.standing a own.accepted t.holds.0 (t.holds.1 honest);
+  grows = λ s left is may. longer_grows s.history left.history (c.read.ensures.left s left is may).grows;
 }
 
 pub returns-in_err-bytes-clause-puts : goal.returns-in_err-bytes-clause-puts

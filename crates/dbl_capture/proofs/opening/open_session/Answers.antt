@@ -63,6 +63,7 @@ returns-in_err-offset-clause-state g c = record {
   counts = (refl, refl, refl);
   reading = search rules;
   uncounted = (refl, refl);
+  first = on_err _ _ (inl c.in_err-offset.ensures.state.keeps);
 }
 
 -- reading doesn't begin
@@ -97,6 +98,7 @@ returns-in_err-start_reading-clause-state g c = record {
   counts = (refl, refl, refl);
   reading = search rules;
   uncounted = (refl, refl);
+  first = on_err _ _ (inr (c.in_ok-offset.offset, c.in_ok-offset.ensures.state.loads, c.in_ok-offset.ensures.state.of));
 }
 
 small : (n : ℕ) → n ≤ 2 ^ 63 → n < 2 ^ 64
@@ -144,6 +146,7 @@ returns-clause-state g c = record {
   counts = (refl, refl, refl);
   reading = search rules;
   uncounted = (refl, refl);
+  first = on_err _ _ (inr (c.in_ok-offset.offset, c.in_ok-offset.ensures.state.loads, c.in_ok-offset.ensures.state.of));
 }
 
 -- ---- counts, and what no call undoes

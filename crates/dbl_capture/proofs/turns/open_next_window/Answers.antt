@@ -2,6 +2,7 @@ use Rattle.std.proofs.Common.{sym, rules, ap}
 use Rattle.dbl_capture_laws.proofs.Keeping.{ok_then}
 use Rattle.dbl_capture_laws.proofs.Turning.{armed_next, none_waits, open_table, rested_next}
 use Rattle.dbl_source.specs.SourceModel.Standings.{SourceState}
+use Rattle.dbl_capture_laws.proofs.Advancing.{longer_left}
 use Rattle.dbl_capture.proofs.turns.open_next_window.Goals as goal
 
 pub arm-requires : goal.arm-requires
@@ -67,6 +68,7 @@ returns-in-Some-clause-report g c = record {
   halted = c.arm.ensures.report.halted;
   awaits = c.arm.ensures.report.awaits;
   still = c.arm.ensures.report.still;
+  grows = c.arm.ensures.report.grows;
 }
 
 pub returns-in-None-clause-report : goal.returns-in-None-clause-report
@@ -75,6 +77,7 @@ returns-in-None-clause-report g c = record {
   halted = search rules;
   awaits = λ a. a;
   still = λ s t before after. ap (λ (x : SourceState). x.reading) (g.met.S.Source.one c.args.src.now t s after before);
+  grows = λ s left is may. longer_left s left (g.met.S.Source.only c.args.src.now s left is may);
 }
 
 pub returns-in-Some-clause-puts : goal.returns-in-Some-clause-puts

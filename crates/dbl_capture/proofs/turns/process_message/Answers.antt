@@ -21,6 +21,8 @@ use Rattle.dbl_capture_laws.specs.Nevers.{IsFaithfulHalt}
 use Rattle.dbl_capture_laws.proofs.Owning.{free_own}
 use Rattle.dbl_capture_laws.proofs.Unclosed.{closed_at_halt}
 use Rattle.dbl_capture_laws.specs.Sessions.{state_at_stage}
+use Rattle.dbl_capture_laws.proofs.Advancing.{advances_by, advances_stored, brought_next, brought_rest, leaves_advanced, longer_on}
+use Rattle.dbl_source.specs.SourceModel.Standings.{left_of}
 use Rattle.dbl_capture.proofs.turns.process_message.Goals as goal
 
 pub read_and_deliver-requires : goal.read_and_deliver-requires
@@ -49,6 +51,10 @@ returns-in_err-open_next_window-clause-session g c = record {
       (free_own entry c.args.store.now.offset c.args.report.now (g.S.Source.stands c.open_next_window.new.src) (g.K.Sink.holds c.args.sink.now) _ c.in_err-open_next_window.ensures.stops.free);
   unclosed = λ entry first found b s u faithful honest t now.
       on_err _ _ (closed_at_halt s (g.met.S.Source.one c.args.src.now) faithful (at_rest g.S.Source (Some first) found b c.args.store.now.offset c.args.work.now c.args.report.now c.args.src.now u) c.args.store.now.offset (inl refl) c.args.report.now refl (le_refl _) [] t (c.open_next_window.ensures.report.still (state_at_stage s.stage) t s.source_is now));
+  advances = λ tell entry at found b k u honest.
+      leaves_advanced _ g.S.Source.may_leave c.open_next_window.new.src entry.config.chunk c.args.report.now.chunks entry.offset c.args.store.now.offset
+      (λ left may. advances_by entry.config.chunk c.args.report.now.chunks c.args.report.now.chunks k.stage.history left.history entry.offset c.args.store.now.offset (brought_rest k b u.messages c.args.store.now.offset c.args.report.now u.is) (le_refl _)
+      (c.open_next_window.ensures.report.grows (state_at_stage k.stage) left k.source_is may));
 }
 
 pub returns-in_err-read_and_deliver-clause-session : goal.returns-in_err-read_and_deliver-clause-session
@@ -66,6 +72,12 @@ returns-in_err-read_and_deliver-clause-session g c = record {
       (c.in_err-read_and_deliver.ensures.session.content entry at found b (c.in_ok-open_next_window.ensures.session.next true entry s (c.read_and_deliver.ensures.source.honest honest)) (c.in_ok-open_next_window.ensures.report.under_way at found b c.args.report.now u) faithful honest);
   unclosed = λ entry first found b s u faithful honest t now.
       on_err _ _ (c.in_err-read_and_deliver.ensures.session.unclosed entry first found b (c.in_ok-open_next_window.ensures.session.next true entry s (c.read_and_deliver.ensures.source.honest honest)) (c.in_ok-open_next_window.ensures.report.under_way (Some first) found b c.args.report.now u) faithful honest t now);
+  advances = λ tell entry at found b s u honest.
+      let k = c.in_ok-open_next_window.ensures.session.next tell entry s (c.read_and_deliver.ensures.source.honest honest) in
+      let way = c.in_ok-open_next_window.ensures.report.under_way at found b c.args.report.now u in
+      leaves_advanced _ g.S.Source.may_leave c.read_and_deliver.new.src entry.config.chunk c.read_and_deliver.new.report.chunks entry.offset c.args.store.now.offset
+      (λ left may. advances_by entry.config.chunk c.args.report.now.chunks c.read_and_deliver.new.report.chunks k.stage.history left.history entry.offset c.args.store.now.offset (brought_rest k b way.messages c.args.store.now.offset c.args.report.now way.is)
+      (c.read_and_deliver.ensures.state.windows way.is.is.windows) (c.read_and_deliver.ensures.report.grows (state_at_stage k.stage) left k.source_is may));
 }
 
 pub returns-in_err-read_and_deliver-clause-state : goal.returns-in_err-read_and_deliver-clause-state
@@ -111,7 +123,21 @@ returns-in_err-store_and_confirm-in-Some-true-clause-session g c = record {
   unclosed = λ entry first found b s u faithful honest t now.
       let before = c.store_and_confirm.ensures.source.honest honest in
       on_err _ _ (c.in_err-store_and_confirm-in-Some-true.ensures.session.unclosed entry first found b (c.in_ok-read_and_deliver.ensures.session.next true entry (c.in_ok-open_next_window.ensures.session.next true entry s (c.read_and_deliver.ensures.source.honest before)) before)
-      (goes_true g.S.Source at found b c.args.store.now.offset c.read_and_deliver.new.work c.read_and_deliver.new.report c.read_and_deliver.new.src _ c.in-Some-true.field-0 c.in-Some-true.is c.in-Some-true.field-0-test (c.in_ok-read_and_deliver.ensures.report.under_way (Some first) found b (c.in_ok-open_next_window.ensures.report.under_way (Some first) found b c.args.report.now u))) faithful honest t now);
+      (goes_true g.S.Source (Some first) found b c.args.store.now.offset c.read_and_deliver.new.work c.read_and_deliver.new.report c.read_and_deliver.new.src _ c.in-Some-true.field-0 c.in-Some-true.is c.in-Some-true.field-0-test (c.in_ok-read_and_deliver.ensures.report.under_way (Some first) found b (c.in_ok-open_next_window.ensures.report.under_way (Some first) found b c.args.report.now u))) faithful honest t now);
+  advances = λ tell entry at found b s u honest.
+      let before = c.store_and_confirm.ensures.source.honest honest in
+      let k = c.in_ok-open_next_window.ensures.session.next tell entry s (c.read_and_deliver.ensures.source.honest before) in
+      let way = c.in_ok-open_next_window.ensures.report.under_way at found b c.args.report.now u in
+      let l = c.in_ok-read_and_deliver.ensures.session.next tell entry k before in
+      let read = goes_true g.S.Source at found b c.args.store.now.offset c.read_and_deliver.new.work c.read_and_deliver.new.report c.read_and_deliver.new.src _ c.in-Some-true.field-0 c.in-Some-true.is c.in-Some-true.field-0-test (c.in_ok-read_and_deliver.ensures.report.under_way at found b way) in
+      let grown = c.read_and_deliver.ensures.report.grows (state_at_stage k.stage) (left_of (state_at_stage l.stage)) k.source_is (g.met.S.Source.may c.read_and_deliver.new.src (state_at_stage l.stage) l.source_is) in
+      leaves_advanced _ g.S.Source.may_leave c.store_and_confirm.new.src entry.config.chunk c.store_and_confirm.new.report.chunks entry.offset c.store_and_confirm.new.store.offset
+      (λ left may.
+      let grows = c.store_and_confirm.ensures.report.grows (state_at_stage l.stage) left l.source_is may in
+      advances_stored _ c.args.store.now.offset c.store_and_confirm.new.store.offset c.read_and_deliver.new.work c.read_and_deliver.new.report c.store_and_confirm.new.report entry.config.chunk left.history entry.offset c.store_and_confirm.ensures.state.reported
+      (advances_by entry.config.chunk c.args.report.now.chunks c.read_and_deliver.new.report.chunks k.stage.history left.history entry.offset c.args.store.now.offset (brought_rest k b way.messages c.args.store.now.offset c.args.report.now way.is)
+      (c.read_and_deliver.ensures.state.windows way.is.is.windows) (longer_on k.stage.history l.stage.history left.history grown grows))
+      (advances_by entry.config.chunk c.read_and_deliver.new.report.chunks c.read_and_deliver.new.report.chunks l.stage.history left.history entry.offset (Some (next_offset_of c.read_and_deliver.new.work)) (brought_next l c.read_and_deliver.new.report.chunks read.is.windows) (le_refl _) grows));
 }
 
 pub returns-in_ok-store_and_confirm-in-Some-true-clause-session : goal.returns-in_ok-store_and_confirm-in-Some-true-clause-session
@@ -125,6 +151,7 @@ returns-in_ok-store_and_confirm-in-Some-true-clause-session g c = record {
   most = search rules;
   content = search rules;
   unclosed = search rules;
+  advances = search rules;
 }
 
 pub returns-in_ok-store_and_confirm-in-Some-true-clause-state : goal.returns-in_ok-store_and_confirm-in-Some-true-clause-state
@@ -204,7 +231,17 @@ returns-in_err-finish_complete-in-None-clause-session g c = record {
   unclosed = λ entry first found b s u faithful honest t now.
       let before = c.finish_complete.ensures.source.honest honest in
       on_err _ _ (c.in_err-finish_complete-in-None.ensures.session.unclosed entry first found b (c.in_ok-read_and_deliver.ensures.session.next true entry (c.in_ok-open_next_window.ensures.session.next true entry s (c.read_and_deliver.ensures.source.honest before)) before)
-      (goes_none g.S.Source at found b c.args.store.now.offset c.read_and_deliver.new.work c.read_and_deliver.new.report c.read_and_deliver.new.src _ c.in-None.is (c.in_ok-read_and_deliver.ensures.report.under_way (Some first) found b (c.in_ok-open_next_window.ensures.report.under_way (Some first) found b c.args.report.now u))) faithful honest t now);
+      (goes_none g.S.Source (Some first) found b c.args.store.now.offset c.read_and_deliver.new.work c.read_and_deliver.new.report c.read_and_deliver.new.src _ c.in-None.is (c.in_ok-read_and_deliver.ensures.report.under_way (Some first) found b (c.in_ok-open_next_window.ensures.report.under_way (Some first) found b c.args.report.now u))) faithful honest t now);
+  advances = λ tell entry at found b s u honest.
+      let before = c.finish_complete.ensures.source.honest honest in
+      let k = c.in_ok-read_and_deliver.ensures.session.next tell entry (c.in_ok-open_next_window.ensures.session.next tell entry s (c.read_and_deliver.ensures.source.honest before)) before in
+      let way = goes_none g.S.Source at found b c.args.store.now.offset c.read_and_deliver.new.work c.read_and_deliver.new.report c.read_and_deliver.new.src _ c.in-None.is (c.in_ok-read_and_deliver.ensures.report.under_way at found b (c.in_ok-open_next_window.ensures.report.under_way at found b c.args.report.now u)) in
+      leaves_advanced _ g.S.Source.may_leave c.finish_complete.new.src entry.config.chunk c.finish_complete.new.report.chunks entry.offset c.finish_complete.new.store.offset
+      (λ left may.
+      let grows = c.finish_complete.ensures.report.grows (state_at_stage k.stage) left k.source_is may in
+      advances_stored _ c.args.store.now.offset c.finish_complete.new.store.offset c.read_and_deliver.new.work c.read_and_deliver.new.report c.finish_complete.new.report entry.config.chunk left.history entry.offset c.finish_complete.ensures.state.reported
+      (advances_by entry.config.chunk c.read_and_deliver.new.report.chunks c.read_and_deliver.new.report.chunks k.stage.history left.history entry.offset c.args.store.now.offset (brought_rest k b way.messages c.args.store.now.offset c.read_and_deliver.new.report way.is) (le_refl _) grows)
+      (advances_by entry.config.chunk c.read_and_deliver.new.report.chunks c.read_and_deliver.new.report.chunks k.stage.history left.history entry.offset (Some (next_offset_of c.read_and_deliver.new.work)) (brought_next k c.read_and_deliver.new.report.chunks way.is.is.windows) (le_refl _) grows));
 }
 
 pub returns-in_ok-finish_complete-in-None-clause-session : goal.returns-in_ok-finish_complete-in-None-clause-session
@@ -220,6 +257,7 @@ returns-in_ok-finish_complete-in-None-clause-session g c = record {
   most = search rules;
   content = search rules;
   unclosed = search rules;
+  advances = search rules;
 }
 
 pub returns-in_ok-finish_complete-in-None-clause-state : goal.returns-in_ok-finish_complete-in-None-clause-state
@@ -314,6 +352,7 @@ returns-in-Some-false-clause-session g c = record {
   most = search rules;
   content = search rules;
   unclosed = search rules;
+  advances = search rules;
 }
 
 -- ---- counts, and what no call undoes

@@ -18,6 +18,8 @@ use Rattle.dbl_capture_laws.proofs.Owning.{free_own}
 use Rattle.dbl_capture_laws.proofs.Telling.{not_both, residual_on}
 use Rattle.dbl_capture_laws.proofs.Unclosed.{closed_at_halt}
 use Rattle.dbl_capture_laws.specs.Sessions.{state_at_stage}
+use Rattle.dbl_capture_laws.proofs.Advancing.{advances_by, advances_stored, brought_next, brought_rest, leaves_advanced}
+use Rattle.dbl_capture_work.specs.Works.{next_offset_of}
 use Rattle.dbl_capture.proofs.turns.process_messages.Goals as goal
 
 pub turns-init : goal.turns-init
@@ -95,6 +97,8 @@ returns-in_err-process_message-clause-session g c = record {
       (c.in_err-process_message.ensures.session.content entry at found b (c.turns.invariant.kept true entry s (c.process_message.ensures.source.honest honest)) (c.turns.invariant.under_way at found b u) faithful honest);
   unclosed = λ entry first found b s u faithful honest t now.
       on_err _ _ (c.in_err-process_message.ensures.session.unclosed entry first found b (c.turns.invariant.kept true entry s (c.process_message.ensures.source.honest honest)) (c.turns.invariant.under_way (Some first) found b u) faithful honest t now);
+  advances = λ tell entry at found b s u honest.
+      on_err _ _ (c.in_err-process_message.ensures.session.advances tell entry at found b (c.turns.invariant.kept tell entry s (c.process_message.ensures.source.honest honest)) (c.turns.invariant.under_way at found b u) honest);
 }
 
 pub returns-in_err-open_next_window-clause-session : goal.returns-in_err-open_next_window-clause-session
@@ -114,6 +118,12 @@ returns-in_err-open_next_window-clause-session g c = record {
       let k = (c.turns.invariant.kept true entry s (c.open_next_window.ensures.source.honest honest)) in
       on_err _ _ (closed_at_halt k (g.met.S.Source.one c.turns.src) faithful (at_rest g.S.Source (Some first) found b c.turns.store.offset c.turns.work c.turns.report c.turns.src (c.turns.invariant.under_way (Some first) found b u)) c.turns.store.offset (inl refl) c.turns.report refl (le_refl _) [] t
       (c.open_next_window.ensures.report.still (state_at_stage k.stage) t k.source_is now));
+  advances = λ tell entry at found b s u honest.
+      let k = c.turns.invariant.kept tell entry s (c.open_next_window.ensures.source.honest honest) in
+      let way = c.turns.invariant.under_way at found b u in
+      leaves_advanced _ g.S.Source.may_leave c.open_next_window.new.src entry.config.chunk c.turns.report.chunks entry.offset c.turns.store.offset
+      (λ left may. advances_by entry.config.chunk c.turns.report.chunks c.turns.report.chunks k.stage.history left.history entry.offset c.turns.store.offset (brought_rest k b way.messages c.turns.store.offset c.turns.report way.is) (le_refl _)
+      (c.open_next_window.ensures.report.grows (state_at_stage k.stage) left k.source_is may));
 }
 
 pub returns-in_err-store_and_confirm-clause-session : goal.returns-in_err-store_and_confirm-clause-session
@@ -137,6 +147,16 @@ returns-in_err-store_and_confirm-clause-session g c = record {
       let before = c.store_and_confirm.ensures.source.honest honest in
       on_err _ _ (c.in_err-store_and_confirm.ensures.session.unclosed entry first found b (c.in_ok-open_next_window.ensures.session.next true entry (c.turns.invariant.kept true entry s (c.open_next_window.ensures.source.honest before)) before)
       (at_rest g.S.Source (Some first) found b c.turns.store.offset c.open_next_window.new.work c.turns.report c.open_next_window.new.src (c.in_ok-open_next_window.ensures.report.under_way (Some first) found b c.turns.report (c.turns.invariant.under_way (Some first) found b u))) faithful honest t now);
+  advances = λ tell entry at found b s u honest.
+      let before = c.store_and_confirm.ensures.source.honest honest in
+      let k = c.in_ok-open_next_window.ensures.session.next tell entry (c.turns.invariant.kept tell entry s (c.open_next_window.ensures.source.honest before)) before in
+      let way = c.in_ok-open_next_window.ensures.report.under_way at found b c.turns.report (c.turns.invariant.under_way at found b u) in
+      leaves_advanced _ g.S.Source.may_leave c.store_and_confirm.new.src entry.config.chunk c.store_and_confirm.new.report.chunks entry.offset c.store_and_confirm.new.store.offset
+      (λ left may.
+      let grows = c.store_and_confirm.ensures.report.grows (state_at_stage k.stage) left k.source_is may in
+      advances_stored _ c.turns.store.offset c.store_and_confirm.new.store.offset c.open_next_window.new.work c.turns.report c.store_and_confirm.new.report entry.config.chunk left.history entry.offset c.store_and_confirm.ensures.state.reported
+      (advances_by entry.config.chunk c.turns.report.chunks c.turns.report.chunks k.stage.history left.history entry.offset c.turns.store.offset (brought_rest k b way.messages c.turns.store.offset c.turns.report way.is) (le_refl _) grows)
+      (advances_by entry.config.chunk c.turns.report.chunks c.turns.report.chunks k.stage.history left.history entry.offset (Some (next_offset_of c.open_next_window.new.work)) (brought_next k c.turns.report.chunks way.is.is.windows) (le_refl _) grows));
 }
 
 -- ---- counts, and what no call undoes
@@ -267,6 +287,7 @@ returns-clause-session g c = record {
   most = search rules;
   content = search rules;
   unclosed = search rules;
+  advances = search rules;
 }
 
 pub process_message-requires : goal.process_message-requires
@@ -294,6 +315,7 @@ returns-then-branch-clause-session g c = record {
   most = search rules;
   content = search rules;
   unclosed = search rules;
+  advances = search rules;
 }
 
 pub returns-then-branch-clause-state : goal.returns-then-branch-clause-state

@@ -79,6 +79,10 @@ returns-clause-report g c = record {
       ok_then c.read_window.result _ _ (c.read_window.ensures.windowed a.standing a.is)
       (λ w. awaits_armed g.S.Source c.args.table c.args.work.now c.read_window.new.work c.args.src.now c.read_window.new.src a w);
   still = c.read_window.ensures.still;
+  grows = λ s left is may.
+      let planned = plan_here c.args.work.now c.args.table c.requires.ready c.requires.is_open in
+      let marked = c.read_window.ensures.left planned.0 planned.1 s left is may in
+      (marked.more, marked.grown);
 }
 
 pub returns-clause-puts : goal.returns-clause-puts

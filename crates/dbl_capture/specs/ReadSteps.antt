@@ -111,6 +111,7 @@ pub record ReportsRead {S D : Type 0} (source_model : SourceModel S) (work new_w
       → IsUnderWay source_model at found b store.offset work report src → (s : SourceState) → at ≡ Some s → source_model.honest new_src
       → Awaits source_model.stands work src → result ≡ Ok None → new_work.follower.window ≡ windows.Absent
   pub grows : Leaves source_model.stands source_model.may_leave src new_src (λ s left. IsLonger s.history left.history)
+  pub confirmed : (s t : SourceState) → source_model.stands src s → source_model.stands new_src t → t.confirmed ≡ s.confirmed
 
 -- The errors that reading a message never returns.
 pub record StopsAtRead {T : Type 0} (result : Result T Halt) : Type 0 where

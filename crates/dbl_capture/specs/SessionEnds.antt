@@ -20,7 +20,7 @@ use Rattle.dbl_capture_work.specs.declared.report.Report.{Report}
 use Rattle.dbl_capture_laws.specs.Awaited.{IsWithinLog}
 use Rattle.dbl_capture_laws.specs.Captured.{MustHaltAbsent}
 use Rattle.dbl_capture_laws.specs.Ends.{AreAllDone, LeavesComplete, CacheMatchesDisk}
-use Rattle.dbl_capture_laws.specs.Found.{Found, HasStored, IsEntryOf, IsFirstStored, session_start_at, position_of}
+use Rattle.dbl_capture_laws.specs.Found.{Found, HasStored, IsEntryOf, IsFirstStored, session_start_at, position_of, HasConfirmed}
 use Rattle.dbl_capture_laws.specs.Gained.{Gains, ReportsGroups}
 use Rattle.dbl_capture_laws.specs.Halted.{IsHalt}
 use Rattle.dbl_capture_laws.specs.HasState.{IsGoneBelow, IsHaltStanding}
@@ -84,13 +84,15 @@ pub record ReportsByTrace {S D : Type 0} (source_model : SourceModel S) (config 
   pub last : OnOk result (StoodAtLast config now store.offset new_store.offset new_report (source_model.told new_src))
   pub followed : IfErr result (IsFollowed config now store.offset new_store.offset new_report (source_model.told new_src))
 
--- The report, by the source's state.
+-- The report, by the source's state; and that what is stored is confirmed, unless it was found so.
 pub record ReportsByState {S D T : Type 0} (source_model : SourceModel S) (config : Config) (now : ℤ) (src new_src : S)
     (store new_store : StoreOn D) (new_report : Report) (result : Result T Halt) : Type 0 where
   pub settled : (s : SourceState) → source_model.stands src s
       → OnOk result (HasState source_model.stands new_src (HasSettled config now store.offset new_store.offset new_report))
   pub stood : (s t : SourceState) → source_model.stands src s → source_model.stands new_src t
       → IfErr result (HasStoodAfter config now store.offset new_store.offset new_report s t)
+  pub confirmed : (s t : SourceState) → source_model.stands src s → source_model.stands new_src t
+      → HasConfirmed store.offset new_store.offset t
 
 -- The bounds of the counts, and the position that was stored last.
 pub record CountsWithin {D : Type 0} (config : Config) (store new_store : StoreOn D) (new_report : Report) : Type 0 where

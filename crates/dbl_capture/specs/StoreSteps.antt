@@ -27,6 +27,8 @@ use Rattle.dbl_capture_laws.specs.Sources.{IsUnderWay, HasSettledAll, HasCommitt
 use Rattle.dbl_capture_laws.specs.Turns.{IsSettledWhole, HasReadAllAt, IsSettled}
 use Rattle.dbl_capture_laws.specs.Written.{AddsNoMore, AreClosed, IsLonger}
 use Rattle.dbl_source.specs.SourceModel.Leaves.{Leaves}
+use Rattle.dbl_capture_laws.specs.Found.{HasConfirmed}
+use Rattle.dbl_offset_content.specs.declared.offset.Offset.{Offset}
 
 -- The next offset can be stored and confirmed.
 pub record IsReadyToStore {S D : Type 0} (source_model : SourceModel S) (work : SessionState) (src : S) (store : StoreOn D) : Type 0 where
@@ -86,6 +88,8 @@ pub record ReportsStored {S D T : Type 0} (source_model : SourceModel S) (work n
       → IfErr result (Halts source_model at found b.config b.now b.held new_store.offset new_report new_src)
   pub awaits : Awaits source_model.stands work src → OnOk result (Awaits source_model.stands new_work new_src)
   pub grows : Leaves source_model.stands source_model.may_leave src new_src (λ s left. IsLonger s.history left.history)
+  pub confirmed : (held : Option Offset) (s t : SourceState) → source_model.stands src s → source_model.stands new_src t
+      → HasConfirmed held store.offset s → HasConfirmed held new_store.offset t
 
 -- The errors that storing the offset never returns.
 pub record StopsStoring {T : Type 0} (result : Result T Halt) : Type 0 where
@@ -143,6 +147,8 @@ pub record ReportsFinished {S D T : Type 0} (source_model : SourceModel S) (work
       → IsUnderWay source_model at found b store.offset work report src → LastAnswerIs (source_model.told src) (Read None)
       → IfErr result (Halts source_model at found b.config b.now b.held new_store.offset new_report new_src)
   pub grows : Leaves source_model.stands source_model.may_leave src new_src (λ s left. IsLonger s.history left.history)
+  pub confirmed : (held : Option Offset) (s t : SourceState) → source_model.stands src s → source_model.stands new_src t
+      → HasConfirmed held store.offset s → HasConfirmed held new_store.offset t
 
 -- The errors that finishing never returns.
 pub record StopsFinishing {T : Type 0} (work : SessionState) (result : Result T Halt) : Type 0 where

@@ -33,6 +33,7 @@ use Rattle.dbl_capture_laws.specs.Sinks.{IsPutting, HasHaltedPut}
 use Rattle.dbl_capture_laws.specs.Sources.{IsUnderWay, HasSettledAll}
 use Rattle.dbl_capture_laws.specs.Turns.{IsSettledWhole}
 use Rattle.dbl_capture_laws.specs.Written.{AddsNoMore, AdvancesAtMost}
+use Rattle.dbl_capture_laws.specs.Found.{HasConfirmed}
 
 -- A message can be processed.
 pub record IsReadyToProcess {S K D : Type 0} (source_model : SourceModel S) (sink_model : SinkModel K) (work : SessionState) (src : S)
@@ -134,6 +135,10 @@ pub record ReportsProcessed {S D : Type 0} (source_model : SourceModel S) (work 
   pub unmissed : (at : Option SourceState) (found : Option Trace) (b : Beginning)
       → IsUnderWay source_model at found b store.offset work report src → (s : SourceState) → at ≡ Some s → source_model.honest new_src
       → Awaits source_model.stands work src → (value : List ℕ) (position : Lsn) → result ≢ Err (halt.WatermarkMissing value position)
+  pub confirmed : (first : SourceState) (found : Option Trace) (b : Beginning)
+      → IsUnderWay source_model (Some first) found b store.offset work report src
+      → ((s : SourceState) → source_model.stands src s → HasConfirmed b.held store.offset s)
+      → (t : SourceState) → source_model.stands new_src t → HasConfirmed b.held new_store.offset t
 
 -- Messages up to the budget can be processed.
 pub record IsReadyToRun {S K D : Type 0} (source_model : SourceModel S) (sink_model : SinkModel K) (budget : ℕ) (work : SessionState)
@@ -213,3 +218,7 @@ pub record ReportsRun {S D T : Type 0} (source_model : SourceModel S) (work new_
   pub unmissed : (at : Option SourceState) (found : Option Trace) (b : Beginning)
       → IsUnderWay source_model at found b store.offset work report src → (s : SourceState) → at ≡ Some s → source_model.honest new_src
       → Awaits source_model.stands work src → (value : List ℕ) (position : Lsn) → result ≢ Err (halt.WatermarkMissing value position)
+  pub confirmed : (first : SourceState) (found : Option Trace) (b : Beginning)
+      → IsUnderWay source_model (Some first) found b store.offset work report src
+      → ((s : SourceState) → source_model.stands src s → HasConfirmed b.held store.offset s)
+      → (t : SourceState) → source_model.stands new_src t → HasConfirmed b.held new_store.offset t

@@ -77,6 +77,7 @@ pub record ReportsWindow {S D T : Type 0} (source_model : SourceModel S) (work n
   pub awaits : Awaits source_model.stands work src → OnOk result (Awaits source_model.stands new_work new_src)
   pub still : (s t : SourceState) → source_model.stands src s → source_model.stands new_src t → t.reading ≡ s.reading
   pub grows : Leaves source_model.stands source_model.may_leave src new_src (λ s left. IsLonger s.history left.history)
+  pub confirmed : (s t : SourceState) → source_model.stands src s → source_model.stands new_src t → t.confirmed ≡ s.confirmed
 
 -- The errors that reading a window never returns.
 pub record StopsAtSource {T : Type 0} (result : Result T Halt) : Type 0 where

@@ -66,6 +66,7 @@ pub mod Owned
 pub mod Nevers
 pub mod Lasting
 pub mod Advancing
+pub mod Confirming
 pub mod Reporting
 pub mod Due
 pub mod StepCauses

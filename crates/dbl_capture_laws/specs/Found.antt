@@ -1,5 +1,5 @@
 -- What a session finds, and what it is configured for.
-use Rattle.std.specs.Prelude.{◌≡◌, ℕ, ℤ, ◌==◌, ◌+◌, if◌then◌else◌, Option, Some, None, Bool, IsTrue, List, [], map}
+use Rattle.std.specs.Prelude.{◌≡◌, ℕ, ℤ, ◌==◌, ◌+◌, if◌then◌else◌, Option, Some, None, Bool, IsTrue, List, [], map, ◌⊎◌, ◌≤◌}
 use Rattle.dbl_record.specs.declared.record.Record.{Record}
 use Rattle.dbl_model_table.specs.declared.config.Config.{Config}
 use Rattle.dbl_topic.specs.Model.{SinkModel}
@@ -98,6 +98,12 @@ abbrev pub IsStoredBy : Config → Option Offset → Offset → Type 0
 IsStoredBy config None new = (new.identity ≡ config.identity) × (map (λ info. info.name) new.infos ≡ config.tables) × (new.incarnation ≡ 1)
 IsStoredBy config (Some old) new = (new.identity ≡ old.identity) × (new.infos ≡ old.infos) × (new.start ≡ old.start)
     × (new.incarnation ≡ old.incarnation + 1)
+
+-- The LSN of the stored offset is confirmed, unless it is the one that was found, or the one at which a first session began.
+abbrev pub HasConfirmed : Option Offset → Option Offset → SourceState → Type 0
+HasConfirmed found None t = Unit {0}
+HasConfirmed None (Some stored) t = (stored.lsn.0 ≤ t.confirmed.0) ⊎ (stored.lsn ≡ stored.start)
+HasConfirmed (Some old) (Some stored) t = (stored.lsn.0 ≤ t.confirmed.0) ⊎ (stored.lsn ≡ old.lsn)
 
 -- A first offset of the configured tables and their versions, as the catalogue of some later state of the source has them, that starts at
 -- a position of that state, not below any commit of the history.

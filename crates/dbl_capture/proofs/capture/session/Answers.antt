@@ -51,6 +51,7 @@ use Rattle.dbl_capture_laws.proofs.Captured.{captures_by, must_absent, must_capt
 use Rattle.dbl_capture_laws.specs.HasState.{IsGoneBelow, IsHaltStanding}
 use Rattle.dbl_capture_laws.proofs.Going.{free_below}
 use Rattle.dbl_capture_laws.proofs.Advancing.{advances_by, advances_or_first, brought_rest, longer_left}
+use Rattle.dbl_capture_laws.proofs.Confirming.{confirmed_first, confirmed_or_first}
 use Rattle.dbl_capture.proofs.capture.session.Goals as goal
 
 -- it didn't begin
@@ -269,6 +270,7 @@ pub returns-in_err-work-clause-by_state : goal.returns-in_err-work-clause-by_sta
 returns-in_err-work-clause-by_state g c = record {
   settled = λ s was. residual_as c.from_residual.result _ (λ x. OnOk x (HasState g.S.Source.stands c.open_session.new.src (HasSettled c.args.config.now c.args.now_ms c.args.offsets.now.offset c.open_session.new.store.offset c.open_session.new.report))) c.from_residual.ensures.1 tt;
   stood = λ s t was now. residual_of c.from_residual.result _ (HasStoodAfter c.args.config.now c.args.now_ms c.args.offsets.now.offset c.open_session.new.store.offset c.open_session.new.report s t) c.from_residual.ensures.1 ((subst (λ (n : ℤ). Halts g.S.Source (Some s) (g.S.Source.told c.args.src.now) c.args.config.now n c.args.offsets.now.offset c.open_session.new.store.offset c.open_session.new.report c.open_session.new.src c.in_err-work.field-0.0) (to_z-of_z c.ranges.now_ms) (c.in_err-work.ensures.report.halted (Some s) (at_some g.S.Source.stands c.args.src.now s was) (refl, refl, refl))).halted.stood s t refl now).stood;
+  confirmed = λ s t was now. confirmed_or_first c.args.config.now c.args.offsets.now.offset c.open_session.new.store.offset t c.in_err-work.ensures.state.first;
 }
 
 pub returns-in_err-work-clause-halt_by_state : goal.returns-in_err-work-clause-halt_by_state
@@ -327,6 +329,12 @@ returns-clause-by_state g c = record {
       let all = c.process_messages.ensures.report.all (Some s) (g.S.Source.told c.args.src.now) b u in
       let halted = c.process_messages.ensures.report.halted (Some s) (g.S.Source.told c.args.src.now) b u in
       err_then c.process_messages.result _ _ halted (λ h x. (x.halted.stood s t refl now).stood);
+  confirmed = λ s t was now.
+      let way = c.in_ok-work.ensures.report.under_way (Some s) (at_some g.S.Source.stands c.args.src.now s was) (refl, refl, refl) in
+      let b = beginning_at c.args.config.now c.args.now_ms c.args.offsets.now.offset way.0 in
+      let u = subst (λ (n : ℤ). IsUnderWay g.S.Source (Some s) (g.S.Source.told c.args.src.now) (beginning_at c.args.config.now n c.args.offsets.now.offset way.0) c.open_session.new.store.offset c.in_ok-work.work c.open_session.new.report c.open_session.new.src) (to_z-of_z c.ranges.now_ms) way.1 in
+      let begins = c.in_ok-work.ensures.state.begun in
+      c.process_messages.ensures.report.confirmed s (g.S.Source.told c.args.src.now) b u (λ x is. confirmed_first c.args.config.now c.args.offsets.now.offset begins.0 c.open_session.new.store.offset x begins.3 begins.1) t now;
 }
 
 pub returns-clause-halt_by_state : goal.returns-clause-halt_by_state

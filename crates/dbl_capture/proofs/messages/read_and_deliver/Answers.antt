@@ -41,7 +41,7 @@ use Rattle.dbl_capture_laws.proofs.Owning.{follow_own, free_own, source_free, ta
 use Rattle.dbl_capture_laws.proofs.HasState.{commits_stood, messages_stood, source_stood}
 use Rattle.dbl_capture_laws.proofs.Awaited.{awaits_commit, awaits_message, awaits_nothing, awaits_still, work_at}
 use Rattle.dbl_capture_laws.proofs.Unclosed.{closed_at_halt}
-use Rattle.dbl_source.specs.SourceModel.Standings.{SourceState}
+use Rattle.dbl_source.specs.SourceModel.Standings.{SourceState, left_of}
 use Rattle.dbl_capture_laws.proofs.Advancing.{longer_grows}
 use Rattle.dbl_capture.proofs.messages.read_and_deliver.Goals as goal
 
@@ -356,6 +356,7 @@ returns-in_err-bytes-clause-report g c = record {
   awaits = search rules;
   waits = search rules;
   grows = λ s left is may. longer_grows s.history left.history (c.read.ensures.left s left is may).grows;
+  confirmed = λ s t was now. (c.read.ensures.left s (left_of t) was (g.met.S.Source.may c.read.new.self t now)).confirmed;
 }
 
 pub returns-in_err-commit-in-Some-clause-report : goal.returns-in_err-commit-in-Some-clause-report
@@ -374,6 +375,7 @@ returns-in_err-commit-in-Some-clause-report g c = record {
   awaits = search rules;
   waits = search rules;
   grows = λ s left is may. longer_grows s.history left.history (c.read.ensures.left s left is may).grows;
+  confirmed = λ s t was now. (c.read.ensures.left s (left_of t) was (g.met.S.Source.may c.read.new.self t now)).confirmed;
 }
 
 pub returns-in_err-closed-in-Some-2-clause-report : goal.returns-in_err-closed-in-Some-2-clause-report
@@ -393,6 +395,7 @@ returns-in_err-closed-in-Some-2-clause-report g c = record {
   awaits = search rules;
   waits = search rules;
   grows = λ s left is may. longer_grows s.history left.history (c.read.ensures.left s left is may).grows;
+  confirmed = λ s t was now. (c.read.ensures.left s (left_of t) was (g.met.S.Source.may c.read.new.self t now)).confirmed;
 }
 
 pub returns-in-Some-2-clause-report : goal.returns-in-Some-2-clause-report
@@ -410,6 +413,7 @@ returns-in-Some-2-clause-report g c = record {
       c.in_ok-closed-in-Some-2.ensures.stepped (λ is. g.met.S.Source.right c.read.new.self read.2.standing _ read.2.is honest is);
   waits = search rules;
   grows = λ s left is may. longer_grows s.history left.history (c.read.ensures.left s left is may).grows;
+  confirmed = λ s t was now. (c.read.ensures.left s (left_of t) was (g.met.S.Source.may c.read.new.self t now)).confirmed;
 }
 
 pub returns-in-Some-clause-report : goal.returns-in-Some-clause-report
@@ -424,6 +428,7 @@ returns-in-Some-clause-report g c = record {
       (subst (WasTaken a.reading.after a.reading.messages c.in-Some.bytes c.args.work.now c.take_message.new.work) c.in-None-2.is (c.in_ok-commit-in-Some.ensures.taken a.reading.after a.reading.messages own));
   waits = search rules;
   grows = λ s left is may. longer_grows s.history left.history (c.read.ensures.left s left is may).grows;
+  confirmed = λ s t was now. (c.read.ensures.left s (left_of t) was (g.met.S.Source.may c.read.new.self t now)).confirmed;
 }
 
 pub returns-clause-report : goal.returns-clause-report
@@ -440,6 +445,7 @@ returns-clause-report g c = record {
       let t = none_read _ _ _ c.in-None.is (c.in_ok-bytes.ensures.took a.standing a.is) in
       awaits_nothing g.S.Source c.args.work.now c.args.src.now t.standing a own.accepted t.holds.0 (t.holds.1 honest);
   grows = λ s left is may. longer_grows s.history left.history (c.read.ensures.left s left is may).grows;
+  confirmed = λ s t was now. (c.read.ensures.left s (left_of t) was (g.met.S.Source.may c.read.new.self t now)).confirmed;
 }
 
 pub returns-in_err-bytes-clause-puts : goal.returns-in_err-bytes-clause-puts

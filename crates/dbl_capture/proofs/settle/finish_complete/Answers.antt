@@ -24,6 +24,7 @@ use Rattle.dbl_capture_laws.specs.Nevers.{IsFaithfulHalt}
 use Rattle.dbl_capture_laws.proofs.HasState.{marks_stood, memory_stood}
 use Rattle.dbl_capture_laws.proofs.Unclosed.{closed_at_halt}
 use Rattle.dbl_capture_laws.proofs.Advancing.{longer_left}
+use Rattle.dbl_capture_laws.proofs.Confirming.{confirmed_on}
 use Rattle.dbl_capture.proofs.settle.finish_complete.Goals as goal
 
 pub returns-in_err-copy-in-Some-clause-session : goal.returns-in_err-copy-in-Some-clause-session
@@ -129,6 +130,8 @@ returns-in_err-copy-in-Some-clause-report g c = record {
       residual_of c.from_residual.result halt.Memory (Halts g.S.Source at found b.config b.now b.held c.args.store.now.offset c.args.report.now c.args.src.now) c.from_residual.ensures.1
       (record { halted = halts_between g.S.Source at found b c.args.store.now.offset c.args.store.now.offset c.args.work.now c.args.report.now c.args.report.now c.args.src.now c.args.src.now halt.Memory (at_rest g.S.Source at found b c.args.store.now.offset c.args.work.now c.args.report.now c.args.src.now u) (none_taken (g.S.Source.told c.args.src.now)) (λ s t was now. ap (λ (x : SourceState). x.reading) (g.met.S.Source.one c.args.src.now t s now was)) memory_left refl refl (inl refl); stood = λ s first. memory_stood b.config b.now b.held c.args.store.now.offset c.args.report.now (g.S.Source.stands c.args.src.now) halt.Memory refl; cause = memory_caused b.config b.now b.held c.args.store.now.offset c.args.report.now (g.S.Source.told c.args.src.now) halt.Memory refl; must = quiet_asks b u.messages c.args.store.now.offset c.args.work.now c.args.report.now c.args.report.now found (g.S.Source.told c.args.src.now) c.args.store.now.offset (Err halt.Memory) u.is.is u.tells (read_quiet (g.S.Source.told c.args.src.now) None answer) (inl refl) });
   grows = λ s left is may. longer_left s left (g.met.S.Source.only c.args.src.now s left is may);
+  confirmed = λ held s t was now confirmed.
+      confirmed_on held c.args.store.now.offset c.args.store.now.offset s t refl (ap (λ (x : SourceState). x.confirmed) (g.met.S.Source.one c.args.src.now t s now was)) confirmed;
 }
 
 pub returns-in_ok-copy-in-Some-clause-report : goal.returns-in_ok-copy-in-Some-clause-report
@@ -137,6 +140,8 @@ returns-in_ok-copy-in-Some-clause-report g c = record {
   halted = λ at found b u answer.
       record { halted = halts_between g.S.Source at found b c.args.store.now.offset c.args.store.now.offset c.args.work.now c.args.report.now c.args.report.now c.args.src.now c.args.src.now _ (at_rest g.S.Source at found b c.args.store.now.offset c.args.work.now c.args.report.now c.args.src.now u) (none_taken (g.S.Source.told c.args.src.now)) (λ s t was now. ap (λ (x : SourceState). x.reading) (g.met.S.Source.one c.args.src.now t s now was)) refl refl refl (inl refl); stood = λ s first. marks_stood g.S.Source at found b c.args.store.now.offset c.args.work.now c.args.src.now c.args.src.now c.args.report.now _ u (sym c.in-Some.ensures.text ∙ ap (λ (v : List ℕ). Some v) (sym c.in_ok-copy-in-Some.ensures)) s first; cause = missed_caused b u.messages c.args.store.now.offset c.args.work.now c.args.report.now found (g.S.Source.told c.args.src.now) _ u.is u.tells (sym c.in-Some.ensures.text ∙ ap (λ (v : List ℕ). Some v) (sym c.in_ok-copy-in-Some.ensures)) answer; must = quiet_asks b u.messages c.args.store.now.offset c.args.work.now c.args.report.now c.args.report.now found (g.S.Source.told c.args.src.now) c.args.store.now.offset _ u.is.is u.tells (read_quiet (g.S.Source.told c.args.src.now) None answer) (inl refl) };
   grows = λ s left is may. longer_left s left (g.met.S.Source.only c.args.src.now s left is may);
+  confirmed = λ held s t was now confirmed.
+      confirmed_on held c.args.store.now.offset c.args.store.now.offset s t refl (ap (λ (x : SourceState). x.confirmed) (g.met.S.Source.one c.args.src.now t s now was)) confirmed;
 }
 
 pub returns-in-None-clause-report : goal.returns-in-None-clause-report
@@ -144,6 +149,7 @@ returns-in-None-clause-report g c = record {
   all = λ at found b u. c.store_and_confirm.ensures.report.all at found b (at_rest g.S.Source at found b c.args.store.now.offset c.args.work.now c.args.report.now c.args.src.now u);
   halted = λ at found b u answer. c.store_and_confirm.ensures.report.halted at found b (at_rest g.S.Source at found b c.args.store.now.offset c.args.work.now c.args.report.now c.args.src.now u) (read_quiet (g.S.Source.told c.args.src.now) None answer);
   grows = c.store_and_confirm.ensures.report.grows;
+  confirmed = c.store_and_confirm.ensures.report.confirmed;
 }
 
 pub returns-in_err-copy-in-Some-clause-puts : goal.returns-in_err-copy-in-Some-clause-puts

@@ -1,4 +1,4 @@
-use Rattle.std.proofs.Common.{◌≡◌, ◌∙◌, ◌⊎◌, Err, Option, Some, subst, inl, inr, refl, sym, ap, le_refl, rules, []}
+use Rattle.std.proofs.Common.{◌≡◌, ◌∙◌, ◌⊎◌, Err, Option, Some, subst, inl, inr, refl, sym, ap, le_refl, rules, [], ◌≤◌}
 use Rattle.dbl_source.specs.SourceModel.Calls.{IsConfirmed}
 use Rattle.dbl_source.specs.SourceModel.Leaves.{MayFollowConfirm}
 use Rattle.dbl_offset_content.specs.declared.offset.Offset.{Offset}
@@ -36,6 +36,7 @@ use Rattle.dbl_capture_laws.proofs.Awaited.{awaits_still}
 use Rattle.dbl_capture_laws.specs.HasState.{IsHaltStanding}
 use Rattle.dbl_capture_laws.proofs.Unclosed.{closed_at_halt}
 use Rattle.dbl_capture_laws.proofs.Advancing.{longer_grows, longer_left}
+use Rattle.dbl_capture_laws.proofs.Confirming.{confirmed_next, confirmed_on, greater}
 use Rattle.dbl_capture.proofs.settle.store_and_confirm.Goals as goal
 
 -- nothing was asked of the three yet
@@ -225,6 +226,8 @@ returns-in_err-offset-clause-report g c = record {
       (record { halted = halts_between g.S.Source at found b c.args.store.now.offset c.args.store.now.offset c.args.work.now c.args.report.now c.args.report.now c.args.src.now c.args.src.now halt.Memory u (none_taken (g.S.Source.told c.args.src.now)) (λ s t was now. ap (λ (x : SourceState). x.reading) (g.met.S.Source.one c.args.src.now t s now was)) memory_left refl refl (inl refl); stood = λ s first. memory_stood b.config b.now b.held c.args.store.now.offset c.args.report.now (g.S.Source.stands c.args.src.now) halt.Memory refl; cause = memory_caused b.config b.now b.held c.args.store.now.offset c.args.report.now (g.S.Source.told c.args.src.now) halt.Memory refl; must = quiet_asks b u.messages c.args.store.now.offset c.args.work.now c.args.report.now c.args.report.now found (g.S.Source.told c.args.src.now) c.args.store.now.offset (Err halt.Memory) u.is u.tells quiet (inl refl) });
   awaits = search rules;
   grows = λ s left is may. longer_left s left (g.met.S.Source.only c.args.src.now s left is may);
+  confirmed = λ held s t was now confirmed.
+      confirmed_on held c.args.store.now.offset c.args.store.now.offset s t refl (ap (λ (x : SourceState). x.confirmed) (g.met.S.Source.one c.args.src.now t s now was)) confirmed;
 }
 
 pub returns-in_err-put_offset-clause-report : goal.returns-in_err-put_offset-clause-report
@@ -235,6 +238,8 @@ returns-in_err-put_offset-clause-report g c = record {
       (record { halted = halts_between g.S.Source at found b c.args.store.now.offset c.put_offset.new.store.offset c.args.work.now c.args.report.now c.args.report.now c.args.src.now c.args.src.now _ u (none_taken (g.S.Source.told c.args.src.now)) (λ s t was now. ap (λ (x : SourceState). x.reading) (g.met.S.Source.one c.args.src.now t s now was)) (store_left _ _ c.in_err-put_offset.ensures.halt) refl refl (inl c.in_err-put_offset.ensures.keeps); stood = λ s first. subst (λ (o : Option Offset). IsHaltStanding b.config b.now b.held o c.args.report.now (g.S.Source.stands c.args.src.now) c.in_err-put_offset.field-0.0) (sym c.in_err-put_offset.ensures.keeps) (offsets_stood g.S.Source at found b c.args.store.now.offset c.args.work.now c.args.src.now c.args.src.now c.args.report.now c.in_err-put_offset.field-0.0 u (subst IsOffset c.in_ok-offset.ensures.next c.in_ok-offset.ensures.asked) (subst (λ (o : Offset). (c.in_err-put_offset.field-0.0 ≡ halt.Memory) ⊎ ((c.in_err-put_offset.field-0.0 ≡ halt.Offsets) ⊎ IsTooLong o c.in_err-put_offset.field-0.0)) c.in_ok-offset.ensures.next c.in_err-put_offset.ensures.halt) s first); cause = subst (λ (o : Option Offset). IsHalt b.config b.now b.held o c.args.report.now (g.S.Source.told c.args.src.now) c.in_err-put_offset.field-0.0) (sym c.in_err-put_offset.ensures.keeps) (store_caused b u.messages c.args.store.now.offset c.args.work.now c.args.report.now found (g.S.Source.told c.args.src.now) _ u.is u.tells (subst IsOffset c.in_ok-offset.ensures.next c.in_ok-offset.ensures.asked) (subst (λ (o : Offset). (c.in_err-put_offset.field-0.0 ≡ halt.Memory) ⊎ ((c.in_err-put_offset.field-0.0 ≡ halt.Offsets) ⊎ IsTooLong o c.in_err-put_offset.field-0.0)) c.in_ok-offset.ensures.next c.in_err-put_offset.ensures.halt)); must = quiet_asks b u.messages c.args.store.now.offset c.args.work.now c.args.report.now c.args.report.now found (g.S.Source.told c.args.src.now) c.put_offset.new.store.offset (Err c.in_err-put_offset.field-0.0) u.is u.tells quiet (inl c.in_err-put_offset.ensures.keeps) });
   awaits = search rules;
   grows = λ s left is may. longer_left s left (g.met.S.Source.only c.args.src.now s left is may);
+  confirmed = λ held s t was now confirmed.
+      confirmed_on held c.args.store.now.offset c.put_offset.new.store.offset s t c.in_err-put_offset.ensures.keeps (ap (λ (x : SourceState). x.confirmed) (g.met.S.Source.one c.args.src.now t s now was)) confirmed;
 }
 
 pub returns-in_err-confirm-clause-report : goal.returns-in_err-confirm-clause-report
@@ -251,6 +256,8 @@ returns-in_err-confirm-clause-report g c = record {
       });
   awaits = search rules;
   grows = λ s left is may. longer_grows s.history left.history (c.confirm.ensures.left s left is may).grows;
+  confirmed = λ held s t was now confirmed.
+      absurd (dead_source (g.S.Source.is_live c.confirm.new.self) (g.met.S.Source.lives c.confirm.new.self t now) c.in_err-confirm.ensures.dead);
 }
 
 pub returns-clause-report : goal.returns-clause-report
@@ -263,6 +270,11 @@ returns-clause-report g c = record {
       let t = c.in_ok-confirm.ensures.confirmed a.standing a.is in
       awaits_still g.S.Source c.args.work.now (record c.args.work.now { since = 0 }) c.args.src.now c.confirm.new.self a t.standing t.is t.holds.grows t.holds.reading refl refl;
   grows = λ s left is may. longer_grows s.history left.history (c.confirm.ensures.left s left is may).grows;
+  confirmed = λ held s t was now confirmed.
+      let here = c.in_ok-confirm.ensures.confirmed s was in
+      let same : t ≡ here.standing = g.met.S.Source.one c.confirm.new.self t here.standing now here.is in
+      confirmed_next held c.in_ok-offset.offset c.put_offset.new.store.offset t c.in_ok-put_offset.ensures.loads
+      (subst (λ (x : SourceState). c.in_ok-offset.offset.lsn.0 ≤ x.confirmed.0) (sym same) (greater s.confirmed.0 c.in_ok-offset.offset.lsn.0 here.standing.confirmed.0 here.holds.confirmed));
 }
 
 pub returns-in_err-offset-clause-puts : goal.returns-in_err-offset-clause-puts

@@ -69,6 +69,7 @@ returns-in-Some-clause-report g c = record {
   awaits = c.arm.ensures.report.awaits;
   still = c.arm.ensures.report.still;
   grows = c.arm.ensures.report.grows;
+  confirmed = c.arm.ensures.report.confirmed;
 }
 
 pub returns-in-None-clause-report : goal.returns-in-None-clause-report
@@ -78,6 +79,7 @@ returns-in-None-clause-report g c = record {
   awaits = λ a. a;
   still = λ s t before after. ap (λ (x : SourceState). x.reading) (g.met.S.Source.one c.args.src.now t s after before);
   grows = λ s left is may. longer_left s left (g.met.S.Source.only c.args.src.now s left is may);
+  confirmed = λ s t was now. ap (λ (x : SourceState). x.confirmed) (g.met.S.Source.one c.args.src.now t s now was);
 }
 
 pub returns-in-Some-clause-puts : goal.returns-in-Some-clause-puts

@@ -23,6 +23,7 @@ use Rattle.dbl_capture_laws.proofs.Unclosed.{closed_at_halt}
 use Rattle.dbl_capture_laws.specs.Sessions.{state_at_stage}
 use Rattle.dbl_capture_laws.proofs.Advancing.{advances_by, advances_stored, brought_next, brought_rest, leaves_advanced, longer_on}
 use Rattle.dbl_source.specs.SourceModel.Standings.{left_of}
+use Rattle.dbl_capture_laws.proofs.Confirming.{confirmed_on}
 use Rattle.dbl_capture.proofs.turns.process_message.Goals as goal
 
 pub read_and_deliver-requires : goal.read_and_deliver-requires
@@ -442,6 +443,9 @@ returns-in_err-open_next_window-clause-report g c = record {
   halted = λ at found b u. residual_of c.from_residual.result _ (Halts g.S.Source at found b.config b.now b.held c.args.store.now.offset c.args.report.now c.open_next_window.new.src) c.from_residual.ensures.1 (c.in_err-open_next_window.ensures.report.halted at found b c.args.report.now u);
   awaits = search rules;
   unmissed = λ at found b u s first honest a value position is. c.open_next_window.ensures.stops.never value position (residual_is c.from_residual.result c.open_next_window.result _ _ c.in_err-open_next_window.was c.from_residual.ensures.1 is);
+  confirmed = λ first found b u confirmed t now.
+      let s = u.stood first refl in
+      confirmed_on b.held c.args.store.now.offset c.args.store.now.offset s.standing t refl (c.open_next_window.ensures.report.confirmed s.standing t s.is now) (confirmed s.standing s.is);
 }
 
 pub returns-in_err-read_and_deliver-clause-report : goal.returns-in_err-read_and_deliver-clause-report
@@ -451,6 +455,12 @@ returns-in_err-read_and_deliver-clause-report g c = record {
   halted = λ at found b u. residual_of c.from_residual-in_err-read_and_deliver.result _ (Halts g.S.Source at found b.config b.now b.held c.args.store.now.offset c.read_and_deliver.new.report c.read_and_deliver.new.src) c.from_residual-in_err-read_and_deliver.ensures.1 (c.in_err-read_and_deliver.ensures.report.halted at found b (c.in_ok-open_next_window.ensures.report.under_way at found b c.args.report.now u));
   awaits = search rules;
   unmissed = λ at found b u s first honest a value position is. c.read_and_deliver.ensures.stops.never value position (residual_is c.from_residual-in_err-read_and_deliver.result c.read_and_deliver.result _ _ c.in_err-read_and_deliver.was c.from_residual-in_err-read_and_deliver.ensures.1 is);
+  confirmed = λ first found b u confirmed t now.
+      let s = u.stood first refl in
+      let way = c.in_ok-open_next_window.ensures.report.under_way (Some first) found b c.args.report.now u in
+      let r = way.stood first refl in
+      let opened = confirmed_on b.held c.args.store.now.offset c.args.store.now.offset s.standing r.standing refl (c.open_next_window.ensures.report.confirmed s.standing r.standing s.is r.is) (confirmed s.standing s.is) in
+      confirmed_on b.held c.args.store.now.offset c.args.store.now.offset r.standing t refl (c.read_and_deliver.ensures.report.confirmed r.standing t r.is now) opened;
 }
 
 pub returns-in_err-store_and_confirm-in-Some-true-clause-report : goal.returns-in_err-store_and_confirm-in-Some-true-clause-report
@@ -460,6 +470,14 @@ returns-in_err-store_and_confirm-in-Some-true-clause-report g c = record {
   halted = λ at found b u. residual_of c.from_residual-in_err-store_and_confirm-in-Some-true.result _ (Halts g.S.Source at found b.config b.now b.held c.store_and_confirm.new.store.offset c.store_and_confirm.new.report c.store_and_confirm.new.src) c.from_residual-in_err-store_and_confirm-in-Some-true.ensures.1 (c.in_err-store_and_confirm-in-Some-true.ensures.report.halted at found b (goes_true g.S.Source at found b c.args.store.now.offset c.read_and_deliver.new.work c.read_and_deliver.new.report c.read_and_deliver.new.src _ c.in-Some-true.field-0 c.in-Some-true.is c.in-Some-true.field-0-test (c.in_ok-read_and_deliver.ensures.report.under_way at found b (c.in_ok-open_next_window.ensures.report.under_way at found b c.args.report.now u))) c.in_ok-read_and_deliver.ensures.state.quiet);
   awaits = search rules;
   unmissed = λ at found b u s first honest a value position is. c.store_and_confirm.ensures.stops.never value position (residual_is c.from_residual-in_err-store_and_confirm-in-Some-true.result c.store_and_confirm.result _ _ c.in_err-store_and_confirm-in-Some-true.was c.from_residual-in_err-store_and_confirm-in-Some-true.ensures.1 is);
+  confirmed = λ first found b u confirmed t now.
+      let s = u.stood first refl in
+      let way = c.in_ok-open_next_window.ensures.report.under_way (Some first) found b c.args.report.now u in
+      let r = way.stood first refl in
+      let opened = confirmed_on b.held c.args.store.now.offset c.args.store.now.offset s.standing r.standing refl (c.open_next_window.ensures.report.confirmed s.standing r.standing s.is r.is) (confirmed s.standing s.is) in
+      let q = (goes_true g.S.Source (Some first) found b c.args.store.now.offset c.read_and_deliver.new.work c.read_and_deliver.new.report c.read_and_deliver.new.src _ c.in-Some-true.field-0 c.in-Some-true.is c.in-Some-true.field-0-test (c.in_ok-read_and_deliver.ensures.report.under_way (Some first) found b way)).stood first refl in
+      let read = confirmed_on b.held c.args.store.now.offset c.args.store.now.offset r.standing q.standing refl (c.read_and_deliver.ensures.report.confirmed r.standing q.standing r.is q.is) opened in
+      c.store_and_confirm.ensures.report.confirmed b.held q.standing t q.is now read;
 }
 
 pub returns-in_ok-store_and_confirm-in-Some-true-clause-report : goal.returns-in_ok-store_and_confirm-in-Some-true-clause-report
@@ -471,6 +489,14 @@ returns-in_ok-store_and_confirm-in-Some-true-clause-report g c = record {
       let armed = c.in_ok-open_next_window.ensures.report.under_way at found b c.args.report.now u in
       c.in_ok-store_and_confirm-in-Some-true.ensures.report.awaits (c.in_ok-read_and_deliver.ensures.report.awaits at found b armed s first (c.store_and_confirm.ensures.source.honest honest) (c.in_ok-open_next_window.ensures.report.awaits a));
   unmissed = λ at found b u s first honest a value position is. cc;
+  confirmed = λ first found b u confirmed t now.
+      let s = u.stood first refl in
+      let way = c.in_ok-open_next_window.ensures.report.under_way (Some first) found b c.args.report.now u in
+      let r = way.stood first refl in
+      let opened = confirmed_on b.held c.args.store.now.offset c.args.store.now.offset s.standing r.standing refl (c.open_next_window.ensures.report.confirmed s.standing r.standing s.is r.is) (confirmed s.standing s.is) in
+      let q = (goes_true g.S.Source (Some first) found b c.args.store.now.offset c.read_and_deliver.new.work c.read_and_deliver.new.report c.read_and_deliver.new.src _ c.in-Some-true.field-0 c.in-Some-true.is c.in-Some-true.field-0-test (c.in_ok-read_and_deliver.ensures.report.under_way (Some first) found b way)).stood first refl in
+      let read = confirmed_on b.held c.args.store.now.offset c.args.store.now.offset r.standing q.standing refl (c.read_and_deliver.ensures.report.confirmed r.standing q.standing r.is q.is) opened in
+      c.store_and_confirm.ensures.report.confirmed b.held q.standing t q.is now read;
 }
 
 pub returns-in_err-finish_complete-in-None-clause-report : goal.returns-in_err-finish_complete-in-None-clause-report
@@ -483,6 +509,14 @@ returns-in_err-finish_complete-in-None-clause-report g c = record {
       let armed = c.in_ok-open_next_window.ensures.report.under_way at found b c.args.report.now u in
       c.finish_complete.ensures.stops.unmissed (c.read_and_deliver.ensures.report.waits at found b armed s first (c.finish_complete.ensures.source.honest honest) (c.in_ok-open_next_window.ensures.report.awaits a) (c.in_ok-read_and_deliver.was ∙ ap (λ o. Ok o) c.in-None.is)) value position
       (residual_is c.from_residual-in_err-finish_complete-in-None.result c.finish_complete.result _ _ c.in_err-finish_complete-in-None.was c.from_residual-in_err-finish_complete-in-None.ensures.1 is);
+  confirmed = λ first found b u confirmed t now.
+      let s = u.stood first refl in
+      let way = c.in_ok-open_next_window.ensures.report.under_way (Some first) found b c.args.report.now u in
+      let r = way.stood first refl in
+      let opened = confirmed_on b.held c.args.store.now.offset c.args.store.now.offset s.standing r.standing refl (c.open_next_window.ensures.report.confirmed s.standing r.standing s.is r.is) (confirmed s.standing s.is) in
+      let q = (goes_none g.S.Source (Some first) found b c.args.store.now.offset c.read_and_deliver.new.work c.read_and_deliver.new.report c.read_and_deliver.new.src _ c.in-None.is (c.in_ok-read_and_deliver.ensures.report.under_way (Some first) found b way)).stood first refl in
+      let read = confirmed_on b.held c.args.store.now.offset c.args.store.now.offset r.standing q.standing refl (c.read_and_deliver.ensures.report.confirmed r.standing q.standing r.is q.is) opened in
+      c.finish_complete.ensures.report.confirmed b.held q.standing t q.is now read;
 }
 
 pub returns-in_ok-finish_complete-in-None-clause-report : goal.returns-in_ok-finish_complete-in-None-clause-report
@@ -492,6 +526,14 @@ returns-in_ok-finish_complete-in-None-clause-report g c = record {
   halted = search rules;
   awaits = λ at found b u s first honest a is. cc;
   unmissed = λ at found b u s first honest a value position is. cc;
+  confirmed = λ first found b u confirmed t now.
+      let s = u.stood first refl in
+      let way = c.in_ok-open_next_window.ensures.report.under_way (Some first) found b c.args.report.now u in
+      let r = way.stood first refl in
+      let opened = confirmed_on b.held c.args.store.now.offset c.args.store.now.offset s.standing r.standing refl (c.open_next_window.ensures.report.confirmed s.standing r.standing s.is r.is) (confirmed s.standing s.is) in
+      let q = (goes_none g.S.Source (Some first) found b c.args.store.now.offset c.read_and_deliver.new.work c.read_and_deliver.new.report c.read_and_deliver.new.src _ c.in-None.is (c.in_ok-read_and_deliver.ensures.report.under_way (Some first) found b way)).stood first refl in
+      let read = confirmed_on b.held c.args.store.now.offset c.args.store.now.offset r.standing q.standing refl (c.read_and_deliver.ensures.report.confirmed r.standing q.standing r.is q.is) opened in
+      c.finish_complete.ensures.report.confirmed b.held q.standing t q.is now read;
 }
 
 pub returns-in-Some-false-clause-report : goal.returns-in-Some-false-clause-report
@@ -503,6 +545,12 @@ returns-in-Some-false-clause-report g c = record {
       let armed = c.in_ok-open_next_window.ensures.report.under_way at found b c.args.report.now u in
       c.in_ok-read_and_deliver.ensures.report.awaits at found b armed s first honest (c.in_ok-open_next_window.ensures.report.awaits a);
   unmissed = λ at found b u s first honest a value position is. cc;
+  confirmed = λ first found b u confirmed t now.
+      let s = u.stood first refl in
+      let way = c.in_ok-open_next_window.ensures.report.under_way (Some first) found b c.args.report.now u in
+      let r = way.stood first refl in
+      let opened = confirmed_on b.held c.args.store.now.offset c.args.store.now.offset s.standing r.standing refl (c.open_next_window.ensures.report.confirmed s.standing r.standing s.is r.is) (confirmed s.standing s.is) in
+      confirmed_on b.held c.args.store.now.offset c.args.store.now.offset r.standing t refl (c.read_and_deliver.ensures.report.confirmed r.standing t r.is now) opened;
 }
 
 pub returns-in_err-open_next_window-clause-puts : goal.returns-in_err-open_next_window-clause-puts

@@ -20,6 +20,7 @@ use Rattle.dbl_capture_laws.proofs.Unclosed.{closed_at_halt}
 use Rattle.dbl_capture_laws.specs.Sessions.{state_at_stage}
 use Rattle.dbl_capture_laws.proofs.Advancing.{advances_by, advances_stored, brought_next, brought_rest, leaves_advanced}
 use Rattle.dbl_capture_work.specs.Works.{next_offset_of}
+use Rattle.dbl_capture_laws.proofs.Confirming.{confirmed_on}
 use Rattle.dbl_capture.proofs.turns.process_messages.Goals as goal
 
 pub turns-init : goal.turns-init
@@ -28,6 +29,7 @@ turns-init g c = record {
   under_way = λ at found b u. u;
   awaits = λ at found b u s first a honest. a;
   putting = λ groups at found b u. u;
+  confirmed = λ first found b u confirmed. confirmed;
   quiet = λ some. absurd (omega (arith, some));
   ready = c.requires.ready;
   offset_is = refl;
@@ -58,6 +60,8 @@ turns-preserved g c = record {
   under_way = λ at found b u. c.in_ok-process_message.ensures.report.under_way at found b (c.turns.invariant.under_way at found b u);
   awaits = λ at found b u s first a honest. c.in_ok-process_message.ensures.report.awaits at found b (c.turns.invariant.under_way at found b u) s first honest (c.turns.invariant.awaits at found b u s first a (c.process_message.ensures.source.honest honest)) c.if-branch.false;
   putting = λ groups at found b u. c.in_ok-process_message.ensures.puts.putting groups at found b (c.turns.invariant.putting groups at found b u);
+  confirmed = λ first found b u confirmed.
+      c.process_message.ensures.report.confirmed first found b (c.turns.invariant.under_way (Some first) found b u) (c.turns.invariant.confirmed first found b u confirmed);
   quiet = λ some. c.in_ok-process_message.ensures.state.quiet;
   ready = c.in_ok-process_message.ensures.state.ready;
   offset_is = placed_on c.args.work.now.offset c.turns.work.offset c.process_message.new.work.offset c.turns.invariant.offset_is c.in_ok-process_message.ensures.state.offset_is;
@@ -432,6 +436,8 @@ returns-in_err-process_message-clause-report g c = record {
   all = search rules;
   halted = λ at found b u. residual_of c.from_residual.result _ (Halts g.S.Source at found b.config b.now b.held c.process_message.new.store.offset c.process_message.new.report c.process_message.new.src) c.from_residual.ensures.1 (c.in_err-process_message.ensures.report.halted at found b (c.turns.invariant.under_way at found b u));
   unmissed = λ at found b u s first honest a value position is. c.process_message.ensures.report.unmissed at found b (c.turns.invariant.under_way at found b u) s first honest (c.turns.invariant.awaits at found b u s first a (c.process_message.ensures.source.honest honest)) value position (residual_is c.from_residual.result c.process_message.result _ _ c.in_err-process_message.was c.from_residual.ensures.1 is);
+  confirmed = λ first found b u confirmed.
+      c.process_message.ensures.report.confirmed first found b (c.turns.invariant.under_way (Some first) found b u) (c.turns.invariant.confirmed first found b u confirmed);
 }
 
 pub returns-in_err-open_next_window-clause-report : goal.returns-in_err-open_next_window-clause-report
@@ -439,6 +445,9 @@ returns-in_err-open_next_window-clause-report g c = record {
   all = search rules;
   halted = λ at found b u. residual_of c.from_residual-in_err-open_next_window.result _ (Halts g.S.Source at found b.config b.now b.held c.turns.store.offset c.turns.report c.open_next_window.new.src) c.from_residual-in_err-open_next_window.ensures.1 (c.in_err-open_next_window.ensures.report.halted at found b c.turns.report (c.turns.invariant.under_way at found b u));
   unmissed = λ at found b u s first honest a value position is. c.open_next_window.ensures.stops.never value position (residual_is c.from_residual-in_err-open_next_window.result c.open_next_window.result _ _ c.in_err-open_next_window.was c.from_residual-in_err-open_next_window.ensures.1 is);
+  confirmed = λ first found b u confirmed t now.
+      let s = (c.turns.invariant.under_way (Some first) found b u).stood first refl in
+      confirmed_on b.held c.turns.store.offset c.turns.store.offset s.standing t refl (c.open_next_window.ensures.report.confirmed s.standing t s.is now) (c.turns.invariant.confirmed first found b u confirmed s.standing s.is);
 }
 
 pub returns-in_err-store_and_confirm-clause-report : goal.returns-in_err-store_and_confirm-clause-report
@@ -446,6 +455,12 @@ returns-in_err-store_and_confirm-clause-report g c = record {
   all = search rules;
   halted = λ at found b u. residual_of c.from_residual-in_err-store_and_confirm.result _ (Halts g.S.Source at found b.config b.now b.held c.store_and_confirm.new.store.offset c.store_and_confirm.new.report c.store_and_confirm.new.src) c.from_residual-in_err-store_and_confirm.ensures.1 (c.in_err-store_and_confirm.ensures.report.halted at found b (at_rest g.S.Source at found b c.turns.store.offset c.open_next_window.new.work c.turns.report c.open_next_window.new.src (c.in_ok-open_next_window.ensures.report.under_way at found b c.turns.report (c.turns.invariant.under_way at found b u))) (c.in_ok-open_next_window.ensures.state.quiet (c.turns.invariant.quiet (omega (arith, c.requires.some, c.turns-test.false)))));
   unmissed = λ at found b u s first honest a value position is. c.store_and_confirm.ensures.stops.never value position (residual_is c.from_residual-in_err-store_and_confirm.result c.store_and_confirm.result _ _ c.in_err-store_and_confirm.was c.from_residual-in_err-store_and_confirm.ensures.1 is);
+  confirmed = λ first found b u confirmed t now.
+      let on = c.turns.invariant.under_way (Some first) found b u in
+      let s = on.stood first refl in
+      let r = (c.in_ok-open_next_window.ensures.report.under_way (Some first) found b c.turns.report on).stood first refl in
+      let opened = confirmed_on b.held c.turns.store.offset c.turns.store.offset s.standing r.standing refl (c.open_next_window.ensures.report.confirmed s.standing r.standing s.is r.is) (c.turns.invariant.confirmed first found b u confirmed s.standing s.is) in
+      c.store_and_confirm.ensures.report.confirmed b.held r.standing t r.is now opened;
 }
 
 pub returns-clause-report : goal.returns-clause-report
@@ -453,6 +468,12 @@ returns-clause-report g c = record {
   all = λ at found b u. c.in_ok-store_and_confirm.ensures.report.all at found b (at_rest g.S.Source at found b c.turns.store.offset c.open_next_window.new.work c.turns.report c.open_next_window.new.src (c.in_ok-open_next_window.ensures.report.under_way at found b c.turns.report (c.turns.invariant.under_way at found b u)));
   halted = search rules;
   unmissed = λ at found b u s first honest a value position is. cc;
+  confirmed = λ first found b u confirmed t now.
+      let on = c.turns.invariant.under_way (Some first) found b u in
+      let s = on.stood first refl in
+      let r = (c.in_ok-open_next_window.ensures.report.under_way (Some first) found b c.turns.report on).stood first refl in
+      let opened = confirmed_on b.held c.turns.store.offset c.turns.store.offset s.standing r.standing refl (c.open_next_window.ensures.report.confirmed s.standing r.standing s.is r.is) (c.turns.invariant.confirmed first found b u confirmed s.standing s.is) in
+      c.store_and_confirm.ensures.report.confirmed b.held r.standing t r.is now opened;
 }
 
 pub returns-then-branch-clause-report : goal.returns-then-branch-clause-report
@@ -460,6 +481,8 @@ returns-then-branch-clause-report g c = record {
   all = λ at found b u. c.process_message.ensures.report.all at found b (c.turns.invariant.under_way at found b u) (c.in_ok-process_message.was ∙ ap (λ (x : Bool). Ok x) c.if-branch.true);
   halted = search rules;
   unmissed = λ at found b u s first honest a value position is. cc;
+  confirmed = λ first found b u confirmed.
+      c.process_message.ensures.report.confirmed first found b (c.turns.invariant.under_way (Some first) found b u) (c.turns.invariant.confirmed first found b u confirmed);
 }
 
 pub returns-in_err-process_message-clause-puts : goal.returns-in_err-process_message-clause-puts

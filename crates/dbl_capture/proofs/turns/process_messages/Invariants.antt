@@ -13,6 +13,7 @@ use Rattle.dbl_capture_laws.specs.Caused.{IsQuiet}
 use Rattle.dbl_capture_laws.specs.Awaited.{Awaits}
 use Rattle.dbl_capture_laws.specs.Sinks.{IsPutting}
 use Rattle.dbl_capture.proofs.turns.process_messages.Given as goal
+use Rattle.dbl_capture_laws.specs.Found.{HasConfirmed}
 
 abbrev pub invariant-turns : goal.invariant-turns
 invariant-turns g l = record {
@@ -24,6 +25,8 @@ invariant-turns g l = record {
       Awaits g.S.Source.stands l.fn.work l.fn.src → g.S.Source.honest l.src → Awaits g.S.Source.stands l.work l.src;
   putting : (groups : List (List Record)) (at : Option SourceState) (found : Option Trace) (b : Beginning) → IsPutting g.S.Source g.K.Sink groups at found b l.fn.store.offset l.fn.work l.fn.report l.fn.src l.fn.sink →
       IsPutting g.S.Source g.K.Sink groups at found b l.store.offset l.work l.report l.src l.sink;
+  confirmed : (first : SourceState) (found : Option Trace) (b : Beginning) → IsUnderWay g.S.Source (Some first) found b l.fn.store.offset l.fn.work l.fn.report l.fn.src →
+      ((s : SourceState) → g.S.Source.stands l.fn.src s → HasConfirmed b.held l.fn.store.offset s) → (t : SourceState) → g.S.Source.stands l.src t → HasConfirmed b.held l.store.offset t;
   quiet : 1 ≤ l._count → IsQuiet (g.S.Source.told l.src);
   ready : HasReadyWork l.work;
   offset_is : l.work.offset ≡ record l.fn.work.offset { lsn = l.work.offset.lsn; end_lsn = l.work.offset.end_lsn };

@@ -83,6 +83,9 @@ returns-clause-report g c = record {
       let planned = plan_here c.args.work.now c.args.table c.requires.ready c.requires.is_open in
       let marked = c.read_window.ensures.left planned.0 planned.1 s left is may in
       (marked.more, marked.grown);
+  confirmed = λ s t was now.
+      let planned = plan_here c.args.work.now c.args.table c.requires.ready c.requires.is_open in
+      (c.read_window.ensures.left planned.0 planned.1 s (left_of t) was (g.met.S.Source.may c.read_window.new.src t now)).confirmed;
 }
 
 pub returns-clause-puts : goal.returns-clause-puts

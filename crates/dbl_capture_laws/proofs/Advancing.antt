@@ -1,12 +1,11 @@
 -- How far the closed windows of a session have advanced the stored cursors.
-use Rattle.std.proofs.Common.{◌≡◌, ◌∙◌, ◌⊎◌, inl, inr, ◌+◌, ◌*◌, ◌≤◌, zero-le, ℕ, Bool, true, false, Option, Some, None, List, [], ◌++◌, refl, sym, ap, subst, arith, append-nil, append_assoc}
+use Rattle.std.proofs.Common.{◌≡◌, ◌∙◌, ◌⊎◌, inl, inr, ◌+◌, ◌*◌, ◌≤◌, ℕ, Bool, true, false, Option, Some, None, List, [], ◌++◌, refl, sym, ap, subst, arith, append-nil, append_assoc}
 use Rattle.std.specs.Prelude.{Result, Ok, Err, OnErr}
 use Rattle.dbl_pgmsg.specs.declared.messages.Message.{Message}
 use Rattle.dbl_topic.specs.Model.{SinkModel}
 use Rattle.dbl_model_table.specs.declared.config.Config.{Config}
 use Rattle.dbl_capture_work.specs.Source.Model.{SourceModel}
 use Rattle.dbl_capture_work.specs.Disk.Model.{DiskModel}
-use Rattle.dbl_capture_work.specs.Faithful.Kept.{HasGrown}
 use Rattle.dbl_capture_work.specs.ModelHistory.History.{RawCommit, History}
 use Rattle.dbl_capture_work.specs.SourceModel.Growth.{Grows}
 use Rattle.dbl_capture_work.specs.SourceModel.Standings.{SourceState, CrashState, left_of}
@@ -85,6 +84,9 @@ and_none n = omega arith
 no_rows : (chunk : ℕ) → 0 ≡ 0 * chunk
 no_rows chunk = omega arith
 
+none_fewer : (n : ℕ) → 0 ≤ n
+none_fewer n = omega arith
+
 begun_with : (config : Config) (found : Option Offset) (offset : Offset) → IsOffsetFor config found offset → WereBegun found offset.cursors
 begun_with config None offset for = for.5.each
 begun_with config (Some old) offset for = ap (λ (o : Offset). o.cursors) for
@@ -92,7 +94,7 @@ begun_with config (Some old) offset for = ap (λ (o : Offset). o.cursors) for
 -- no window advanced the cursors of the first offset
 pub advances_first : (config : Config) (found : Option Offset) (offset : Offset) (stored : Option Offset) (chunks : ℕ) (history : History) → IsOffsetFor config found offset → stored ≡ Some offset
     → AdvancesAtMost config.chunk chunks history found stored
-advances_first config found offset stored chunks history for is = inr (0, zero-le, record {
+advances_first config found offset stored chunks history for is = inr (0, none_fewer chunks, record {
   begun = offset.cursors;
   begun_with = begun_with config found offset for;
   offset = offset;

@@ -94,24 +94,28 @@ begun_with config (Some old) offset for = ap (λ (o : Offset). o.cursors) for
 -- no window advanced the cursors of the first offset
 pub advances_first : (config : Config) (found : Option Offset) (offset : Offset) (stored : Option Offset) (chunks : ℕ) (history : History) → IsOffsetFor config found offset → stored ≡ Some offset
     → AdvancesAtMost config.chunk chunks history found stored
-advances_first config found offset stored chunks history for is = inr (0, none_fewer chunks, record {
-  begun = offset.cursors;
-  begun_with = begun_with config found offset for;
-  offset = offset;
-  is = is;
-  advanced = record {
-    full = 0;
-    ended = 0;
-    each = refl;
-    tables = and_none (ended_of offset.cursors);
-    read = [];
-    many = no_rows config.chunk;
-    were = tt;
-    unread = tt;
-    apart = record { apart = λ i j pair one two. (let wrong : ⊥ = cc in absurd wrong) };
-    later = cursors_stay offset.cursors;
-  };
-})
+advances_first config found offset stored chunks history for is = inr (
+  0,
+  none_fewer chunks,
+  record {
+    begun = offset.cursors;
+    begun_with = begun_with config found offset for;
+    offset = offset;
+    is = is;
+    advanced = record {
+      full = 0;
+      ended = 0;
+      each = refl;
+      tables = and_none (ended_of offset.cursors);
+      read = [];
+      many = no_rows config.chunk;
+      were = tt;
+      unread = tt;
+      apart = record { apart = λ i j pair one two. (let wrong : ⊥ = cc in absurd wrong) };
+      later = cursors_stay offset.cursors;
+    };
+  },
+)
 
 pub advances_or_first : (config : Config) (found : Option Offset) (stored : Option Offset) (chunks : ℕ) (history : History) → (stored ≡ found) ⊎ ((offset : Offset) × (stored ≡ Some offset) × IsOffsetFor config found offset)
     → AdvancesAtMost config.chunk chunks history found stored

@@ -1,9 +1,13 @@
 -- How far the closed windows of a session have advanced the stored cursors.
-use Rattle.std.proofs.Common.{◌≡◌, ◌∙◌, ◌⊎◌, inl, inr, ◌+◌, ◌*◌, ◌≤◌, ℕ, Bool, true, false, Option, Some, None, List, [], ◌++◌, refl, sym, ap, subst, arith, append-nil, append_assoc}
+use Rattle.std.proofs.Common.{◌≡◌, ◌∙◌, ◌⊎◌, inl, inr, ◌+◌, ◌*◌, ◌≤◌, ℕ, Bool, true, false, Option, Some, None, List, [], ◌++◌, length, refl, sym, ap, subst, arith, append-nil, append_assoc}
 use Rattle.std.specs.Prelude.{Result, Ok, Err, OnErr}
 use Rattle.dbl_pgmsg.specs.declared.messages.Message.{Message}
 use Rattle.dbl_topic.specs.Model.{SinkModel}
 use Rattle.dbl_model_table.specs.declared.config.Config.{Config}
+use Rattle.dbl_model_table.specs.declared.row.Key.{Key}
+use Rattle.dbl_model_table.specs.declared.table.TableInfo.{TableInfo}
+use Rattle.dbl_model_table.specs.Rows.{Rows}
+use Rattle.dbl_capture_work.specs.ModelHistory.declared.cursor.Cursor.{Cursor}
 use Rattle.dbl_capture_work.specs.Source.Model.{SourceModel}
 use Rattle.dbl_capture_work.specs.Disk.Model.{DiskModel}
 use Rattle.dbl_capture_work.specs.ModelHistory.History.{RawCommit, History}
@@ -11,10 +15,10 @@ use Rattle.dbl_capture_work.specs.SourceModel.Growth.{Grows}
 use Rattle.dbl_capture_work.specs.SourceModel.Standings.{SourceState, CrashState, left_of}
 use Rattle.dbl_capture_work.specs.Offset.declared.offset.Offset.{Offset}
 use Rattle.dbl_capture_work.specs.OffsetStore.Stores.{StoreOn}
-use Rattle.dbl_capture_work.specs.CaptureModel.Counted.{ended_of, waiting}
+use Rattle.dbl_capture_work.specs.CaptureModel.Counted.{WasRead, ended_of, waiting}
 use Rattle.dbl_capture_work.specs.CaptureModel.Entries.{SessionStart}
 use Rattle.dbl_capture_work.specs.Follow.Followed.{Following}
-use Rattle.dbl_capture_work.proofs.CaptureModelArming.{was_on}
+use Rattle.dbl_capture_work.proofs.CaptureModelArming.{long_on, rows_on}
 use Rattle.dbl_capture_work.proofs.CaptureModelCounts.{come_stays}
 use Rattle.dbl_capture_work.proofs.FaithfulOnward.{cursors_stay}
 use Rattle.dbl_capture_work.specs.Begins.{IsOffsetFor}
@@ -31,6 +35,9 @@ use Rattle.dbl_capture_laws.proofs.Written.{brought_by}
 
 -- ---- a history with further commits
 
+le_on : (a b c : ℕ) → a ≤ b → b ≤ c → a ≤ c
+le_on a b c one two = omega (arith, one, two)
+
 pub longer_grows : (old new : History) → Grows old new → IsLonger old new
 longer_grows old new g = (g.others, record { tables = g.tables; commits = g.commits })
 
@@ -46,13 +53,25 @@ longer_on first second third one two = (
   },
 )
 
+-- what the windows read was read
+was_on : (infos : List TableInfo) (old new : History) (longer : IsLonger old new) (cursors : List Cursor) (pair : ℕ × Key) → WasRead infos old cursors pair → WasRead infos new cursors pair
+was_on infos old new longer cursors pair was = record {
+  place = was.place;
+  row = was.row;
+  within = le_on was.place (length old.commits) (length new.commits) was.within (long_on old new longer.0 longer.1.commits);
+  was = ap (λ (at : Rows). at pair.0 pair.1) (rows_on old new longer.0 longer.1.commits infos was.place was.within) ∙ was.was;
+  cursor = was.cursor;
+  cursor_is = was.cursor_is;
+  read = was.read;
+}
+
 brought_longer : (chunk windows : ℕ) (old new : History) (found stored : Option Offset) → IsLonger old new → HaveBrought chunk windows old found stored → HaveBrought chunk windows new found stored
 brought_longer chunk windows old new found stored longer was = record {
   begun = was.begun;
   begun_with = was.begun_with;
   offset = was.offset;
   is = was.is;
-  advanced = come_stays was.offset.infos chunk windows old new was.begun was.offset.cursors (was_on old new longer.0 longer.1.commits was.offset.infos was.offset.cursors) was.advanced;
+  advanced = come_stays was.offset.infos chunk windows old new was.begun was.offset.cursors (was_on was.offset.infos old new longer was.offset.cursors) was.advanced;
 }
 
 -- ---- where it stops

@@ -89,7 +89,7 @@ module _ (old new : History) (more : List RawCommit) (is : new.commits ≡ old.c
       (ap (λ (l : List Commit). take place l) (map_append (typed_commit infos) old.commits more)
       ∙ take_within place (typed infos old) (map (typed_commit infos) more) (subst (λ (n : ℕ). place ≤ n) (sym (length-map old.commits (typed_commit infos))) le))
 
-  pub was_on : (infos : List TableInfo) (cursors : List Cursor) (pair : ℕ × Key) → WasRead infos old cursors pair → WasRead infos new cursors pair
+  was_on : (infos : List TableInfo) (cursors : List Cursor) (pair : ℕ × Key) → WasRead infos old cursors pair → WasRead infos new cursors pair
   was_on infos cursors pair was = record {
     place = was.place;
     row = was.row;

@@ -16,3 +16,4 @@ pub mod VerdictLemmas
 pub mod ExitLemmas
 pub mod WriteLemmas
 pub mod JoinLemmas
+pub mod FirstLemmas

@@ -3,4 +3,5 @@ pub mod AcceptedSteps
 pub mod Written
 pub mod Planned
 pub mod Taking
+pub mod First
 pub mod Laws

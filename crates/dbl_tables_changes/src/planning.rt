@@ -39,7 +39,7 @@ use std::collections::BTreeMap;
 const COLUMN_LIMIT: usize = 1600;
 
 // The size of the entry with one more message of a row. Takes no memory.
-fn measure(table: &DemoTable, size: u64, message: &Message) -> Result<u64, StepError>
+pub(crate) fn measure(table: &DemoTable, size: u64, message: &Message) -> Result<u64, StepError>
     ensures { (messages : List Message) → (length table.now.info.columns ≤ 1600 →
         IsUtf8Change message.now) → size ≤ entry_limit → size ≡ entry_size messages →
         MeasuresEntry table.now messages message.now result }
@@ -134,7 +134,7 @@ fn one_write(
 }
 
 // The row of these cells, which has no null in its key.
-fn read_row(alloc: Global, rows: &Rows, cells: &[NamedCell]) -> Result<RawRow, StepError>
+pub(crate) fn read_row(alloc: Global, rows: &Rows, cells: &[NamedCell]) -> Result<RawRow, StepError>
     ensures reads { HasColumns rows.now.table.info rows.now.places →
         ReadsIfReadable (are_readable (raw_of rows.now.table) cells.now && has_key_texts (raw_of
         rows.now.table) cells.now) result }

@@ -11,3 +11,4 @@ pub mod CutLemmas
 pub mod SelectLemmas
 pub mod SelectStands
 pub mod GatherLemmas
+pub mod FirstLemmas

@@ -37,7 +37,7 @@ use Rattle.dbl_tables.proofs.UntakenLemmas.{stands_untaken}
 
 -- ---- the tables after a change of one
 
-tables_set : (tables : List Rows) (i : ℕ) (was new : Rows) → slice_get tables i ≡ Some was → new.table ≡ was.table → map (λ (r : Rows). r.table) (set tables i new) ≡ map (λ (r : Rows). r.table) tables
+pub tables_set : (tables : List Rows) (i : ℕ) (was new : Rows) → slice_get tables i ≡ Some was → new.table ≡ was.table → map (λ (r : Rows). r.table) (set tables i new) ≡ map (λ (r : Rows). r.table) tables
 tables_set [] i was new there same = cc
 tables_set (r ∷ tables) zero was new there same =
     let e : r ≡ was = cc in
@@ -53,6 +53,58 @@ comes s o old new updates q = updates q ∙ (ap (λ (b : Bool). cond b o (get te
     by : (b : Bool) → cond b o (get text_cmp old.sessions q) ≡ (if b then o else get text_cmp old.sessions q)
     by true = refl
     by false = refl
+
+-- the place of a name is that of the table that is found
+pub found_none : (ts : List Rows) (i oid : ℕ) (name : TableName) → position_from (λ rows. same_name rows.table.info.name name) i ts ≡ None → found_from oid (map (λ (r : Rows). r.table) ts) name ≡ None
+found_none [] i oid name none = refl
+found_none (r ∷ ts) i oid name none = by (same_name r.table.info.name name) refl none (λ later. found_none ts (i + 1) (oid + 1) name later)
+  where
+    by : (b : Bool) → same_name r.table.info.name name ≡ b → (if b then Some i else position_from (λ (x : Rows). same_name x.table.info.name name) (i + 1) ts) ≡ None
+        → (position_from (λ (x : Rows). same_name x.table.info.name name) (i + 1) ts ≡ None → found_from (oid + 1) (map (λ (x : Rows). x.table) ts) name ≡ None)
+        → (if b then Some (let f : FoundTable = record { oid = oid; table = r.table } in f) else found_from (oid + 1) (map (λ (x : Rows). x.table) ts) name) ≡ None
+    by true is none later = cc
+    by false is none later = later none
+
+-- and where there is one
+pub record IsHere (ts : List Rows) (oid i place : ℕ) (name : TableName) : Type 0 where
+  pub rows : Rows
+  pub subsequent : ℕ
+  pub place_is : place ≡ i + subsequent
+  pub there : slice_get ts subsequent ≡ Some rows
+  pub is : found_from oid (map (λ (r : Rows). r.table) ts) name ≡ Some (record { oid = oid + subsequent; table = rows.table })
+
+pub found_here_at : (ts : List Rows) (oid i place : ℕ) (name : TableName) → position_from (λ rows. same_name rows.table.info.name name) i ts ≡ Some place → IsHere ts oid i place name
+found_here_at [] oid i place name is = cc
+found_here_at (r ∷ ts) oid i place name is = by (same_name r.table.info.name name) refl is (λ later. found_here_at ts (oid + 1) (i + 1) place name later)
+  where
+    nothing_more : (n : ℕ) → n ≡ n + 0
+    nothing_more n = omega arith
+
+    one_more : (n b : ℕ) → (n + 1) + b ≡ n + suc b
+    one_more n b = omega arith
+
+    by : (b : Bool) → same_name r.table.info.name name ≡ b → (if b then Some i else position_from (λ (x : Rows). same_name x.table.info.name name) (i + 1) ts) ≡ Some place
+        → (position_from (λ (x : Rows). same_name x.table.info.name name) (i + 1) ts ≡ Some place → IsHere ts (oid + 1) (i + 1) place name) → IsHere (r ∷ ts) oid i place name
+    by true same told later =
+        let e : i ≡ place = cc in
+        record {
+          rows = r;
+          subsequent = 0;
+          place_is = sym e ∙ nothing_more i;
+          there = refl;
+          is = ap (λ (b : Bool). if b then Some (let f : FoundTable = record { oid = oid; table = r.table } in f) else found_from (oid + 1) (map (λ (x : Rows). x.table) ts) name) same
+              ∙ ap (λ (n : ℕ). Some (let f : FoundTable = record { oid = n; table = r.table } in f)) (nothing_more oid);
+        }
+    by false other told later =
+        let h = later told in
+        record {
+          rows = h.rows;
+          subsequent = suc h.subsequent;
+          place_is = h.place_is ∙ one_more i h.subsequent;
+          there = h.there;
+          is = ap (λ (b : Bool). if b then Some (let f : FoundTable = record { oid = oid; table = r.table } in f) else found_from (oid + 1) (map (λ (x : Rows). x.table) ts) name) other
+              ∙ (h.is ∙ ap (λ (n : ℕ). Some (let f : FoundTable = record { oid = n; table = h.rows.table } in f)) (one_more oid h.subsequent));
+        }
 
 module _ (tables : List DemoTable) (past : List Accepted) (s : List ℕ) (t : Tables) (st : Stands tables past t) where
   opened : (o : Option Session) → o ≡ get text_cmp t.sessions s → is_some o ≡ is_open s past
@@ -72,62 +124,10 @@ module _ (tables : List DemoTable) (past : List Accepted) (s : List ℕ) (t : Ta
   open_table : (name : TableName) → is_open s past ≡ true → table_judged tables past s name ≡ some_or_refuse (found tables name) errors.UnknownTable
   open_table name opened = ap (λ (b : Bool). refuse_step_if (not b) errors.NotOpen >>= (λ (u : Unit {0}). some_or_refuse (found tables name) errors.UnknownTable)) opened
 
-  -- the place of a name is that of the table that is found
-  pub found_none : (ts : List Rows) (i oid : ℕ) (name : TableName) → position_from (λ rows. same_name rows.table.info.name name) i ts ≡ None → found_from oid (map (λ (r : Rows). r.table) ts) name ≡ None
-  found_none [] i oid name none = refl
-  found_none (r ∷ ts) i oid name none = by (same_name r.table.info.name name) refl none (λ later. found_none ts (i + 1) (oid + 1) name later)
-    where
-      by : (b : Bool) → same_name r.table.info.name name ≡ b → (if b then Some i else position_from (λ (x : Rows). same_name x.table.info.name name) (i + 1) ts) ≡ None
-          → (position_from (λ (x : Rows). same_name x.table.info.name name) (i + 1) ts ≡ None → found_from (oid + 1) (map (λ (x : Rows). x.table) ts) name ≡ None)
-          → (if b then Some (let f : FoundTable = record { oid = oid; table = r.table } in f) else found_from (oid + 1) (map (λ (x : Rows). x.table) ts) name) ≡ None
-      by true is none later = cc
-      by false is none later = later none
-
   pub unknown_table : (name : TableName) → is_open s past ≡ true → position_from (λ rows. same_name rows.table.info.name name) 0 t.tables.items ≡ None → table_judged tables past s name ≡ Err errors.UnknownTable
   unknown_table name opened none =
       open_table name opened ∙ ap (λ (o : Option FoundTable). some_or_refuse o errors.UnknownTable)
       (ap (λ (l : List DemoTable). found l name) (sym st.tables_are) ∙ found_none t.tables.items 0 first_oid name none)
-
-  -- and where there is one
-  pub record IsHere (ts : List Rows) (oid i place : ℕ) (name : TableName) : Type 0 where
-    pub rows : Rows
-    pub subsequent : ℕ
-    pub place_is : place ≡ i + subsequent
-    pub there : slice_get ts subsequent ≡ Some rows
-    pub is : found_from oid (map (λ (r : Rows). r.table) ts) name ≡ Some (record { oid = oid + subsequent; table = rows.table })
-
-  pub found_here_at : (ts : List Rows) (oid i place : ℕ) (name : TableName) → position_from (λ rows. same_name rows.table.info.name name) i ts ≡ Some place → IsHere ts oid i place name
-  found_here_at [] oid i place name is = cc
-  found_here_at (r ∷ ts) oid i place name is = by (same_name r.table.info.name name) refl is (λ later. found_here_at ts (oid + 1) (i + 1) place name later)
-    where
-      nothing_more : (n : ℕ) → n ≡ n + 0
-      nothing_more n = omega arith
-
-      one_more : (n b : ℕ) → (n + 1) + b ≡ n + suc b
-      one_more n b = omega arith
-
-      by : (b : Bool) → same_name r.table.info.name name ≡ b → (if b then Some i else position_from (λ (x : Rows). same_name x.table.info.name name) (i + 1) ts) ≡ Some place
-          → (position_from (λ (x : Rows). same_name x.table.info.name name) (i + 1) ts ≡ Some place → IsHere ts (oid + 1) (i + 1) place name) → IsHere (r ∷ ts) oid i place name
-      by true same told later =
-          let e : i ≡ place = cc in
-          record {
-            rows = r;
-            subsequent = 0;
-            place_is = sym e ∙ nothing_more i;
-            there = refl;
-            is = ap (λ (b : Bool). if b then Some (let f : FoundTable = record { oid = oid; table = r.table } in f) else found_from (oid + 1) (map (λ (x : Rows). x.table) ts) name) same
-                ∙ ap (λ (n : ℕ). Some (let f : FoundTable = record { oid = n; table = r.table } in f)) (nothing_more oid);
-          }
-      by false other told later =
-          let h = later told in
-          record {
-            rows = h.rows;
-            subsequent = suc h.subsequent;
-            place_is = h.place_is ∙ one_more i h.subsequent;
-            there = h.there;
-            is = ap (λ (b : Bool). if b then Some (let f : FoundTable = record { oid = oid; table = r.table } in f) else found_from (oid + 1) (map (λ (x : Rows). x.table) ts) name) other
-                ∙ (h.is ∙ ap (λ (n : ℕ). Some (let f : FoundTable = record { oid = n; table = h.rows.table } in f)) (one_more oid h.subsequent));
-          }
 
   -- the table at the place is the one that the step is judged at
   pub record IsHad (name : TableName) (place : ℕ) : Type 0 where

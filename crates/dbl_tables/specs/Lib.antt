@@ -1,4 +1,5 @@
 pub mod Stands
+pub mod FirstRows
 pub mod Places
 pub mod Truncates
 pub mod Shown

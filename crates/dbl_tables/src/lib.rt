@@ -3,10 +3,12 @@
 #![tactic(auto)]
 
 mod ends;
+mod first_rows;
 mod selecting;
 mod steps;
 mod tables;
 mod truncating;
 
 pub use dbl_tables_rows::{DemoTable, StepError};
+pub use first_rows::FirstRows;
 pub use tables::Tables;

@@ -29,7 +29,9 @@ use Rattle.dbl_tables_rows.specs.Steps.{Step as SessionStep, judged}
 use Rattle.dbl_tables_rows.specs.Steps.Step.{Begin, Commit, Insert}
 use Rattle.dbl_tables_rows.specs.Serial.{acts_after, accepted_onto}
 use Rattle.dbl_tables.specs.declared.tables.Tables.{Tables}
-use Rattle.dbl_tables.specs.Stands.{IsAccepted, IsGiven, IsRefusedStep as IsRefusedCall, Stands}
+use Rattle.dbl_tables.specs.declared.first_rows.FirstRows.{FirstRows}
+use Rattle.dbl_tables.specs.FirstRows.{InsertsAfter, IsRowInserted}
+use Rattle.dbl_tables.specs.Stands.{IsAccepted, IsGiven, Stands}
 use Rattle.dbl_demo_wal.specs.Workloads.{AreAccepted, IsTableOf, IsWorkload, Workload, acts_at}
 use Rattle.dbl_demo_wal.proofs.GrowthLaws.{acts_after-append}
 use Rattle.dbl_demo_workload.specs.declared.error.DemoError.{DemoError}
@@ -52,11 +54,6 @@ pub split_here : {A : Type 0} (xs : List A) (n : ℕ) (x : A) → n < length xs 
 split_here [] n x lt is = absurd (omega (arith, lt))
 split_here {A = A} (y ∷ xs) zero x lt is = (xs, ap (λ (z : A). z ∷ xs) (sym is))
 split_here {A = A} (y ∷ xs) (suc n) x lt is = let rest = split_here xs n x (omega (arith, lt)) is in (rest.0, ap (λ (l : List A). y ∷ l) rest.1)
-
-pub take_here : {A : Type 0} (xs : List A) (n : ℕ) (x : A) → n < length xs → x ≡ get_or xs n x → take (suc n) xs ≡ take n xs ++ x ∷ []
-take_here [] n x lt is = absurd (omega (arith, lt))
-take_here {A = A} (y ∷ xs) zero x lt is = ap (λ (z : A). z ∷ []) (sym is)
-take_here {A = A} (y ∷ xs) (suc n) x lt is = ap (λ (l : List A). y ∷ l) (take_here xs n x (omega (arith, lt)) is)
 
 -- ---- tables
 
@@ -113,15 +110,15 @@ bad_table_in lines n line f lt is good (inr bad) =
 
 -- ---- rows
 
-module _ (tables : List DemoTable) (past : List Accepted) (call : SessionStep) (new : Tables) where
-  pub accepted_ok : IsAccepted tables past call new → IsOk (judged tables past call) × Stands tables (accepted_onto (judged tables past call) past) new
-  accepted_ok is = (
+module _ (tables : List DemoTable) (past : List Accepted) (call : SessionStep) where
+  inserted_ok : (new : FirstRows) → IsRowInserted tables past call new → IsOk (judged tables past call) × InsertsAfter tables (accepted_onto (judged tables past call) past) new
+  inserted_ok new is = (
     subst (λ (r : Result Accepted StepError). IsOk r) (sym is.accepted) refl,
-    subst (λ (r : Result Accepted StepError). Stands tables (accepted_onto r past) new) (sym is.accepted) is.stands,
+    subst (λ (r : Result Accepted StepError). InsertsAfter tables (accepted_onto r past) new) (sym is.accepted) is.inserts,
   )
 
-  refused_not_ok : (e : StepError) → e ≢ errors.Memory → IsRefusedCall tables past call e new → ¬ IsOk (judged tables past call)
-  refused_not_ok e other is ok = elim is.why [
+  refused_not_ok : (e : StepError) → e ≢ errors.Memory → (e ≡ errors.Memory) ⊎ (judged tables past call ≡ Err e) → ¬ IsOk (judged tables past call)
+  refused_not_ok e other is ok = elim is [
     | inl memory ↦ other memory
     | inr why ↦ (let contra : false ≡ true = subst (λ (r : Result Accepted StepError). is_ok r ≡ true) why ok in cc)
   ]
@@ -138,16 +135,16 @@ told_row errors.NoRow line = inr (refl, λ same. cc)
 told_row errors.RowExists line = inr (refl, λ same. cc)
 
 -- a row's insert, whose cells are the row's
-module _ (tables : List DemoTable) (past : List Accepted) (session : List ℕ) (row : ScriptRow) (cells : List NamedCell) (are : cells ≡ row.cells) (new : Tables) where
-  pub row_inserted : IsAccepted tables past (Insert session row.table cells) new → InsertsRow tables past session row new (Ok tt)
+module _ (tables : List DemoTable) (past : List Accepted) (row : ScriptRow) (cells : List NamedCell) (are : cells ≡ row.cells) (new : FirstRows) where
+  pub row_inserted : IsRowInserted tables past (Insert [] row.table cells) new → InsertsRow tables past row new (Ok tt)
   row_inserted is =
-      subst (λ (cs : List NamedCell). IsOk (judged tables past (Insert session row.table cs)) × Stands tables (accepted_onto (judged tables past (Insert session row.table cs)) past) new) are
-      (accepted_ok tables past (Insert session row.table cells) new is)
+      subst (λ (cs : List NamedCell). IsOk (judged tables past (Insert [] row.table cs)) × InsertsAfter tables (accepted_onto (judged tables past (Insert [] row.table cs)) past) new) are
+      (inserted_ok tables past (Insert [] row.table cells) new is)
 
-  pub row_refused : (e : StepError) (f : DemoError) → f ≡ row_error e row.line → IsRefusedCall tables past (Insert session row.table cells) e new → InsertsRow tables past session row new (Err f)
+  pub row_refused : (e : StepError) (f : DemoError) → f ≡ row_error e row.line → (e ≡ errors.Memory) ⊎ (judged tables past (Insert [] row.table cells) ≡ Err e) → InsertsRow tables past row new (Err f)
   row_refused e f told is = elim (told_row e row.line) [
     | inl memory ↦ inl (told ∙ memory)
-    | inr line ↦ inr (told ∙ line.0, subst (λ (cs : List NamedCell). ¬ IsOk (judged tables past (Insert session row.table cs))) are (refused_not_ok tables past (Insert session row.table cells) new e line.1 is))
+    | inr line ↦ inr (told ∙ line.0, subst (λ (cs : List NamedCell). ¬ IsOk (judged tables past (Insert [] row.table cs))) are (refused_not_ok tables past (Insert [] row.table cells) e line.1 is))
   ]
 
 accepted_on : (tables : List DemoTable) (steps : List SessionStep) (past : List Accepted) (step : SessionStep) → AreAccepted tables past steps → IsOk (judged tables (acts_after tables past steps) step) → AreAccepted tables past (steps ++ step ∷ [])
@@ -159,17 +156,17 @@ insert row = Insert [] row.table row.cells
 
 module _ (tables : List DemoTable) (past : List Accepted) where
   -- these rows were inserted
-  abbrev pub AreIn : List ScriptRow → Tables → Type 0
-  AreIn rows store = AreAccepted tables past (row_calls rows) × Stands tables (acts_after tables past (row_calls rows)) store
+  abbrev pub AreIn : List ScriptRow → FirstRows → Type 0
+  AreIn rows first = AreAccepted tables past (row_calls rows) × InsertsAfter tables (acts_after tables past (row_calls rows)) first
 
   -- and one more
-  pub row_in : (rows : List ScriptRow) (row : ScriptRow) (store : Tables) → AreAccepted tables past (row_calls rows) → IsOk (judged tables (acts_after tables past (row_calls rows)) (insert row))
-      → Stands tables (accepted_onto (judged tables (acts_after tables past (row_calls rows)) (insert row)) (acts_after tables past (row_calls rows))) store → AreIn (rows ++ row ∷ []) store
-  row_in rows row store all ok stands =
+  pub row_in : (rows : List ScriptRow) (row : ScriptRow) (first : FirstRows) → AreAccepted tables past (row_calls rows) → IsOk (judged tables (acts_after tables past (row_calls rows)) (insert row))
+      → InsertsAfter tables (accepted_onto (judged tables (acts_after tables past (row_calls rows)) (insert row)) (acts_after tables past (row_calls rows))) first → AreIn (rows ++ row ∷ []) first
+  row_in rows row first all ok inserts =
       let calls : row_calls (rows ++ row ∷ []) ≡ row_calls rows ++ insert row ∷ [] = map-append insert rows (row ∷ []) in
       let acts = ap (acts_after tables past) calls ∙ acts_after-append tables past (row_calls rows) (insert row ∷ []) in (
         subst (AreAccepted tables past) (sym calls) (accepted_on tables (row_calls rows) past (insert row) all ok),
-        subst (λ (p : List Accepted). Stands tables p store) (sym acts) stands,
+        subst (λ (p : List Accepted). InsertsAfter tables p first) (sym acts) inserts,
       )
 
   pub bad_row : (rows : List ScriptRow) (n : ℕ) (row : ScriptRow) (e : DemoError) → n < length rows → row ≡ get_or rows n row → AreAccepted tables past (row_calls (take n rows))
@@ -218,14 +215,14 @@ module _ (tables : List DemoTable) (row : ScriptRow) (rows : List ScriptRow) whe
         )
 
 -- rows of which there is one at least
-pub all_committed : (tables : List DemoTable) (rows : List ScriptRow) (mid new : Tables) (messages : List Message) → 0 < length rows → InsertsRows tables (begun tables) rows mid (Ok tt)
-    → IsAccepted tables (acts_after tables (begun tables) (row_calls rows)) (Commit []) new → IsGiven (acts_after tables (begun tables) (row_calls rows)) [] messages → CommitsRows tables rows new (Ok (Some messages))
-all_committed tables [] mid new messages some inserts is given = absurd (omega (arith, some))
-all_committed tables (row ∷ rows) mid new messages some inserts is given = rows_committed tables row rows new messages is given inserts.0
+pub all_committed : (tables : List DemoTable) (rows : List ScriptRow) (first : FirstRows) (new : Tables) (messages : List Message) → 0 < length rows → InsertsRows tables (begun tables) rows first (Ok tt)
+    → IsAccepted tables (acts_after tables (begun tables) (row_calls rows)) (Commit []) new → IsGiven (acts_after tables (begun tables) (row_calls rows)) [] messages → CommitsRows tables rows (Ok (new, Some messages))
+all_committed tables [] first new messages some inserts is given = absurd (omega (arith, some))
+all_committed tables (row ∷ rows) first new messages some inserts is given = rows_committed tables row rows new messages is given inserts.0
 
 -- no rows
-pub none_committed : (tables : List DemoTable) (rows : List ScriptRow) (store : Tables) → rows ≡ [] → Stands tables [] store → CommitsRows tables rows store (Ok None)
-none_committed tables rows store none stands = subst (λ (rs : List ScriptRow). CommitsRows tables rs store (Ok None)) (sym none) (tt, stands, refl, tt)
+pub none_committed : (tables : List DemoTable) (rows : List ScriptRow) (store : Tables) → rows ≡ [] → Stands tables [] store → CommitsRows tables rows (Ok (store, None))
+none_committed tables rows store none stands = subst (λ (rs : List ScriptRow). CommitsRows tables rs (Ok (store, None))) (sym none) (tt, stands, refl, tt)
 
 -- ---- a script
 

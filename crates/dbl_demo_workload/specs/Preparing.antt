@@ -18,7 +18,9 @@ use Rattle.dbl_tables_rows.specs.Sending.{log_tables}
 use Rattle.dbl_tables_rows.specs.Steps.{Step as SessionStep, judged}
 use Rattle.dbl_tables_rows.specs.Steps.Step.{Begin, Insert}
 use Rattle.dbl_tables_rows.specs.Serial.{acts_after, initial_steps, accepted_onto}
+use Rattle.dbl_tables.specs.declared.first_rows.FirstRows.{FirstRows}
 use Rattle.dbl_tables.specs.declared.tables.Tables.{Tables}
+use Rattle.dbl_tables.specs.FirstRows.{InsertsAfter}
 use Rattle.dbl_tables.specs.Stands.{Stands}
 use Rattle.dbl_demo_wal.specs.Workloads.{AreAccepted, IsTableOf, initial_row}
 use Rattle.dbl_demo_workload.specs.declared.error.DemoError.{DemoError}
@@ -60,17 +62,17 @@ row_error errors.Memory line = demo.Memory
 row_error e line = demo.Script (script.BadLine line)
 
 -- The result of inserting a row: it was accepted, or its line is bad.
-abbrev pub InsertsRow : List DemoTable → List Accepted → List ℕ → ScriptRow → Tables → Result Unit DemoError → Type 0
-InsertsRow tables past session row new (Ok done) =
-    IsOk (judged tables past (Insert session row.table row.cells))
-    × Stands tables (accepted_onto (judged tables past (Insert session row.table row.cells)) past) new
-InsertsRow tables past session row new (Err e) = (e ≡ demo.Memory)
-    ⊎ ((e ≡ demo.Script (script.BadLine row.line)) × ¬ IsOk (judged tables past (Insert session row.table row.cells)))
+abbrev pub InsertsRow : List DemoTable → List Accepted → ScriptRow → FirstRows → Result Unit DemoError → Type 0
+InsertsRow tables past row new (Ok done) =
+    IsOk (judged tables past (Insert [] row.table row.cells))
+    × InsertsAfter tables (accepted_onto (judged tables past (Insert [] row.table row.cells)) past) new
+InsertsRow tables past row new (Err e) = (e ≡ demo.Memory)
+    ⊎ ((e ≡ demo.Script (script.BadLine row.line)) × ¬ IsOk (judged tables past (Insert [] row.table row.cells)))
 
 -- The result of inserting a row after any acts.
-abbrev pub IsRowRefused : List ℕ → ScriptRow → Tables → Tables → Result Unit DemoError → Type 0
-IsRowRefused session row old new result = (tables : List DemoTable) (past : List Accepted) → Stands tables past old
-    → InsertsRow tables past session row new result
+abbrev pub IsRowRefused : ScriptRow → FirstRows → FirstRows → Result Unit DemoError → Type 0
+IsRowRefused row old new result = (tables : List DemoTable) (past : List Accepted) → InsertsAfter tables past old
+    → InsertsRow tables past row new result
 
 -- The error is of the first of these rows that can't be inserted after some acts.
 pub record HasBadRowIn (tables : List DemoTable) (past : List Accepted) (rows : List ScriptRow) (e : DemoError) : Type 0 where
@@ -83,25 +85,25 @@ pub record HasBadRowIn (tables : List DemoTable) (past : List Accepted) (rows : 
   pub is : e ≡ demo.Script (script.BadLine row.line)
 
 -- The result of inserting rows: all were accepted, or one can't be inserted.
-abbrev pub InsertsRows : List DemoTable → List Accepted → List ScriptRow → Tables → Result Unit DemoError → Type 0
+abbrev pub InsertsRows : List DemoTable → List Accepted → List ScriptRow → FirstRows → Result Unit DemoError → Type 0
 InsertsRows tables past rows new (Ok done) = AreAccepted tables past (row_calls rows)
-    × Stands tables (acts_after tables past (row_calls rows)) new
+    × InsertsAfter tables (acts_after tables past (row_calls rows)) new
 InsertsRows tables past rows new (Err e) = (e ≡ demo.Memory) ⊎ HasBadRowIn tables past rows e
 
 -- All steps of the initial rows: the begin, the inserts and the commit.
 abbrev pub initial_row_calls : List ScriptRow → List SessionStep
 initial_row_calls rows = initial_steps (map initial_row rows)
 
--- The result of committing the initial rows in a store without rows.
-abbrev pub CommitsRows : List DemoTable → List ScriptRow → Tables → Result (Option (List Message)) DemoError → Type 0
-CommitsRows tables rows new (Ok committed) =
-    AreAccepted tables [] (initial_row_calls rows) × Stands tables (acts_after tables [] (initial_row_calls rows)) new
-    × (log_in (acts_after tables [] (initial_row_calls rows)) ≡ option_to_list committed) × IfSome committed IsShortCommit
-CommitsRows tables rows new (Err e) = (e ≡ demo.Memory) ⊎ HasBadRowIn tables (acts_after tables [] (Begin [] ∷ [])) rows e
+-- The result of committing the initial rows in a store without rows: the store with them, and their messages.
+abbrev pub CommitsRows : List DemoTable → List ScriptRow → Result (Tables × Option (List Message)) DemoError → Type 0
+CommitsRows tables rows (Ok made) =
+    AreAccepted tables [] (initial_row_calls rows) × Stands tables (acts_after tables [] (initial_row_calls rows)) made.0
+    × (log_in (acts_after tables [] (initial_row_calls rows)) ≡ option_to_list made.1) × IfSome made.1 IsShortCommit
+CommitsRows tables rows (Err e) = (e ≡ demo.Memory) ⊎ HasBadRowIn tables (acts_after tables [] (Begin [] ∷ [])) rows e
 
 -- The result of committing the initial rows in every store without rows.
-abbrev pub HasRows : List ScriptRow → Tables → Tables → Result (Option (List Message)) DemoError → Type 0
-HasRows rows old new result = (tables : List DemoTable) → Stands tables [] old → CommitsRows tables rows new result
+abbrev pub HasRows : List ScriptRow → Tables → Result (Tables × Option (List Message)) DemoError → Type 0
+HasRows rows old result = (tables : List DemoTable) → Stands tables [] old → CommitsRows tables rows result
 
 -- The prepared state of a script whose lines are good.
 pub record IsReadyOf (script : Script) (ready : Prepared) : Type 0 where

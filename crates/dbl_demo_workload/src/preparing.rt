@@ -16,17 +16,17 @@ ghost use Rattle.dbl_demo_workload.specs.Ready.{IsReady};
 ghost use Rattle.dbl_demo_workload.specs.Refusals.{IsRefused};
 ghost use Rattle.dbl_demo_workload.specs.Steps.{FitAnEntry};
 ghost use Rattle.dbl_demo_wal.specs.TablesLaws.Reachable.{AreTables};
-ghost use Rattle.dbl_tables.specs.Stands.{IsAccepted, Stands};
+ghost use Rattle.dbl_tables.specs.FirstRows.{InsertsAfter};
+ghost use Rattle.dbl_tables.specs.Stands.{Stands};
 ghost use Rattle.dbl_tables_rows.specs.Acts.{Accepted};
-ghost use Rattle.dbl_tables_rows.specs.Steps.Step.{Begin};
 
 use crate::DemoError;
-use dbl_base::{Seq, Text};
+use dbl_base::Seq;
 use dbl_model_table::{TableInfo, TableName};
 use dbl_pgmsg::Message;
 use dbl_script::{Script, ScriptError, ScriptRow, ScriptTable, Step, parse};
 use dbl_source_log::LogTable;
-use dbl_tables::Tables;
+use dbl_tables::{FirstRows, Tables};
 use dbl_tables_rows::{DemoTable, StepError};
 use std::alloc::Global;
 
@@ -109,65 +109,51 @@ fn row_error(error: StepError, line: u32) -> DemoError
     }
 }
 
-fn insert_row(store: &mut Tables, session: &Text, row: &ScriptRow) -> Result<(), DemoError>
-    ensures { IsRowRefused session.now row.now store.old store.new result }
+fn insert_row(first: &mut FirstRows, row: ScriptRow) -> Result<(), DemoError>
+    ensures { IsRowRefused row first.old first.new result }
 {
-    match store.insert(session, &row.table, row.cells.items()) {
+    let ScriptRow { table, cells, line } = row;
+    match first.insert(&table, cells.into_items()) {
         Ok(()) => Ok(()),
-        Err(error) => Err(row_error(error, row.line)),
+        Err(error) => Err(row_error(error, line)),
     }
 }
 
-fn insert_each_row(store: &mut Tables, session: &Text, rows: &[ScriptRow]) -> Result<(), DemoError>
-    ensures { (tables : List DemoTable) (past : List Accepted) → Stands tables past store.old
-        → session.now ≡ [] → InsertsRows tables past rows.now store.new result }
+// Inserts the rows, each of which is dropped once it is in the store.
+fn insert_each_row(first: &mut FirstRows, rows: Vec<ScriptRow>) -> Result<(), DemoError>
+    ensures { (tables : List DemoTable) (past : List Accepted) → InsertsAfter tables past first.old
+        → InsertsRows tables past rows.items first.new result }
 {
     for row in rows {
-        insert_row(store, session, row)?;
+        insert_row(first, row)?;
     }
     Ok(())
 }
 
-fn begin_rows(store: &mut Tables, session: &Text) -> Result<(), DemoError>
-    ensures begun { (tables : List DemoTable) → Stands tables [] store.old
-        → OnOk result (IsAccepted tables [] (Begin session.now) store.new) }
-    ensures memory { IfErr result (λ e. e ≡ DemoError.Memory) }
-{
-    match store.begin(session) {
-        Ok(()) => Ok(()),
-        Err(_) => Err(DemoError::Memory),
-    }
-}
-
 // Commits the rows in one commit of a session without a name.
 fn commit_each_row(
-    alloc: Global,
-    store: &mut Tables,
-    rows: &[ScriptRow],
-) -> Result<Option<Seq<Message>>, DemoError>
-    requires { 0 < length rows.now }
-    ensures { HasRows rows.now store.old store.new result }
+    store: Tables,
+    rows: Vec<ScriptRow>,
+) -> Result<(Tables, Option<Seq<Message>>), DemoError>
+    requires { 0 < length rows.items }
+    ensures { HasRows rows.items store result }
 {
-    let session = Text::of(alloc, "")?;
-    begin_rows(store, &session)?;
-    insert_each_row(store, &session, rows)?;
-    match store.commit(&session) {
-        Ok(messages) => Ok(Some(messages)),
-        Err(_) => Err(DemoError::Memory),
-    }
+    let mut first = FirstRows::begin(store);
+    insert_each_row(&mut first, rows)?;
+    let (store, messages) = first.commit();
+    Ok((store, Some(messages)))
 }
 
 fn commit_rows(
-    alloc: Global,
-    store: &mut Tables,
-    rows: &[ScriptRow],
-) -> Result<Option<Seq<Message>>, DemoError>
-    ensures { HasRows rows.now store.old store.new result }
+    store: Tables,
+    rows: Vec<ScriptRow>,
+) -> Result<(Tables, Option<Seq<Message>>), DemoError>
+    ensures { HasRows rows.items store result }
 {
-    match rows {
-        [] => Ok(None),
-        [_, ..] => commit_each_row(alloc, store, rows),
+    if rows.is_empty() {
+        return Ok((store, None));
     }
+    commit_each_row(store, rows)
 }
 
 fn make_store(alloc: Global, tables: Vec<DemoTable>) -> Result<Tables, DemoError>
@@ -193,8 +179,9 @@ fn prepare_script(alloc: Global, script: Script) -> Result<Prepared, DemoError>
     } = script;
     let read = read_tables(alloc, tables.into_items())?;
     let TablesRead { names, demo, log } = read;
-    let mut store = make_store(alloc, demo)?;
-    let rows = commit_rows(alloc, &mut store, rows.items().as_slice())?;
+    let store = make_store(alloc, demo)?;
+    let committed = commit_rows(store, rows.into_items())?;
+    let (store, rows) = committed;
     Ok(Prepared {
         names,
         tables: log,

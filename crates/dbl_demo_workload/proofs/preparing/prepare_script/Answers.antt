@@ -1,4 +1,3 @@
-use Rattle.std.proofs.Common.{◌∙◌}
 use Rattle.std.proofs.lemmas.Result.{err_from_is_err_and}
 use Rattle.dbl_demo_workload.proofs.RowLemmas.{can_make, row_refused, script_ready, table_refused}
 use Rattle.dbl_demo_workload.proofs.preparing.prepare_script.Goals as goal
@@ -11,16 +10,16 @@ make_store-requires c =
 pub returns-clause-ready : goal.returns-clause-ready
 returns-clause-ready c =
     let read = c.in_ok-read.read in
-    script_ready c.args.script c.into_items.result.items c.into_items.ensures c.as_slice.result.now (c.as_slice.ensures.value ∙ c.items.ensures) read.demo.items
-    (record { names = read.names; tables = read.log; store = c.commit_rows.new.store; steps = c.into_items-2.result; rows = c.in_ok-rows.rows }) c.in_ok-read.ensures.read c.into_items-2.ensures
-    (c.in_ok-rows.ensures read.demo.items c.in_ok-store.ensures.stands)
+    script_ready c.args.script c.into_items.result.items c.into_items.ensures c.into_items-2.result.items c.into_items-2.ensures read.demo.items
+    (record { names = read.names; tables = read.log; store = c.in_ok-committed.committed.0; steps = c.into_items-3.result; rows = c.in_ok-committed.committed.1 }) c.in_ok-read.ensures.read c.into_items-3.ensures
+    (c.in_ok-committed.ensures read.demo.items c.in_ok-store.ensures.stands)
 
-pub returns-in_err-rows-clause-refused : goal.returns-in_err-rows-clause-refused
-returns-in_err-rows-clause-refused c =
+pub returns-in_err-committed-clause-refused : goal.returns-in_err-committed-clause-refused
+returns-in_err-committed-clause-refused c =
     let read = c.in_ok-read.read in
-    let p = err_from_is_err_and c.from_residual-in_err-rows.result c.from_residual-in_err-rows.ensures.1 in
-    rw (p.1, p.2) (row_refused c.args.script c.into_items.result.items c.into_items.ensures c.as_slice.result.now (c.as_slice.ensures.value ∙ c.items.ensures) read.demo.items read.names.items read.log.items c.commit_rows.new.store c.in_err-rows.field-0.0
-    c.in_ok-read.ensures.read (c.in_err-rows.ensures read.demo.items c.in_ok-store.ensures.stands))
+    let p = err_from_is_err_and c.from_residual-in_err-committed.result c.from_residual-in_err-committed.ensures.1 in
+    rw (p.1, p.2) (row_refused c.args.script c.into_items.result.items c.into_items.ensures c.into_items-2.result.items c.into_items-2.ensures read.demo.items read.names.items read.log.items c.in_err-committed.field-0.0
+    c.in_ok-read.ensures.read (c.in_err-committed.ensures read.demo.items c.in_ok-store.ensures.stands))
 
 pub returns-in_err-read-clause-refused : goal.returns-in_err-read-clause-refused
 returns-in_err-read-clause-refused c =

@@ -171,7 +171,7 @@ module _ (tables : List DemoTable) (past : List Accepted) (s : List ℕ) (store 
   -- the table of a name is that at its place
   pub at_name : (name : TableName) (place : ℕ) → place_in store.tables.items name ≡ Some place → (rows : Rows) × (slice_get store.tables.items place ≡ Some rows) × (found tables name ≡ Some (found_at place rows.table)) × (same_name rows.table.info.name name ≡ true)
   at_name name place is =
-      let h = found_here_at tables past s store st store.tables.items first_oid 0 place name is in
+      let h = found_here_at store.tables.items first_oid 0 place name is in
       let e : place ≡ h.subsequent = h.place_is ∙ none_more h.subsequent in
       let there : found tables name ≡ Some (found_at place h.rows.table) = ap (λ (l : List DemoTable). found l name) (sym st.tables_are) ∙ (h.is ∙ ap (λ (n : ℕ). Some (found_at n h.rows.table)) (sym e)) in
       let at = found_there first_oid tables name (found_at place h.rows.table) there in
@@ -228,7 +228,7 @@ module _ (tables : List DemoTable) (past : List Accepted) (s : List ℕ) (store 
       by : (o : Option ℕ) → place_in store.tables.items n ≡ o → (is_none o || is_missing store.tables.items names) ≡ true → (is_missing store.tables.items names ≡ true → oids_found tables names ≡ Err errors.UnknownTable) → oids_found tables (n ∷ names) ≡ Err errors.UnknownTable
       by None none told later =
           ap (λ (o : Option FoundTable). some_or_refuse o errors.UnknownTable >>= (λ at. oids_found tables names >>= (λ oids. Ok (at.oid ∷ oids))))
-          (ap (λ (l : List DemoTable). found l n) (sym st.tables_are) ∙ found_none tables past s store st store.tables.items 0 first_oid n none)
+          (ap (λ (l : List DemoTable). found l n) (sym st.tables_are) ∙ found_none store.tables.items 0 first_oid n none)
       by (Some p) is told later =
           let a = at_name n p is in
           ap (λ (o : Option FoundTable). some_or_refuse o errors.UnknownTable >>= (λ at. oids_found tables names >>= (λ oids. Ok (at.oid ∷ oids)))) a.2

@@ -170,7 +170,7 @@ module _ (tables : List DemoTable) (past : List Accepted) (s : List ℕ) (store 
   pub select_unknown : (name : TableName) (above : Option Key) (limit : ℕ) → position_from (λ rows. same_name rows.table.info.name name) 0 store.tables.items ≡ None → SelectsCommitted tables past name above limit (Err errors.UnknownTable)
   select_unknown name above limit none =
       subst (λ (o : Option FoundTable). SelectsAt (committed_rows (log_tables tables) past) above limit o (Err errors.UnknownTable))
-      (sym (ap (λ (l : List DemoTable). found l name) (sym st.tables_are) ∙ found_none tables past s store st store.tables.items 0 first_oid name none)) (inr refl)
+      (sym (ap (λ (l : List DemoTable). found l name) (sym st.tables_are) ∙ found_none store.tables.items 0 first_oid name none)) (inr refl)
 
   -- a row that is committed is at its key
   committed_keyed : (place : ℕ) (rows : Rows) → slice_get store.tables.items place ≡ Some rows → (key : Key) (row : Texts) → committed_rows (log_tables tables) past rows.table.info.name key ≡ Some row → key_in (raw_of rows.table) row ≡ key

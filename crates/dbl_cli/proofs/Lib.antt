@@ -8,6 +8,7 @@ pub mod ClapItems
 pub mod ClapReads
 pub mod ClapJoin
 pub mod CheckLemmas
+pub mod ColonLemmas
 pub mod ValueLemmas
 pub mod ItemLaws
 pub mod SayLemmas

@@ -1,5 +1,5 @@
 -- What the words spell is within the limits.
-use Rattle.std.proofs.Common.{◌≡◌, ◌∙◌, ℕ, ◌≤◌, ◌&&◌, Bool, true, List, [], ◌∷◌, ◌++◌, length, map, Option, Some, None, Result, Ok, Err, IfOk, codes, refl, sym, ap, subst, arith, leb, ltb}
+use Rattle.std.proofs.Common.{◌≡◌, ◌∙◌, ℕ, ◌≤◌, ◌&&◌, nat_le, Bool, true, option_map, List, [], ◌∷◌, ◌++◌, length, map, Option, Some, None, Result, Ok, Err, IfOk, codes, refl, sym, ap, subst, arith, leb, ltb}
 use Rattle.std.specs.List.{list_all, after_first, slice_split}
 use Rattle.std.specs.Option.{unwrap_or}
 use Rattle.std.specs.Str.Parse.{digits_value}
@@ -13,11 +13,11 @@ use Rattle.dbl_cli.specs.declared.verbs.Verb.{Verb}
 use Rattle.dbl_cli.specs.declared.verbs.Verb.TheVariants as verb
 use Rattle.dbl_cli.specs.declared.commands.Command.{Command}
 use Rattle.dbl_cli.specs.Items.{Setting, value_of}
-use Rattle.dbl_cli.specs.Values.{is_number, number_or, passes, is_placeholder, is_named, is_table, table_in, are_tables, is_comma, is_colon, is_column, is_key, key_in, tables_in, are_keys}
+use Rattle.dbl_cli.specs.Values.{is_number, number_or, passes, is_placeholder, is_named, is_table, table_in, are_tables, is_comma, is_colon, is_column, is_key, key_in, tables_in, are_keys, masked_table_in, after_table, mask_parts, is_stars, is_masked, mask_in, is_mask}
 use Rattle.dbl_cli.specs.Commands.{most_of, names_pass, pace_passes, name_or_demo, placeholder_or_own, number_in, values_pass, command_of}
 use Rattle.dbl_cli.specs.declared.error.CliError.{CliError}
 use Rattle.dbl_cli.specs.Found.{ReadsItems}
-use Rattle.dbl_cli.specs.Limits.{IsBetween, AreGoodNames, IsGoodPace, AreGoodTables, has_columns, AreGoodKeys, IsWithin}
+use Rattle.dbl_cli.specs.Limits.{IsBetween, AreGoodNames, IsGoodPace, AreGoodTables, has_columns, AreGoodKeys, IsGoodMask, IsWithin}
 
 text_within : (test : List ℕ → Bool) (default : List ℕ) → test default ≡ true → (value : Option (List ℕ)) → passes test value ≡ true → test (unwrap_or value default) ≡ true
 text_within test default own None pass = own
@@ -92,6 +92,16 @@ keys_within texts few pass =
       columns = keys_columns texts parts.0;
     }
 
+-- a mask's word within the limits
+mask_within : (mask : Option (List ℕ)) → passes is_mask mask ≡ true → IsGoodMask (option_map mask_in mask)
+mask_within None pass = tt
+mask_within (Some word) pass =
+    let outer = and_parts (is_named (masked_table_in word)) (is_masked (mask_parts (after_table word))) pass in
+    let inner = and_parts (is_column (mask_parts (after_table word)).0) (is_stars (mask_parts (after_table word)).1) outer.1 in
+    let digits : List ℕ = (mask_parts (after_table word)).1 in
+    let short = and_parts (nat_le (length digits) 3) (is_number 0 255 digits) inner.1 in
+    (outer.0, inner.0, (spelled_within 0 255 digits short.1).1)
+
 one_within : (texts : List (List ℕ)) → list_all (is_number 0 999999999) texts ≡ true → IsBetween 0 999999999 (number_in texts)
 one_within [] pass = (omega arith, omega arith)
 one_within (text ∷ texts) pass = spelled_within 0 999999999 text (and_parts (is_number 0 999999999 text) _ pass).0
@@ -113,7 +123,8 @@ command_within verb.Apply settings texts pass few =
     text_within is_placeholder default_placeholder refl (value_of (codes "placeholder") settings) (and_parts _ (passes is_placeholder (value_of (codes "placeholder") settings)) pass).1
 command_within verb.Replay settings texts pass few =
     let outer = and_parts (names_pass (value_of (codes "prefix") settings) (value_of (codes "db") settings) (value_of (codes "placeholder") settings)) _ pass in
-    (names_within (value_of (codes "prefix") settings) (value_of (codes "db") settings) (value_of (codes "placeholder") settings) outer.0, keys_within texts few outer.1)
+    let inner = and_parts (passes is_mask (value_of (codes "mask") settings)) _ outer.1 in
+    (names_within (value_of (codes "prefix") settings) (value_of (codes "db") settings) (value_of (codes "placeholder") settings) outer.0, keys_within texts few inner.1, mask_within (value_of (codes "mask") settings) inner.0)
 command_within verb.Gen settings texts pass few =
     let outer = and_parts (list_all (is_number 0 999999999) texts) _ pass in
     let inner = and_parts (passes (is_number 0 400000) (value_of (codes "rows") settings)) _ outer.1 in (

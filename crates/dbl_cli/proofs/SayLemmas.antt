@@ -235,7 +235,7 @@ module _ (words : List Text) (front : List Setting) (texts : List Text) (back fr
       go verb.Apply options flags same = (λ i. apply_of (flags (codes "lines") refl i) (options (codes "placeholder") refl i))
       go verb.Replay options flags same =
           (λ i. replay_of (options (codes "prefix") refl i) (options (codes "db") refl i) (options (codes "placeholder") refl i) (flags (codes "raw") refl i) (flags (codes "stream") refl i)
-          (same i))
+          (options (codes "mask") refl i) (same i))
       go verb.Gen options flags same = (λ i. gen_of (same i) (options (codes "rows") refl i) (options (codes "groups") refl i) (flags (codes "run") refl i))
 
 pub one_command : (words : List Text) (one other : Command) → Spells words one → Spells words other → one ≡ other

@@ -62,7 +62,8 @@ module _ (words : List Text) (front : List Setting) (texts : List Text) (back fr
           (λ i. capture_passes (options (codes "prefix") refl i) (options (codes "db") refl i) (options (codes "placeholder") refl i) (options (codes "chunk") refl i) (options (codes "every") refl i) (options (codes "messages") refl i) (same i))
       go verb.Resume options flags same = (λ i. pace_passes (options (codes "chunk") refl i) (options (codes "every") refl i) (options (codes "messages") refl i))
       go verb.Apply options flags same = (λ i. apply_passes (flags (codes "lines") refl i) (options (codes "placeholder") refl i))
-      go verb.Replay options flags same = (λ i. replay_passes (options (codes "prefix") refl i) (options (codes "db") refl i) (options (codes "placeholder") refl i) (same i))
+      go verb.Replay options flags same = (λ i. replay_passes (options (codes "prefix") refl i) (options (codes "db") refl i) (options (codes "placeholder") refl i)
+          (options (codes "mask") refl i) (same i))
       go verb.Gen options flags same = (λ i. gen_passes (same i) (options (codes "rows") refl i) (options (codes "groups") refl i))
 
 -- ---- the rest of the words

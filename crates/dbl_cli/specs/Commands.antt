@@ -1,5 +1,6 @@
 -- The commands that arguments parse as.
-use Rattle.std.specs.Prelude.{◌≡◌, ℕ, ◌&&◌, ◌||◌, not, Bool, true, false, Option, is_some, List, [], ◌∷◌, ◌++◌, map, unwrap_or, codes}
+use Rattle.std.specs.Prelude.{◌≡◌, ℕ, ◌&&◌, ◌||◌, not, Bool, true, false, Option, is_some, option_map, unwrap_or}
+use Rattle.std.specs.Prelude.{List, [], ◌∷◌, ◌++◌, map, codes}
 use Rattle.std.specs.List.{list_all}
 use Rattle.std.specs.Str.Parse.{digits_value}
 use Rattle.dbl_model_table.specs.Tables.{is_name}
@@ -9,7 +10,7 @@ use Rattle.dbl_cli.specs.declared.verbs.Verb.TheVariants as verb
 use Rattle.dbl_cli.specs.declared.commands.Command.{Command}
 use Rattle.dbl_cli.specs.declared.commands.Command.TheVariants as command
 use Rattle.dbl_cli.specs.Items.{Named, Form, Setting, AreItems, value_of, is_given}
-use Rattle.dbl_cli.specs.Values.{is_number, number_or, passes, is_placeholder, table_in, are_tables, key_in, are_keys}
+use Rattle.dbl_cli.specs.Values.{is_number, number_or, passes, is_placeholder, table_in, are_tables, key_in, are_keys, mask_in, is_mask}
 
 -- ---- the commands' names and forms
 
@@ -50,7 +51,7 @@ names_of verb.Compact = []
 names_of verb.Capture = naming ++ pacing
 names_of verb.Resume = pacing
 names_of verb.Apply = flag (codes "lines") ∷ option (codes "placeholder") ∷ []
-names_of verb.Replay = naming ++ (flag (codes "raw") ∷ flag (codes "stream") ∷ [])
+names_of verb.Replay = naming ++ (flag (codes "raw") ∷ flag (codes "stream") ∷ option (codes "mask") ∷ [])
 names_of verb.Gen = option (codes "rows") ∷ option (codes "groups") ∷ flag (codes "run") ∷ []
 
 -- the minimum number of positional arguments of a command
@@ -96,8 +97,8 @@ capture_passes prefix db placeholder chunk every messages texts =
     names_pass prefix db placeholder && (pace_passes chunk every messages && are_tables texts)
 
 -- the options and positional arguments of `replay` are valid
-abbrev pub replay_passes : Option (List ℕ) → Option (List ℕ) → Option (List ℕ) → List (List ℕ) → Bool
-replay_passes prefix db placeholder texts = names_pass prefix db placeholder && are_keys texts
+abbrev pub replay_passes : Option (List ℕ) → Option (List ℕ) → Option (List ℕ) → Option (List ℕ) → List (List ℕ) → Bool
+replay_passes prefix db placeholder mask texts = names_pass prefix db placeholder && (passes is_mask mask && are_keys texts)
 
 -- the values of a command are valid
 abbrev pub values_pass : Verb → List Setting → List (List ℕ) → Bool
@@ -112,7 +113,8 @@ values_pass verb.Resume settings texts =
     pace_passes (value_of (codes "chunk") settings) (value_of (codes "every") settings) (value_of (codes "messages") settings)
 values_pass verb.Apply settings texts = apply_passes (is_given (codes "lines") settings) (value_of (codes "placeholder") settings)
 values_pass verb.Replay settings texts =
-    replay_passes (value_of (codes "prefix") settings) (value_of (codes "db") settings) (value_of (codes "placeholder") settings) texts
+    replay_passes (value_of (codes "prefix") settings) (value_of (codes "db") settings) (value_of (codes "placeholder") settings)
+    (value_of (codes "mask") settings) texts
 values_pass verb.Gen settings texts = gen_passes texts (value_of (codes "rows") settings) (value_of (codes "groups") settings)
 
 -- ---- the command that they request
@@ -154,8 +156,8 @@ abbrev pub apply_of : Bool → Option (List ℕ) → Command
 apply_of lines placeholder = command.Apply lines (placeholder_or_own placeholder)
 
 -- the command of `replay` with these values
-abbrev pub replay_of : Option (List ℕ) → Option (List ℕ) → Option (List ℕ) → Bool → Bool → List (List ℕ) → Command
-replay_of prefix db placeholder raw stream texts =
+abbrev pub replay_of : Option (List ℕ) → Option (List ℕ) → Option (List ℕ) → Bool → Bool → Option (List ℕ) → List (List ℕ) → Command
+replay_of prefix db placeholder raw stream mask texts =
     command.Replay (record {
       prefix = name_or_demo prefix;
       db = name_or_demo db;
@@ -163,6 +165,7 @@ replay_of prefix db placeholder raw stream texts =
       keys = map key_in texts;
       raw = raw;
       stream = stream;
+      mask = option_map mask_in mask;
     })
 
 -- the command of `gen` with these values
@@ -183,7 +186,7 @@ command_of verb.Resume settings texts =
 command_of verb.Apply settings texts = apply_of (is_given (codes "lines") settings) (value_of (codes "placeholder") settings)
 command_of verb.Replay settings texts =
     replay_of (value_of (codes "prefix") settings) (value_of (codes "db") settings) (value_of (codes "placeholder") settings)
-    (is_given (codes "raw") settings) (is_given (codes "stream") settings) texts
+    (is_given (codes "raw") settings) (is_given (codes "stream") settings) (value_of (codes "mask") settings) texts
 command_of verb.Gen settings texts =
     gen_of texts (value_of (codes "rows") settings) (value_of (codes "groups") settings) (is_given (codes "run") settings)
 

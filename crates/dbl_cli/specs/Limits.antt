@@ -1,10 +1,11 @@
 -- The limits of a command's values.
-use Rattle.std.specs.Prelude.{◌≡◌, ℕ, ◌≤◌, ◌&&◌, nat_lt, Bool, true, List, length}
+use Rattle.std.specs.Prelude.{◌≡◌, ℕ, ◌≤◌, ◌&&◌, nat_lt, Bool, true, Option, Some, None, List, length}
 use Rattle.std.specs.List.{list_all}
 use Rattle.dbl_model_table.specs.declared.table.TableKey.{TableKey}
 use Rattle.dbl_model_table.specs.declared.table.TableName.{TableName}
 use Rattle.dbl_model_table.specs.Tables.{is_name, same_name, are_distinct}
 use Rattle.dbl_cli.specs.declared.commands.Command.{Command}
+use Rattle.dbl_cli.specs.declared.commands.MaskWord.{MaskWord}
 use Rattle.dbl_cli.specs.declared.commands.Command.TheVariants.{Init, Topics, Offsets, Compact, Capture, Resume, Apply, Replay, Gen}
 use Rattle.dbl_cli.specs.Values.{is_placeholder, is_named, is_column, tables_in}
 
@@ -39,6 +40,11 @@ pub record AreGoodKeys (keys : List TableKey) : Type 0 where
   pub tables : AreGoodTables (tables_in keys)
   pub columns : list_all has_columns keys ≡ true
 
+-- the mask of a valid table's column, which has a name, with at most 255 asterisks
+abbrev pub IsGoodMask : Option MaskWord → Type 0
+IsGoodMask None = Unit {0}
+IsGoodMask (Some mask) = (is_named mask.table ≡ true) × (is_column mask.column ≡ true) × (mask.stars ≤ 255)
+
 -- the values of a command are within their limits
 abbrev pub IsWithin : Command → Type 0
 IsWithin Init = Unit {0}
@@ -50,4 +56,5 @@ IsWithin (Capture options) = AreGoodNames options.prefix options.db options.plac
 IsWithin (Resume options) = IsGoodPace options.chunk options.every options.messages
 IsWithin (Apply lines placeholder) = is_placeholder placeholder ≡ true
 IsWithin (Replay options) = AreGoodNames options.prefix options.db options.placeholder × AreGoodKeys options.keys
+    × IsGoodMask options.mask
 IsWithin (Gen number rows groups run) = IsBetween 0 999999999 number × IsBetween 0 400000 rows × IsBetween 0 90000 groups

@@ -1,5 +1,6 @@
 -- The values of options, and the positional arguments.
-use Rattle.std.specs.Prelude.{ℕ, ◌==◌, ◌&&◌, nat_lt, nat_le, Bool, true, Option, List, length, map}
+use Rattle.std.specs.Prelude.{ℕ, ◌==◌, ◌&&◌, nat_lt, nat_le, Bool, true, if◌then◌else◌, Option, Some, None, unwrap_or}
+use Rattle.std.specs.Prelude.{List, [], ◌∷◌, length, map}
 use Rattle.std.specs.Char.{is_ascii_digit}
 use Rattle.std.specs.List.{list_all, before_first, after_first, slice_split}
 use Rattle.std.specs.Option.{option_map_or}
@@ -7,6 +8,7 @@ use Rattle.std.specs.Str.Parse.{digits_value}
 use Rattle.dbl_model_table.specs.declared.table.TableName.{TableName}
 use Rattle.dbl_model_table.specs.Tables.{is_name, same_name, are_distinct}
 use Rattle.dbl_model_table.specs.declared.table.TableKey.{TableKey}
+use Rattle.dbl_cli.specs.declared.commands.MaskWord.{MaskWord}
 
 -- 1 to 9 decimal digits whose number is within bounds
 abbrev pub is_number : ℕ → ℕ → List ℕ → Bool
@@ -72,3 +74,47 @@ tables_in keys = map (λ (key : TableKey). key.table) keys
 -- the arguments are valid keys of different tables
 abbrev pub are_keys : List (List ℕ) → Bool
 are_keys words = list_all is_key words && are_distinct same_name (tables_in (map key_in words))
+
+-- ---- masks: `<schema>.<name>.<column>:<n>`
+
+-- the table: the word up to its second dot
+abbrev pub masked_table_in : List ℕ → TableName
+masked_table_in word = record { schema = before_first is_dot word; name = before_first is_dot (after_first is_dot word) }
+
+-- the column and the number: the word after its second dot
+abbrev pub after_table : List ℕ → List ℕ
+after_table word = after_first is_dot (after_first is_dot word)
+
+-- a text that begins with this character: what precedes its last colon and what follows it, by those of the rest
+abbrev pub around_colon : ℕ → List ℕ → Option (List ℕ × List ℕ) → Option (List ℕ × List ℕ)
+around_colon c text None = if is_colon c then Some ([], text) else None
+around_colon c text (Some parts) = Some (c ∷ parts.0, parts.1)
+
+-- what precedes the last colon of a text and what follows it, if there is one
+abbrev pub around_last_colon : List ℕ → Option (List ℕ × List ℕ)
+around_last_colon [] = None
+around_last_colon (c ∷ text) = around_colon c text (around_last_colon text)
+
+-- the column and the digits of `<column>:<n>`; both are empty if there is no colon
+abbrev pub mask_parts : List ℕ → List ℕ × List ℕ
+mask_parts text = unwrap_or (around_last_colon text) ([], [])
+
+-- 1 to 3 decimal digits whose number is at most 255
+abbrev pub is_stars : List ℕ → Bool
+is_stars text = nat_le (length text) 3 && is_number 0 255 text
+
+-- the column's name isn't empty, and the number of asterisks is valid
+abbrev pub is_masked : List ℕ × List ℕ → Bool
+is_masked parts = is_column parts.0 && is_stars parts.1
+
+-- the mask of the word
+abbrev pub mask_in : List ℕ → MaskWord
+mask_in word = record {
+  table = masked_table_in word;
+  column = (mask_parts (after_table word)).0;
+  stars = digits_value 10 (mask_parts (after_table word)).1;
+}
+
+-- the argument is a valid mask; without its dots and its colon the name of the table or of the column is empty, which is invalid
+abbrev pub is_mask : List ℕ → Bool
+is_mask word = is_named (masked_table_in word) && is_masked (mask_parts (after_table word))

@@ -21,6 +21,14 @@ pub struct ResumeOptions {
     pub messages: u64,
 }
 
+/// A column whose texts are masked: each character of a text as an asterisk, at most so many.
+#[derive(Drop)]
+pub struct MaskWord {
+    pub table: TableName,
+    pub column: Text,
+    pub stars: u32,
+}
+
 /// The options of `replay`.
 #[derive(Drop)]
 pub struct ReplayOptions {
@@ -33,6 +41,8 @@ pub struct ReplayOptions {
     pub raw: bool,
     /// The log has protocol version 2: transactions may be streamed before they commit.
     pub stream: bool,
+    /// The column that is masked before the messages are replayed.
+    pub mask: Option<MaskWord>,
 }
 
 /// A parsed command line; absent options have their defaults.

@@ -12,7 +12,7 @@ mod spelling;
 mod values;
 mod verbs;
 
-pub use commands::{CaptureOptions, Command, ReplayOptions, ResumeOptions};
+pub use commands::{CaptureOptions, Command, MaskWord, ReplayOptions, ResumeOptions};
 pub use error::CliError;
 pub use laws::{words_spell_one_command, words_spell_or_not};
 pub use spelling::command;

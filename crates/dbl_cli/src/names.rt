@@ -67,7 +67,7 @@ static APPLY: [Name; 2] = [
     },
 ];
 
-static REPLAY: [Name; 5] = [
+static REPLAY: [Name; 6] = [
     Name {
         text: "prefix",
         has_value: true,
@@ -87,6 +87,10 @@ static REPLAY: [Name; 5] = [
     Name {
         text: "stream",
         has_value: false,
+    },
+    Name {
+        text: "mask",
+        has_value: true,
     },
 ];
 

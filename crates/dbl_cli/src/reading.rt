@@ -15,7 +15,9 @@ ghost use Rattle.dbl_cli.specs.Reads.{Reads};
 ghost use Rattle.dbl_cli.specs.Found.{option_in, places_in, SaysFlag, Finds};
 
 use crate::parser::PLACE;
-use crate::values::{keys, name_or_demo, number, number_or, placeholder_or_own, tables};
+use crate::values::{
+    keys, mask_or_none, name_or_demo, number, number_or, placeholder_or_own, tables,
+};
 use crate::verbs::Verb;
 use crate::{CaptureOptions, CliError, Command, ReplayOptions, ResumeOptions};
 use clap::ArgMatches;
@@ -159,15 +161,18 @@ fn replay(
 ) -> Result<Command, CliError>
     ensures { Reads
         (replay_passes (option_in found.now (codes "prefix")) (option_in found.now (codes "db"))
-        (option_in found.now (codes "placeholder")) (places_in found.now))
+        (option_in found.now (codes "placeholder")) (option_in found.now (codes "mask"))
+        (places_in found.now))
         (replay_of (option_in found.now (codes "prefix")) (option_in found.now (codes "db"))
-        (option_in found.now (codes "placeholder")) raw stream (places_in found.now)) result }
+        (option_in found.now (codes "placeholder")) raw stream
+        (option_in found.now (codes "mask")) (places_in found.now)) result }
 {
     let Names {
         prefix,
         db,
         placeholder,
     } = naming(alloc, found)?;
+    let mask = mask_or_none(alloc, found.get_str("mask"))?;
     let keys = keys_in(alloc, found)?;
     Ok(Command::Replay {
         options: ReplayOptions {
@@ -177,6 +182,7 @@ fn replay(
             keys,
             raw,
             stream,
+            mask,
         },
     })
 }

@@ -1,7 +1,7 @@
 //! The values of options, and the positional arguments.
 
 ghost use Rattle.std.specs.Prelude.{◌≡◌, ◌<◌, ◌≤◌, ◌&&◌, true, Some, length};
-ghost use Rattle.std.specs.Prelude.{map, codes, unwrap_or, option_copied, IfOk};
+ghost use Rattle.std.specs.Prelude.{map, codes, unwrap_or, option_copied, option_map, IfOk};
 ghost use Rattle.std.specs.List.{list_all, list_any, slice_split};
 ghost use Rattle.std.specs.Char.{is_ascii_digit};
 ghost use Rattle.std.specs.Str.Parse.{digits_value};
@@ -11,9 +11,11 @@ ghost use Rattle.dbl_cli.specs.Names.{texts};
 ghost use Rattle.dbl_cli.specs.Values.{is_number, number_or, passes, is_placeholder};
 ghost use Rattle.dbl_cli.specs.Values.{is_comma, table_in, is_table, are_tables};
 ghost use Rattle.dbl_cli.specs.Values.{key_in, is_column, is_key, tables_in, are_keys};
+ghost use Rattle.dbl_cli.specs.Values.{is_named, around_last_colon, mask_parts, is_stars};
+ghost use Rattle.dbl_cli.specs.Values.{is_masked, mask_in, is_mask};
 ghost use Rattle.dbl_cli.specs.Reads.{Reads, ReadsBy};
 
-use crate::CliError;
+use crate::{CliError, MaskWord};
 use dbl_base::{Seq, Text};
 use dbl_model_table::{TableKey, TableName};
 use std::alloc::{AllocError, Global};
@@ -119,6 +121,15 @@ pub fn placeholder_or_own(alloc: Global, text: Option<&str>) -> Result<Text, Cli
     }
 }
 
+fn named(alloc: Global, schema: &str, table: &str) -> Result<TableName, CliError>
+    ensures { Reads (is_named (record { schema = schema.now; name = table.now }))
+        (record { schema = schema.now; name = table.now }) result }
+{
+    let schema = name(alloc, schema)?;
+    let name = name(alloc, table)?;
+    Ok(TableName { schema, name })
+}
+
 /// Parses a table, `<schema>.<name>`.
 fn table(alloc: Global, word: &str) -> Result<TableName, CliError>
     ensures { Reads (is_table word.now) (table_in word.now) result }
@@ -126,9 +137,75 @@ fn table(alloc: Global, word: &str) -> Result<TableName, CliError>
     let Some((schema, table)) = word.split_once('.') else {
         return Err(CliError::Usage);
     };
-    let schema = name(alloc, schema)?;
-    let name = name(alloc, table)?;
-    Ok(TableName { schema, name })
+    named(alloc, schema, table)
+}
+
+/// Parses a number of asterisks, of 1 to 3 digits and at most 255.
+fn stars(text: &str) -> Result<u32, CliError>
+    ensures { Reads (is_stars text.now) (digits_value 10 text.now) result }
+{
+    if text.len() > 3 {
+        return Err(CliError::Usage);
+    }
+    number(text, 0, 255)
+}
+
+fn column(alloc: Global, text: &str) -> Result<Text, CliError>
+    ensures { Reads (is_column text.now) text.now result }
+{
+    if text.is_empty() {
+        return Err(CliError::Usage);
+    }
+    Ok(Text::of(alloc, text)?)
+}
+
+fn around_last_colon(text: &str) -> Option<(&str, &str)>
+    ensures { option_map (λ x. (x.0.now, x.1.now)) result ≡ around_last_colon text.now }
+{
+    text.rsplit_once(':')
+}
+
+/// Parses a column and its number of asterisks, `<column>:<n>`.
+fn masked_column(alloc: Global, text: &str) -> Result<(Text, u32), CliError>
+    ensures { Reads (is_masked (mask_parts text.now))
+        ((mask_parts text.now).0, digits_value 10 (mask_parts text.now).1) result }
+{
+    let Some((name, count)) = around_last_colon(text) else {
+        return Err(CliError::Usage);
+    };
+    let stars = stars(count)?;
+    let column = column(alloc, name)?;
+    Ok((column, stars))
+}
+
+/// Parses a mask, `<schema>.<name>.<column>:<n>`; the column may have dots and colons.
+fn mask(alloc: Global, word: &str) -> Result<MaskWord, CliError>
+    ensures { Reads (is_mask word.now) (mask_in word.now) result }
+{
+    let Some((schema, rest)) = word.split_once('.') else {
+        return Err(CliError::Usage);
+    };
+    let Some((table, rest)) = rest.split_once('.') else {
+        return Err(CliError::Usage);
+    };
+    let (column, stars) = masked_column(alloc, rest)?;
+    let table = named(alloc, schema, table)?;
+    Ok(MaskWord {
+        table,
+        column,
+        stars,
+    })
+}
+
+/// The mask of an option, if it is there.
+pub fn mask_or_none(alloc: Global, word: Option<&str>) -> Result<Option<MaskWord>, CliError>
+    ensures { Reads (passes is_mask (option_copied word.entry))
+        (option_map mask_in (option_copied word.entry)) result }
+{
+    match word {
+        None => Ok(None),
+        Some(word) => Ok(Some(mask(alloc, word)?)),
+    }
 }
 
 fn all_tables(alloc: Global, words: &[&str]) -> Result<Vec<TableName>, CliError>

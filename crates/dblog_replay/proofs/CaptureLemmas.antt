@@ -22,7 +22,10 @@ use Rattle.dbl_model_table.specs.declared.error.ModelError.{ModelError}
 use Rattle.dbl_model_table.specs.Made.{table_fault}
 use Rattle.dblog_replay.specs.declared.log_fault.LogFault.{LogFault}
 use Rattle.dblog_replay.specs.declared.log_fault.LogFault.TheVariants as log
-use Rattle.dblog_replay.specs.Captures.{room_fault, entry_fault, capture_fault, entry_of, is_among, new_table, table_told, tables_in, AreCaptured}
+use Rattle.dbl_hooks_masks.specs.declared.fault.MaskFault.{MaskFault}
+use Rattle.dbl_hooks_masks.specs.declared.masking.Masking.{Masking}
+use Rattle.dbl_hooks_masks.specs.Faults.{mask_fault}
+use Rattle.dblog_replay.specs.Captures.{room_fault, entry_fault, or_else, column_fault, capture_fault, entry_of, is_among, new_table, table_told, tables_in, AreCaptured}
 
 or_false : (a b : Bool) → (a || b) ≡ false → (a ≡ false) × (b ≡ false)
 or_false true b is = cc
@@ -186,21 +189,50 @@ entry_room : (count : ℕ) (found : Option ModelError) → option_map log.Table 
 entry_room count None is = refl
 entry_room count (Some error) is = cc
 
-pub entry_fails : (count : ℕ) (raw : RawTable) (e : LogFault) → (e ≡ log.Memory) ⊎ (option_map log.Table (table_fault raw) ≡ Some e) → (e ≡ log.Memory) ⊎ (capture_fault count raw ≡ Some e)
-entry_fails count raw e (inl memory) = inl memory
-entry_fails count raw e (inr told) = inr (entry_err count (table_fault raw) e told)
+pub entry_fails : (mask : Option Masking) (count : ℕ) (raw : RawTable) (e : LogFault)
+    → (e ≡ log.Memory) ⊎ (option_map log.Table (table_fault raw) ≡ Some e) → (e ≡ log.Memory) ⊎ (capture_fault mask count raw ≡ Some e)
+entry_fails mask count raw e (inl memory) = inl memory
+entry_fails mask count raw e (inr told) =
+    inr (ap (λ (o : Option LogFault). or_else o (column_fault mask raw)) (entry_err count (table_fault raw) e told))
 
-pub entry_fits : (count : ℕ) (raw : RawTable) → option_map log.Table (table_fault raw) ≡ None → capture_fault count raw ≡ room_fault count
-entry_fits count raw told = entry_room count (table_fault raw) told
+entry_fits : (mask : Option Masking) (count : ℕ) (raw : RawTable) → option_map log.Table (table_fault raw) ≡ None
+    → capture_fault mask count raw ≡ or_else (room_fault count) (column_fault mask raw)
+entry_fits mask count raw told = ap (λ (o : Option LogFault). or_else o (column_fault mask raw)) (entry_room count (table_fault raw) told)
 
 room_test : (b : Bool) → (b ≡ true → ⊥) → b ≡ false
 room_test true never = absurd (never refl)
 room_test false never = refl
 
-pub room_full : (count : ℕ) → 64 ≤ count → room_fault count ≡ Some log.TooManyTables
+room_full : (count : ℕ) → 64 ≤ count → room_fault count ≡ Some log.TooManyTables
 room_full count full =
     let f : Bool → Option LogFault = λ b. if b then None else Some log.TooManyTables in
     ap f (room_test (nat_lt count 64) (λ below. omega (arith, (Decides-ltb count 64).0 below)))
 
-pub room_left : (count : ℕ) → count < 64 → room_fault count ≡ None
+room_left : (count : ℕ) → count < 64 → room_fault count ≡ None
 room_left count below = let f : Bool → Option LogFault = λ b. if b then None else Some log.TooManyTables in ap f ((Decides-ltb count 64).1 below)
+
+-- there are too many tables
+pub capture_full : (mask : Option Masking) (count : ℕ) (raw : RawTable) → option_map log.Table (table_fault raw) ≡ None → 64 ≤ count
+    → capture_fault mask count raw ≡ Some log.TooManyTables
+capture_full mask count raw told full =
+    entry_fits mask count raw told ∙ ap (λ (o : Option LogFault). or_else o (column_fault mask raw)) (room_full count full)
+
+-- there is room for the table, whose column may be the reason
+pub capture_left : (mask : Option Masking) (count : ℕ) (raw : RawTable) → option_map log.Table (table_fault raw) ≡ None → count < 64
+    → capture_fault mask count raw ≡ column_fault mask raw
+capture_left mask count raw told below =
+    entry_fits mask count raw told ∙ ap (λ (o : Option LogFault). or_else o (column_fault mask raw)) (room_left count below)
+
+pub column_fails : (mask : Option Masking) (count : ℕ) (raw : RawTable) (e : LogFault) → option_map log.Table (table_fault raw) ≡ None → count < 64
+    → (e ≡ log.Memory) ⊎ (column_fault mask raw ≡ Some e) → (e ≡ log.Memory) ⊎ (capture_fault mask count raw ≡ Some e)
+column_fails mask count raw e told below (inl memory) = inl memory
+column_fails mask count raw e told below (inr fault) = inr (capture_left mask count raw told below ∙ fault)
+
+-- the table's column can't be masked
+pub column_judged : (mask : Option Masking) (plan : Masking) (raw : RawTable) (error : MaskFault) (table : TableName) (column : List ℕ)
+    → mask ≡ Some plan → same_name plan.table raw.name ≡ true → mask_fault raw plan.column ≡ Some error → table ≡ plan.table → column ≡ plan.column
+    → column_fault mask raw ≡ Some (log.Mask table column error)
+column_judged mask plan raw error table column is same fault table_is column_is =
+    let f : Bool → Option LogFault = λ b. if b then option_map (log.Mask plan.table plan.column) (mask_fault raw plan.column) else None in
+    ap (λ (o : Option Masking). column_fault o raw) is ∙ ap f same ∙ ap (option_map (log.Mask plan.table plan.column)) fault
+    ∙ ap₂ (λ (t : TableName) (c : List ℕ). Some (log.Mask t c error)) (sym table_is) (sym column_is)

@@ -12,7 +12,7 @@ use Rattle.dbl_model_commit.specs.Stated.{list_of, ended_commit, transaction_fau
 use Rattle.dblog_replay.specs.declared.log_fault.LogFault.{LogFault}
 use Rattle.dblog_replay.specs.declared.log_fault.LogFault.TheVariants as log
 use Rattle.dblog_replay.specs.declared.options.LogOptions.{LogOptions}
-use Rattle.dblog_replay.specs.Captures.{capture_fault, entry_fault, table_told, tables_in, AreCaptured, told_fault}
+use Rattle.dblog_replay.specs.Captures.{capture_fault, column_fault, entry_fault, or_else, table_told, tables_in, AreCaptured, told_fault}
 use Rattle.dblog_replay.specs.Pieces.{Piece, Carries, Stops}
 use Rattle.dblog_replay.specs.Log.{lines_in, log_start, HasTables, records_fault, IsLogFault, no_table, no_place, no_records, end_fault, LogWrites}
 use Rattle.dblog_replay.proofs.CaptureLemmas.{captured_still, captured_more, told_first}
@@ -24,18 +24,22 @@ no_entry_fault : (count : ℕ) (o : Option ModelError) → entry_fault count o �
 no_entry_fault count None is = refl
 no_entry_fault count (Some error) is = cc
 
+first_none : (one other : Option LogFault) → or_else one other ≡ None → one ≡ None
+first_none None other is = refl
+first_none (Some fault) other is = cc
+
 -- the tables that are captured after one message more
 abbrev Captures : LogOptions → List Message → Message → Type 0
 Captures options ms m = (infos : List TableInfo) × AreCaptured options.keys (m ∷ ms) infos
 
 captures : (options : LogOptions) (ms : List Message) (m : Message) (infos : List TableInfo) → AreCaptured options.keys ms infos → (o : Option RawTable)
     → table_told options.keys (tables_in options.keys ms) m ≡ o
-    → told_fault options.keys (tables_in options.keys ms) m ≡ None → Captures options ms m
+    → told_fault options (tables_in options.keys ms) m ≡ None → Captures options ms m
 captures options ms m infos captured None none clean = (infos, captured_still options.keys m ms infos captured none)
 captures options ms m infos captured (Some raw) told clean =
-    let judged : capture_fault (length (tables_in options.keys ms)) raw ≡ None = sym
-    (ap (λ (o : Option RawTable). option_and_then (capture_fault (length (tables_in options.keys ms))) o) told) ∙ clean in
-    let info = (capturable raw).0 (no_entry_fault _ _ judged) in (
+    let judged : capture_fault options.mask (length (tables_in options.keys ms)) raw ≡ None = sym
+    (ap (λ (o : Option RawTable). option_and_then (capture_fault options.mask (length (tables_in options.keys ms))) o) told) ∙ clean in
+    let info = (capturable raw).0 (no_entry_fault (length (tables_in options.keys ms)) _ (first_none _ (column_fault options.mask raw) judged)) in (
       infos ++ info.0 ∷ [],
       captured_more options.keys m ms infos info.0 raw captured told
           (info.1 ∙ told_first options.keys (tables_in options.keys ms) m raw told),
@@ -62,7 +66,7 @@ module _ (options : LogOptions) (now : ℤ) (ms : List Message) (number : ℕ) (
 
   by_told : (infos : List TableInfo) → AreCaptured options.keys ms infos
       → ((next : List TableInfo) → AreCaptured options.keys (m ∷ ms) next → Written options now (m ∷ ms) pieces) → (o : Option LogFault)
-      → told_fault options.keys (tables_in options.keys ms) m ≡ o → Written options now ms (Carries number m ∷ pieces)
+      → told_fault options (tables_in options.keys ms) m ≡ o → Written options now ms (Carries number m ∷ pieces)
   by_told infos captured later (Some found) is = stops found (no_table is)
   by_told infos captured later None is =
       let next = captures options ms m infos captured _ refl is in

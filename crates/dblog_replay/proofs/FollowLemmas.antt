@@ -25,13 +25,17 @@ use Rattle.dbl_model_commit.specs.Stated.{list_of, ended_commit, transaction_fau
 use Rattle.dblog_replay.specs.declared.log_fault.LogFault.{LogFault}
 use Rattle.dblog_replay.specs.declared.log_fault.LogFault.TheVariants as log
 use Rattle.dblog_replay.specs.declared.options.LogOptions.{LogOptions}
+use Rattle.dbl_hooks_masks.specs.declared.masking.Masking.{Masking}
+use Rattle.dblog_replay.specs.declared.masking.MaskingReplayer.{MaskingReplayer}
 use Rattle.dblog_replay.specs.declared.replay.Replayer.{Replayer}
 use Rattle.dblog_replay.specs.Captures.{entry_of, capture_fault, tables_in, told_fault}
 use Rattle.dblog_replay.specs.Pieces.{Piece, Carries, Stops, IsPiece, AreRead}
 use Rattle.dblog_replay.specs.Log.{log_start, lines_in, commit_fault, HasTables, records_fault, IsLogFault, no_table, no_place, no_records, IsTaken, end_fault}
 use Rattle.dblog_replay.specs.Log.{LogWrites}
-use Rattle.dblog_replay.specs.Following.{HasReplayed, FollowsMessages, IsReplaying, IsReplayerReady, AppendsMessage, IsNextMessage, TakesMessage}
-use Rattle.dblog_replay.specs.LogPrinting.{starved, cut, PutsCommit, IsStepped, step_starved, step_cut, StopsAt, StepsPrinting, StepsReading, IsLogPut}
+use Rattle.dblog_replay.specs.Following.{HasReplayed, FollowsMessages, FollowsMasked, IsReplaying, IsReplayerReady, AppendsMessage, IsNextMessage, IsNextMasked}
+use Rattle.dblog_replay.specs.Following.{TakesMessage, TakesMasked}
+use Rattle.dblog_replay.specs.Masked.{masked_with, all_masked, masked_pieces, AreMapped}
+use Rattle.dblog_replay.specs.LogPrinting.{masked_lines, IsTakenMasked, starved, cut, PutsCommit, IsStepped, step_starved, step_cut, StopsAt, StepsPrinting, StepsReading, IsLogPut}
 use Rattle.dblog_replay.proofs.CaptureLemmas.{count_is, captured_still, captured_more, is_known, is_new, new_has_none}
 use Rattle.dblog_replay.proofs.LogLemmas.{goes}
 use Rattle.dblog_replay.proofs.PieceLemmas.{next_piece}
@@ -62,6 +66,10 @@ module _ (options : LogOptions) (ms : List Message) (r : Replayer) (oid identity
     (items : List TableInfo) (test : Bool) (follows : FollowsMessages options ms r)
     (schema : s ≡ schema_of ns) (name : n ≡ nm) (same : items ≡ follows.infos)
     (is : test ≡ not (is_watermark (record { schema = s; name = n }) || list_any (λ (info : TableInfo). same_name info.name (record { schema = s; name = n })) items)) where
+  -- the mask that is stored
+  given_fault : (count : ℕ) (entry : RawTable) → capture_fault options.mask count entry ≡ capture_fault r.mask count entry
+  given_fault count entry = ap (λ (mask : Option Masking). capture_fault mask count entry) (sym follows.replayed.mask)
+
   -- the table is captured already
   pub learn_known : test ≡ false → IsReplayerReady options ms (says.Relation oid ns nm identity columns) r
   learn_known known =
@@ -70,19 +78,19 @@ module _ (options : LogOptions) (ms : List Message) (r : Replayer) (oid identity
         infos = follows.infos;
         replayed = follows.replayed;
         tables = record {
-          capturable = ap (option_and_then (capture_fault (length (tables_in options.keys ms)))) none;
+          capturable = ap (option_and_then (capture_fault options.mask (length (tables_in options.keys ms)))) none;
           captured = captured_still options.keys (says.Relation oid ns nm identity columns) ms follows.infos follows.captured none;
         };
       }
 
   -- it can't be captured
   pub learn_fails : (entry : RawTable) (count : ℕ) (e : LogFault) → test ≡ true → entry ≡ entry_of options.keys (record { schema = s; name = n }) columns → count ≡ length items
-      → (e ≡ log.Memory) ⊎ (capture_fault count entry ≡ Some e) → (e ≡ log.Memory) ⊎ (told_fault options.keys (tables_in options.keys ms) (says.Relation oid ns nm identity columns) ≡ Some e)
+      → (e ≡ log.Memory) ⊎ (capture_fault r.mask count entry ≡ Some e) → (e ≡ log.Memory) ⊎ (told_fault options (tables_in options.keys ms) (says.Relation oid ns nm identity columns) ≡ Some e)
   learn_fails entry count e new entry_told counted (inl memory) = inl memory
   learn_fails entry count e new entry_told counted (inr fault) =
       let told = is_new options.keys ms follows.infos (table_named ns nm) columns test follows.captured (test_is s n ns nm items follows.infos test schema name same is) new in
       let count_told : count ≡ length (tables_in options.keys ms) = counted ∙ ap length same ∙ count_is options.keys ms follows.infos follows.captured in
-      inr (ap (option_and_then (capture_fault (length (tables_in options.keys ms)))) told ∙ ap₂ capture_fault (sym count_told) (sym (entry_is options.keys s n ns nm columns entry schema name entry_told)) ∙ fault)
+      inr (ap (option_and_then (capture_fault options.mask (length (tables_in options.keys ms)))) told ∙ ap₂ (capture_fault options.mask) (sym count_told) (sym (entry_is options.keys s n ns nm columns entry schema name entry_told)) ∙ given_fault count entry ∙ fault)
 
   -- no Relation of it was taken
   pub learn_none : (entry : RawTable) (info : TableInfo) → test ≡ true → entry ≡ entry_of options.keys (record { schema = s; name = n }) columns → IsInfoOf entry info → HasNoRelation info.name ms
@@ -92,7 +100,7 @@ module _ (options : LogOptions) (ms : List Message) (r : Replayer) (oid identity
 
   -- and it is captured now
   pub learn_more : (entry : RawTable) (count : ℕ) (info : TableInfo) (t : Replayer) → test ≡ true → entry ≡ entry_of options.keys (record { schema = s; name = n }) columns → count ≡ length items → IsInfoOf entry info
-      → capture_fault count entry ≡ None → HasReplayed options (follows.infos ++ info ∷ []) ms t → IsReplayerReady options ms (says.Relation oid ns nm identity columns) t
+      → capture_fault r.mask count entry ≡ None → HasReplayed options (follows.infos ++ info ∷ []) ms t → IsReplayerReady options ms (says.Relation oid ns nm identity columns) t
   learn_more entry count info t new entry_told counted info_told clean replayed =
       let told = is_new options.keys ms follows.infos (table_named ns nm) columns test follows.captured (test_is s n ns nm items follows.infos test schema name same is) new in
       let entry_same = entry_is options.keys s n ns nm columns entry schema name entry_told in
@@ -101,8 +109,8 @@ module _ (options : LogOptions) (ms : List Message) (r : Replayer) (oid identity
         infos = follows.infos ++ info ∷ [];
         replayed = replayed;
         tables = record {
-          capturable = ap (option_and_then (capture_fault (length (tables_in options.keys ms)))) told ∙ ap₂ capture_fault (sym count_told)
-              (sym entry_same) ∙ clean;
+          capturable = ap (option_and_then (capture_fault options.mask (length (tables_in options.keys ms)))) told ∙ ap₂ (capture_fault options.mask) (sym count_told)
+              (sym entry_same) ∙ given_fault count entry ∙ clean;
           captured = captured_more options.keys (says.Relation oid ns nm identity columns) ms follows.infos info
               (entry_of options.keys (table_named ns nm) columns) follows.captured told (info_told ∙ ap (λ (r : RawTable). record r { version = 1 }) entry_same);
         };
@@ -111,7 +119,7 @@ module _ (options : LogOptions) (ms : List Message) (r : Replayer) (oid identity
 -- ---- one message
 
 pub prepare_fails : (options : LogOptions) (ms : List Message) (number : ℕ) (m : Message) (fault : LogFault) → (fault ≡ log.Memory)
-    ⊎ (told_fault options.keys (tables_in options.keys ms) m ≡ Some fault)
+    ⊎ (told_fault options (tables_in options.keys ms) m ≡ Some fault)
     → (fault ≡ log.Memory) ⊎ IsLogFault options ms number m fault
 prepare_fails options ms number m fault (inl memory) = inl memory
 prepare_fails options ms number m fault (inr told) = inr (no_table told)
@@ -149,6 +157,15 @@ put_takes options ms number m r s (Ok o) ready fits fields put = record {
 }
 put_takes options ms number m r s (Err fault) ready fits fields put = put_fails options ms number m r fault ready put
 
+-- and so does a masked message
+pub masked_takes : (options : LogOptions) (ms : List Message) (number : ℕ) (m shown : Message) (r : MaskingReplayer)
+    (result : Result (Option Commit) LogFault) → shown ≡ masked_with options.mask ms m → AreMapped options.mask (m ∷ ms) r.mapper
+    → TakesMessage options (all_masked options.mask ms) number shown r.replayer result → TakesMasked options ms number m r result
+masked_takes options ms number m shown r (Ok o) is knows takes =
+    record { knows = knows; next = subst (λ (x : Message). IsNextMessage options (all_masked options.mask ms) x r.replayer o) is takes }
+masked_takes options ms number m shown r (Err e) is knows takes =
+    subst (λ (x : Message). (e ≡ log.Memory) ⊎ IsLogFault options (all_masked options.mask ms) number x e) is takes
+
 -- ---- the lines of the commit that a message ends
 
 -- the lines that a writer puts, and the fault that it finds
@@ -178,26 +195,34 @@ next_follows : (options : LogOptions) (ms : List Message) (m : Message) (r : Rep
 next_follows options ms m r o is = record { infos = is.infos; replayed = is.replayed; captured = is.tables.captured; fields = is.fields }
 
 -- what became of the commit is what became of the message
-pub steps : (options : LogOptions) (now : ℤ) (ms : List Message) (number : ℕ) (m : Message) (gathered later : List ℕ) (r : Replayer) (o : Option Commit)
+pub steps : (options : LogOptions) (now : ℤ) (ms : List Message) (number : ℕ) (m : Message) (gathered later : List ℕ) (r : MaskingReplayer) (o : Option Commit)
     (result : Result (Option LogFault) PrintError) (before after : Option (List ℕ))
-    → IsNextMessage options ms m r o
-    → PutsCommit (WriterFault r o) (WriterLines r o now) gathered later result before after
+    → IsNextMasked options ms m r o
+    → PutsCommit (WriterFault r.replayer o) (WriterLines r.replayer o now) gathered later result before after
     → StepsPrinting options now ms (Carries number m) gathered later r result before after
-steps options now ms number m gathered later r o (Ok None) before after is puts = record {
-  number = number;
-  m = m;
-  infos = is.infos;
-  carries = refl;
-  taken = next_taken options ms m r o is puts.0;
-  follows = next_follows options ms m r o is;
-  puts = subst (λ (l : List (List ℕ)). Puts l gathered later before after) (writer_lines options ms m r o now is) puts.1;
-}
-steps options now ms number m gathered later r o (Ok (Some fault)) before after is (told, halted) =
-    (no_records is.infos is.tables is.placed (sym (writer_fault options ms m r o is) ∙ told), halted)
+steps options now ms number m gathered later r o (Ok None) before after is puts =
+    let here = masked_with options.mask ms m in
+    let past = all_masked options.mask ms in
+    record {
+      number = number;
+      m = m;
+      infos = is.next.infos;
+      carries = refl;
+      taken = next_taken options past here r.replayer o is.next puts.0;
+      follows = record { knows = is.knows; follows = next_follows options past here r.replayer o is.next };
+      puts = subst (λ (l : List (List ℕ)). Puts l gathered later before after) (writer_lines options past here r.replayer o now is.next) puts.1;
+    }
+steps options now ms number m gathered later r o (Ok (Some fault)) before after is (told, halted) = (
+  no_records is.next.infos is.next.tables is.next.placed
+      (sym (writer_fault options (all_masked options.mask ms) (masked_with options.mask ms m) r.replayer o is.next) ∙ told),
+  halted,
+)
 steps options now ms number m gathered later r o (Err error) before after is (starved memory same) = step_starved memory same
 steps options now ms number m gathered later r o (Err error) before after is (cut none fails) =
-    step_cut number m is.infos refl (next_taken options ms m r o is none)
-    (subst (λ (l : List (List ℕ)). PutFails l gathered error before after) (writer_lines options ms m r o now is) fails)
+    let here = masked_with options.mask ms m in
+    let past = all_masked options.mask ms in
+    step_cut number m is.next.infos refl (next_taken options past here r.replayer o is.next none)
+    (subst (λ (l : List (List ℕ)). PutFails l gathered error before after) (writer_lines options past here r.replayer o now is.next) fails)
 
 same_fault : (x y : LogFault) → Some x ≡ Some y → x ≡ y
 same_fault x y same = cc
@@ -206,7 +231,7 @@ no_fault : (x : LogFault) → None ≡ Some x → ⊥
 no_fault x same = cc
 
 -- a piece that ends the log, or out of memory
-pub steps_stopped : (options : LogOptions) (now : ℤ) (ms : List Message) (piece : Piece) (gathered : List ℕ) (r : Replayer) (fault : LogFault)
+pub steps_stopped : (options : LogOptions) (now : ℤ) (ms : List Message) (piece : Piece) (gathered : List ℕ) (r : MaskingReplayer) (fault : LogFault)
     (result : Result (Option LogFault) PrintError) (before : Option (List ℕ))
     → (fault ≡ log.Memory) ⊎ StopsAt options ms piece fault
     → IfOk result (λ found. found ≡ Some fault) → OnOk result (fault ≢ log.Memory) → IfErr result (λ e. e ≡ Memory)
@@ -221,7 +246,7 @@ abbrev failed : PrintError → Result (Option LogFault) PrintError
 failed e = Err e
 
 -- bytes that are no message, or out of memory
-pub read_stopped : (options : LogOptions) (now : ℤ) (ms : List Message) (number : ℕ) (b gathered : List ℕ) (r : Replayer) (fault : LogFault)
+pub read_stopped : (options : LogOptions) (now : ℤ) (ms : List Message) (number : ℕ) (b gathered : List ℕ) (r : MaskingReplayer) (fault : LogFault)
     (result : Result (Option LogFault) PrintError) (before : Option (List ℕ))
     → (fault ≡ log.Memory) ⊎ IsPiece number b (Stops fault)
     → IfOk result (λ found. found ≡ Some fault) → OnOk result (fault ≢ log.Memory) → IfErr result (λ e. e ≡ Memory)
@@ -232,14 +257,14 @@ read_stopped options now ms number b gathered r fault (Ok found) before (inl mem
 read_stopped options now ms number b gathered r fault (Err error) before (inl memory) told other err = inl (ap failed err, refl)
 
 -- bytes that are a message
-pub read_steps : (options : LogOptions) (now : ℤ) (ms : List Message) (number : ℕ) (b : List ℕ) (m : Message) (gathered later : List ℕ) (r : Replayer)
+pub read_steps : (options : LogOptions) (now : ℤ) (ms : List Message) (number : ℕ) (b : List ℕ) (m : Message) (gathered later : List ℕ) (r : MaskingReplayer)
     (result : Result (Option LogFault) PrintError) (before after : Option (List ℕ))
     → Spells b m
     → StepsPrinting options now ms (Carries number m) gathered later r result before after
     → StepsReading options now ms number b gathered later r result before after
 read_steps options now ms number b m gathered later r result before after spells steps = inr (Carries number m, (refl, spells), steps)
 
-pub reading_same : (options : LogOptions) (now : ℤ) (ms : List Message) (number : ℕ) (b gathered later : List ℕ) (r : Replayer) (one other : Option LogFault)
+pub reading_same : (options : LogOptions) (now : ℤ) (ms : List Message) (number : ℕ) (b gathered later : List ℕ) (r : MaskingReplayer) (one other : Option LogFault)
     (before after : Option (List ℕ))
     → StepsReading options now ms number b gathered later r (Ok one) before after → one ≡ other
     → StepsReading options now ms number b gathered later r (Ok other) before after
@@ -247,39 +272,52 @@ reading_same options now ms number b gathered later r one other before after is 
     subst (λ (f : Option LogFault). StepsReading options now ms number b gathered later r (Ok f) before after) same is
 
 -- bytes were read as a piece without an error, which was processed
-pub record HasStepped (options : LogOptions) (now : ℤ) (ms : List Message) (number : ℕ) (b gathered later : List ℕ) (r : Replayer)
+pub record HasStepped (options : LogOptions) (now : ℤ) (ms : List Message) (number : ℕ) (b gathered later : List ℕ) (r : MaskingReplayer)
     (before after : Option (List ℕ)) : Type 0 where
   pub piece : Piece
   pub is : IsPiece number b piece
   pub stepped : IsStepped options now ms piece gathered later r before after
 
-pub read_on : (options : LogOptions) (now : ℤ) (ms : List Message) (number : ℕ) (b gathered later : List ℕ) (r : Replayer) (before after : Option (List ℕ))
+pub read_on : (options : LogOptions) (now : ℤ) (ms : List Message) (number : ℕ) (b gathered later : List ℕ) (r : MaskingReplayer) (before after : Option (List ℕ))
     → StepsReading options now ms number b gathered later r (Ok None) before after
     → HasStepped options now ms number b gathered later r before after
 read_on options now ms number b gathered later r before after (inl (starves, same)) = cc
 read_on options now ms number b gathered later r before after (inr (piece, is, stepped)) = record { piece = piece; is = is; stepped = stepped }
 
-pub stepped_replays : (options : LogOptions) (now : ℤ) (ms : List Message) (number : ℕ) (b gathered later : List ℕ) (r : Replayer)
+pub stepped_replays : (options : LogOptions) (now : ℤ) (ms : List Message) (number : ℕ) (b gathered later : List ℕ) (r : MaskingReplayer)
     (before after : Option (List ℕ)) → HasStepped options now ms number b gathered later r before after → IsReplaying r
 stepped_replays options now ms number b gathered later r before after has =
     record { options = options; ms = has.stepped.m ∷ ms; follows = has.stepped.follows }
 
 -- ---- the messages so far
 
+-- the lines that pieces after these messages write, each message masked
+abbrev pub MaskedWrite : LogOptions → ℤ → List Message → List Piece → List (List ℕ) → Option LogFault → Type 0
+MaskedWrite options now ms pieces lines end = LogWrites options now (all_masked options.mask ms) (masked_pieces options.mask ms pieces) lines end
+
+-- what follows a message that has no error once it is masked
+pub goes_masked : (options : LogOptions) (now : ℤ) (ms : List Message) (number : ℕ) (m : Message) (pieces : List Piece) (i : List TableInfo)
+    (lines : List (List ℕ)) (end : Option LogFault) → IsTakenMasked options ms m i → MaskedWrite options now ms (Carries number m ∷ pieces) lines end
+    → (more : List (List ℕ)) × (lines ≡ masked_lines options now ms m i ++ more) × MaskedWrite options now (m ∷ ms) pieces more end
+goes_masked options now ms number m pieces i lines end taken writes =
+    let found = goes options now (all_masked options.mask ms) number (masked_with options.mask ms m) (masked_pieces options.mask (m ∷ ms) pieces) i lines end
+    taken writes in
+    (found.more, found.split, found.rest)
+
 -- the first of the byte strings were read, and the lines of their commits put; the others are left
 pub record IsLogging (options : LogOptions) (now : ℤ) (all : List Piece) (unread : List (List ℕ)) (gathered later : List ℕ) (before after : Option (List ℕ))
-    (number : ℕ) (r : Replayer) : Type 0 where
+    (number : ℕ) (r : MaskingReplayer) : Type 0 where
   pub ms : List Message
   pub left : List Piece
   pub read : AreRead (number + 1) unread left
-  pub follows : FollowsMessages options ms r
+  pub follows : FollowsMasked options ms r
   pub first : List (List ℕ)
   pub puts : Puts first gathered later before after
-  pub onto : (lines : List (List ℕ)) (end : Option LogFault) → LogWrites options now [] all lines end → (more : List (List ℕ)) × (lines ≡ first ++ more) × LogWrites options now ms left more end
-  pub back : (more : List (List ℕ)) (end : Option LogFault) → LogWrites options now ms left more end → LogWrites options now [] all (first ++ more) end
+  pub onto : (lines : List (List ℕ)) (end : Option LogFault) → MaskedWrite options now [] all lines end → (more : List (List ℕ)) × (lines ≡ first ++ more) × MaskedWrite options now ms left more end
+  pub back : (more : List (List ℕ)) (end : Option LogFault) → MaskedWrite options now ms left more end → MaskedWrite options now [] all (first ++ more) end
 
-pub logging_begins : (options : LogOptions) (now : ℤ) (all : List Piece) (unread : List (List ℕ)) (gathered : List ℕ) (before : Option (List ℕ)) (r : Replayer)
-    → FollowsMessages options [] r → AreRead 1 unread all
+pub logging_begins : (options : LogOptions) (now : ℤ) (all : List Piece) (unread : List (List ℕ)) (gathered : List ℕ) (before : Option (List ℕ)) (r : MaskingReplayer)
+    → FollowsMasked options [] r → AreRead 1 unread all
     → IsLogging options now all unread gathered gathered before before 0 r
 logging_begins options now all unread gathered before r follows read = record {
   ms = [];
@@ -294,20 +332,20 @@ logging_begins options now all unread gathered before r follows read = record {
 
 -- the piece of the next byte string
 next_left : (options : LogOptions) (now : ℤ) (all : List Piece) (unread next : List (List ℕ)) (b gathered later : List ℕ) (before after : Option (List ℕ))
-    (number : ℕ) (r : Replayer)
+    (number : ℕ) (r : MaskingReplayer)
     (so_far : IsLogging options now all unread gathered later before after number r) → unread ≡ b ∷ next → (piece : Piece) → IsPiece (number + 1) b piece →
     (more : List Piece) × (so_far.left ≡ piece ∷ more)
 next_left options now all unread next b gathered later before after number r so_far split piece is =
     next_piece (number + 1) b next so_far.left piece (subst (λ (l : List (List ℕ)). AreRead (number + 1) l so_far.left) split so_far.read) is
 
 pub logging_more : (options : LogOptions) (now : ℤ) (all : List Piece) (unread next : List (List ℕ)) (b gathered middle later : List ℕ)
-    (before between after : Option (List ℕ)) (number : ℕ) (r s : Replayer)
+    (before between after : Option (List ℕ)) (number : ℕ) (r s : MaskingReplayer)
     (so_far : IsLogging options now all unread gathered middle before between number r) → unread ≡ b ∷ next → HasStepped options now so_far.ms
     (number + 1) b middle later s between after
     → IsLogging options now all next gathered later before after (number + 1) s
 logging_more options now all unread next b gathered middle later before between after number r s so_far split has =
     let is = has.stepped in
-    let printed = lines_in options.identity is.infos (list_of (ended_commit is.infos is.m so_far.ms)) now in
+    let printed = masked_lines options now so_far.ms is.m is.infos in
     let rest = next_left options now all unread next b gathered middle before between number r so_far split has.piece has.is in
     let left_is : so_far.left ≡ Carries is.number is.m ∷ rest.0 = rest.1 ∙ ap (λ (p : Piece). p ∷ rest.0) is.carries in
     let read : AreRead (number + 1) (b ∷ next) (Carries is.number is.m ∷ rest.0) =
@@ -322,33 +360,33 @@ logging_more options now all unread next b gathered middle later before between 
       puts = puts_then so_far.first printed gathered middle later before between after so_far.puts is.puts;
       onto = λ lines end writes. (
           let told = so_far.onto lines end writes in
-          let more = goes options now so_far.ms is.number is.m rest.0 is.infos told.0 end is.taken
-          (subst (λ (l : List Piece). LogWrites options now so_far.ms l told.0 end) left_is told.2) in
-          (more.more, told.1 ∙ ap (λ (l : List (List ℕ)). so_far.first ++ l) more.split ∙ sym (append_assoc so_far.first printed more.more), more.rest));
+          let more = goes_masked options now so_far.ms is.number is.m rest.0 is.infos told.0 end is.taken
+          (subst (λ (l : List Piece). MaskedWrite options now so_far.ms l told.0 end) left_is told.2) in
+          (more.0, told.1 ∙ ap (λ (l : List (List ℕ)). so_far.first ++ l) more.1 ∙ sym (append_assoc so_far.first printed more.0), more.2));
       back = λ more end writes.
-          subst (λ (l : List (List ℕ)). LogWrites options now [] all l end) (sym (append_assoc so_far.first printed more))
-          (so_far.back (printed ++ more) end (subst (λ (l : List Piece). LogWrites options now so_far.ms l (printed ++ more) end) (sym left_is)
+          subst (λ (l : List (List ℕ)). MaskedWrite options now [] all l end) (sym (append_assoc so_far.first printed more))
+          (so_far.back (printed ++ more) end (subst (λ (l : List Piece). MaskedWrite options now so_far.ms l (printed ++ more) end) (sym left_is)
           (inr (is.infos, more, is.taken, refl, writes))));
     }
 
 stops_write : (options : LogOptions) (now : ℤ) (ms : List Message) (piece : Piece) (more : List Piece) (fault : LogFault) → StopsAt options ms piece fault
-    → LogWrites options now ms (piece ∷ more) [] (Some fault)
+    → MaskedWrite options now ms (piece ∷ more) [] (Some fault)
 stops_write options now ms (Carries number m) more fault is = inl (record { fault = fault; is = is; none = refl; told = refl })
 stops_write options now ms (Stops error) more fault is = (refl, ap (λ (f : LogFault). Some f) is)
 
 -- the next piece ends the log
 pub logging_stops : (options : LogOptions) (now : ℤ) (all : List Piece) (unread next : List (List ℕ)) (b gathered middle later : List ℕ)
-    (before between after : Option (List ℕ)) (number : ℕ) (r s : Replayer) (fault : LogFault)
+    (before between after : Option (List ℕ)) (number : ℕ) (r s : MaskingReplayer) (fault : LogFault)
     (so_far : IsLogging options now all unread gathered middle before between number r) → unread ≡ b ∷ next → StepsReading options now so_far.ms
     (number + 1) b middle later s (Ok (Some fault)) between after
-    → IsLogPut options now all gathered later (Some fault) before after
+    → IsLogPut options now (masked_pieces options.mask [] all) gathered later (Some fault) before after
 logging_stops options now all unread next b gathered middle later before between after number r s fault so_far split (inl (starves, same)) = cc
 logging_stops options now all unread next b gathered middle later before between after number r s fault so_far split (inr (piece, is_piece, (is, halted))) =
     let rest = next_left options now all unread next b gathered middle before between number r so_far split piece is_piece in
     record {
       lines = so_far.first ++ [];
       writes = so_far.back [] (Some fault)
-          (subst (λ (l : List Piece). LogWrites options now so_far.ms l [] (Some fault)) (sym rest.1) (stops_write options now so_far.ms piece rest.0 fault is));
+          (subst (λ (l : List Piece). MaskedWrite options now so_far.ms l [] (Some fault)) (sym rest.1) (stops_write options now so_far.ms piece rest.0 fault is));
       puts =
           subst (λ (l : List (List ℕ)). Puts l gathered later before after) (sym (append-nil so_far.first))
           (subst (λ (t : List ℕ). Puts so_far.first gathered t before after) (sym halted.kept)
@@ -357,30 +395,30 @@ logging_stops options now all unread next b gathered middle later before between
 
 -- nothing is left
 pub logging_ends : (options : LogOptions) (now : ℤ) (all : List Piece) (unread : List (List ℕ)) (gathered later : List ℕ) (before after : Option (List ℕ))
-    (number : ℕ) (r : Replayer) (fault : Option LogFault) (inside : Bool)
+    (number : ℕ) (r : MaskingReplayer) (fault : Option LogFault) (inside : Bool)
     (so_far : IsLogging options now all unread gathered later before after number r) → unread ≡ [] → inside ≡ is_some
-    (begin_of so_far.ms) → fault ≡ end_fault inside → IsLogPut options now all gathered later fault before after
+    (begin_of (all_masked options.mask so_far.ms)) → fault ≡ end_fault inside → IsLogPut options now (masked_pieces options.mask [] all) gathered later fault before after
 logging_ends options now all unread gathered later before after number r fault inside so_far none inside_is told =
     let left_is : so_far.left ≡ [] = subst (λ (l : List (List ℕ)). AreRead (number + 1) l so_far.left) none so_far.read in
     record {
       lines = so_far.first ++ [];
       writes = so_far.back [] fault
-          (subst (λ (l : List Piece). LogWrites options now so_far.ms l [] fault) (sym left_is) (refl, told ∙ ap end_fault inside_is));
+          (subst (λ (l : List Piece). MaskedWrite options now so_far.ms l [] fault) (sym left_is) (refl, told ∙ ap end_fault inside_is));
       puts = subst (λ (l : List (List ℕ)). Puts l gathered later before after) (sym (append-nil so_far.first)) so_far.puts;
     }
 
 pub logging_starves : (options : LogOptions) (now : ℤ) (all : List Piece) (unread : List (List ℕ)) (gathered later : List ℕ) (before after : Option (List ℕ))
-    (number : ℕ) (r : Replayer)
+    (number : ℕ) (r : MaskingReplayer)
     (so_far : IsLogging options now all unread gathered later before after number r) (lines : List (List ℕ))
-    (end : Option LogFault) → LogWrites options now [] all lines end → PutFails lines gathered Memory before after
+    (end : Option LogFault) → MaskedWrite options now [] all lines end → PutFails lines gathered Memory before after
 logging_starves options now all unread gathered later before after number r so_far lines end writes =
     let told = so_far.onto lines end writes in
     putting_starves lines told.0 gathered later before after (record { first = so_far.first; is = sym told.1; puts = so_far.puts })
 
 memory_fails : (options : LogOptions) (now : ℤ) (all : List Piece) (unread : List (List ℕ)) (gathered middle : List ℕ) (before between after : Option (List ℕ))
-    (number : ℕ) (r : Replayer) (error : PrintError)
+    (number : ℕ) (r : MaskingReplayer) (error : PrintError)
     (so_far : IsLogging options now all unread gathered middle before between number r) → error ≡ Memory → after ≡ between
-    → (lines : List (List ℕ)) (end : Option LogFault) → LogWrites options now [] all lines end → PutFails lines gathered error before after
+    → (lines : List (List ℕ)) (end : Option LogFault) → MaskedWrite options now [] all lines end → PutFails lines gathered error before after
 memory_fails options now all unread gathered middle before between after number r error so_far memory same lines end writes =
     subst (λ (e : PrintError). PutFails lines gathered e before after) (sym memory)
     (subst (λ (a : Option (List ℕ)). PutFails lines gathered Memory before a) (sym same)
@@ -391,10 +429,10 @@ same_error d e same = cc
 
 -- the lines of the next commit weren't all put
 pub logging_fails : (options : LogOptions) (now : ℤ) (all : List Piece) (unread next : List (List ℕ)) (b gathered middle later : List ℕ)
-    (before between after : Option (List ℕ)) (number : ℕ) (r s : Replayer) (error : PrintError)
+    (before between after : Option (List ℕ)) (number : ℕ) (r s : MaskingReplayer) (error : PrintError)
     (so_far : IsLogging options now all unread gathered middle before between number r) → unread ≡ b ∷ next → StepsReading options now so_far.ms
     (number + 1) b middle later s (Err error) between after
-    → (lines : List (List ℕ)) (end : Option LogFault) → LogWrites options now [] all lines end → PutFails lines gathered error before after
+    → (lines : List (List ℕ)) (end : Option LogFault) → MaskedWrite options now [] all lines end → PutFails lines gathered error before after
 logging_fails options now all unread next b gathered middle later before between after number r s error so_far split (inl (starves, same)) lines end writes =
     memory_fails options now all unread gathered middle before between after number r error so_far (same_error error Memory starves) same lines end writes
 logging_fails options now all unread next b gathered middle later before between after number r s error so_far split
@@ -405,9 +443,9 @@ logging_fails options now all unread next b gathered middle later before between
     let told = so_far.onto lines end writes in
     let rest = next_left options now all unread next b gathered middle before between number r so_far split piece is_piece in
     let left_is : so_far.left ≡ Carries n m ∷ rest.0 = rest.1 ∙ ap (λ (p : Piece). p ∷ rest.0) carries in
-    let more = goes options now so_far.ms n m rest.0 infos told.0 end taken
-    (subst (λ (l : List Piece). LogWrites options now so_far.ms l told.0 end) left_is told.2) in
-    putting_fails lines told.0 (lines_in options.identity infos (list_of (ended_commit infos m so_far.ms)) now) more.more gathered middle error before between after (record { first = so_far.first; is = sym told.1; puts = so_far.puts }) more.split fails
+    let more = goes_masked options now so_far.ms n m rest.0 infos told.0 end taken
+    (subst (λ (l : List Piece). MaskedWrite options now so_far.ms l told.0 end) left_is told.2) in
+    putting_fails lines told.0 (masked_lines options now so_far.ms m infos) more.0 gathered middle error before between after (record { first = so_far.first; is = sym told.1; puts = so_far.puts }) more.1 fails
 
 pub empty_is : {A : Type 0} (xs : List A) → length xs ≡ 0 → xs ≡ []
 empty_is [] is = refl

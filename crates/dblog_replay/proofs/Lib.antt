@@ -7,6 +7,7 @@ pub mod ExistLemmas
 pub mod FollowLemmas
 pub mod LineLemmas
 pub mod LogLemmas
+pub mod MaskedLemmas
 pub mod PieceLemmas
 pub mod PrintLemmas
 pub mod SuitLemmas

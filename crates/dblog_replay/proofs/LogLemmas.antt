@@ -33,7 +33,7 @@ records_same options ms m i j one two = ap (λ (infos : List TableInfo). records
 pub taken_has_none : (options : LogOptions) (ms : List Message) (number : ℕ) (m : Message) (i : List TableInfo) (fault : LogFault) → IsTaken options ms m i
     → IsLogFault options ms number m fault → ⊥
 taken_has_none options ms number m i fault taken (no_table told) =
-    none_some (told_fault options.keys (tables_in options.keys ms) m) fault taken.tables.capturable told
+    none_some (told_fault options (tables_in options.keys ms) m) fault taken.tables.capturable told
 taken_has_none options ms number m i fault taken (no_place j error tables told is) =
     none_some (transaction_fault j log_start m ms) error (place_same options ms m j i tables taken.tables ∙ taken.placed) told
 taken_has_none options ms number m i fault taken (no_records j tables placed told) =
@@ -44,17 +44,17 @@ pub log_fault_one : (options : LogOptions) (ms : List Message) (number : ℕ) (m
     → IsLogFault options ms number m g → f ≡ g
 log_fault_one options ms number m f g (no_table told) (no_table told') = some_one f g (sym told ∙ told')
 log_fault_one options ms number m f g (no_table told) (no_place j e tables told' is) =
-    absurd (none_some (told_fault options.keys (tables_in options.keys ms) m) f tables.capturable told)
+    absurd (none_some (told_fault options (tables_in options.keys ms) m) f tables.capturable told)
 log_fault_one options ms number m f g (no_table told) (no_records j tables placed told') =
-    absurd (none_some (told_fault options.keys (tables_in options.keys ms) m) f tables.capturable told)
+    absurd (none_some (told_fault options (tables_in options.keys ms) m) f tables.capturable told)
 log_fault_one options ms number m f g (no_place i d tables told is) (no_table told') =
-    absurd (none_some (told_fault options.keys (tables_in options.keys ms) m) g tables.capturable told')
+    absurd (none_some (told_fault options (tables_in options.keys ms) m) g tables.capturable told')
 log_fault_one options ms number m f g (no_place i d tables told is) (no_place j e tables' told' is') =
     is ∙ ap (log.Transaction number) (some_one d e (sym told ∙ place_same options ms m i j tables tables' ∙ told')) ∙ sym is'
 log_fault_one options ms number m f g (no_place i d tables told is) (no_records j tables' placed told') =
     absurd (none_some (transaction_fault i log_start m ms) d (place_same options ms m i j tables tables' ∙ placed) told)
 log_fault_one options ms number m f g (no_records i tables placed told) (no_table told') =
-    absurd (none_some (told_fault options.keys (tables_in options.keys ms) m) g tables.capturable told')
+    absurd (none_some (told_fault options (tables_in options.keys ms) m) g tables.capturable told')
 log_fault_one options ms number m f g (no_records i tables placed told) (no_place j e tables' told' is) =
     absurd (none_some (transaction_fault j log_start m ms) e (place_same options ms m j i tables' tables ∙ placed) told')
 log_fault_one options ms number m f g (no_records i tables placed told) (no_records j tables' placed' told') =

@@ -11,7 +11,6 @@ use Rattle.dbl_pgmsg.specs.declared.messages.Message.{Message}
 use Rattle.dbl_pgmsg.specs.Grammar.{FitsFields}
 use Rattle.dbl_model_table.specs.declared.table.TableInfo.{TableInfo}
 use Rattle.dbl_model_commit.specs.Past.{begin_of}
-use Rattle.dbl_model_commit.specs.Stated.{list_of, ended_commit}
 use Rattle.dbl_stream2.specs.declared.messages.StreamMessage.{StreamMessage}
 use Rattle.dbl_stream2.specs.declared.error.StreamError.{StreamError}
 use Rattle.dbl_stream2.specs.declared.unstream.Unstream.{Unstream}
@@ -21,26 +20,24 @@ use Rattle.dbl_stream2.proofs.FitLemmas.{part_fits}
 use Rattle.dblog_replay.specs.declared.log_fault.LogFault.{LogFault}
 use Rattle.dblog_replay.specs.declared.log_fault.LogFault.TheVariants as log
 use Rattle.dblog_replay.specs.declared.options.LogOptions.{LogOptions}
-use Rattle.dblog_replay.specs.declared.replay.Replayer.{Replayer}
-use Rattle.dblog_replay.specs.Following.{FollowsMessages, IsReplaying}
+use Rattle.dblog_replay.specs.declared.masking.MaskingReplayer.{MaskingReplayer}
+use Rattle.dblog_replay.specs.Following.{FollowsMasked, IsReplaying}
+use Rattle.dblog_replay.specs.Masked.{all_masked, masked_pieces}
 use Rattle.dblog_replay.specs.Pieces.{Piece, Carries, Stops}
-use Rattle.dblog_replay.specs.Log.{lines_in, IsTaken, end_fault, LogWrites}
-use Rattle.dblog_replay.specs.LogPrinting.{IsHalted, IsStepped, step_starved, step_cut, StopsAt, StepsPrinting, IsLogPut}
+use Rattle.dblog_replay.specs.Log.{end_fault}
+use Rattle.dblog_replay.specs.LogPrinting.{masked_lines, IsTakenMasked, IsHalted, IsStepped, step_starved, step_cut, StopsAt, StepsPrinting, IsLogPut}
 use Rattle.dblog_replay.specs.Streams.{refusal_fault, block_end, pieces_at, IsStringRefused, IsReceived, AreReceived}
 use Rattle.dblog_replay.specs.Streaming.{IsReceiving, IsStreaming, HasAdded, IsRefusedAs, PiecesWrite, ArePiecesPut}
 use Rattle.dblog_replay.specs.Streaming.{AreStoppedAt, PutsPieces, StepsStreaming, starved, refused, stepped}
 use Rattle.dbl_stream2.proofs.ReadingLaws.{one_message}
 use Rattle.dbl_stream2.proofs.Refusals.{none_refused, one_refusal}
-use Rattle.dblog_replay.proofs.LogLemmas.{goes}
+use Rattle.dblog_replay.proofs.FollowLemmas.{MaskedWrite, goes_masked}
 
 abbrev failed : PrintError → Result (Option LogFault) PrintError
 failed e = Err e
 
 abbrev done : Option LogFault → Result (Option LogFault) PrintError
 done fault = Ok fault
-
-abbrev printed : LogOptions → ℤ → List Message → Message → List TableInfo → List (List ℕ)
-printed options now ms m infos = lines_in options.identity infos (list_of (ended_commit infos m ms)) now
 
 -- ---- pieces that write lines
 
@@ -56,40 +53,40 @@ module _ (options : LogOptions) (now : ℤ) where
     infos,
     more ++ k,
     taken,
-    ap (λ (x : List (List ℕ)). x ++ k) is ∙ append_assoc (printed options now ms m infos) more k,
+    ap (λ (x : List (List ℕ)). x ++ k) is ∙ append_assoc (masked_lines options now ms m infos) more k,
     pieces_then (m ∷ ms) a b more k mid last rest next,
   )
 
   -- a log that begins with them goes on after them
   pub pieces_onto : (ms : List Message) (a left : List Piece) (l : List (List ℕ)) (last : List Message) (lines : List (List ℕ)) (end : Option LogFault)
-      → PiecesWrite options now ms a l last → LogWrites options now ms (a ++ left) lines end
-      → (more : List (List ℕ)) × (lines ≡ l ++ more) × LogWrites options now last left more end
+      → PiecesWrite options now ms a l last → MaskedWrite options now ms (a ++ left) lines end
+      → (more : List (List ℕ)) × (lines ≡ l ++ more) × MaskedWrite options now last left more end
   pieces_onto ms [] left l last lines end (none, same) writes =
-      (lines, sym (ap (λ (x : List (List ℕ)). x ++ lines) none), subst (λ (x : List Message). LogWrites options now x left lines end) (sym same) writes)
+      (lines, sym (ap (λ (x : List (List ℕ)). x ++ lines) none), subst (λ (x : List Message). MaskedWrite options now x left lines end) (sym same) writes)
   pieces_onto ms (Stops fault ∷ a) left l last lines end wrote writes = absurd wrote
   pieces_onto ms (Carries number m ∷ a) left l last lines end (infos, more, taken, is, rest) writes =
-      let told = goes options now ms number m (a ++ left) infos lines end taken writes in
-      let next = pieces_onto (m ∷ ms) a left more last told.more end rest told.rest in
-      let here : List (List ℕ) = printed options now ms m infos in (
+      let told = goes_masked options now ms number m (a ++ left) infos lines end taken writes in
+      let next = pieces_onto (m ∷ ms) a left more last told.0 end rest told.2 in
+      let here : List (List ℕ) = masked_lines options now ms m infos in (
         next.0,
-        told.split ∙ ap (λ (x : List (List ℕ)). here ++ x) next.1 ∙ sym (append_assoc here more next.0)
+        told.1 ∙ ap (λ (x : List (List ℕ)). here ++ x) next.1 ∙ sym (append_assoc here more next.0)
             ∙ ap (λ (x : List (List ℕ)). x ++ next.0) (sym is),
         next.2,
       )
 
   -- a log that goes on after them begins with them
   pub pieces_back : (ms : List Message) (a left : List Piece) (l : List (List ℕ)) (last : List Message) (more : List (List ℕ)) (end : Option LogFault)
-      → PiecesWrite options now ms a l last → LogWrites options now last left more end → LogWrites options now ms (a ++ left) (l ++ more) end
+      → PiecesWrite options now ms a l last → MaskedWrite options now last left more end → MaskedWrite options now ms (a ++ left) (l ++ more) end
   pieces_back ms [] left l last more end (none, same) writes =
-      subst (λ (x : List (List ℕ)). LogWrites options now ms left (x ++ more) end) (sym none)
-      (subst (λ (x : List Message). LogWrites options now x left more end) same writes)
+      subst (λ (x : List (List ℕ)). MaskedWrite options now ms left (x ++ more) end) (sym none)
+      (subst (λ (x : List Message). MaskedWrite options now x left more end) same writes)
   pieces_back ms (Stops fault ∷ a) left l last more end wrote writes = absurd wrote
   pieces_back ms (Carries number m ∷ a) left l last more end (infos, k, taken, is, rest) writes =
       inr (
         infos,
         k ++ more,
         taken,
-        ap (λ (x : List (List ℕ)). x ++ more) is ∙ append_assoc (printed options now ms m infos) k more,
+        ap (λ (x : List (List ℕ)). x ++ more) is ∙ append_assoc (masked_lines options now ms m infos) k more,
         pieces_back (m ∷ ms) a left k last more end rest writes,
       )
 
@@ -99,37 +96,37 @@ numbered_append : (number : ℕ) (a b : List Message) → pieces_at number (a ++
 numbered_append number [] b = refl
 numbered_append number (m ∷ a) b = ap (λ (l : List Piece). Carries number m ∷ l) (numbered_append number a b)
 
-record SteppedAt (options : LogOptions) (now : ℤ) (ms : List Message) (m : Message) (gathered later : List ℕ) (r : Replayer)
+record SteppedAt (options : LogOptions) (now : ℤ) (ms : List Message) (m : Message) (gathered later : List ℕ) (r : MaskingReplayer)
     (before after : Option (List ℕ)) : Type 0 where
   infos : List TableInfo
-  taken : IsTaken options ms m infos
-  follows : FollowsMessages options (m ∷ ms) r
-  puts : Puts (printed options now ms m infos) gathered later before after
+  taken : IsTakenMasked options ms m infos
+  follows : FollowsMasked options (m ∷ ms) r
+  puts : Puts (masked_lines options now ms m infos) gathered later before after
 
 same_message : (n k : ℕ) (m l : Message) → Carries n m ≡ Carries k l → l ≡ m
 same_message n k m l same = cc
 
-stepped_at : (options : LogOptions) (now : ℤ) (ms : List Message) (number : ℕ) (m : Message) (gathered later : List ℕ) (r : Replayer)
+stepped_at : (options : LogOptions) (now : ℤ) (ms : List Message) (number : ℕ) (m : Message) (gathered later : List ℕ) (r : MaskingReplayer)
     (before after : Option (List ℕ)) → IsStepped options now ms (Carries number m) gathered later r before after
     → SteppedAt options now ms m gathered later r before after
 stepped_at options now ms number m gathered later r before after is =
     let same : is.m ≡ m = same_message number is.number m is.m is.carries in
     record {
       infos = is.infos;
-      taken = subst (λ (x : Message). IsTaken options ms x is.infos) same is.taken;
-      follows = subst (λ (x : Message). FollowsMessages options (x ∷ ms) r) same is.follows;
-      puts = subst (λ (x : Message). Puts (printed options now ms x is.infos) gathered later before after) same is.puts;
+      taken = subst (λ (x : Message). IsTakenMasked options ms x is.infos) same is.taken;
+      follows = subst (λ (x : Message). FollowsMasked options (x ∷ ms) r) same is.follows;
+      puts = subst (λ (x : Message). Puts (masked_lines options now ms x is.infos) gathered later before after) same is.puts;
     }
 
 -- the first of the messages were processed, and these are left
 pub record IsAdding (options : LogOptions) (now : ℤ) (ms : List Message) (number : ℕ) (all left : List Message) (gathered later : List ℕ)
-    (before after : Option (List ℕ)) (r : Replayer) : Type 0 where
+    (before after : Option (List ℕ)) (r : MaskingReplayer) : Type 0 where
   pub done : List Message
   pub split : all ≡ done ++ left
   pub put : ArePiecesPut options now ms (pieces_at number done) gathered later r before after
 
 pub adding_begins : (options : LogOptions) (now : ℤ) (ms : List Message) (number : ℕ) (all : List Message) (gathered : List ℕ) (before : Option (List ℕ))
-    (r : Replayer) → FollowsMessages options ms r → IsAdding options now ms number all all gathered gathered before before r
+    (r : MaskingReplayer) → FollowsMasked options ms r → IsAdding options now ms number all all gathered gathered before before r
 adding_begins options now ms number all gathered before r follows = record {
   done = [];
   split = refl;
@@ -137,7 +134,7 @@ adding_begins options now ms number all gathered before r follows = record {
 }
 
 module _ (options : LogOptions) (now : ℤ) (ms : List Message) (number : ℕ) (all left next : List Message) (m : Message) (gathered middle later : List ℕ)
-    (before between after : Option (List ℕ)) (r s : Replayer) (so_far : IsAdding options now ms number all left gathered middle before between r)
+    (before between after : Option (List ℕ)) (r s : MaskingReplayer) (so_far : IsAdding options now ms number all left gathered middle before between r)
     (split : left ≡ m ∷ next) where
   all_is : all ≡ so_far.done ++ m ∷ next
   all_is = so_far.split ∙ ap (λ (l : List Message). so_far.done ++ l) split
@@ -149,7 +146,7 @@ module _ (options : LogOptions) (now : ℤ) (ms : List Message) (number : ℕ) (
       → IsAdding options now ms number all next gathered later before after s
   adding_more is =
       let at = stepped_at options now so_far.put.last number m middle later s between after is in
-      let here : List (List ℕ) = printed options now so_far.put.last m at.infos in
+      let here : List (List ℕ) = masked_lines options now so_far.put.last m at.infos in
       let one : PiecesWrite options now so_far.put.last (pieces_at number (m ∷ [])) here (m ∷ so_far.put.last) =
       (at.infos, [], at.taken, sym (append-nil here), (refl, refl)) in
       record {
@@ -185,12 +182,12 @@ module _ (options : LogOptions) (now : ℤ) (ms : List Message) (number : ℕ) (
   }
 
   -- what a log that goes on with the messages writes after those that were processed
-  onto : (rest : List Piece) (lines : List (List ℕ)) (end : Option LogFault) → LogWrites options now ms (pieces_at number all ++ rest) lines end
+  onto : (rest : List Piece) (lines : List (List ℕ)) (end : Option LogFault) → MaskedWrite options now ms (pieces_at number all ++ rest) lines end
       → (more : List (List ℕ)) × (lines ≡ so_far.put.lines ++ more)
-      × LogWrites options now so_far.put.last (Carries number m ∷ (pieces_at number next ++ rest)) more end
+      × MaskedWrite options now so_far.put.last (Carries number m ∷ (pieces_at number next ++ rest)) more end
   onto rest lines end writes =
       pieces_onto options now ms (pieces_at number so_far.done) (Carries number m ∷ (pieces_at number next ++ rest)) so_far.put.lines so_far.put.last lines end
-      so_far.put.writes (subst (λ (l : List Piece). LogWrites options now ms l lines end)
+      so_far.put.writes (subst (λ (l : List Piece). MaskedWrite options now ms l lines end)
       (ap (λ (l : List Piece). l ++ rest) pieces_are ∙ append_assoc (pieces_at number so_far.done) (Carries number m ∷ pieces_at number next) rest) writes)
 
   pub adding_fails : (error : PrintError) → StepsPrinting options now so_far.put.last (Carries number m) middle later s (Err error) between after
@@ -203,14 +200,14 @@ module _ (options : LogOptions) (now : ℤ) (ms : List Message) (number : ℕ) (
   adding_fails error (step_cut n k infos carries taken fails) rest lines end writes =
       let told = onto rest lines end writes in
       let same : k ≡ m = same_message number n m k carries in
-      let more = goes options now so_far.put.last number m (pieces_at number next ++ rest) infos told.0 end
-      (subst (λ (x : Message). IsTaken options so_far.put.last x infos) same taken) told.2 in
-      putting_fails lines told.0 (printed options now so_far.put.last m infos) more.more gathered middle error before between after
-      (record { first = so_far.put.lines; is = sym told.1; puts = so_far.put.puts }) more.split
-      (subst (λ (x : Message). PutFails (printed options now so_far.put.last x infos) middle error between after) same fails)
+      let more = goes_masked options now so_far.put.last number m (pieces_at number next ++ rest) infos told.0 end
+      (subst (λ (x : Message). IsTakenMasked options so_far.put.last x infos) same taken) told.2 in
+      putting_fails lines told.0 (masked_lines options now so_far.put.last m infos) more.0 gathered middle error before between after
+      (record { first = so_far.put.lines; is = sym told.1; puts = so_far.put.puts }) more.1
+      (subst (λ (x : Message). PutFails (masked_lines options now so_far.put.last x infos) middle error between after) same fails)
 
 pub adding_ends : (options : LogOptions) (now : ℤ) (ms : List Message) (number : ℕ) (all left : List Message) (gathered later : List ℕ)
-    (before after : Option (List ℕ)) (r : Replayer) → IsAdding options now ms number all left gathered later before after r → left ≡ []
+    (before after : Option (List ℕ)) (r : MaskingReplayer) → IsAdding options now ms number all left gathered later before after r → left ≡ []
     → ArePiecesPut options now ms (pieces_at number all) gathered later r before after
 adding_ends options now ms number all left gathered later before after r so_far none =
     let same : so_far.done ≡ all = sym (append-nil so_far.done) ∙ ap (λ (l : List Message). so_far.done ++ l) (sym none) ∙ sym so_far.split in
@@ -220,21 +217,21 @@ adding_ends options now ms number all left gathered later before after r so_far 
 
 -- the first of the byte strings were received and their messages processed; these are left
 pub record IsStreamPut (options : LogOptions) (now : ℤ) (all : List Piece) (unread : List (List ℕ)) (gathered later : List ℕ)
-    (before after : Option (List ℕ)) (number : ℕ) (u : Unstream) (r : Replayer) : Type 0 where
+    (before after : Option (List ℕ)) (number : ℕ) (u : Unstream) (r : MaskingReplayer) : Type 0 where
   pub past : List StreamMessage
   pub ms : List Message
   pub left : List Piece
   pub read : AreReceived (number + 1) past unread left
   pub receiving : IsReceiving past u
-  pub follows : FollowsMessages options ms r
+  pub follows : FollowsMasked options ms r
   pub first : List (List ℕ)
   pub puts : Puts first gathered later before after
-  pub onto : (lines : List (List ℕ)) (end : Option LogFault) → LogWrites options now [] all lines end
-      → (more : List (List ℕ)) × (lines ≡ first ++ more) × LogWrites options now ms left more end
-  pub back : (more : List (List ℕ)) (end : Option LogFault) → LogWrites options now ms left more end → LogWrites options now [] all (first ++ more) end
+  pub onto : (lines : List (List ℕ)) (end : Option LogFault) → MaskedWrite options now [] all lines end
+      → (more : List (List ℕ)) × (lines ≡ first ++ more) × MaskedWrite options now ms left more end
+  pub back : (more : List (List ℕ)) (end : Option LogFault) → MaskedWrite options now ms left more end → MaskedWrite options now [] all (first ++ more) end
 
 pub stream_begins : (options : LogOptions) (now : ℤ) (all : List Piece) (unread : List (List ℕ)) (gathered : List ℕ) (before : Option (List ℕ)) (u : Unstream)
-    (r : Replayer) → FollowsMessages options [] r → IsReceiving [] u → AreReceived 1 [] unread all
+    (r : MaskingReplayer) → FollowsMasked options [] r → IsReceiving [] u → AreReceived 1 [] unread all
     → IsStreamPut options now all unread gathered gathered before before 0 u r
 stream_begins options now all unread gathered before u r follows receiving read = record {
   past = [];
@@ -271,7 +268,7 @@ next_refused number past b next left fault (inr (m, rest, received, read)) (erro
     absurd (none_refused past b m error received.encoded received.clean refusal)
 
 stops_write : (options : LogOptions) (now : ℤ) (ms : List Message) (piece : Piece) (more : List Piece) (fault : LogFault) → StopsAt options ms piece fault
-    → LogWrites options now ms (piece ∷ more) [] (Some fault)
+    → MaskedWrite options now ms (piece ∷ more) [] (Some fault)
 stops_write options now ms (Carries number m) more fault is = inl (record { fault = fault; is = is; none = refl; told = refl })
 stops_write options now ms (Stops error) more fault is = (refl, ap (λ (f : LogFault). Some f) is)
 
@@ -282,7 +279,7 @@ same_error : (d e : PrintError) → failed d ≡ failed e → d ≡ e
 same_error d e same = cc
 
 module _ (options : LogOptions) (now : ℤ) (all : List Piece) (unread next : List (List ℕ)) (b gathered middle later : List ℕ)
-    (before between after : Option (List ℕ)) (number : ℕ) (u v : Unstream) (r s : Replayer)
+    (before between after : Option (List ℕ)) (number : ℕ) (u v : Unstream) (r s : MaskingReplayer)
     (so_far : IsStreamPut options now all unread gathered middle before between number u r) (split : unread ≡ b ∷ next) where
   read_next : AreReceived (number + 1) so_far.past (b ∷ next) so_far.left
   read_next = subst (λ (l : List (List ℕ)). AreReceived (number + 1) so_far.past l so_far.left) split so_far.read
@@ -305,11 +302,11 @@ module _ (options : LogOptions) (now : ℤ) (all : List Piece) (unread next : Li
         onto = λ lines end writes. (
             let told = so_far.onto lines end writes in
             let more = pieces_onto options now so_far.ms pieces rest.0 put.lines put.last told.0 end put.writes
-            (subst (λ (l : List Piece). LogWrites options now so_far.ms l told.0 end) rest.1 told.2) in
+            (subst (λ (l : List Piece). MaskedWrite options now so_far.ms l told.0 end) rest.1 told.2) in
             (more.0, told.1 ∙ ap (λ (l : List (List ℕ)). so_far.first ++ l) more.1 ∙ sym (append_assoc so_far.first put.lines more.0), more.2));
         back = λ more end writes.
-            subst (λ (l : List (List ℕ)). LogWrites options now [] all l end) (sym (append_assoc so_far.first put.lines more))
-            (so_far.back (put.lines ++ more) end (subst (λ (l : List Piece). LogWrites options now so_far.ms l (put.lines ++ more) end) (sym rest.1)
+            subst (λ (l : List (List ℕ)). MaskedWrite options now [] all l end) (sym (append_assoc so_far.first put.lines more))
+            (so_far.back (put.lines ++ more) end (subst (λ (l : List Piece). MaskedWrite options now so_far.ms l (put.lines ++ more) end) (sym rest.1)
             (pieces_back options now so_far.ms pieces rest.0 put.lines put.last more end put.writes writes)));
       }
 
@@ -320,8 +317,8 @@ module _ (options : LogOptions) (now : ℤ) (all : List Piece) (unread next : Li
   stream_more (stepped added has put) = more_put added has put
 
   -- the log ends here
-  ends_at : (lines : List (List ℕ)) (fault : LogFault) → LogWrites options now so_far.ms so_far.left lines (Some fault)
-      → Puts lines middle later between after → IsLogPut options now all gathered later (Some fault) before after
+  ends_at : (lines : List (List ℕ)) (fault : LogFault) → MaskedWrite options now so_far.ms so_far.left lines (Some fault)
+      → Puts lines middle later between after → IsLogPut options now (masked_pieces options.mask [] all) gathered later (Some fault) before after
   ends_at lines fault writes puts = record {
     lines = so_far.first ++ lines;
     writes = so_far.back lines (Some fault) writes;
@@ -335,26 +332,26 @@ module _ (options : LogOptions) (now : ℤ) (all : List Piece) (unread next : Li
 
   pub stream_stops : (fault : LogFault)
       → StepsStreaming options now so_far.past so_far.ms (number + 1) b v middle later s (Ok (Some fault)) between after
-      → IsLogPut options now all gathered later (Some fault) before after
+      → IsLogPut options now (masked_pieces options.mask [] all) gathered later (Some fault) before after
   stream_stops fault (starved is same) = absurd cc
   stream_stops fault (refused found is told halted) =
       let left_is : so_far.left ≡ Stops fault ∷ [] =
       next_refused (number + 1) so_far.past b next so_far.left found read_next is ∙ ap (λ (f : LogFault). Stops f ∷ []) (sym (same_some fault found told)) in
-      ends_at [] fault (subst (λ (l : List Piece). LogWrites options now so_far.ms l [] (Some fault)) (sym left_is) (refl, refl)) (halted_puts halted)
+      ends_at [] fault (subst (λ (l : List Piece). MaskedWrite options now so_far.ms l [] (Some fault)) (sym left_is) (refl, refl)) (halted_puts halted)
   stream_stops fault (stepped added has put) =
       let rest = next_received (number + 1) so_far.past b next so_far.left added v read_next has in
       let left_is : so_far.left ≡ put.front ++ (put.piece ∷ (put.rest ++ rest.0)) =
       rest.1 ∙ ap (λ (l : List Piece). l ++ rest.0) put.split ∙ append_assoc put.front (put.piece ∷ put.rest) rest.0 in
       ends_at put.lines fault
-      (subst (λ (l : List Piece). LogWrites options now so_far.ms l put.lines (Some fault)) (sym left_is)
-      (subst (λ (l : List (List ℕ)). LogWrites options now so_far.ms (put.front ++ (put.piece ∷ (put.rest ++ rest.0))) l (Some fault)) (append-nil put.lines)
+      (subst (λ (l : List Piece). MaskedWrite options now so_far.ms l put.lines (Some fault)) (sym left_is)
+      (subst (λ (l : List (List ℕ)). MaskedWrite options now so_far.ms (put.front ++ (put.piece ∷ (put.rest ++ rest.0))) l (Some fault)) (append-nil put.lines)
       (pieces_back options now so_far.ms put.front (put.piece ∷ (put.rest ++ rest.0)) put.lines put.last [] (Some fault) put.writes
       (stops_write options now put.last put.piece (put.rest ++ rest.0) fault put.stops))))
       put.puts
 
   pub stream_fails : (error : PrintError)
       → StepsStreaming options now so_far.past so_far.ms (number + 1) b v middle later s (Err error) between after
-      → (lines : List (List ℕ)) (end : Option LogFault) → LogWrites options now [] all lines end → PutFails lines gathered error before after
+      → (lines : List (List ℕ)) (end : Option LogFault) → MaskedWrite options now [] all lines end → PutFails lines gathered error before after
   stream_fails error (starved is same) lines end writes =
       let told = so_far.onto lines end writes in
       subst (λ (e : PrintError). PutFails lines gathered e before after) (sym (same_error error Memory is))
@@ -366,32 +363,32 @@ module _ (options : LogOptions) (now : ℤ) (all : List Piece) (unread next : Li
       let told = so_far.onto lines end writes in
       subst (λ (l : List (List ℕ)). PutFails l gathered error before after) (sym told.1)
       (puts_then_fails so_far.first told.0 gathered middle error before between after so_far.puts
-      (put rest.0 told.0 end (subst (λ (l : List Piece). LogWrites options now so_far.ms l told.0 end) rest.1 told.2)))
+      (put rest.0 told.0 end (subst (λ (l : List Piece). MaskedWrite options now so_far.ms l told.0 end) rest.1 told.2)))
 
 end_writes : (options : LogOptions) (now : ℤ) (ms : List Message) (inside : Bool) (left : List Piece) → left ≡ block_end inside
-    → LogWrites options now ms left [] (end_fault (inside || is_some (begin_of ms)))
+    → MaskedWrite options now ms left [] (end_fault (inside || is_some (begin_of (all_masked options.mask ms))))
 end_writes options now ms true left is =
-    subst (λ (l : List Piece). LogWrites options now ms l [] (Some log.Unfinished)) (sym is) (refl, refl)
+    subst (λ (l : List Piece). MaskedWrite options now ms l [] (Some log.Unfinished)) (sym is) (refl, refl)
 end_writes options now ms false left is =
-    subst (λ (l : List Piece). LogWrites options now ms l [] (end_fault (is_some (begin_of ms)))) (sym is) (refl, refl)
+    subst (λ (l : List Piece). MaskedWrite options now ms l [] (end_fault (is_some (begin_of (all_masked options.mask ms))))) (sym is) (refl, refl)
 
 -- nothing is left
 pub stream_ends : (options : LogOptions) (now : ℤ) (all : List Piece) (unread : List (List ℕ)) (gathered later : List ℕ) (before after : Option (List ℕ))
-    (number : ℕ) (u : Unstream) (r : Replayer) (so_far : IsStreamPut options now all unread gathered later before after number u r) (fault : Option LogFault)
-    → unread ≡ [] → fault ≡ end_fault (is_inside so_far.past || is_some (begin_of so_far.ms)) → IsLogPut options now all gathered later fault before after
+    (number : ℕ) (u : Unstream) (r : MaskingReplayer) (so_far : IsStreamPut options now all unread gathered later before after number u r) (fault : Option LogFault)
+    → unread ≡ [] → fault ≡ end_fault (is_inside so_far.past || is_some (begin_of (all_masked options.mask so_far.ms))) → IsLogPut options now (masked_pieces options.mask [] all) gathered later fault before after
 stream_ends options now all unread gathered later before after number u r so_far fault none told =
     let left_is : so_far.left ≡ block_end (is_inside so_far.past) =
     subst (λ (l : List (List ℕ)). AreReceived (number + 1) so_far.past l so_far.left) none so_far.read in
     record {
       lines = so_far.first ++ [];
       writes = so_far.back [] fault
-          (subst (LogWrites options now so_far.ms so_far.left []) (sym told) (end_writes options now so_far.ms (is_inside so_far.past) so_far.left left_is));
+          (subst (MaskedWrite options now so_far.ms so_far.left []) (sym told) (end_writes options now so_far.ms (is_inside so_far.past) so_far.left left_is));
       puts = subst (λ (l : List (List ℕ)). Puts l gathered later before after) (sym (append-nil so_far.first)) so_far.puts;
     }
 
 -- a byte string that is refused, or out of memory
 pub receive_stopped : (options : LogOptions) (now : ℤ) (past : List StreamMessage) (ms : List Message) (number : ℕ) (b : List ℕ) (u : Unstream)
-    (gathered : List ℕ) (r : Replayer) (fault : LogFault) (result : Result (Option LogFault) PrintError) (before : Option (List ℕ))
+    (gathered : List ℕ) (r : MaskingReplayer) (fault : LogFault) (result : Result (Option LogFault) PrintError) (before : Option (List ℕ))
     → (fault ≡ log.Memory) ⊎ IsRefusedAs past number b fault
     → IfOk result (λ found. found ≡ Some fault) → OnOk result (fault ≢ log.Memory) → IfErr result (λ e. e ≡ Memory)
     → StepsStreaming options now past ms number b u gathered gathered r result before before
@@ -400,18 +397,18 @@ receive_stopped options now past ms number b u gathered r fault (Ok found) befor
     refused fault is (ap done told) (record { kept = refl; same = refl })
 receive_stopped options now past ms number b u gathered r fault (Err error) before cause told other err = starved (ap failed err) refl
 
-pub stepping_same : (options : LogOptions) (now : ℤ) (ms : List Message) (number : ℕ) (m : Message) (gathered later : List ℕ) (r : Replayer)
+pub stepping_same : (options : LogOptions) (now : ℤ) (ms : List Message) (number : ℕ) (m : Message) (gathered later : List ℕ) (r : MaskingReplayer)
     (one other : Option LogFault) (before after : Option (List ℕ)) → StepsPrinting options now ms (Carries number m) gathered later r (Ok one) before after
     → one ≡ other → StepsPrinting options now ms (Carries number m) gathered later r (Ok other) before after
 stepping_same options now ms number m gathered later r one other before after is same =
     subst (λ (f : Option LogFault). StepsPrinting options now ms (Carries number m) gathered later r (Ok f) before after) same is
 
-pub step_replays : (options : LogOptions) (now : ℤ) (ms : List Message) (piece : Piece) (gathered later : List ℕ) (r : Replayer)
+pub step_replays : (options : LogOptions) (now : ℤ) (ms : List Message) (piece : Piece) (gathered later : List ℕ) (r : MaskingReplayer)
     (before after : Option (List ℕ)) → IsStepped options now ms piece gathered later r before after → IsReplaying r
 step_replays options now ms piece gathered later r before after is = record { options = options; ms = is.m ∷ ms; follows = is.follows }
 
 pub streaming_same : (options : LogOptions) (now : ℤ) (past : List StreamMessage) (ms : List Message) (number : ℕ) (b : List ℕ) (u : Unstream)
-    (gathered later : List ℕ) (r : Replayer) (one other : Option LogFault) (before after : Option (List ℕ))
+    (gathered later : List ℕ) (r : MaskingReplayer) (one other : Option LogFault) (before after : Option (List ℕ))
     → StepsStreaming options now past ms number b u gathered later r (Ok one) before after → one ≡ other
     → StepsStreaming options now past ms number b u gathered later r (Ok other) before after
 streaming_same options now past ms number b u gathered later r one other before after is same =
@@ -421,7 +418,7 @@ pub begins_receiving : (u : Unstream) → HasReceived [] u → IsReceiving [] u
 begins_receiving u received = record { received = received; encoded = tt }
 
 pub streams_on : (options : LogOptions) (now : ℤ) (past : List StreamMessage) (ms : List Message) (number : ℕ) (b : List ℕ) (u : Unstream)
-    (gathered later : List ℕ) (r : Replayer) (before after : Option (List ℕ))
+    (gathered later : List ℕ) (r : MaskingReplayer) (before after : Option (List ℕ))
     → StepsStreaming options now past ms number b u gathered later r (Ok None) before after → IsStreaming u
 streams_on options now past ms number b u gathered later r before after (starved is same) = absurd cc
 streams_on options now past ms number b u gathered later r before after (refused fault is told halted) = absurd cc
@@ -429,7 +426,7 @@ streams_on options now past ms number b u gathered later r before after (stepped
     record { past = has.message ∷ past; receiving = has.receiving }
 
 pub replays_on : (options : LogOptions) (now : ℤ) (past : List StreamMessage) (ms : List Message) (number : ℕ) (b : List ℕ) (u : Unstream)
-    (gathered later : List ℕ) (r : Replayer) (before after : Option (List ℕ))
+    (gathered later : List ℕ) (r : MaskingReplayer) (before after : Option (List ℕ))
     → StepsStreaming options now past ms number b u gathered later r (Ok None) before after → IsReplaying r
 replays_on options now past ms number b u gathered later r before after (starved is same) = absurd cc
 replays_on options now past ms number b u gathered later r before after (refused fault is told halted) = absurd cc

@@ -1,7 +1,7 @@
 -- The tables that `replay` captures: each at its first Relation, except that of the watermarks. PostgreSQL's "Logical Replication Message
 -- Formats", Relation. Lists of messages have the newest first.
 use Rattle.std.specs.Prelude.{◌≡◌, ℕ, ◌%◌, ◌==◌, ◌||◌, nat_lt, Bool, if◌then◌else◌, Option, Some}
-use Rattle.std.specs.Prelude.{None, option_and_then, List, [], ◌∷◌, ◌++◌, length, map, filter}
+use Rattle.std.specs.Prelude.{None, option_map, option_and_then, List, [], ◌∷◌, ◌++◌, length, map, filter}
 use Rattle.std.specs.List.{list_any}
 use Rattle.dbl_pgmsg.specs.declared.messages.Message.{Message}
 use Rattle.dbl_pgmsg.specs.declared.messages.Message.TheVariants as says
@@ -15,10 +15,13 @@ use Rattle.dbl_model_table.specs.declared.table.TableName.{TableName}
 use Rattle.dbl_model_table.specs.Tables.{same_name, is_watermark}
 use Rattle.dbl_model_table.specs.Infos.{catalogue_of}
 use Rattle.dbl_model_table.specs.Made.{table_fault}
+use Rattle.dbl_hooks_masks.specs.declared.masking.Masking.{Masking}
+use Rattle.dbl_hooks_masks.specs.Faults.{mask_fault}
 use Rattle.dbl_model_commit.specs.Past.{table_named}
 use Rattle.dbl_model_commit.specs.Stated.{list_of}
 use Rattle.dblog_replay.specs.declared.log_fault.LogFault.{LogFault}
-use Rattle.dblog_replay.specs.declared.log_fault.LogFault.TheVariants.{Table, TooManyTables}
+use Rattle.dblog_replay.specs.declared.log_fault.LogFault.TheVariants.{Table, TooManyTables, Mask}
+use Rattle.dblog_replay.specs.declared.options.LogOptions.{LogOptions}
 
 -- Whether a column is flagged as a key column: by the bit of value 1.
 abbrev pub is_key_flagged : RelationColumn → Bool
@@ -77,10 +80,21 @@ abbrev pub entry_fault : ℕ → Option ModelError → Option LogFault
 entry_fault count (Some error) = Some (Table error)
 entry_fault count None = room_fault count
 
--- Why a table can't be captured after so many others.
-abbrev pub capture_fault : ℕ → RawTable → Option LogFault
-capture_fault count table = entry_fault count (table_fault table)
+-- The error of a table whose column is to be masked, if the column can't be.
+abbrev pub column_fault : Option Masking → RawTable → Option LogFault
+column_fault None table = None
+column_fault (Some plan) table =
+    if same_name plan.table table.name then option_map (Mask plan.table plan.column) (mask_fault table plan.column) else None
+
+-- An error, or else the other.
+abbrev pub or_else : Option LogFault → Option LogFault → Option LogFault
+or_else (Some fault) other = Some fault
+or_else None other = other
+
+-- Why a table can't be captured after so many others, or its column not masked.
+abbrev pub capture_fault : Option Masking → ℕ → RawTable → Option LogFault
+capture_fault mask count table = or_else (entry_fault count (table_fault table)) (column_fault mask table)
 
 -- Why the table that a message is the first to describe can't be captured.
-abbrev pub told_fault : List TableKey → List RawTable → Message → Option LogFault
-told_fault keys tables m = option_and_then (capture_fault (length tables)) (table_told keys tables m)
+abbrev pub told_fault : LogOptions → List RawTable → Message → Option LogFault
+told_fault options tables m = option_and_then (capture_fault options.mask (length tables)) (table_told options.keys tables m)

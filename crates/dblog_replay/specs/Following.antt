@@ -10,8 +10,10 @@ use Rattle.dbl_txn.specs.Stands.{StandsWhole}
 use Rattle.dblog_replay.specs.declared.log_fault.LogFault.{LogFault}
 use Rattle.dblog_replay.specs.declared.log_fault.LogFault.TheVariants as log
 use Rattle.dblog_replay.specs.declared.options.LogOptions.{LogOptions}
+use Rattle.dblog_replay.specs.declared.masking.MaskingReplayer.{MaskingReplayer}
 use Rattle.dblog_replay.specs.declared.replay.Replayer.{Replayer}
 use Rattle.dblog_replay.specs.Captures.{tables_in, AreCaptured, told_fault}
+use Rattle.dblog_replay.specs.Masked.{masked_with, all_masked, AreMapped}
 use Rattle.dblog_replay.specs.Pieces.{IsPiece, Stops}
 use Rattle.dblog_replay.specs.Log.{log_start, HasTables, IsLogFault}
 
@@ -20,6 +22,7 @@ pub record HasReplayed (options : LogOptions) (infos : List TableInfo) (ms : Lis
   pub stands : StandsWhole infos log_start ms r.assembler
   pub identity : r.writer.identity ≡ options.identity
   pub keys : r.keys ≡ options.keys
+  pub mask : r.mask ≡ options.mask
   pub writes : r.writer.infos ≡ infos
 
 -- The state after these messages, with the tables captured that they describe.
@@ -29,11 +32,16 @@ pub record FollowsMessages (options : LogOptions) (ms : List Message) (r : Repla
   pub captured : AreCaptured options.keys ms infos
   pub fields : AllByRecursion FitsFields ms
 
--- Some messages were processed.
-pub record IsReplaying (r : Replayer) : Type 0 where
+-- The state after these messages, each masked as the options request.
+pub record FollowsMasked (options : LogOptions) (ms : List Message) (r : MaskingReplayer) : Type 0 where
+  pub knows : AreMapped options.mask ms r.mapper
+  pub follows : FollowsMessages options (all_masked options.mask ms) r.replayer
+
+-- Some messages were masked and processed.
+pub record IsReplaying (r : MaskingReplayer) : Type 0 where
   pub options : LogOptions
   pub ms : List Message
-  pub follows : FollowsMessages options ms r
+  pub follows : FollowsMasked options ms r
 
 -- The result of reading the byte string of this number: its piece, unless memory ran out.
 abbrev pub ReadsBytes : ℕ → List ℕ → Result Message LogFault → Type 0
@@ -49,7 +57,7 @@ pub record IsReplayerReady (options : LogOptions) (ms : List Message) (m : Messa
 -- The result of capturing the table of the next message.
 abbrev pub Prepares : {A : Type 0} → LogOptions → List Message → Message → Replayer → Result A LogFault → Type 0
 Prepares options ms m r (Ok x) = IsReplayerReady options ms m r
-Prepares options ms m r (Err e) = (e ≡ log.Memory) ⊎ (told_fault options.keys (tables_in options.keys ms) m ≡ Some e)
+Prepares options ms m r (Err e) = (e ≡ log.Memory) ⊎ (told_fault options (tables_in options.keys ms) m ≡ Some e)
 
 -- The next message was processed, and ends this commit.
 pub record IsAppended (options : LogOptions) (infos : List TableInfo) (ms : List Message) (m : Message) (r : Replayer) (o : Option Commit)
@@ -77,3 +85,14 @@ pub record IsNextMessage (options : LogOptions) (ms : List Message) (m : Message
 abbrev pub TakesMessage : LogOptions → List Message → ℕ → Message → Replayer → Result (Option Commit) LogFault → Type 0
 TakesMessage options ms number m r (Ok o) = IsNextMessage options ms m r o
 TakesMessage options ms number m r (Err e) = (e ≡ log.Memory) ⊎ IsLogFault options ms number m e
+
+-- The next message was masked and processed, and ends this commit.
+pub record IsNextMasked (options : LogOptions) (ms : List Message) (m : Message) (r : MaskingReplayer) (o : Option Commit) : Type 0 where
+  pub knows : AreMapped options.mask (m ∷ ms) r.mapper
+  pub next : IsNextMessage options (all_masked options.mask ms) (masked_with options.mask ms m) r.replayer o
+
+-- The result of masking and processing the next message, which has this number.
+abbrev pub TakesMasked : LogOptions → List Message → ℕ → Message → MaskingReplayer → Result (Option Commit) LogFault → Type 0
+TakesMasked options ms number m r (Ok o) = IsNextMasked options ms m r o
+TakesMasked options ms number m r (Err e) =
+    (e ≡ log.Memory) ⊎ IsLogFault options (all_masked options.mask ms) number (masked_with options.mask ms m) e

@@ -7,6 +7,7 @@ pub mod Lines
 pub mod Log
 pub mod LogFaults
 pub mod LogPrinting
+pub mod Masked
 pub mod Pieces
 pub mod Replay
 pub mod Streams

@@ -32,7 +32,7 @@ log_start = record { 0 = 0 }
 
 -- After these messages a message's new table can be captured, if it describes one, and these are the captured tables then.
 pub record HasTables (options : LogOptions) (ms : List Message) (m : Message) (infos : List TableInfo) : Type 0 where
-  pub capturable : told_fault options.keys (tables_in options.keys ms) m ≡ None
+  pub capturable : told_fault options (tables_in options.keys ms) m ≡ None
   pub captured : AreCaptured options.keys (m ∷ ms) infos
 
 -- The error of a cell whose text is equal to the placeholder of unsent values.
@@ -50,7 +50,7 @@ records_fault identity infos m ms = option_and_then (commit_fault identity infos
 -- The error of a message of this number after these: its new table can't be captured, it can't follow them, or it ends a commit whose
 -- records can't be made.
 pub data IsLogFault (options : LogOptions) (ms : List Message) (number : ℕ) (m : Message) (fault : LogFault) : Type 0 where
-  no_table : told_fault options.keys (tables_in options.keys ms) m ≡ Some fault → IsLogFault options ms number m fault
+  no_table : told_fault options (tables_in options.keys ms) m ≡ Some fault → IsLogFault options ms number m fault
   no_place : (infos : List TableInfo) (error : TxnError) → HasTables options ms m infos
       → transaction_fault infos log_start m ms ≡ Some error
       → fault ≡ log.Transaction number error → IsLogFault options ms number m fault

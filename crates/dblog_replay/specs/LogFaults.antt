@@ -6,6 +6,8 @@ use Rattle.dbl_pgmsg.specs.declared.error.MsgError.{MsgError}
 use Rattle.dbl_pgmsg.specs.declared.error.MsgError.TheVariants as bytes
 use Rattle.dbl_stream2.specs.declared.error.StreamError.{StreamError}
 use Rattle.dbl_stream2.specs.declared.error.StreamError.TheVariants as stream
+use Rattle.dbl_hooks_masks.specs.declared.fault.MaskFault.{MaskFault}
+use Rattle.dbl_hooks_masks.specs.declared.fault.MaskFault.TheVariants as mask
 use Rattle.dbl_value.specs.declared.error.ValueError.{ValueError}
 use Rattle.dbl_value.specs.declared.error.ValueError.TheVariants as value
 use Rattle.dbl_model_table.specs.declared.error.ModelError.{ModelError}
@@ -16,7 +18,7 @@ use Rattle.dbl_model_table.specs.declared.table.TableName.{TableName}
 use Rattle.dbl_model_table.specs.Tables.{full_name}
 use Rattle.dblog_replay.specs.declared.log_fault.LogFault.{LogFault}
 use Rattle.dblog_replay.specs.declared.log_fault.LogFault.TheVariants.{Message, Stream, Transaction, Table, TooManyTables}
-use Rattle.dblog_replay.specs.declared.log_fault.LogFault.TheVariants.{Placeholder, Unfinished, Memory}
+use Rattle.dblog_replay.specs.declared.log_fault.LogFault.TheVariants.{Mask, Placeholder, Unfinished, Memory}
 
 -- The words for bytes that are no message.
 abbrev pub message_text : MsgError → List ℕ
@@ -52,6 +54,12 @@ value_words value.FloatType = codes "float type"
 value_words value.BadText = codes "bad text"
 value_words value.DateRange = codes "date range"
 value_words value.Memory = codes "out of memory"
+
+-- The words for a column that can't be masked.
+abbrev pub mask_words : MaskFault → List ℕ
+mask_words mask.NoColumn = codes "no column"
+mask_words mask.KeyColumn = codes "key column"
+mask_words mask.NotText = codes "not text"
 
 -- The words for a message that can't follow those before it.
 abbrev pub transaction_text : TxnError → List ℕ
@@ -105,6 +113,7 @@ log_status (Stream number error) = MalformedLog
 log_status (Transaction number error) = transaction_status error
 log_status (Table error) = Unsupported
 log_status TooManyTables = Unsupported
+log_status (Mask name column error) = Unsupported
 log_status (Placeholder name column) = Unsupported
 log_status Unfinished = MalformedLog
 log_status Memory = OutOfMemory
@@ -127,6 +136,7 @@ log_line (Stream number error) = codes "dblog: message " ++ (decimal number ++ (
 log_line (Transaction number error) = transaction_line number error
 log_line (Table error) = codes "dblog: " ++ table_text error
 log_line TooManyTables = codes "dblog: too many tables"
+log_line (Mask name column error) = codes "dblog: " ++ (mask_words error ++ (codes " " ++ column_text name column))
 log_line (Placeholder name column) = codes "dblog: placeholder in " ++ column_text name column
 log_line Unfinished = codes "dblog: log ends inside a transaction"
 log_line Memory = codes "dblog: out of memory"

@@ -11,8 +11,9 @@ use Rattle.dbl_model_table.specs.declared.table.TableInfo.{TableInfo}
 use Rattle.dbl_model_commit.specs.Stated.{list_of, ended_commit}
 use Rattle.dblog_replay.specs.declared.log_fault.LogFault.{LogFault}
 use Rattle.dblog_replay.specs.declared.options.LogOptions.{LogOptions}
-use Rattle.dblog_replay.specs.declared.replay.Replayer.{Replayer}
-use Rattle.dblog_replay.specs.Following.{FollowsMessages}
+use Rattle.dblog_replay.specs.declared.masking.MaskingReplayer.{MaskingReplayer}
+use Rattle.dblog_replay.specs.Following.{FollowsMasked}
+use Rattle.dblog_replay.specs.Masked.{masked_with, all_masked}
 use Rattle.dblog_replay.specs.Pieces.{Piece, IsPiece, Carries, Stops}
 use Rattle.dblog_replay.specs.Log.{lines_in, IsLogFault, IsTaken, LogWrites, end_status, end_lines}
 
@@ -34,32 +35,41 @@ PutsCommit fault lines gathered later (Ok None) before after = (fault ≡ None) 
 PutsCommit fault lines gathered later (Ok (Some found)) before after = (fault ≡ Some found) × IsHalted gathered later before after
 PutsCommit fault lines gathered later (Err error) before after = CommitFails fault lines gathered error before after
 
--- The piece carries a message without an error, which was processed, and the lines of the commit that it ends were gathered.
-pub record IsStepped (options : LogOptions) (now : ℤ) (ms : List Message) (piece : Piece) (gathered later : List ℕ) (r : Replayer)
+-- The lines of the commit that a message after these ends, each message masked.
+abbrev pub masked_lines : LogOptions → ℤ → List Message → Message → List TableInfo → List (List ℕ)
+masked_lines options now ms m infos =
+    lines_in options.identity infos (list_of (ended_commit infos (masked_with options.mask ms m) (all_masked options.mask ms))) now
+
+-- The message after these, each masked, has no error, and these are the captured tables then.
+abbrev pub IsTakenMasked : LogOptions → List Message → Message → List TableInfo → Type 0
+IsTakenMasked options ms m infos = IsTaken options (all_masked options.mask ms) (masked_with options.mask ms m) infos
+
+-- The piece carries a message that, masked, has no error; it was processed, and the lines of the commit that it ends were gathered.
+pub record IsStepped (options : LogOptions) (now : ℤ) (ms : List Message) (piece : Piece) (gathered later : List ℕ) (r : MaskingReplayer)
     (before after : Option (List ℕ)) : Type 0 where
   pub number : ℕ
   pub m : Message
   pub infos : List TableInfo
   pub carries : piece ≡ Carries number m
-  pub taken : IsTaken options ms m infos
-  pub follows : FollowsMessages options (m ∷ ms) r
-  pub puts : Puts (lines_in options.identity infos (list_of (ended_commit infos m ms)) now) gathered later before after
+  pub taken : IsTakenMasked options ms m infos
+  pub follows : FollowsMasked options (m ∷ ms) r
+  pub puts : Puts (masked_lines options now ms m infos) gathered later before after
 
 -- The piece's message was not processed whole, or the lines of its commit not all gathered.
 pub data StepFails (options : LogOptions) (now : ℤ) (ms : List Message) (piece : Piece) (gathered : List ℕ) (error : PrintError)
     (before after : Option (List ℕ)) : Type 0 where
   step_starved : error ≡ Memory → after ≡ before → StepFails options now ms piece gathered error before after
-  step_cut : (number : ℕ) (m : Message) (infos : List TableInfo) → piece ≡ Carries number m → IsTaken options ms m infos
-      → PutFails (lines_in options.identity infos (list_of (ended_commit infos m ms)) now) gathered error before after
+  step_cut : (number : ℕ) (m : Message) (infos : List TableInfo) → piece ≡ Carries number m → IsTakenMasked options ms m infos
+      → PutFails (masked_lines options now ms m infos) gathered error before after
       → StepFails options now ms piece gathered error before after
 
--- The error at which a piece after these messages ends the log.
+-- The error at which a piece after these messages, each masked, ends the log.
 abbrev pub StopsAt : LogOptions → List Message → Piece → LogFault → Type 0
-StopsAt options ms (Carries number m) fault = IsLogFault options ms number m fault
+StopsAt options ms (Carries number m) fault = IsLogFault options (all_masked options.mask ms) number (masked_with options.mask ms m) fault
 StopsAt options ms (Stops error) fault = fault ≡ error
 
 -- The result of processing a piece after these messages.
-abbrev pub StepsPrinting : LogOptions → ℤ → List Message → Piece → List ℕ → List ℕ → Replayer → Result (Option LogFault) PrintError
+abbrev pub StepsPrinting : LogOptions → ℤ → List Message → Piece → List ℕ → List ℕ → MaskingReplayer → Result (Option LogFault) PrintError
     → Option (List ℕ) → Option (List ℕ) → Type 0
 StepsPrinting options now ms piece gathered later r (Ok None) before after = IsStepped options now ms piece gathered later r before after
 StepsPrinting options now ms piece gathered later r (Ok (Some fault)) before after =
@@ -67,8 +77,8 @@ StepsPrinting options now ms piece gathered later r (Ok (Some fault)) before aft
 StepsPrinting options now ms piece gathered later r (Err error) before after = StepFails options now ms piece gathered error before after
 
 -- The result of reading the byte string of this number and processing its piece after these messages, unless memory ran out.
-abbrev pub StepsReading : LogOptions → ℤ → List Message → ℕ → List ℕ → List ℕ → List ℕ → Replayer → Result (Option LogFault) PrintError
-    → Option (List ℕ) → Option (List ℕ) → Type 0
+abbrev pub StepsReading : LogOptions → ℤ → List Message → ℕ → List ℕ → List ℕ → List ℕ → MaskingReplayer
+    → Result (Option LogFault) PrintError → Option (List ℕ) → Option (List ℕ) → Type 0
 StepsReading options now ms number bytes gathered later r result before after =
     ((result ≡ Err Memory) × (after ≡ before))
     ⊎ ((piece : Piece) × IsPiece number bytes piece × StepsPrinting options now ms piece gathered later r result before after)

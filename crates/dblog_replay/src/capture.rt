@@ -7,11 +7,13 @@ ghost use Rattle.dbl_model_table.specs.Tables.{same_name, is_watermark};
 ghost use Rattle.dbl_model_table.specs.Infos.{IsInfoOf};
 ghost use Rattle.dbl_model_table.specs.Made.{table_fault};
 ghost use Rattle.dbl_model_commit.specs.Past.{schema_of};
-ghost use Rattle.dblog_replay.specs.Captures.{flagged_names, key_names_of, entry_of, capture_fault};
+ghost use Rattle.dblog_replay.specs.Captures.{flagged_names, key_names_of, entry_of};
+ghost use Rattle.dblog_replay.specs.Captures.{column_fault, capture_fault};
 ghost use Rattle.dblog_replay.specs.Judged.{JudgesLog};
 
 use crate::log_fault::LogFault;
 use dbl_base::{Seq, Text, copy_items};
+use dbl_hooks_masks::{Masking, mask_fault};
 use dbl_model_table::{ModelError, RawColumn, RawTable, TableInfo, TableKey, TableName};
 use dbl_pgmsg::RelationColumn;
 use std::alloc::{AllocError, Global};
@@ -130,14 +132,40 @@ fn make_info(alloc: Global, raw: &RawTable) -> Result<TableInfo, LogFault>
     }
 }
 
+// Whether the table's column can be masked, if it is to be.
+fn check_mask(alloc: Global, mask: &Option<Masking>, raw: &RawTable) -> Result<(), LogFault>
+    ensures { JudgesLog (column_fault mask.now raw.now) result }
+{
+    let Some(masking) = mask else {
+        return Ok(());
+    };
+    if masking.table != raw.name {
+        return Ok(());
+    }
+    match mask_fault(raw, &masking.column) {
+        None => Ok(()),
+        Some(error) => Err(LogFault::Mask {
+            table: masking.table.copy(alloc)?,
+            column: masking.column.copy(alloc)?,
+            error,
+        }),
+    }
+}
+
 /// What is captured of a table, after so many others.
-pub fn capture_table(alloc: Global, count: usize, raw: &RawTable) -> Result<TableInfo, LogFault>
+pub fn capture_table(
+    alloc: Global,
+    mask: &Option<Masking>,
+    count: usize,
+    raw: &RawTable,
+) -> Result<TableInfo, LogFault>
     ensures info { IfOk result (IsInfoOf raw.now) }
-    ensures fault { JudgesLog (capture_fault count raw.now) result }
+    ensures fault { JudgesLog (capture_fault mask.now count raw.now) result }
 {
     let info = make_info(alloc, raw)?;
     if count >= TABLE_LIMIT {
         return Err(LogFault::TooManyTables);
     }
+    check_mask(alloc, mask, raw)?;
     Ok(info)
 }

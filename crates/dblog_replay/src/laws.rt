@@ -4,6 +4,7 @@ ghost use Rattle.dblog_replay.specs.Pieces.{MessagesAreSpelled, PiecesAreOne};
 ghost use Rattle.dblog_replay.specs.Pieces.{PiecesExist, PiecesFit};
 ghost use Rattle.dblog_replay.specs.Streams.{StreamPiecesAreOne, StreamPiecesExist};
 ghost use Rattle.dblog_replay.specs.Streams.{StreamPiecesFit, StreamsAreFlattened};
+ghost use Rattle.dblog_replay.specs.Masked.{MaskedPiecesFit};
 ghost use Rattle.dblog_replay.specs.Replay.{CommitsAreWritten, ReplaysAreOne, ReplaysExist};
 
 /// Byte strings are read as exactly one list of pieces, whose messages are within their formats'
@@ -32,6 +33,11 @@ pub fn streams_are_flattened()
 /// are numbered on.
 pub fn messages_are_spelled()
     ensures { MessagesAreSpelled }
+{}
+
+/// Masked messages are within their formats' ranges if the messages are.
+pub fn masked_pieces_fit()
+    ensures { MaskedPiecesFit }
 {}
 
 /// The lines that are written of a log, message by message, are exactly those of all commits before

@@ -8,6 +8,7 @@ pub mod laws;
 mod lines;
 mod log;
 mod log_fault;
+mod masking;
 mod options;
 mod printing;
 mod reader;

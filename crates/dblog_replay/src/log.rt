@@ -14,19 +14,20 @@ ghost use Rattle.dbl_model_commit.specs.Stated.{list_of};
 ghost use Rattle.dbl_envelope.specs.Clashing.{IsClash};
 ghost use Rattle.dbl_envelope.specs.Suits.{Suits};
 ghost use Rattle.dblog_replay.specs.declared.options.LogOptions.{LogOptions};
-ghost use Rattle.dblog_replay.specs.Following.{FollowsMessages, IsReplaying};
+ghost use Rattle.dblog_replay.specs.Following.{FollowsMasked, IsReplaying};
 ghost use Rattle.dblog_replay.specs.Log.{lines_in, commit_fault, end_fault, end_status, end_lines};
 ghost use Rattle.dblog_replay.specs.LogFaults.{log_status, log_line};
 ghost use Rattle.dblog_replay.specs.LogPrinting.{PutsCommit, StepsPrinting, StepsReading};
 ghost use Rattle.dblog_replay.specs.LogPrinting.{PutsLog, PrintsLog, FinishesLog};
+ghost use Rattle.dblog_replay.specs.Masked.{masked_pieces};
 ghost use Rattle.dblog_replay.specs.Pieces.{Piece, Carries, AreRead};
 ghost use Rattle.dblog_replay.specs.Streams.{ReadsPieces};
 
 use crate::log_fault::LogFault;
+use crate::masking::MaskingReplayer;
 use crate::options::LogOptions;
 use crate::printing::put_left;
 use crate::reader::read_message;
-use crate::replay::Replayer;
 use crate::streaming::put_streamed;
 use dbl_base::{Bytes, Output, Text};
 use dbl_envelope::{EnvelopeError, EventWriter, RecordsLeft};
@@ -125,11 +126,11 @@ fn put_ended<O: Output>(
     }
 }
 
-// Processes the next message, which has this number, and appends the lines of the commit that it
-// ends, or returns its error.
+// Masks and processes the next message, which has this number, and appends the lines of the commit
+// that it ends, or returns its error.
 pub(crate) fn put_message<O: Output>(
     alloc: Global,
-    replayer: &mut Replayer,
+    replayer: &mut MaskingReplayer,
     number: u64,
     message: Message,
     now_ms: &i64,
@@ -139,14 +140,21 @@ pub(crate) fn put_message<O: Output>(
     requires replaying { IsReplaying replayer.old }
     requires fits { FitsFields message }
     ensures steps { (options : LogOptions) (ms : List Message) →
-        FollowsMessages options ms replayer.old
+        FollowsMasked options ms replayer.old
         → StepsPrinting options now_ms.now ms (Carries number message) lines.old lines.new
         replayer.new result (O.written output.old) (O.written output.new) }
     ensures cause { FailsOnlyIfCounted (result ≡ Err PrintError.OutputFailed)
         (O.faults output.old) (O.faults output.new) }
 {
     match replayer.take(alloc, number, message) {
-        Ok(ended) => put_ended(alloc, &replayer.writer, &ended, now_ms, output, lines),
+        Ok(ended) => put_ended(
+            alloc,
+            &replayer.replayer.writer,
+            &ended,
+            now_ms,
+            output,
+            lines,
+        ),
         Err(fault) => stop_at(fault),
     }
 }
@@ -155,7 +163,7 @@ pub(crate) fn put_message<O: Output>(
 // error.
 fn put_bytes<O: Output>(
     alloc: Global,
-    replayer: &mut Replayer,
+    replayer: &mut MaskingReplayer,
     number: u64,
     bytes: Bytes,
     now_ms: &i64,
@@ -164,7 +172,7 @@ fn put_bytes<O: Output>(
 ) -> Result<Option<LogFault>, PrintError>
     requires { IsReplaying replayer.old }
     ensures steps { (options : LogOptions) (ms : List Message) →
-        FollowsMessages options ms replayer.old
+        FollowsMasked options ms replayer.old
         → StepsReading options now_ms.now ms number bytes lines.old lines.new replayer.new result
         (O.written output.old) (O.written output.new) }
     ensures cause { FailsOnlyIfCounted (result ≡ Err PrintError.OutputFailed)
@@ -180,17 +188,17 @@ fn put_bytes<O: Output>(
 // error, which it returns, for a new replayer.
 fn put_messages<O: Output>(
     alloc: Global,
-    replayer: &mut Replayer,
+    replayer: &mut MaskingReplayer,
     messages: Vec<Bytes>,
     now_ms: &i64,
     output: &mut O,
     lines: &mut LineWriter,
 ) -> Result<Option<LogFault>, PrintError>
-    requires { (options : LogOptions) × FollowsMessages options [] replayer.old }
+    requires { (options : LogOptions) × FollowsMasked options [] replayer.old }
     ensures puts { (options : LogOptions) (pieces : List Piece) →
-        FollowsMessages options [] replayer.old → AreRead 1 messages.items pieces
-        → PutsLog options now_ms.now pieces lines.old lines.new result
-        (O.written output.old) (O.written output.new) }
+        FollowsMasked options [] replayer.old → AreRead 1 messages.items pieces
+        → PutsLog options now_ms.now (masked_pieces options.mask [] pieces) lines.old lines.new
+        result (O.written output.old) (O.written output.new) }
     ensures cause { FailsOnlyIfCounted (result ≡ Err PrintError.OutputFailed)
         (O.faults output.old) (O.faults output.new) }
 {
@@ -218,12 +226,12 @@ fn put_log<O: Output>(
     lines: &mut LineWriter,
 ) -> Result<Option<LogFault>, PrintError>
     ensures puts { (pieces : List Piece) → ReadsPieces stream strings.items pieces
-        → PutsLog options now_ms.now pieces lines.old lines.new result
-        (O.written output.old) (O.written output.new) }
+        → PutsLog options now_ms.now (masked_pieces options.mask [] pieces) lines.old lines.new
+        result (O.written output.old) (O.written output.new) }
     ensures cause { FailsOnlyIfCounted (result ≡ Err PrintError.OutputFailed)
         (O.faults output.old) (O.faults output.new) }
 {
-    let mut replayer = match Replayer::make(alloc, options) {
+    let mut replayer = match MaskingReplayer::make(alloc, options) {
         Ok(replayer) => replayer,
         Err(_) => return Err(PrintError::Memory),
     };
@@ -317,7 +325,8 @@ pub fn print_log<O: Output>(
     output: &mut O,
 ) -> Result<Status, PrintError>
     ensures prints { (pieces : List Piece) → ReadsPieces stream strings.items pieces
-        → PrintsLog options now_ms.now pieces result (O.written output.old) (O.written output.new) }
+        → PrintsLog options now_ms.now (masked_pieces options.mask [] pieces) result
+        (O.written output.old) (O.written output.new) }
     ensures cause { FailsOnlyIfCounted (result ≡ Err PrintError.OutputFailed)
         (O.faults output.old) (O.faults output.new) }
 {

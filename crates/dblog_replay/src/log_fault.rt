@@ -3,11 +3,12 @@
 ghost use Rattle.std.specs.Prelude.{◌≡◌, IfOk};
 ghost use Rattle.std.specs.String.{string_bytes};
 ghost use Rattle.dblog_replay.specs.LogFaults.{message_text, stream_text};
-ghost use Rattle.dblog_replay.specs.LogFaults.{value_words, transaction_text};
+ghost use Rattle.dblog_replay.specs.LogFaults.{value_words, mask_words, transaction_text};
 ghost use Rattle.dblog_replay.specs.LogFaults.{table_text, log_line, is_malformed, log_status};
 ghost use Rattle.dblog_replay.specs.LogFaults.{transaction_status, transaction_line};
 
 use dbl_base::Text;
+use dbl_hooks_masks::MaskFault;
 use dbl_lines::Status;
 use dbl_model_commit::TxnError;
 use dbl_model_table::{ModelError, TableName};
@@ -20,17 +21,37 @@ use std::alloc::{AllocError, Global};
 #[derive(Drop)]
 pub enum LogFault {
     /// The bytes are no message.
-    Message { number: u64, error: MsgError },
+    Message {
+        number: u64,
+        error: MsgError,
+    },
     /// The message can't follow in a stream of protocol version 2.
-    Stream { number: u64, error: StreamError },
+    Stream {
+        number: u64,
+        error: StreamError,
+    },
     /// The message can't follow those before it.
-    Transaction { number: u64, error: TxnError },
+    Transaction {
+        number: u64,
+        error: TxnError,
+    },
     /// A table can't be captured.
-    Table { error: ModelError },
+    Table {
+        error: ModelError,
+    },
     /// More tables than the limit are to be captured.
     TooManyTables,
+    /// The column can't be masked.
+    Mask {
+        table: TableName,
+        column: Text,
+        error: MaskFault,
+    },
     /// A cell's text is equal to the placeholder of unsent values.
-    Placeholder { table: TableName, column: Text },
+    Placeholder {
+        table: TableName,
+        column: Text,
+    },
     /// The log ends inside a transaction.
     Unfinished,
     Memory,
@@ -76,6 +97,16 @@ fn value_words(error: &ValueError) -> &'static str
         ValueError::BadText => "bad text",
         ValueError::DateRange => "date range",
         ValueError::Memory => "out of memory",
+    }
+}
+
+fn mask_words(error: MaskFault) -> &'static str
+    ensures { result.now ≡ mask_words error }
+{
+    match error {
+        MaskFault::NoColumn => "no column",
+        MaskFault::KeyColumn => "key column",
+        MaskFault::NotText => "not text",
     }
 }
 
@@ -183,6 +214,7 @@ impl LogFault {
             LogFault::Transaction { number: _, error } => transaction_status(error),
             LogFault::Table { .. } => Status::Unsupported,
             LogFault::TooManyTables => Status::Unsupported,
+            LogFault::Mask { .. } => Status::Unsupported,
             LogFault::Placeholder { .. } => Status::Unsupported,
             LogFault::Unfinished => Status::MalformedLog,
             LogFault::Memory => Status::OutOfMemory,
@@ -210,6 +242,14 @@ impl LogFault {
                 return format!(in alloc; "dblog: {text}");
             }
             LogFault::TooManyTables => "dblog: too many tables",
+            LogFault::Mask {
+                table,
+                column,
+                error,
+            } => {
+                let words = mask_words(*error);
+                return format!(in alloc; "dblog: {words} {table}.{column}");
+            }
             LogFault::Placeholder { table, column } => {
                 return format!(in alloc; "dblog: placeholder in {table}.{column}");
             }

@@ -15,6 +15,7 @@ use crate::log_fault::LogFault;
 use crate::options::LogOptions;
 use dbl_base::{Lsn, Seq, Text};
 use dbl_envelope::EventWriter;
+use dbl_hooks_masks::Masking;
 use dbl_model_commit::TxnError;
 use dbl_model_table::{Commit, TableInfo, TableKey};
 use dbl_pgmsg::{Message, RelationColumn};
@@ -26,6 +27,7 @@ use std::alloc::{AllocError, Global};
 pub struct Replayer {
     assembler: Assembler,
     keys: Seq<TableKey>,
+    mask: Option<Masking>,
     pub writer: EventWriter,
 }
 
@@ -45,7 +47,11 @@ impl Replayer {
     pub fn make(alloc: Global, options: LogOptions) -> Result<Replayer, AllocError>
         ensures { IfOk result (FollowsMessages options []) }
     {
-        let LogOptions { identity, keys } = options;
+        let LogOptions {
+            identity,
+            keys,
+            mask,
+        } = options;
         let writer = match EventWriter::make(alloc, identity, Vec::new(alloc)) {
             Ok(writer) => writer,
             Err(_) => return Err(AllocError),
@@ -53,6 +59,7 @@ impl Replayer {
         Ok(Replayer {
             assembler: Assembler::make(alloc, Vec::new(alloc), Lsn(0)),
             keys,
+            mask,
             writer,
         })
     }
@@ -100,7 +107,7 @@ impl Replayer {
             return Ok(());
         }
         let entry = entry_of(alloc, self.keys.items(), schema, name, columns)?;
-        let info = capture_table(alloc, infos.len(), &entry)?;
+        let info = capture_table(alloc, &self.mask, infos.len(), &entry)?;
         self.add(alloc, info)?;
         Ok(())
     }

@@ -8,8 +8,9 @@ ghost use Rattle.dbl_pgmsg.specs.declared.messages.Message.{Message};
 ghost use Rattle.dbl_pgmsg.specs.Grammar.{FitsFields};
 ghost use Rattle.dbl_stream2.specs.declared.messages.StreamMessage.{StreamMessage};
 ghost use Rattle.dblog_replay.specs.declared.options.LogOptions.{LogOptions};
-ghost use Rattle.dblog_replay.specs.Following.{FollowsMessages, IsReplaying};
+ghost use Rattle.dblog_replay.specs.Following.{FollowsMasked, IsReplaying};
 ghost use Rattle.dblog_replay.specs.LogPrinting.{PutsLog};
+ghost use Rattle.dblog_replay.specs.Masked.{masked_pieces};
 ghost use Rattle.dblog_replay.specs.Pieces.{Piece};
 ghost use Rattle.dblog_replay.specs.Streams.{AreReceived, pieces_at, refusal_fault};
 ghost use Rattle.dblog_replay.specs.Streaming.{IsReceiving, IsStreaming, HasAdded, IsRefusedAs};
@@ -17,7 +18,7 @@ ghost use Rattle.dblog_replay.specs.Streaming.{PutsPieces, StepsStreaming};
 
 use crate::log::{put_message, stop_at, unfinished_fault};
 use crate::log_fault::LogFault;
-use crate::replay::Replayer;
+use crate::masking::MaskingReplayer;
 use dbl_base::{Bytes, Output};
 use dbl_lines::{LineWriter, PrintError};
 use dbl_pgmsg::Message;
@@ -56,11 +57,11 @@ fn receive_message(
     }
 }
 
-// Processes messages that all have this number, and appends the lines of the commits that they end,
-// up to the first error, which it returns.
+// Masks and processes messages that all have this number, and appends the lines of the commits that
+// they end, up to the first error, which it returns.
 fn put_added<O: Output>(
     alloc: Global,
-    replayer: &mut Replayer,
+    replayer: &mut MaskingReplayer,
     number: u64,
     messages: Vec<Message>,
     now_ms: &i64,
@@ -70,7 +71,7 @@ fn put_added<O: Output>(
     requires replaying { IsReplaying replayer.old }
     requires fits { AllByRecursion FitsFields messages.items }
     ensures puts { (options : LogOptions) (ms : List Message) →
-        FollowsMessages options ms replayer.old
+        FollowsMasked options ms replayer.old
         → PutsPieces options now_ms.now ms (pieces_at number messages.items) lines.old lines.new
         replayer.new result (O.written output.old) (O.written output.new) }
     ensures cause { FailsOnlyIfCounted (result ≡ Err PrintError.OutputFailed)
@@ -91,7 +92,7 @@ fn put_added<O: Output>(
 fn put_received<O: Output>(
     alloc: Global,
     unstream: &mut Unstream,
-    replayer: &mut Replayer,
+    replayer: &mut MaskingReplayer,
     number: u64,
     bytes: Bytes,
     now_ms: &i64,
@@ -101,7 +102,7 @@ fn put_received<O: Output>(
     requires streaming { IsStreaming unstream.old }
     requires replaying { IsReplaying replayer.old }
     ensures steps { (options : LogOptions) (past : List StreamMessage) (ms : List Message) →
-        IsReceiving past unstream.old → FollowsMessages options ms replayer.old
+        IsReceiving past unstream.old → FollowsMasked options ms replayer.old
         → StepsStreaming options now_ms.now past ms number bytes unstream.new lines.old lines.new
         replayer.new result (O.written output.old) (O.written output.new) }
     ensures cause { FailsOnlyIfCounted (result ≡ Err PrintError.OutputFailed)
@@ -117,17 +118,17 @@ fn put_received<O: Output>(
 // its messages, up to the first error, which it returns, for a new replayer.
 pub(crate) fn put_streamed<O: Output>(
     alloc: Global,
-    replayer: &mut Replayer,
+    replayer: &mut MaskingReplayer,
     strings: Vec<Bytes>,
     now_ms: &i64,
     output: &mut O,
     lines: &mut LineWriter,
 ) -> Result<Option<LogFault>, PrintError>
-    requires { (options : LogOptions) × FollowsMessages options [] replayer.old }
+    requires { (options : LogOptions) × FollowsMasked options [] replayer.old }
     ensures puts { (options : LogOptions) (pieces : List Piece) →
-        FollowsMessages options [] replayer.old → AreReceived 1 [] strings.items pieces
-        → PutsLog options now_ms.now pieces lines.old lines.new result
-        (O.written output.old) (O.written output.new) }
+        FollowsMasked options [] replayer.old → AreReceived 1 [] strings.items pieces
+        → PutsLog options now_ms.now (masked_pieces options.mask [] pieces) lines.old lines.new
+        result (O.written output.old) (O.written output.new) }
     ensures cause { FailsOnlyIfCounted (result ≡ Err PrintError.OutputFailed)
         (O.faults output.old) (O.faults output.new) }
 {

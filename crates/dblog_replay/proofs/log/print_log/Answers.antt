@@ -1,5 +1,6 @@
 use Rattle.std.proofs.Common.{[], refl}
 use Rattle.dbl_lines.proofs.WritingLemmas.{wrote_none}
+use Rattle.dblog_replay.specs.Masked.{masked_pieces}
 use Rattle.dblog_replay.proofs.LogPrintLemmas.{fails_log, ended_log}
 use Rattle.dblog_replay.proofs.log.print_log.Goals as goal
 
@@ -13,5 +14,5 @@ returns-in-Err-put_log-clause-prints g c =
 
 pub returns-in-Ok-put_log-clause-prints : goal.returns-in-Ok-put_log-clause-prints
 returns-in-Ok-put_log-clause-prints g c =
-    λ pieces read. ended_log c.args.options c.args.now_ms.now pieces c.in-Ok.lines _ _ _ _ _ _ c.in-Ok.ensures
+    λ pieces read. ended_log c.args.options c.args.now_ms.now (masked_pieces c.args.options.mask [] pieces) c.in-Ok.lines _ _ _ _ _ _ c.in-Ok.ensures
     (c.in-Ok-put_log.ensures.puts pieces read) c.finish_log.ensures.ends

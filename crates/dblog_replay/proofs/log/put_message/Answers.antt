@@ -1,11 +1,14 @@
 use Rattle.dblog_replay.proofs.FollowLemmas.{steps, steps_stopped}
 use Rattle.dblog_replay.proofs.SuitLemmas.{next_suits}
+use Rattle.dblog_replay.specs.Masked.{masked_with, all_masked}
 use Rattle.dblog_replay.specs.Pieces.{Carries}
 use Rattle.dblog_replay.proofs.log.put_message.Goals as goal
 
 pub put_ended-requires : goal.put_ended-requires
 put_ended-requires g c =
-    let f = c.requires.replaying in next_suits f.options f.ms c.args.message c.take.new.self c.in-Ok.ended (c.in-Ok.ensures f.options f.ms f.follows)
+    let f = c.requires.replaying in
+    next_suits f.options (all_masked f.options.mask f.ms) (masked_with f.options.mask f.ms c.args.message) c.take.new.self.replayer c.in-Ok.ended
+    (c.in-Ok.ensures f.options f.ms f.follows).next
 
 pub returns-in-Ok-clause-steps : goal.returns-in-Ok-clause-steps
 returns-in-Ok-clause-steps g c =

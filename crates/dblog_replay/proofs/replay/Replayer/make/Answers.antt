@@ -11,6 +11,7 @@ returns c = record {
     stands = subst (λ (i : List TableInfo). Stands i log_start [] [] c.make-2.result) c.new-2.ensures.items (c.make-2.ensures []);
     identity = c.in-Ok.ensures.identity;
     keys = refl;
+    mask = refl;
     writes = c.in-Ok.ensures.infos ∙ c.new.ensures.items;
   };
   captured = refl;

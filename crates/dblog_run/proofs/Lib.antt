@@ -10,6 +10,7 @@ pub use Rattle.dblog_capture.proofs.PromiseTakenLaws
 pub use Rattle.dblog_capture.proofs.WindowHonestLemmas
 pub use Rattle.dblog_init.proofs.AnswerLaws as InitAnswerLaws
 pub use Rattle.dblog_streams.proofs.ReplayCaptureLemmas
+pub use Rattle.dblog_streams.proofs.ReplayMaskedLemmas
 pub use Rattle.dblog_streams.proofs.ReplayPieceLemmas
 pub use Rattle.dblog_streams.proofs.ReplayStreamLemmas
 pub mod CommandLemmas

@@ -1,5 +1,5 @@
 -- An input has some answer of `replay`, and of `apply --lines`.
-use Rattle.std.proofs.Common.{◌≡◌, ◌⊎◌, inl, inr, ℕ, ℤ, ◌<◌, ◌≤◌, Bool, true, false, Option, Some, None, Ok, Err, List, length, refl, sym, subst, map}
+use Rattle.std.proofs.Common.{◌≡◌, ◌⊎◌, inl, inr, ℕ, ℤ, ◌<◌, ◌≤◌, Bool, true, false, Option, Some, None, Ok, Err, List, [], length, refl, sym, subst, map}
 use Rattle.std.specs.Prelude.{nat_lt}
 use Rattle.std.specs.List.{AllByRecursion}
 use Rattle.std.proofs.lemmas.Bool.{ltb-false}
@@ -13,6 +13,8 @@ use Rattle.dblog_replay.specs.Lines.{message_bytes_in, first_bad_line}
 use Rattle.dblog_replay.proofs.CommitLaws.{replays_exist}
 use Rattle.dblog_replay.proofs.DigitLemmas.{messages_small}
 use Rattle.dblog_replay.proofs.StreamLemmas.{reads_exist, reads_fit}
+use Rattle.dblog_replay.specs.Masked.{masked_pieces}
+use Rattle.dblog_replay.proofs.MaskedLemmas.{masked_pieces_fit}
 use Rattle.dblog_streams.proofs.ReplayLaws.{Encoded, ok_one, ok_or_answer}
 use Rattle.dblog_streams.proofs.FrameInputLemmas.{payloads_small, frames_exist}
 use Rattle.dblog_streams.specs.Answers.{RunAnswer, fault, done}
@@ -69,7 +71,9 @@ by_strings : (options : ReplayOptions) (now : ℤ) (bytes : List ℕ) (result : 
 by_strings options now bytes (Err answer) encodes = (answer, unread encodes)
 by_strings options now bytes (Ok strings) encodes =
     let some = reads_exist options.stream strings (strings_small options.raw bytes strings encodes) in
-    let log = replays_exist (log_options options) now some.0 (reads_fit options.stream strings some.0 some.1) in
+    let mask = (log_options options).mask in
+    let log = replays_exist (log_options options) now (masked_pieces mask [] some.0)
+    (masked_pieces_fit mask [] some.0 (reads_fit options.stream strings some.0 some.1)) in
     (log_answer log.0 log.1, replayed log.0 log.1 (record { strings = strings; pieces = some.0; encodes = encodes; read = some.1; replayed = log.2 }) refl)
 
 -- bytes have some answer

@@ -1,4 +1,5 @@
 pub use Rattle.dblog_replay.proofs.CaptureLemmas as ReplayCaptureLemmas
+pub use Rattle.dblog_replay.proofs.MaskedLemmas as ReplayMaskedLemmas
 pub use Rattle.dblog_replay.proofs.PieceLemmas as ReplayPieceLemmas
 pub use Rattle.dblog_replay.proofs.StreamLemmas as ReplayStreamLemmas
 pub mod AnswerLemmas

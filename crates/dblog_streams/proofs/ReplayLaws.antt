@@ -12,6 +12,8 @@ use Rattle.dblog_replay.specs.Streams.{ReadsPieces}
 use Rattle.dblog_replay.specs.Replay.{IsReplayed}
 use Rattle.dblog_replay.proofs.CommitLaws.{replayed_once}
 use Rattle.dblog_replay.proofs.StreamLemmas.{reads_one, reads_fit}
+use Rattle.dblog_replay.specs.Masked.{masked_pieces}
+use Rattle.dblog_replay.proofs.MaskedLemmas.{masked_pieces_fit}
 use Rattle.dblog_streams.specs.Answers.{RunAnswer, fault}
 use Rattle.dblog_streams.specs.Inputs.{frame_text, invalid_input, payloads_of, EncodesLines, bad_line, good_lines}
 use Rattle.dblog_streams.specs.Inputs.{EncodesFrames, bad_frame, cut_frame, whole_frames, EncodesWithin, too_long, encoded}
@@ -83,8 +85,10 @@ pub logs_one : (options : ReplayOptions) (now : ℤ) (bytes : List ℕ) (l k : L
 logs_one options now bytes l k d e one two =
     let strings = ok_one one.strings two.strings (strings_one options.raw bytes (Ok one.strings) (Ok two.strings) one.encodes two.encodes) in
     let pieces = reads_one options.stream two.strings one.pieces two.pieces (subst (λ (bs : List (List ℕ)). ReadsPieces options.stream bs one.pieces) strings one.read) two.read in
-    replayed_once (log_options options) now two.pieces l k d e (reads_fit options.stream two.strings two.pieces two.read)
-    (subst (λ (ps : List Piece). IsReplayed (log_options options) now ps l d) pieces one.replayed) two.replayed
+    let mask = (log_options options).mask in
+    replayed_once (log_options options) now (masked_pieces mask [] two.pieces) l k d e
+    (masked_pieces_fit mask [] two.pieces (reads_fit options.stream two.strings two.pieces two.read))
+    (subst (λ (ps : List Piece). IsReplayed (log_options options) now (masked_pieces mask [] ps) l d) pieces one.replayed) two.replayed
 
 -- bytes have one answer
 pub replays_one : ReplayAnswersAreOne

@@ -15,7 +15,7 @@ use Rattle.dblog_replay.specs.declared.options.LogOptions.{LogOptions}
 use Rattle.dbl_cli.specs.declared.commands.ReplayOptions.{ReplayOptions}
 use Rattle.dbl_lines.specs.declared.error.PrintError.TheVariants as print_error
 use Rattle.dbl_lines.specs.Faults.{status_of, fault_line}
-use Rattle.dblog_replay.specs.Pieces.{Piece}
+use Rattle.dblog_replay.specs.Pieces.{Piece, AllFitFields}
 use Rattle.dblog_replay.specs.Streams.{ReadsPieces}
 use Rattle.dblog_replay.specs.Log.{LogWrites, end_status, end_lines}
 use Rattle.dblog_replay.specs.LogFaults.{transaction_status}
@@ -26,6 +26,8 @@ use Rattle.dblog_streams.proofs.AnswerLemmas.{memory_outside, memory_written, me
 use Rattle.dblog_replay.proofs.CommitLaws.{commits_written, replayed_written}
 use Rattle.dblog_replay.proofs.LogLemmas.{log_one}
 use Rattle.dblog_replay.proofs.StreamLemmas.{reads_exist, reads_fit}
+use Rattle.dblog_replay.specs.Masked.{masked_pieces}
+use Rattle.dblog_replay.proofs.MaskedLemmas.{masked_pieces_fit}
 use Rattle.dblog_streams.proofs.InputLemmas.{strings_small}
 use Rattle.dbl_lines.specs.Says.{Says, Writes}
 use Rattle.dbl_lines.specs.declared.status.Status.TheVariants.{StdoutFailed, InvalidInput}
@@ -294,7 +296,7 @@ unread_replays options now bytes u was later status before after (inl (inr is)) 
 -- the byte strings were replayed
 pub strings_replay : (options : ReplayOptions) (now : ℤ) (bytes : List ℕ) (strings : List (List ℕ)) (status : Status) (before after : Option (List ℕ))
     → EncodesStrings options.raw bytes (Ok strings)
-    → ((pieces : List Piece) → ReadsPieces options.stream strings pieces → RunsLog (log_options options) now pieces status before after)
+    → ((pieces : List Piece) → ReadsPieces options.stream strings pieces → RunsLog (log_options options) now (masked_pieces (log_options options).mask [] pieces) status before after)
     → RunsReplaying options now bytes status before after
 strings_replay options now bytes strings status before after encodes runs =
     let some = reads_exist options.stream strings (strings_small options.raw bytes strings encodes) in
@@ -306,14 +308,17 @@ strings_replay options now bytes strings status before after encodes runs =
       ];
     }
   where
+    fits : (pieces : List Piece) → ReadsPieces options.stream strings pieces → AllFitFields (masked_pieces (log_options options).mask [] pieces)
+    fits pieces read = masked_pieces_fit (log_options options).mask [] pieces (reads_fit options.stream strings pieces read)
+
     logged : (pieces : List Piece) → ReadsPieces options.stream strings pieces → (lines : List (List ℕ)) (end : Option LogFault)
-        → LogWrites (log_options options) now [] pieces lines end → ReplaysLog options now bytes lines end
+        → LogWrites (log_options options) now [] (masked_pieces (log_options options).mask [] pieces) lines end → ReplaysLog options now bytes lines end
     logged pieces read lines end writes = record {
       strings = strings;
       pieces = pieces;
       encodes = encodes;
       read = read;
-      replayed = commits_written (log_options options) now pieces lines end (reads_fit options.stream strings pieces read) writes;
+      replayed = commits_written (log_options options) now (masked_pieces (log_options options).mask [] pieces) lines end (fits pieces read) writes;
     }
 
     ends : (answer : RunAnswer) → Replays options now bytes answer → Ends answer status before after
@@ -323,4 +328,4 @@ strings_replay options now bytes strings status before after encodes runs =
         let read : ReadsPieces options.stream strings log.pieces = subst (λ (bs : List (List ℕ)). ReadsPieces options.stream bs log.pieces) same log.read in
         subst (λ (a : RunAnswer). Ends a status before after) (sym is)
         ((runs log.pieces read).ended lines end
-        (replayed_written (log_options options) now log.pieces lines end (reads_fit options.stream strings log.pieces read) log.replayed))
+        (replayed_written (log_options options) now (masked_pieces (log_options options).mask [] log.pieces) lines end (fits log.pieces read) log.replayed))

@@ -1,13 +1,17 @@
 -- What `replay` makes of an input, stage by stage: the byte strings that it encodes, the pieces that these are read as, and the lines of
 -- the pieces.
-use Rattle.std.specs.Prelude.{◌≡◌, ◌⊎◌, ℕ, ℤ, Bool, true, Option, Result, Ok, Err, List, [], ◌++◌}
+use Rattle.std.specs.Prelude.{◌≡◌, ◌⊎◌, ℕ, ℤ, Bool, true, Option, option_map, Result, Ok, Err, List, [], ◌++◌}
 use Rattle.dbl_lines.specs.declared.status.Status.{Status}
 use Rattle.dblog_streams.specs.Answers.{RunAnswer, Ends, IsExternalStatus}
 use Rattle.dbl_pgmsg.specs.Faults.{AreBytes}
+use Rattle.dbl_cli.specs.declared.commands.MaskWord.{MaskWord}
 use Rattle.dbl_cli.specs.declared.commands.ReplayOptions.{ReplayOptions}
+use Rattle.dbl_hooks_masks.specs.declared.mask.Mask.TheVariants.{Stars}
+use Rattle.dbl_hooks_masks.specs.declared.masking.Masking.{Masking}
 use Rattle.dblog_replay.specs.declared.log_fault.LogFault.{LogFault}
 use Rattle.dblog_replay.specs.declared.options.LogOptions.{LogOptions}
 use Rattle.dblog_replay.specs.Pieces.{Piece}
+use Rattle.dblog_replay.specs.Masked.{masked_pieces}
 use Rattle.dblog_replay.specs.Streams.{ReadsPieces}
 use Rattle.dblog_replay.specs.Log.{LogWrites, end_status, end_lines}
 use Rattle.dblog_replay.specs.Replay.{IsReplayed}
@@ -15,22 +19,28 @@ use Rattle.dblog_streams.specs.Inputs.{EncodesStrings}
 
 -- ---- stages
 
+-- The masked column that an option requests: its texts as asterisks.
+abbrev pub masking_of : MaskWord → Masking
+masking_of word = record { table = word.table; column = word.column; mask = Stars word.stars }
+
 -- The options of the log that `replay` with these options replays.
 abbrev pub log_options : ReplayOptions → LogOptions
 log_options options = record {
   identity = record { prefix = options.prefix; db = options.db; placeholder = options.placeholder };
   keys = options.keys;
+  mask = option_map masking_of options.mask;
 }
 
 -- The lines, and the error or none, that `replay` with these options makes at a time of an input with these bytes: the input encodes byte
--- strings, these are read as pieces, as a log of the protocol version that the options give, and the pieces are replayed.
+-- strings, these are read as pieces, as a log of the protocol version that the options give, and the pieces are replayed, their messages
+-- masked as the options request.
 pub record ReplaysLog (options : ReplayOptions) (now : ℤ) (bytes : List ℕ) (lines : List (List ℕ))
     (end : Option LogFault) : Type 0 where
   pub strings : List (List ℕ)
   pub pieces : List Piece
   pub encodes : EncodesStrings options.raw bytes (Ok strings)
   pub read : ReadsPieces options.stream strings pieces
-  pub replayed : IsReplayed (log_options options) now pieces lines end
+  pub replayed : IsReplayed (log_options options) now (masked_pieces (log_options options).mask [] pieces) lines end
 
 -- ---- the answer
 

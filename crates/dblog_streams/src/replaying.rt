@@ -1,15 +1,16 @@
 //! The command `replay`: byte strings of the input, their messages, and the lines of these.
 ghost use Rattle.std.specs.Prelude.{◌≡◌, ◌≢◌, ◌⊎◌, ℕ, ◌≤◌, List, [], length, false};
-ghost use Rattle.std.specs.Prelude.{Some, Ok, Err, IfOk, IfErr, OnOk};
+ghost use Rattle.std.specs.Prelude.{Some, option_map, Ok, Err, IfOk, IfErr, OnOk};
 ghost use Rattle.std.specs.List.{AllByRecursion};
 ghost use Rattle.dbl_base.specs.Streams.{FaultCounted, input_limit};
 ghost use Rattle.dbl_lines.specs.declared.status.Status.TheVariants.{StdinFailed, StdoutFailed};
 ghost use Rattle.dblog_streams.specs.Answers.{FailsReading};
 ghost use Rattle.dbl_pgmsg.specs.Faults.{AreBytes};
 ghost use Rattle.dblog_replay.specs.Pieces.{Piece};
+ghost use Rattle.dblog_replay.specs.Masked.{masked_pieces};
 ghost use Rattle.dblog_replay.specs.Streams.{ReadsPieces};
 ghost use Rattle.dblog_streams.specs.Inputs.{EncodesStrings};
-ghost use Rattle.dblog_streams.specs.Replays.{RunsLog, RunsReplaying, log_options};
+ghost use Rattle.dblog_streams.specs.Replays.{RunsLog, RunsReplaying, log_options, masking_of};
 ghost use Rattle.dblog_streams.specs.Statuses.{IsReplayAnswer, IsReplayStatus};
 ghost use Rattle.dblog_streams.specs.Streaming.{HaltsReading, IsFailure};
 
@@ -18,7 +19,8 @@ use crate::frames::read_payloads;
 use crate::input::read_input;
 use crate::unread::{Unread, say_unread};
 use dbl_base::{Bytes, Input, Output};
-use dbl_cli::ReplayOptions;
+use dbl_cli::{MaskWord, ReplayOptions};
+use dbl_hooks_masks::{Mask, Masking};
 use dbl_lines::{RunError, Status, say};
 use dbl_model_table::Identity;
 use dblog_replay::{LogOptions, PrintError, print_log};
@@ -94,7 +96,8 @@ fn replay_strings<O: Output>(
 ) -> Status
     requires { AllByRecursion AreBytes strings.items }
     ensures told { (pieces : List Piece) → ReadsPieces stream strings.items pieces →
-        RunsLog options now_ms.now pieces result (O.written output.old) (O.written output.new) }
+        RunsLog options now_ms.now (masked_pieces options.mask [] pieces) result
+        (O.written output.old) (O.written output.new) }
     ensures output_failed { result ≡ StdoutFailed →
         FaultCounted (O.faults output.old) (O.faults output.new) }
     ensures not_input { result ≢ StdinFailed }
@@ -104,6 +107,30 @@ fn replay_strings<O: Output>(
         Ok(status) => status,
         Err(PrintError::OutputFailed) => Status::StdoutFailed,
         Err(PrintError::Memory) => say(alloc, RunError::Memory, output),
+    }
+}
+
+fn masking(word: MaskWord) -> Masking
+    ensures { result ≡ masking_of word }
+{
+    let MaskWord {
+        table,
+        column,
+        stars,
+    } = word;
+    Masking {
+        table,
+        column,
+        mask: Mask::Stars(stars),
+    }
+}
+
+fn requested_mask(word: Option<MaskWord>) -> Option<Masking>
+    ensures { result ≡ option_map masking_of word }
+{
+    match word {
+        Some(word) => Some(masking(word)),
+        None => None,
     }
 }
 
@@ -117,6 +144,7 @@ fn log_options(options: ReplayOptions) -> LogOptions
         keys,
         raw: _,
         stream: _,
+        mask,
     } = options;
     LogOptions {
         identity: Identity {
@@ -125,6 +153,7 @@ fn log_options(options: ReplayOptions) -> LogOptions
             placeholder,
         },
         keys,
+        mask: requested_mask(mask),
     }
 }
 

@@ -1,5 +1,6 @@
-use Rattle.std.proofs.Common.{ℕ, Option, List, Err, inl, inr, ap, subst}
+use Rattle.std.proofs.Common.{ℕ, Option, List, [], Err, inl, inr, ap, subst}
 use Rattle.dblog_replay.specs.declared.options.LogOptions.{LogOptions}
+use Rattle.dblog_replay.specs.Masked.{masked_pieces}
 use Rattle.dblog_streams.specs.Replays.{RunsLog}
 use Rattle.dblog_streams.proofs.ReplayRunLemmas.{strings_replay, unread_replays, unread_said, unread_input, failure_no_answer}
 use Rattle.dblog_streams.proofs.replaying.replay_input.Goals as goal
@@ -9,7 +10,7 @@ returns-in-Ok-clause-told g c = λ bytes told.
     let before : Option (List ℕ) = g.O.Output.written c.args.output.now in
     let after : Option (List ℕ) = g.O.Output.written c.replay_strings.new.output in
     inl (strings_replay c.args.options c.args.now_ms.now bytes c.in-Ok.strings.items _ before after (c.in-Ok.ensures.encodes bytes told)
-    (λ pieces read. subst (λ (o : LogOptions). RunsLog o c.args.now_ms.now pieces c.replay_strings.result before after) c.log_options.ensures
+    (λ pieces read. subst (λ (o : LogOptions). RunsLog o c.args.now_ms.now (masked_pieces o.mask [] pieces) c.replay_strings.result before after) c.log_options.ensures
     (c.replay_strings.ensures.told pieces read)))
 
 pub returns-in-Err-clause-told : goal.returns-in-Err-clause-told

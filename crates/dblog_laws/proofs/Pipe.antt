@@ -26,6 +26,7 @@ use Rattle.dblog_laws.proofs.LineTexts.{AreLineTexts, lines_back}
 use Rattle.dblog_laws.proofs.Records.{IsPiped, no_fault, commits_piped}
 use Rattle.dblog_laws.proofs.Printed.{source_rows}
 use Rattle.dblog_run.specs.Replay.Pieces.{AllFitFields}
+use Rattle.dblog_run.proofs.ReplayMaskedLemmas.{masked_pieces_fit}
 use Rattle.dblog_run.proofs.ReplayPieceLemmas.{fit_front, carried_fields}
 use Rattle.dblog_run.proofs.ReplayStreamLemmas.{reads_fit}
 use Rattle.dblog_laws.proofs.Clear.{IsClear, clear}
@@ -51,7 +52,8 @@ told_whole : (options : LogOptions) (now : ℤ) (log lines : List (List ℕ)) (h
 told_whole options now log lines history whole =
     let infos = whole.replayed.infos in
     let messages = whole.replayed.messages in
-    let fit = fit_front whole.replayed.front whole.replayed.rest (subst AllFitFields whole.replayed.parts (reads_fit whole.stream log whole.pieces whole.read)) in
+    let fit = fit_front whole.replayed.front whole.replayed.rest
+    (subst AllFitFields whole.replayed.parts (masked_pieces_fit options.mask [] whole.pieces (reads_fit whole.stream log whole.pieces whole.read))) in
     let none = clear options (onto [] messages) infos whole.replayed.clean whole.replayed.captured
     (carried_fields whole.replayed.front [] messages whole.replayed.carried fit tt) in
     record {

@@ -1,5 +1,5 @@
 -- The smallest whole log with a row in it: one transaction, which describes a table of one column and inserts a row.
-use Rattle.std.specs.Prelude.{◌≡◌, ℕ, pos, true, Some, List, [], ◌∷◌, map, codes}
+use Rattle.std.specs.Prelude.{◌≡◌, ℕ, pos, true, Some, None, List, [], ◌∷◌, map, codes}
 use Rattle.std.specs.Str.{byte}
 use Rattle.dbl_pgmsg.specs.declared.messages.Message.{Message}
 use Rattle.dbl_pgmsg.specs.declared.messages.Message.TheVariants as says
@@ -26,7 +26,7 @@ example_identity = record { prefix = codes "p"; db = codes "d"; placeholder = co
 
 -- The options of `replay` in the example.
 abbrev pub example_options : LogOptions
-example_options = record { identity = example_identity; keys = [] }
+example_options = record { identity = example_identity; keys = []; mask = None }
 
 -- The name of the example's table.
 abbrev pub example_name : TableName

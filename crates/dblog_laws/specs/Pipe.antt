@@ -26,6 +26,7 @@ use Rattle.dbl_model_commit.specs.Stated.{commits_of}
 use Rattle.dbl_model_commit.specs.Blocks.{onto}
 use Rattle.dbl_consume_laws.specs.Laws.{HoldsJsonTexts, last_rows}
 use Rattle.dblog_run.specs.Replay.declared.options.LogOptions.{LogOptions}
+use Rattle.dblog_run.specs.Replay.Masked.{masked_pieces}
 use Rattle.dblog_run.specs.Replay.Pieces.{Piece}
 use Rattle.dblog_run.specs.Replay.Streams.{ReadsPieces}
 use Rattle.dblog_run.specs.Replay.Replay.{IsReplayed}
@@ -38,14 +39,14 @@ pub record AreNamesUtf8 (identity : Identity) : Type 0 where
   pub db : IsUtf8 identity.db
   pub placeholder : IsUtf8 identity.placeholder
 
--- The bytes of the messages of a source's whole log, of either protocol version, for which `replay` writes these lines without an error.
--- The source's history is valid and begins with empty tables; its catalogue has the tables as the log describes them; and its commits are
--- exactly those that the log states.
+-- The bytes of the messages of a source's whole log, of either protocol version, for which `replay` writes these lines without an error,
+-- masked as its options request. The source's history, masked likewise, is valid and begins with empty tables; its catalogue has the tables
+-- as the log describes them; and its commits are exactly those that the masked log states.
 pub record IsWholeLog (options : LogOptions) (now : ℤ) (log lines : List (List ℕ)) (history : History) : Type 0 where
   pub stream : Bool
   pub pieces : List Piece
   pub read : ReadsPieces stream log pieces
-  pub replayed : IsReplayed options now pieces lines None
+  pub replayed : IsReplayed options now (masked_pieces options.mask [] pieces) lines None
   pub moment : IsMomentInRange now
   pub names : AreNamesUtf8 options.identity
   pub fit : IsFitHistory history

@@ -1,22 +1,20 @@
 -- Tables: what is read was written, and what was written is read again.
-use Rattle.std.proofs.Common.{◌≡◌, ◌∙◌, ℕ, ◌^◌, ◌<◌, ◌≤◌, Bool, true, false, ◌&&◌, cond, eqb, ltb, List, [], ◌∷◌, ◌++◌, length, map, Result, Ok, Err, refl, sym, ap, subst, append_assoc, arith}
-use Rattle.std.specs.Int.{w32, w64}
+use Rattle.std.proofs.Common.{◌≡◌, ◌∙◌, ℕ, ◌^◌, ◌<◌, Bool, true, false, ◌&&◌, List, [], ◌∷◌, ◌++◌, length, map, Result, Ok, Err, refl, sym, ap, subst, append_assoc}
+use Rattle.std.specs.Int.{w32}
 use Rattle.std.specs.List.{AllByRecursion, list_all}
 use Rattle.std.specs.Prelude.{nat_eq, nat_lt}
 use Rattle.std.proofs.Math.Bool.{Bool-set}
-use Rattle.std.proofs.lemmas.Bool.{eqb-true, lt-ltb, ltb-true}
 use mathlib.Core.HLevel.{is_prop→PathP}
 use Rattle.dbl_value.specs.declared.column_type.PgType.{PgType}
 use Rattle.dbl_value.specs.Types.{oid_of, type_of, is_column_type}
 use Rattle.dbl_value.proofs.TypeLemmas.{type_of-oid_of, oids_name_types}
 use Rattle.dbl_record.specs.declared.error.RecordError.{RecordError}
-use Rattle.dbl_record.specs.Fields.{number32, number64, text_form, IsStored}
-use Rattle.dbl_record.specs.GroupReading.{Read, ◌>>=◌, text_at, number_at}
-use Rattle.dbl_record.proofs.FieldLaws.{IsBytes, ok_is, bind_ok, guard_held, Takes, Reads, took, number32_reads, number64_reads, text_reads}
+use Rattle.dbl_record.specs.Fields.{number32, text_form, IsStored}
+use Rattle.dbl_record.specs.GroupReading.{◌>>=◌, text_at, number_at}
+use Rattle.dbl_record.proofs.FieldLaws.{IsBytes, ok_is, bind_ok, Takes, Reads, took, number32_reads, text_reads}
 use Rattle.dbl_model_table.specs.declared.table.TableName.{TableName}
 use Rattle.dbl_model_table.specs.declared.table.Column.{Column}
 use Rattle.dbl_model_table.specs.declared.table.TableInfo.{TableInfo}
-use Rattle.dbl_model_history.specs.declared.cursor.Cursor.{Cursor}
 use Rattle.dbl_model_table.specs.Tables.{type_at, is_key_type, are_distinct, are_typed, is_table}
 use Rattle.dbl_model_table.specs.Infos.{key_types}
 use Rattle.dbl_model_history.specs.Cursors.{IsCursorOf}

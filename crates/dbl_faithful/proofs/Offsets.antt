@@ -1,5 +1,5 @@
 -- Offsets as records are appended, positions are confirmed and sessions follow each other.
-use Rattle.std.proofs.Common.{◌≡◌, ◌∙◌, inl, inr, ◌≤◌, ◌<◌, ℕ, true, List, ◌++◌, Some, sym, ap, subst, arith, le_trans}
+use Rattle.std.proofs.Common.{◌≡◌, inl, inr, ◌≤◌, ◌<◌, ℕ, true, List, ◌++◌, Some, sym, subst, arith, le_trans}
 use Rattle.std.specs.Prelude.{nat_lt, slice_get}
 use Rattle.std.proofs.lemmas.Bool.Decides.{Decides-ltb}
 use Rattle.dbl_base.specs.declared.lsn.Lsn.{Lsn}

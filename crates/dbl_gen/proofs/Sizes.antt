@@ -6,7 +6,7 @@ use Rattle.std.proofs.lemmas.List.{length-append}
 use Rattle.dbl_base.specs.Lines.{lines_text}
 use Rattle.dbl_gen.specs.Draws.{next_state, drawn}
 use Rattle.dbl_gen.specs.Laws.{WorkloadsAreShort}
-use Rattle.dbl_gen.specs.Workload.{line_of, accounts, numbered, id_cell, owner_cell, table_lines, row_line, row_lines, session, insert_line, balance_line, delete_line, note_line, change, begin_line, commit_line, tick_line, lines_before, group_lines, groups_from, last_lines, workload_lines}
+use Rattle.dbl_gen.specs.Workload.{line_of, accounts, numbered, id_cell, owner_cell, row_line, row_lines, session, insert_line, balance_line, delete_line, note_line, change, begin_line, commit_line, tick_line, lines_before, group_lines, groups_from, last_lines, workload_lines}
 use Rattle.dbl_gen.proofs.Steps.{session_cases}
 
 -- ---- lines of words, and texts of lines

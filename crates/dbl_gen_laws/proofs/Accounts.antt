@@ -1,5 +1,5 @@
 -- The tables of a generated workload, and its accounts' rows and keys.
-use Rattle.std.proofs.Common.{◌≡◌, ◌≢◌, ◌∙◌, ◌<◌, ◌≤◌, ◌^◌, ℕ, ℤ, pos, Bool, true, false, Option, Some, None, List, [], ◌∷◌, ◌++◌, length, map, codes, refl, sym, ap, arith, length-append}
+use Rattle.std.proofs.Common.{◌≡◌, ◌∙◌, ◌<◌, ◌≤◌, ◌^◌, ℕ, ℤ, pos, Bool, true, false, Option, Some, List, [], ◌∷◌, ◌++◌, length, codes, refl, sym, ap, arith, length-append}
 use Rattle.std.specs.Prelude.{◌+◌, ◌&&◌, is_some, option_map, unwrap_or, flat_map}
 use Rattle.std.specs.Fmt.{decimal}
 use Rattle.std.proofs.lemmas.Bool.{lt-ltb}
@@ -11,9 +11,8 @@ use Rattle.dbl_pgmsg.specs.Grammar.{cell, spelling}
 use Rattle.dbl_pgmsg.proofs.MessageSizes.{insert_size}
 use Rattle.dbl_pgmsg.proofs.Sizes.{text_size, tuple_size}
 use Rattle.dbl_value.specs.declared.column_type.PgType.TheVariants as type
-use Rattle.dbl_value.specs.declared.value.Val.{Val}
 use Rattle.dbl_value.specs.declared.value.Val.TheVariants as val
-use Rattle.dbl_value.specs.Decimals.{integer_of, is_within}
+use Rattle.dbl_value.specs.Decimals.{integer_of}
 use Rattle.dbl_value.specs.Types.{type_of}
 use Rattle.dbl_value.proofs.Decimals.{integer_spelled}
 use Rattle.dbl_model_table.specs.declared.row.Key.{Key}

@@ -1,12 +1,11 @@
 -- The accounts are inserted one after the other by one session, and each is accepted.
-use Rattle.std.proofs.Common.{◌≡◌, ◌∙◌, ◌+◌, ◌*◌, ◌<◌, ◌≤◌, ℕ, zero, suc, Bool, true, false, Option, Some, None, List, [], ◌∷◌, ◌++◌, length, map, refl, sym, ap, subst, arith}
-use Rattle.std.specs.Prelude.{◌||◌, ◌&&◌, not, is_some, nat_lt, if◌then◌else◌, bytes_eq, filter, Result, Ok, IsOk}
+use Rattle.std.proofs.Common.{◌≡◌, ◌∙◌, ◌+◌, ◌*◌, ◌<◌, ◌≤◌, ℕ, zero, suc, Bool, true, false, Option, Some, None, List, [], ◌∷◌, ◌++◌, length, map, refl, sym, ap, arith}
+use Rattle.std.specs.Prelude.{◌||◌, ◌&&◌, not, is_some, nat_lt, if◌then◌else◌, bytes_eq, filter, Ok}
 use Rattle.std.specs.List.{list_any}
 use Rattle.std.proofs.lemmas.Bool.{le-ltb}
 use Rattle.dbl_pgmsg.specs.declared.messages.Message.{Message}
 use Rattle.dbl_pgmsg.specs.Grammar.{message_limit, spelling}
 use Rattle.dbl_model_table.specs.declared.row.Key.{Key}
-use Rattle.dbl_model_table.specs.Keys.{same_key}
 use Rattle.dbl_source_log.specs.declared.logged.LogTable.{LogTable}
 use Rattle.dbl_source_log.specs.declared.logged.Logged.TheVariants.{Changes}
 use Rattle.dbl_source_log.specs.Histories.{rows_of}
@@ -16,7 +15,7 @@ use Rattle.dbl_source_log.specs.Texts.{Texts}
 use Rattle.dbl_tables_laws.proofs.SourceLogFitLogLemmas.{message_rows}
 use Rattle.dbl_tables_rows.specs.declared.error.StepError.TheVariants as errors
 use Rattle.dbl_tables_rows.specs.Acts.{Accepted, is_open, log_in, messages_by, open_in}
-use Rattle.dbl_tables_rows.specs.Acts.Accepted.{Began, Did, Committed}
+use Rattle.dbl_tables_rows.specs.Acts.Accepted.{Began, Did}
 use Rattle.dbl_tables_rows.specs.Cells.{is_readable_row, row_given}
 use Rattle.dbl_tables_rows.specs.Locks.{holds_key, least}
 use Rattle.dbl_tables_rows.specs.Refusals.{◌>>=◌, refuse_by, refuse_step_if, some_or_refuse}

@@ -1,5 +1,5 @@
 -- Each generated workload can be run.
-use Rattle.std.proofs.Common.{◌≡◌, ◌∙◌, ◌+◌, ◌≤◌, ℕ, zero, suc, Bool, true, List, [], ◌∷◌, ◌++◌, map, refl, sym, ap, subst, arith}
+use Rattle.std.proofs.Common.{◌≡◌, ◌+◌, ◌≤◌, ℕ, zero, suc, Bool, List, [], ◌∷◌, ◌++◌, map, refl, sym, subst, arith}
 use Rattle.std.specs.Prelude.{not, Result, Ok, IsOk}
 use Rattle.std.specs.List.{AllZip}
 use Rattle.dbl_base.specs.Lines.{lines_of}

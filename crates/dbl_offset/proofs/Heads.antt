@@ -56,8 +56,8 @@ no_entry : slot_content [] ≡ replicate 4 0
 unfolding slot_content
 no_entry = refl
 
-zero_behind : (p : ℕ) → 8 ≤ p → p < 20 → get_or empty_store p 0 ≡ 0
-zero_behind p above below =
+zero_between : (p : ℕ) → 8 ≤ p → p < 20 → get_or empty_store p 0 ≡ 0
+zero_between p above below =
     get_or-append_right store_magic (replicate 12 0) 8 p 0 length-store_magic above ∙ get_or-replicate 12 (p - 8) 0 0 (omega arith)
 
 empty_content : HasSlotContent empty_store 0 (slot_content [])
@@ -66,7 +66,7 @@ empty_content k j small inner =
     let first : 4096 * k + j < 4 = omega (arith, inner, long) in
     record {
       there = omega (arith, first, length-empty_store);
-      is = zero_behind (block_start 0 k + j) (omega arith) (omega (arith, first))
+      is = zero_between (block_start 0 k + j) (omega arith) (omega (arith, first))
           ∙ sym (ap (λ (l : List ℕ). get_or l (4096 * k + j) 0) no_entry ∙ get_or-replicate 4 (4096 * k + j) 0 0 first);
     }
 
@@ -75,7 +75,7 @@ empty_selected = record {
   selects = record {
     magic = take_at store_magic (replicate 12 0) 8 length-store_magic;
     there = omega (arith, length-empty_store);
-    parity = ap (λ (n : ℕ). n % 2) (sym (zero_behind 8 (omega arith) (omega arith)));
+    parity = ap (λ (n : ℕ). n % 2) (sym (zero_between 8 (omega arith) (omega arith)));
   };
   short = omega arith;
   content = empty_content;

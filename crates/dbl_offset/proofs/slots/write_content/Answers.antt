@@ -14,7 +14,7 @@ few : (content : List ℕ) (block upto : ℕ) → block * 4096 ≤ upto → upto
 unfolding piece
 few content block upto order within small = omega (arith, length-piece content (block * 4096) upto order within)
 
--- no block ends behind the content's end in slot 1
+-- no block ends after the content's end in slot 1
 end_within : (n block slot size : ℕ) → 4096 * block < n → slot < 2 → size ≤ 4096 → 4096 * block + size ≤ n → block_start slot block + size ≤ content_end n
 end_within n block slot size begins small fits within = omega (arith, div-add-mod' (n - 1) 4096, mod_below (n - 1) 4096 (omega arith), begins, small, fits, within)
 

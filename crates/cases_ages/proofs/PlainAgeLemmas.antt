@@ -181,8 +181,8 @@ module _ (infos : List TableInfo) (table : ℕ) (key : Key) where
   touched_front xs ys from to t =
       record { place = t.place; change = t.change; not_before = t.not_before; before = t.before; is = slice_get-front xs ys t.place (slice_get_within xs t.place t.change t.is) ∙ t.is; whole = t.whole }
 
-  pub touched_behind : (xs ys : List Change) (from to : ℕ) → IsTouched infos ys (from - length xs) (to - length xs) table key → IsTouched infos (xs ++ ys) from to table key
-  touched_behind xs ys from to t =
+  pub touched_after : (xs ys : List Change) (from to : ℕ) → IsTouched infos ys (from - length xs) (to - length xs) table key → IsTouched infos (xs ++ ys) from to table key
+  touched_after xs ys from to t =
       let place : ℕ = length xs + t.place in
       let back : place - length xs ≡ t.place = omega arith in
       let low : from ≤ place = omega (arith, t.not_before) in
@@ -211,7 +211,7 @@ module _ (infos : List TableInfo) (table : ℕ) (key : Key) where
       → IsTouched infos ys next_from next_to table key → IsTouched infos here from to table key
   step_back here xs ys from to next_from next_to next from_is to_is t =
       let left : IsTouched infos ys (from - length xs) next_to table key = subst (λ (n : ℕ). IsTouched infos ys n next_to table key) from_is t in
-      subst (λ (l : List Change). IsTouched infos l from to table key) (sym next) (touched_behind xs ys from to (subst (λ (n : ℕ). IsTouched infos ys (from - length xs) n table key) to_is left))
+      subst (λ (l : List Change). IsTouched infos l from to table key) (sym next) (touched_after xs ys from to (subst (λ (n : ℕ). IsTouched infos ys (from - length xs) n table key) to_is left))
 
   no_changes : (from to : ℕ) → IsTouched infos [] from to table key → ⊥
   no_changes from to t = let e : None ≡ Some t.change = t.is in cc

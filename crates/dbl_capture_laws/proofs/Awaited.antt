@@ -36,7 +36,7 @@ use Rattle.dbl_capture_work.proofs.SourceModelReadLemmas.{states_so_far}
 use Rattle.dbl_capture_work.proofs.FaithfulItems.{first_some}
 use Rattle.dbl_capture_work.specs.Offset.declared.offset.Offset.{Offset}
 use Rattle.dbl_capture_work.specs.Faithful.Stores.{IsPositionOf}
-use Rattle.dbl_capture_work.proofs.FaithfulLists.{behind_position, longer, map_append, still_position}
+use Rattle.dbl_capture_work.proofs.FaithfulLists.{after_position, longer, map_append, still_position}
 use Rattle.dbl_capture_work.specs.Window.Plans.{Plan, high_text, low_text}
 use Rattle.dbl_capture_work.specs.Follow.declared.window.Window.{Window}
 use Rattle.dbl_capture_work.specs.Follow.declared.window.Window.TheVariants.{Absent, Armed, Open}
@@ -63,9 +63,9 @@ has_on v [] ys has = absurd has
 has_on v (x ∷ xs) ys (inl is) = inl is
 has_on v (x ∷ xs) ys (inr has) = inr (has_on v xs ys has)
 
-has_behind : (v : List ℕ) (xs ys : MarkList) → HasMark v ys → HasMark v (xs ++ ys)
-has_behind v [] ys has = has
-has_behind v (x ∷ xs) ys has = inr (has_behind v xs ys has)
+has_after : (v : List ℕ) (xs ys : MarkList) → HasMark v ys → HasMark v (xs ++ ys)
+has_after v [] ys has = has
+has_after v (x ∷ xs) ys has = inr (has_after v xs ys has)
 
 both_on : (low high : List ℕ) (xs ys : MarkList) → HasBoth low high xs → HasBoth low high (xs ++ ys)
 both_on low high [] ys both = absurd both
@@ -74,7 +74,7 @@ both_on low high (x ∷ xs) ys (inr both) = inr (both_on low high xs ys both)
 
 both_parts : (low high : List ℕ) (xs ys : MarkList) → HasMark low xs → HasMark high ys → HasBoth low high (xs ++ ys)
 both_parts low high [] ys one two = absurd one
-both_parts low high (x ∷ xs) ys (inl is) two = inl (is, has_behind high xs ys two)
+both_parts low high (x ∷ xs) ys (inl is) two = inl (is, has_after high xs ys two)
 both_parts low high (x ∷ xs) ys (inr has) two = inr (both_parts low high xs ys has two)
 
 both_high : (low high : List ℕ) (xs : MarkList) → HasBoth low high xs → HasMark high xs
@@ -188,7 +188,7 @@ written after value read later old new m w parted = record {
   more = watermarks_since after more;
   parted = marks_grown after read later old.commits new.commits more grown parted;
   has = subst (HasMark value) (sym (marks_longer after m.before (m.mark ∷ m.after)))
-      (has_behind value (watermarks_since after m.before) (watermarks_since after (m.mark ∷ m.after)) (mark_here after m.mark m.after value lt m.is_mark));
+      (has_after value (watermarks_since after m.before) (watermarks_since after (m.mark ∷ m.after)) (mark_here after m.mark m.after value lt m.is_mark));
   within = within_grown after old new more grown w;
 }
   where
@@ -202,7 +202,7 @@ written after value read later old new m w parted = record {
     rising = subst (λ (l : List RawCommit). AreRising 0 (map (λ (c : RawCommit). c.lsn.0) l)) grown m.rising
 
     lt : nat_lt after.0 m.mark.lsn.0 ≡ true
-    lt = passes after.0 w.position m.mark.lsn.0 w.not_below (at_mark (λ (c : RawCommit). w.position < c.lsn.0) m.before m.mark m.after (behind_position old more rising w.position w.at))
+    lt = passes after.0 w.position m.mark.lsn.0 w.not_below (at_mark (λ (c : RawCommit). w.position < c.lsn.0) m.before m.mark m.after (after_position old more rising w.position w.at))
 
 -- ---- where it begins
 
@@ -285,7 +285,7 @@ module _ {S : Type 0} (source_model : SourceModel S) where
       within = high_written.within;
       later = (a.later ++ low_written.more) ++ high_written.more;
       parted = high_written.parted;
-      awaited = both_parts (low_text plan) (high_text plan) (a.later ++ low_written.more) high_written.more (has_behind (low_text plan) a.later low_written.more low_written.has) high_written.has;
+      awaited = both_parts (low_text plan) (high_text plan) (a.later ++ low_written.more) high_written.more (has_after (low_text plan) a.later low_written.more low_written.has) high_written.has;
     })
 
   -- ---- a message is

@@ -213,8 +213,8 @@ module _ (b : Beginning) (ms : List Message) (stored : Option Offset) (old next 
       moves = moved;
     }
 
-    pub behind_it : IsReadUpTo b (w.message ∷ ms) stored new report
-    behind_it = subst (λ (x : SessionState). IsReadUpTo b (w.message ∷ ms) stored x report) (sym st.same) subsequent
+    pub after_it : IsReadUpTo b (w.message ∷ ms) stored new report
+    after_it = subst (λ (x : SessionState). IsReadUpTo b (w.message ∷ ms) stored x report) (sym st.same) subsequent
 
     pub at_rest : closing old.follower.window (mark_of commit) ≡ None → IsResting b (w.message ∷ ms) stored new report
     unfolding subsequent
@@ -225,7 +225,7 @@ module _ (b : Beginning) (ms : List Message) (stored : Option Offset) (old next 
 
 pub commits_leave_it_read : CommitsLeaveItRead
 commits_leave_it_read b ms stored old next new before report bytes commit r w st short small reports = (
-  behind_it b ms stored old next new before report bytes commit r w stepped now_short small now_reports,
+  after_it b ms stored old next new before report bytes commit r w stepped now_short small now_reports,
   λ closed. at_rest b ms stored old next new before report bytes commit r w stepped now_short small now_reports
       (some_false (closing old.follower.window (mark_of commit)) (subst (λ (x : SessionState). closes x commit ≡ false) w.same closed)),
 )

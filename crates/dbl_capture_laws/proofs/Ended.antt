@@ -28,7 +28,7 @@ use Rattle.dbl_capture_laws.specs.Musts.{MustHaltBy, MustHaltStood, MustHaltTold
 use Rattle.dbl_capture_laws.specs.Underway.{IsBeginHalt, IsNewestHalt, IsOfFirst, IsOpenHalt}
 use Rattle.dbl_capture_laws.specs.Carried.{HasReadSinceStart, Beginning, EndsAreStood, EndsAreTold, HaltsAtMessagesAreStood, HaltsAtMessagesAreTold, HaltsBetweenAreStood, HaltsBetweenAreTold, HaltsUnreadAreStood, HaltsUnreadAreTold, HasHaltedStood, HasHaltedTold, IsReadUpTo, IsNewestCause, StandsAt}
 use Rattle.dbl_capture_laws.proofs.Reported.{ends_stand_at_last, halts_at_messages, halts_between, read_is, same_many, sources_settle, sources_stood_so, stood_are_followed, stops_are_followed, taken_more}
-use Rattle.dbl_capture_laws.proofs.Halting.{behind_stored}
+use Rattle.dbl_capture_laws.proofs.Halting.{after_stored}
 use Rattle.dbl_capture_laws.proofs.Musts.{newest_messages_halt, taken_messages_ask_nothing}
 use Rattle.dbl_capture_laws.proofs.Carried.{of_next}
 
@@ -45,16 +45,16 @@ same_spelled (x ∷ read) (m ∷ ms) (n ∷ ns) one two =
     ap₂ (λ (a : Message) (l : List Message). a ∷ l) (one_message x m n one.0 two.0) (same_spelled read ms ns one.1 two.1)
 
 -- and reading began after one LSN
-same_behind : (held : Option Offset) (o : Offset) (i j : List TableInfo) (a c : Lsn) → BeginsAfter held (Some o) i a → BeginsAfter held (Some o) j c → a ≡ c
-same_behind None o i j a c one two = one.1 ∙ sym two.1
-same_behind (Some old) o i j a c one two = one.1 ∙ sym two.1
+same_since : (held : Option Offset) (o : Offset) (i j : List TableInfo) (a c : Lsn) → BeginsAfter held (Some o) i a → BeginsAfter held (Some o) j c → a ≡ c
+same_since None o i j a c one two = one.1 ∙ sym two.1
+same_since (Some old) o i j a c one two = one.1 ∙ sym two.1
 
 abbrev reading_at : Lsn → List Message → Reading
 reading_at after ms = record { after = after; messages = ms }
 
 module _ (b : Beginning) (o : Offset) (work : SessionState) (of : IsOfFirst b.config b.now b.held b.first o work) where
   began : BeginsAfter b.held (Some o) o.infos b.first.lsn
-  began = behind_stored b.config b.now b.held b.first o work of
+  began = after_stored b.config b.now b.held b.first o work of
 
   -- what these messages require is required of each reading that is told
   pub told_one : (report : Report) (t : Trace) (read : List (List ℕ)) (ms : List Message) (result : Result Ending Halt) → t.read ≡ read → AreSpelled read ms
@@ -71,7 +71,7 @@ module _ (b : Beginning) (o : Offset) (work : SessionState) (of : IsOfFirst b.co
       reading_one : reading_at b.first.lsn ms ≡ reading
       reading_one =
           ap₂ (λ (a : Lsn) (l : List Message). reading_at a l)
-          (same_behind b.held o o.infos was.stored.offset.infos b.first.lsn reading.after began was.begins_after) messages_one
+          (same_since b.held o o.infos was.stored.offset.infos b.first.lsn reading.after began was.begins_after) messages_one
 
   -- and of the one after which a source stands
   pub stood_one : (report : Report) (t : SourceState) (ms : List Message) (result : Result Ending Halt) → StandsAt b ms t
@@ -102,9 +102,9 @@ has_taken b ms stored work report found told is a = record {
   followed = is.followed;
 }
 
-abbrev pub stands_behind : (b : Beginning) (ms : List Message) (stored : Option Offset) (work : SessionState) (report : Report) (t : SourceState) → IsReadUpTo b ms stored work report → StandsAt b ms t
+abbrev pub stands_since : (b : Beginning) (ms : List Message) (stored : Option Offset) (work : SessionState) (report : Report) (t : SourceState) → IsReadUpTo b ms stored work report → StandsAt b ms t
     → StandsAfter b.first.lsn b.first.end_lsn report work t
-stands_behind b ms stored work report t is at = record {
+stands_since b ms stored work report t is at = record {
   messages = ms;
   is = is.is;
   reading_is = at;
@@ -157,7 +157,7 @@ module _ (b : Beginning) (ms : List Message) (stored later : Option Offset) (wor
       stood : HasStood (course_from b.first b.now) report t h
       stood =
           subst (λ (c : Course). HasStood c report t h) (course_is b is.offset work is.of)
-          (sources_stood_so b.first.lsn b.first.end_lsn before report work t t [] h (stands_behind b ms stored work before t is stands) stands none (plus_none report.messages before.messages messages) commits)
+          (sources_stood_so b.first.lsn b.first.end_lsn before report work t t [] h (stands_since b ms stored work before t is stands) stands none (plus_none report.messages before.messages messages) commits)
 
       at : (o : Offset) → StillOf o → HasHaltedStood b.config b.now b.held (Some o) report s t h
       at o of = record {
@@ -250,7 +250,7 @@ module _ (b : Beginning) (ms : List Message) (stored : Option Offset) (work : Se
       stood : HasStood (course_from b.first b.now) report t h
       stood =
           subst (λ (c : Course). HasStood c report t h) (course_is b is.offset work is.of)
-          (sources_stood_so b.first.lsn b.first.end_lsn before report work (stood_at b ms t) t (m ∷ []) h (stands_behind b ms stored work before (stood_at b ms t) is refl) stands left messages commits)
+          (sources_stood_so b.first.lsn b.first.end_lsn before report work (stood_at b ms t) t (m ∷ []) h (stands_since b ms stored work before (stood_at b ms t) is refl) stands left messages commits)
 
 pub halts_at_messages_are_told : HaltsAtMessagesAreTold
 halts_at_messages_are_told b ms stored work before report found old new bytes h is told more cause messages commits =
@@ -348,7 +348,7 @@ ends_are_told b ms work report found told ending is a = (
 pub ends_are_stood : EndsAreStood
 ends_are_stood b ms work report t ending is stands upto = (
   subst (λ (k : ℤ). HasSettled b.config k b.held (Some (next_offset_of work)) report t) is.of.time
-      (sources_settle b.config b.first b.held report work t is.of.for_config is.of.placed (stands_behind b ms (Some (next_offset_of work)) work report t is stands) upto),
+      (sources_settle b.config b.first b.held report work t is.of.for_config is.of.placed (stands_since b ms (Some (next_offset_of work)) work report t is stands) upto),
   stood_one b (next_offset_of work) work next report t ms (Ok ending) stands
       (taken_messages_ask_nothing b.config b.now b.held b.first (next_offset_of work) work ms (Ok ending) next is.is),
 )

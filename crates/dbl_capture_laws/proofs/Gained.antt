@@ -55,12 +55,12 @@ equal_le a b is = omega (arith, is)
 joined_snoc : (parts : List (List Record)) (part : List Record) → joined (parts ++ part ∷ []) ≡ joined parts ++ part
 joined_snoc parts part = flat_map-append (λ (g : List Record). g) parts (part ∷ []) ∙ ap (λ (l : List Record). joined parts ++ l) (append-nil part)
 
-take_behind : (xs ys : List Record) (n : ℕ) → take (length xs + n) (xs ++ ys) ≡ xs ++ take n ys
-take_behind [] ys n = ap (λ (k : ℕ). take k ys) (none_first n)
+take_after : (xs ys : List Record) (n : ℕ) → take (length xs + n) (xs ++ ys) ≡ xs ++ take n ys
+take_after [] ys n = ap (λ (k : ℕ). take k ys) (none_first n)
   where
     none_first : (k : ℕ) → 0 + k ≡ k
     none_first k = omega arith
-take_behind (x ∷ xs) ys n = ap (λ (k : ℕ). take k (x ∷ (xs ++ ys))) (one_first (length xs) n) ∙ ap (λ (l : List Record). x ∷ l) (take_behind xs ys n)
+take_after (x ∷ xs) ys n = ap (λ (k : ℕ). take k (x ∷ (xs ++ ys))) (one_first (length xs) n) ∙ ap (λ (l : List Record). x ∷ l) (take_after xs ys n)
   where
     one_first : (a k : ℕ) → suc a + k ≡ suc (a + k)
     one_first a k = omega arith
@@ -166,7 +166,7 @@ commits_are_sent after ms m commit old records is ends lt clear listed gained = 
         append_assoc groups (cut records) (cut (take n (part_of old commit)))
         ∙ ap (λ (l : List (List Record)). groups ++ l)
         (sym (cut_apart records (take n (part_of old commit)) (parted_at old.offset.lsn.0 commit.lsn.0 records (take n (part_of old commit)) lt gained.within (run_at commit.lsn.0 (part_of old commit) n run)))
-        ∙ ap cut (sym (take_behind records (part_of old commit) n)))
+        ∙ ap cut (sym (take_after records (part_of old commit) n)))
 
 -- ---- it is counted
 

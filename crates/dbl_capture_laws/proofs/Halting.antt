@@ -49,7 +49,7 @@ use Rattle.dbl_capture_laws.specs.Found.{HasStored}
 use Rattle.dbl_capture_laws.specs.Reported.{AreSpelled, BeginsAfter}
 use Rattle.dbl_capture_laws.specs.Halted.{ClosesAt, EndsCommit, IsClashHalt, IsHalt, IsHaltBy, IsLongOf, IsNextPlan, IsTxnFault, WasStood, WasTold}
 use Rattle.dbl_capture_laws.specs.Underway.{IsBetweenMessages, IsNewestHalt, IsOfFirst}
-use Rattle.dbl_capture_laws.proofs.Reported.{behind_first, has_stored}
+use Rattle.dbl_capture_laws.proofs.Reported.{has_stored, since_first}
 
 -- ---- a session of this offset
 
@@ -75,8 +75,8 @@ module _ (config : Config) (now : ℤ) (held : Option Offset) (first stored : Of
   abbrev stored_is : HasStored config held (Some stored)
   stored_is = has_stored config held first stored o.for_config o.of
 
-  pub behind_stored : BeginsAfter held (Some stored) stored.infos first.lsn
-  behind_stored = subst (λ (l : List TableInfo). BeginsAfter held (Some stored) l first.lsn) (sym o.of.infos) (behind_first config held first stored o.for_config o.of)
+  pub after_stored : BeginsAfter held (Some stored) stored.infos first.lsn
+  after_stored = subst (λ (l : List TableInfo). BeginsAfter held (Some stored) l first.lsn) (sym o.of.infos) (since_first config held first stored o.for_config o.of)
 
   pub accepted_stored : (ms : List Message) → AreWithoutFault work.offset.infos first.lsn ms → AreWithoutFault stored.infos first.lsn ms
   accepted_stored ms is = subst (λ (l : List TableInfo). AreWithoutFault l first.lsn ms) infos_stored is
@@ -88,7 +88,7 @@ module _ (config : Config) (now : ℤ) (held : Option Offset) (first stored : Of
   abbrev pub was_told : (report : Report) (told : Option Trace) (read : List (List ℕ)) (ms : List Message) → length ms ≡ report.messages → AreSpelled read ms → ((t : Trace) → told ≡ Some t → t.read ≡ read) → WasTold config held (Some stored) report told (reading_of ms)
   was_told report told read ms many spelled tells = record {
     stored = stored_is;
-    begins_after = behind_stored;
+    begins_after = after_stored;
     many = many;
     read = read;
     spelled = spelled;
@@ -96,7 +96,7 @@ module _ (config : Config) (now : ℤ) (held : Option Offset) (first stored : Of
   }
 
   abbrev pub was_stood : (report : Report) (t : SourceState) (ms : List Message) → length ms ≡ report.messages → t.reading ≡ Some (reading_of ms) → WasStood config held (Some stored) report t (reading_of ms)
-  was_stood report t ms many is = record { stored = stored_is; begins_after = behind_stored; many = many; is = is }
+  was_stood report t ms many is = record { stored = stored_is; begins_after = after_stored; many = many; is = is }
 
   module _ (report : Report) (b : IsBetweenMessages work stored report.chunks) where
     -- ---- a window's rows

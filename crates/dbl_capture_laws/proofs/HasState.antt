@@ -35,7 +35,7 @@ use Rattle.dbl_capture_laws.specs.Underway.{IsBeginHalt, IsBetweenMessages, IsNe
 use Rattle.dbl_capture_laws.specs.Carried.{Beginning, IsReadUpTo, IsResting, StandsAt}
 use Rattle.dbl_capture_laws.specs.Sources.{HasCommitted, IsUnderWay}
 use Rattle.dbl_capture_laws.proofs.Causes.{missed, sources_stood_at_halts, sources_stood_at_offsets}
-use Rattle.dbl_capture_laws.proofs.Ended.{stands_behind}
+use Rattle.dbl_capture_laws.proofs.Ended.{stands_since}
 use Rattle.dbl_capture_laws.proofs.Halting.{was_stood}
 use Rattle.dbl_capture_laws.proofs.Honest.{spelled_bytes_never_halt}
 use Rattle.dbl_capture_laws.specs.HasState.{IsHaltStanding, IsNotOffsetTooLong, IsShortOr}
@@ -141,7 +141,7 @@ module _ (b : Beginning) (ms : List Message) (stored : Option Offset) (work : Se
   newest_stood before report m bytes h r at spells counted windows cause =
       held_as before report r.is h
       (sources_stood_at_halts b.config b.now b.held b.first r.is.offset work before report (stood_before b ms t) t m bytes h r.is.of
-      (subst (IsBetweenMessages work r.is.offset) (sym windows) (between before r)) (stands_behind b ms stored work before (stood_before b ms t) r.is refl) at counted spells cause)
+      (subst (IsBetweenMessages work r.is.offset) (sym windows) (between before r)) (stands_since b ms stored work before (stood_before b ms t) r.is refl) at counted spells cause)
 
   -- the newest message, which is invalid
   pub message_stood : (before : Report) (m : Message) (bytes : List ℕ) (h : Halt) → IsResting b ms stored work before → StandsAt b (m ∷ ms) t → Spells bytes m
@@ -180,7 +180,7 @@ module _ (b : Beginning) (ms : List Message) (stored : Option Offset) (work : Se
   offset_stood report h is at asked (inr (inl failed)) = subst (IsHaltOfStood b.config b.now b.held stored report t) (sym failed) tt
   offset_stood report h is at asked (inr (inr long)) =
       held_as report report is h
-      (sources_stood_at_offsets b.config b.now b.held b.first is.offset work report t h is.of (stands_behind b ms stored work report t is at) is.moves asked long)
+      (sources_stood_at_offsets b.config b.now b.held b.first is.offset work report t h is.of (stands_since b ms stored work report t is at) is.moves asked long)
 
 -- ---- at its calls
 

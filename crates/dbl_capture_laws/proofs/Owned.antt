@@ -224,8 +224,8 @@ module _ (entry : SessionStart) (stage : Stage) (b : Beginning) (ms : List Messa
     ])
 
     -- the watermark has no changes
-    behind_it : moment_after_first (commits_at stage) w.high ≡ moment_after_first (commits_at stage) (length before + 1)
-    behind_it =
+    after_it : moment_after_first (commits_at stage) w.high ≡ moment_after_first (commits_at stage) (length before + 1)
+    after_it =
         ap (moment_after_first (commits_at stage)) (sym same_place)
         ∙ (sym (no_moment (commits_at stage) (length before) commit at_place (ap (λ (x : Body). elim x [ Changes changes ↦ changes | Mark v ↦ [] ]) body_is))
         ∙ ap (moment_after_first (commits_at stage)) (suc_one (length before)))
@@ -233,7 +233,7 @@ module _ (entry : SessionStart) (stage : Stage) (b : Beginning) (ms : List Messa
     right : IsRightWindow stage.first.infos (all_changes (commits_at stage)) (moment_after_first (commits_at stage) (w.low + 1)) (moment_after_first (commits_at stage) (length before + 1)) waits.cursor.last (closed_of chunk)
     right =
         subst (λ (above : Option Key). IsRightWindow stage.first.infos (all_changes (commits_at stage)) (moment_after_first (commits_at stage) (w.low + 1)) (moment_after_first (commits_at stage) (length before + 1)) above (closed_of chunk)) waits.above
-        (subst (λ (n : ℕ). IsRightWindow stage.first.infos (all_changes (commits_at stage)) (moment_after_first (commits_at stage) (w.low + 1)) n chunk.plan.above (closed_of chunk)) behind_it
+        (subst (λ (n : ℕ). IsRightWindow stage.first.infos (all_changes (commits_at stage)) (moment_after_first (commits_at stage) (w.low + 1)) n chunk.plan.above (closed_of chunk)) after_it
         (kept_promise chunk (closed_of chunk) (record { table = refl; rows = refl; through = refl; done = refl }) ordered stage.first.infos (commits_at stage) (w.low + 1) w.high waits.captured given))
 
     -- ---- by the stored offset

@@ -30,7 +30,7 @@ use Rattle.dbl_capture_laws.specs.Underway.{IsOfFirst}
 use Rattle.dbl_capture_laws.specs.Puts.{CommitsGain, GainsBegin, GainsStay, MessagesGainNothing, RestsLeaveGains, StepsAreCounted, StepsLeaveGains}
 use Rattle.dbl_capture_laws.proofs.Gained.{commits_are_sent, is_sent, puts_are_counted}
 use Rattle.dbl_capture_laws.proofs.Ranged.{stated_commits_are_in_range}
-use Rattle.dbl_capture_laws.proofs.Halting.{behind_stored}
+use Rattle.dbl_capture_laws.proofs.Halting.{after_stored}
 
 -- ---- it begins
 
@@ -109,7 +109,7 @@ module _ (config : Config) (now : ℤ) (held : Option Offset) (first stored : Of
   gains_cut commits records count groups left sent is = record {
     commits = commits;
     records = records;
-    sent = subst (λ (n : ℕ). AreSent (making_of stored now config.chunk) n commits records) (sym (low_at held (behind_stored config now held first stored work o)))
+    sent = subst (λ (n : ℕ). AreSent (making_of stored now config.chunk) n commits records) (sym (low_at held (after_stored config now held first stored work o)))
         (subst (λ (by : Making). AreSent by first.lsn.0 commits records) making_stored sent);
     count = count;
     is = is;
@@ -240,9 +240,9 @@ tail_of [] = []
 tail_of (x ∷ xs) = xs
 
 -- nothing is after a list to which nothing was added
-pub none_behind : (xs ys : List (List Record)) → xs ++ ys ≡ xs → ys ≡ []
-none_behind [] ys is = is
-none_behind (x ∷ xs) ys is = none_behind xs ys (ap tail_of is)
+pub none_since : (xs ys : List (List Record)) → xs ++ ys ≡ xs → ys ≡ []
+none_since [] ys is = is
+none_since (x ∷ xs) ys is = none_since xs ys (ap tail_of is)
 
 pub none_cut : (items : List Record) → cut items ≡ [] → items ≡ []
 none_cut items is = sym (cuts_join items) ∙ ap joined is
@@ -275,7 +275,7 @@ pub steps_are_counted : StepsAreCounted
 steps_are_counted after ms bytes commit old next count before report records groups is w many moment was c is_report = by was
   where
     by : IsLeftByStep commit next groups (groups ++ cut (take count (records_by next.follower commit next.now_ms))) → AreCounted (cut records ++ cut (take count (records_by next.follower commit next.now_ms))) report
-    by (inl none) = nothing_counted (is_some (mark_of commit)) (take count (records_by next.follower commit next.now_ms)) (cut records) before report (none_cut (take count (records_by next.follower commit next.now_ms)) (none_behind groups (cut (take count (records_by next.follower commit next.now_ms))) none)) c is_report
+    by (inl none) = nothing_counted (is_some (mark_of commit)) (take count (records_by next.follower commit next.now_ms)) (cut records) before report (none_cut (take count (records_by next.follower commit next.now_ms)) (none_since groups (cut (take count (records_by next.follower commit next.now_ms))) none)) c is_report
     by (inr some) =
         subst (λ (l : List Record). AreCounted (cut records ++ cut (take count l)) report) (sym (items_are after ms bytes commit old next is w))
         (counted_here after ms bytes commit old next is w count before report records many moment some.listed c

@@ -179,9 +179,9 @@ abbrev pub has_stored : (config : Config) (old : Option Offset) (first stored : 
 has_stored config old first stored for of = record { offset = stored; is = refl; by = stored_by config old first stored for of }
 
 -- what it captures, and where it began, are the first offset's
-pub behind_first : (config : Config) (old : Option Offset) (first stored : Offset) → IsOffsetFor config old first → IsOfSession first stored → BeginsAfter old (Some stored) first.infos first.lsn
-behind_first config None first stored for of = (sym of.infos, for.3 ∙ sym of.start)
-behind_first config (Some found) first stored for of = (ap (λ (o : Offset). o.infos) for, ap (λ (o : Offset). o.lsn) for)
+pub since_first : (config : Config) (old : Option Offset) (first stored : Offset) → IsOffsetFor config old first → IsOfSession first stored → BeginsAfter old (Some stored) first.infos first.lsn
+since_first config None first stored for of = (sym of.infos, for.3 ∙ sym of.start)
+since_first config (Some found) first stored for of = (ap (λ (o : Offset). o.infos) for, ap (λ (o : Offset). o.lsn) for)
 
 -- and where the log had come to, too
 ends_first : (config : Config) (old : Option Offset) (first stored : Offset) → IsOffsetFor config old first → stored.start ≡ first.start → first.end_lsn ≡ began_after old stored
@@ -196,7 +196,7 @@ module _ (config : Config) (now : ℤ) (held : Option Offset) (first stored : Of
     stored = has_stored config held first stored for of;
     infos = first.infos;
     after = first.lsn;
-    begins_after = behind_first config held first stored for of;
+    begins_after = since_first config held first stored for of;
     read = read;
     many = many;
     tells = tells;
@@ -229,7 +229,7 @@ stood_are_followed config now first stored held report t h for of s = record {
   stored = has_stored config held first stored for of;
   reading = record { after = first.lsn; messages = s.messages };
   reading_is = s.reading_is;
-  begins_after = subst (λ (l : List TableInfo). BeginsAfter held (Some stored) l first.lsn) (sym of.infos) (behind_first config held first stored for of);
+  begins_after = subst (λ (l : List TableInfo). BeginsAfter held (Some stored) l first.lsn) (sym of.infos) (since_first config held first stored for of);
   many = s.many;
   so_far = subst (λ (c : Course). HasFollowedOf c s.messages report.commits h) (course_stored config now held first stored for of) s.so_far;
 }
@@ -274,7 +274,7 @@ sources_settle config first held report work t for placed b upto = record {
   upto = upto;
   reading = record { after = first.lsn; messages = b.messages };
   reading_is = b.reading_is;
-  begins_after = subst (λ (l : List TableInfo). BeginsAfter held (Some (next_offset_of work)) l first.lsn) (sym of.infos) (behind_first config held first (next_offset_of work) for of);
+  begins_after = subst (λ (l : List TableInfo). BeginsAfter held (Some (next_offset_of work)) l first.lsn) (sym of.infos) (since_first config held first (next_offset_of work) for of);
   many = b.many;
   accepted = b.is.accepted;
   sent = b.is.sent;

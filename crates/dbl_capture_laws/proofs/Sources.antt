@@ -233,13 +233,13 @@ module _ {S : Type 0} (source_model : SourceModel S) (at : Option SourceState) (
   -- ---- it ends
 
   module _ (b : Beginning) (stored : Option Offset) (work : SessionState) (report : Report) (src : S) (ending : Ending) (c : HasSettledAll source_model at found b stored work report src) where
-    behind_next : IsReadUpTo b c.messages (Some (next_offset_of work)) work report
-    behind_next = subst (λ (x : Option Offset). IsReadUpTo b c.messages x work report) c.stored_is c.is.is
+    after_next : IsReadUpTo b c.messages (Some (next_offset_of work)) work report
+    after_next = subst (λ (x : Option Offset). IsReadUpTo b c.messages x work report) c.stored_is c.is.is
 
     pub ended_told : StoodAtLast b.config b.now b.held stored report (source_model.told src) × TellsSoMany report.messages (source_model.told src) × ((t : Trace) → source_model.told src ≡ Some t → MustHaltTold b.config b.now b.held stored report t (Ok ending))
     ended_told =
         subst (λ (x : Option Offset). StoodAtLast b.config b.now b.held x report (source_model.told src) × TellsSoMany report.messages (source_model.told src) × ((t : Trace) → source_model.told src ≡ Some t → MustHaltTold b.config b.now b.held x report t (Ok ending)))
-        (sym c.stored_is) (ends_are_told b c.messages work report found (source_model.told src) ending behind_next c.tells)
+        (sym c.stored_is) (ends_are_told b c.messages work report found (source_model.told src) ending after_next c.tells)
 
     pub ended_stood : (s : SourceState) → at ≡ Some s → HasState source_model.stands src (λ t. HasSettled b.config b.now b.held stored report t × MustHaltStood b.config b.now b.held stored report t (Ok ending))
     ended_stood s first =
@@ -249,5 +249,5 @@ module _ {S : Type 0} (source_model : SourceModel S) (at : Option SourceState) (
           is = was.is;
           holds =
               subst (λ (x : Option Offset). HasSettled b.config b.now b.held x report was.standing × MustHaltStood b.config b.now b.held x report was.standing (Ok ending))
-              (sym c.stored_is) (ends_are_stood b c.messages work report was.standing ending behind_next was.holds.0 was.holds.1);
+              (sym c.stored_is) (ends_are_stood b c.messages work report was.standing ending after_next was.holds.0 was.holds.1);
         }

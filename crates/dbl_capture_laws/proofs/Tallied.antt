@@ -31,11 +31,11 @@ use Rattle.dbl_capture_laws.specs.Tallied.{IsFirstPart, IsLeftOutBy, IsTallied, 
 use Rattle.dbl_capture_laws.specs.Underway.{IsOfFirst}
 use Rattle.dbl_capture_laws.specs.Carried.{Beginning, IsReadUpTo, StandsAt}
 use Rattle.dbl_capture_laws.proofs.Reported.{has_stored, read_after, read_is, same_many, taken_more}
-use Rattle.dbl_capture_laws.proofs.Halting.{behind_stored}
+use Rattle.dbl_capture_laws.proofs.Halting.{after_stored}
 use Rattle.dbl_capture_laws.proofs.Carried.{of_next}
 use Rattle.dbl_capture_laws.proofs.Sources.{took_on}
 use Rattle.dbl_capture_laws.specs.Sinks.{HasPutCommit, IsPutting}
-use Rattle.dbl_capture_laws.proofs.Puts.{items_sent, making_at, making_stored, none_behind, none_cut}
+use Rattle.dbl_capture_laws.proofs.Puts.{items_sent, making_at, making_stored, none_cut, none_since}
 
 -- ---- what was read
 
@@ -101,7 +101,7 @@ module _ {K : Type 0} (holds : K → List (List Record) → Type 0) (groups : Li
     stored = has_stored b.config b.held b.first o of.for_config of.of;
     reading = record { after = b.first.lsn; messages = ms };
     reading_is = stands;
-    begins_after = behind_stored b.config b.now b.held b.first o work of;
+    begins_after = after_stored b.config b.now b.held b.first o work of;
     many = many;
     tallies = made_so (λ (m n : Message). m ≡ n) ms t;
   })
@@ -192,7 +192,7 @@ module _ {K : Type 0} (sink_model : SinkModel K) (found : List (List Record)) (s
   part_so = by put.few
     where
       some_left : put.count < length (records_by next.follower commit next.now_ms) → IsLeftByStep commit next found (found ++ cut part_put) → (part_put ≡ []) ⊎ IsFirstPart (making_at old) ms (Spells bytes) part_put
-      some_left few (inl same) = inl (none_cut part_put (none_behind found (cut part_put) same))
+      some_left few (inl same) = inl (none_cut part_put (none_since found (cut part_put) same))
       some_left few (inr step) = inr (record {
         message = w.message;
         is = w.spells;

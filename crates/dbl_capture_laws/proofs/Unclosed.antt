@@ -75,8 +75,8 @@ no_more chunks number last is subsequent le = omega (arith, is, subsequent, le)
 one_more : (chunks number last : ℕ) → last ≡ chunks + 1 → chunks < number → number ≤ last → last ≡ number
 one_more chunks number last is subsequent le = omega (arith, is, subsequent, le)
 
-not_behind : (place high read : ℕ) → place ≡ high → read ≤ high → place < read → ⊥
-not_behind place high read same le lt = omega (arith, same, le, lt)
+not_since : (place high read : ℕ) → place ≡ high → read ≤ high → place < read → ⊥
+not_since place high read same le lt = omega (arith, same, le, lt)
 
 further : (a b c : ℕ) → a ≤ b → b < c → a ≤ c
 further a b c le lt = omega (arith, le, lt)
@@ -116,7 +116,7 @@ module _ (entry : SessionStart) (stage : Stage) (faithful : WasFaithful entry) (
     -- no such watermark is after those that were read
     not_later : (place : ℕ) → IsMarkAt stage.history text place → later_count placed.parts ≤ place → ⊥
     not_later place mark le =
-        not_behind (length old + n) place (later_count placed.parts)
+        not_since (length old + n) place (later_count placed.parts)
         (kept.own_marks.once (length old + n) place number High raw_at.0 mark.commit small raw_at.1 mark.stands raw_is mark.is_mark) le read_lt
 
     not_above : number ≤ stage.number

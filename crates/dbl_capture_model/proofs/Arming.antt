@@ -37,7 +37,7 @@ use Rattle.dbl_capture_model.specs.Counted.{waiting, WasRead, IsCounted}
 use Rattle.dbl_capture_model.specs.Reports.{ReportsWindowsOnce}
 use Rattle.dbl_capture_model.specs.Going.{IsReading, IsPlacedInHistory, KeepsStage, IsGoing, begun_after}
 use Rattle.dbl_capture_model.specs.Steps.{WasArmed, armed_at, WindowsKeepGoing}
-use Rattle.dbl_faithful.proofs.Lists.{longer, is_longer, still_at, still_position, map_append, behind_position, behind_top}
+use Rattle.dbl_faithful.proofs.Lists.{longer, is_longer, still_at, still_position, map_append, after_position, after_top}
 use Rattle.dbl_capture_model.proofs.Growing.{first_longer, reads_longer, parts_longer, offset_longer, up_longer, near_longer}
 use Rattle.dbl_capture_model.proofs.Marking.{no_mark, stood_was, own_marks_stay, others_marked}
 use Rattle.dbl_capture_model.proofs.Stepping.{read_le}
@@ -135,8 +135,8 @@ module _ (value : List ℕ) (old new : History) (m : Marks value old new) where
     is_mark = m.is_mark;
   }
 
-  behind_it : there + 1 ≤ length new.commits
-  behind_it = omega (arith, ap length m.commits, length-append (old.commits ++ m.before) (m.mark ∷ m.after))
+  after_it : there + 1 ≤ length new.commits
+  after_it = omega (arith, ap length m.commits, length-append (old.commits ++ m.before) (m.mark ∷ m.after))
 
   before_it : length old.commits ≤ there
   before_it = omega (arith, length-append old.commits m.before)
@@ -226,7 +226,7 @@ module _ (entry : SessionStart) (stage : Stage) (more : List RawCommit) (chunk :
 
   -- the new commits are after where the session began
   over_begun : (placed : IsPlacedInHistory stage) → KeepsStage entry stage placed.parts → AllByRecursion (λ commit. begun_after entry stage.first < commit.lsn.0) more
-  over_begun placed kept = both more (behind_top stage.history more fit.rising (joined entry.groups) kept.stand) (behind_position stage.history more fit.rising stage.lsn.0 placed.position)
+  over_begun placed kept = both more (after_top stage.history more fit.rising (joined entry.groups) kept.stand) (after_position stage.history more fit.rising stage.lsn.0 placed.position)
     where
       both : (cs : List RawCommit) → AllByRecursion (λ commit. top_position (joined entry.groups) < commit.lsn.0) cs → AllByRecursion (λ commit. stage.lsn.0 < commit.lsn.0) cs → AllByRecursion (λ commit. begun_after entry stage.first < commit.lsn.0) cs
       both [] one two = tt
@@ -356,14 +356,14 @@ module _ (entry : SessionStart) (stage : Stage) (history : History) (chunk : Chu
   high_mark : IsMarkAt history (high_text chunk.plan) high_at
   high_mark = mark_there (high_text chunk.plan) armed.looked history armed.high_is
 
-  low_behind : low_at + 1 ≤ length armed.marked.commits
-  low_behind = behind_it (low_text chunk.plan) stage.history armed.marked armed.low_is
+  low_after : low_at + 1 ≤ length armed.marked.commits
+  low_after = after_it (low_text chunk.plan) stage.history armed.marked armed.low_is
 
   high_before : length armed.looked.commits ≤ high_at
   high_before = before_it (high_text chunk.plan) armed.looked history armed.high_is
 
   low_high : low_at < high_at
-  low_high = by low_at (length armed.marked.commits) (length armed.looked.commits) high_at low_behind (long_on armed.marked armed.looked armed.rows_are.others armed.rows_are.commits) high_before
+  low_high = by low_at (length armed.marked.commits) (length armed.looked.commits) high_at low_after (long_on armed.marked armed.looked armed.rows_are.others armed.rows_are.commits) high_before
     where
       by : (a b c d : ℕ) → a + 1 ≤ b → b ≤ c → c ≤ d → a < d
       by a b c d one two three = omega (arith, one, two, three)
@@ -384,7 +384,7 @@ module _ (entry : SessionStart) (stage : Stage) (history : History) (chunk : Chu
     marked = record {
       low_is = low_mark;
       high_is = high_mark;
-      rows = wider stage.first.infos history (length armed.marked.commits) (length armed.looked.commits) (low_at + 1) high_at chunk low_behind high_before rows_stay;
+      rows = wider stage.first.infos history (length armed.marked.commits) (length armed.looked.commits) (low_at + 1) high_at chunk low_after high_before rows_stay;
     };
     not_yet = not_read read le;
   }

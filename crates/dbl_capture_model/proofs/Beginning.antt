@@ -26,7 +26,7 @@ use Rattle.dbl_capture_model.specs.Entries.{SessionStart}
 use Rattle.dbl_capture_model.specs.Stages.{IsOfSession}
 use Rattle.dbl_capture_model.specs.Going.{IsFirstOf}
 use Rattle.dbl_capture_model.specs.Exits.{UnreadSessionsFollow, FirstOffsetsFollow}
-use Rattle.dbl_faithful.proofs.Lists.{longer, is_longer, behind_top, still_position}
+use Rattle.dbl_faithful.proofs.Lists.{longer, is_longer, after_top, still_position}
 use Rattle.dbl_capture_model.proofs.Ending.{offset_goes, lag_far}
 
 -- others' commits are new to each offset
@@ -63,7 +63,7 @@ module _ (entry : SessionStart) (left : CrashState) (fit : IsFitHistory entry.hi
       → lag left.history (joined entry.groups) (Some offset) ≤ max entry.config.every (lag entry.history (joined entry.groups) (Some old))
   lag_still old offset le is =
       lag_far entry.history left.history grows.others (joined entry.groups) (joined entry.groups) old offset entry.config.every fit.rising grows.commits
-      (behind_top entry.history grows.others (subst IsRising (is_longer entry.history left.history grows.others grown) fit_left.rising) (joined entry.groups)
+      (after_top entry.history grows.others (subst IsRising (is_longer entry.history left.history grows.others grown) fit_left.rising) (joined entry.groups)
       (λ place item at. faithful_records_stand entry.history entry.confirmed (joined entry.groups) old place item is at)) refl le
 
   stays : (offset : Option Offset) → OffsetGoesOn entry.config entry.history left.history offset offset

@@ -222,11 +222,11 @@ module _ (entry : SessionStart) (stage : Stage) (m : Message) (commit : Commit) 
   low_commit : slice_get (commits_at stage) w.low ≡ Some (typed_commit stage.first.infos w.marked.low_is.commit)
   low_commit = map_get (typed_commit stage.first.infos) stage.history.commits w.low w.marked.low_is.commit w.marked.low_is.stands
 
-  low_behind : begun_after entry stage.first < w.marked.low_is.commit.lsn.0
-  low_behind = (k.own_marks.numbered w.low stage.number Low w.marked.low_is.commit k.small w.marked.low_is.stands (w.marked.low_is.is_mark ∙ ap (λ (l : List ℕ). raw.Mark l) low_own)).1
+  low_after : begun_after entry stage.first < w.marked.low_is.commit.lsn.0
+  low_after = (k.own_marks.numbered w.low stage.number Low w.marked.low_is.commit k.small w.marked.low_is.stands (w.marked.low_is.is_mark ∙ ap (λ (l : List ℕ). raw.Mark l) low_own)).1
 
   start_lt : stage.first.start.0 < w.marked.low_is.commit.lsn.0
-  start_lt = further stage.first.start.0 stage.first.lsn.0 w.marked.low_is.commit.lsn.0 k.order (right_max (top_position (joined entry.groups)) stage.first.lsn.0 w.marked.low_is.commit.lsn.0 low_behind)
+  start_lt = further stage.first.start.0 stage.first.lsn.0 w.marked.low_is.commit.lsn.0 k.order (right_max (top_position (joined entry.groups)) stage.first.lsn.0 w.marked.low_is.commit.lsn.0 low_after)
 
   start_le : moment_at (commits_at stage) stage.first.start.0 ≤ moment_after_first (commits_at stage) (w.low + 1)
   start_le =
@@ -255,9 +255,9 @@ module _ (entry : SessionStart) (stage : Stage) (m : Message) (commit : Commit) 
 
   far : far_at entry stage < commit.lsn.0
   far =
-      let raw_behind : begun_after entry stage.first < raw_at.0.lsn.0 = (k.own_marks.numbered (length before) stage.number High raw_at.0 k.small raw_at.1 raw_is).1 in
+      let raw_after : begun_after entry stage.first < raw_at.0.lsn.0 = (k.own_marks.numbered (length before) stage.number High raw_at.0 k.small raw_at.1 raw_is).1 in
       let top : top_position (joined entry.groups) < commit.lsn.0 =
-      subst (λ (c : Commit). top_position (joined entry.groups) < c.lsn.0) (sym raw_at.2) (left_max (top_position (joined entry.groups)) stage.first.lsn.0 raw_at.0.lsn.0 raw_behind) in
+      subst (λ (c : Commit). top_position (joined entry.groups) < c.lsn.0) (sym raw_at.2) (left_max (top_position (joined entry.groups)) stage.first.lsn.0 raw_at.0.lsn.0 raw_after) in
       both_under (top_position (joined entry.groups)) stage.lsn.0 commit.lsn.0 top over.0
 
   is_high : IsHighMark commit

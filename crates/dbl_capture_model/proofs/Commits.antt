@@ -18,7 +18,7 @@ use Rattle.dbl_faithful.specs.Offset.declared.offset.Offset.{Offset}
 use Rattle.dbl_faithful.specs.CaughtUp.{HasDeliveredUpTo}
 use Rattle.dbl_faithful.proofs.CaughtUp.{commits_are_caught_up}
 use Rattle.dbl_faithful.proofs.Items.{mapped, all_weaker}
-use Rattle.dbl_faithful.proofs.Positions.{all_above, rising_behind}
+use Rattle.dbl_faithful.proofs.Positions.{all_above, rising_after}
 use Rattle.dbl_faithful.specs.Stores.{IsCommitAt, IsPositionOf, top_position}
 use Rattle.dbl_faithful.specs.Lag.{IsRightCursor, IsOffsetOf}
 use Rattle.dbl_faithful.specs.Onward.{PlacesRise}
@@ -121,7 +121,7 @@ over_rest : (entry : SessionStart) (stage : Stage) (m : Message) (commit : Commi
     → AllByRecursion (λ c. commit.lsn.0 < c.lsn.0) (comes entry stage m commit new followed going parts).rest
 over_rest entry stage m commit new followed going parts =
     all_above commit.lsn.0 (comes entry stage m commit new followed going parts).rest
-    (rising_behind 0 (parts.old ++ read_at stage) commit (comes entry stage m commit new followed going parts).rest
+    (rising_after 0 (parts.old ++ read_at stage) commit (comes entry stage m commit new followed going parts).rest
     (subst (λ (l : List Commit). AreRising 0 (lsns l)) (spelled_at entry stage m commit new followed going parts) (fit_commits stage.history stage.first.infos going.reading.fit going.reading.infos).rise))
 
 module _ (entry : SessionStart) (stage : Stage) (m : Message) (commit : Commit) (new : Following) (in_range : IsMomentInRange entry.now) (since : stage.since < entry.config.every) (followed : WasFollowed stage entry.now m commit new)

@@ -255,8 +255,8 @@ module _ (infos : List TableInfo) (limit : ℕ) (history : History) (cursors : L
   apart_on : (read : List (ℕ × Key)) → AllByRecursion (WasRead infos history cursors) read → AreApart read → AreApart (read ++ new_pairs)
   apart_on read were apart = record { apart = λ i j pair at_i at_j. by i j pair (at_cases read new_pairs i pair at_i) (at_cases read new_pairs j pair at_j) }
     where
-      both_behind : (i j n a b : ℕ) → i ≡ n + a → j ≡ n + b → a ≡ b → i ≡ j
-      both_behind i j n a b one two same = omega (arith, one, two, same)
+      both_since : (i j n a b : ℕ) → i ≡ n + a → j ≡ n + b → a ≡ b → i ≡ j
+      both_since i j n a b one two same = omega (arith, one, two, same)
 
       by : (i j : ℕ) (pair : ℕ × Key) → Found read i pair → Found read j pair → i ≡ j
       by i j pair (inl one) (inl two) = apart.apart i j pair one two
@@ -266,7 +266,7 @@ module _ (infos : List TableInfo) (limit : ℕ) (history : History) (cursors : L
           let from_one = mapped (pair_of chunk.plan.table) selected_rows one.0 pair one.1 in
           let from_two = mapped (pair_of chunk.plan.table) selected_rows two.0 pair two.1 in
           let same : from_one.0.0 ≡ from_two.0.0 = sym (ap (λ (p : ℕ × Key). p.1) from_one.2) ∙ ap (λ (p : ℕ × Key). p.1) from_two.2 in
-          both_behind i j (length read) one.0 two.0 one.2 two.2 (apart_at is.selected.plan.above selected_rows one.0 two.0 from_one.0 from_two.0 is.rows.first.ordered from_one.1 from_two.1 same)
+          both_since i j (length read) one.0 two.0 one.2 two.2 (apart_at is.selected.plan.above selected_rows one.0 two.0 from_one.0 from_two.0 is.rows.first.ordered from_one.1 from_two.1 same)
 
   -- a window that didn't end its table was full
   whole_one : (n most : ℕ) → n ≤ most → nat_lt n most ≡ false → n ≡ most

@@ -29,7 +29,7 @@ use Rattle.dbl_capture_model.specs.Stages.{Stage, records_of_stage, next_offset,
 use Rattle.dbl_capture_model.specs.Going.{IsFirstOf, IsPlacedInHistory, KeepsStage, IsGoing}
 use Rattle.dbl_capture_model.specs.Exits.{MayBeLeft, SourcesMayEnd, StoresMayEnd}
 use Rattle.dbl_capture_model.specs.Outcomes.{FollowsSession}
-use Rattle.dbl_faithful.proofs.Lists.{longer, is_longer, behind_position, behind_top, still_position}
+use Rattle.dbl_faithful.proofs.Lists.{longer, is_longer, after_position, after_top, still_position}
 use Rattle.dbl_capture_model.proofs.Growing.{confirmed_so, offset_longer, up_longer, parts_longer, new}
 
 -- ---- what was known when it began
@@ -186,7 +186,7 @@ module _ (entry : SessionStart) (stage : Stage) (left : CrashState) (faithful : 
       lag_near left.history (records_of_stage stage) offset kept.near.before kept.near.since (kept.near.later ++ may.more) stage.lsn.0 entry.config.every (lag entry.history (joined entry.groups) entry.offset)
       (may.grown.commits ∙ (ap (λ (l : List RawCommit). l ++ may.more) kept.near.spelled ∙ (append_assoc kept.near.before (kept.near.since ++ kept.near.later) may.more ∙ ap (λ (l : List RawCommit). kept.near.before ++ l) (append_assoc kept.near.since kept.near.later may.more))))
       (all_weaker (λ (c : RawCommit). c.lsn.0 ≤ stage.stored.lsn.0) (λ (c : RawCommit). c.lsn.0 ≤ offset.lsn.0) kept.near.before (λ c low. le_on c.lsn.0 stage.stored.lsn.0 offset.lsn.0 low le) kept.near.settled)
-      (all_append (λ (c : RawCommit). stage.lsn.0 < c.lsn.0) kept.near.later may.more kept.near.over (behind_position stage.history may.more fit_longer.rising stage.lsn.0 placed.position))
+      (all_append (λ (c : RawCommit). stage.lsn.0 < c.lsn.0) kept.near.later may.more kept.near.over (after_position stage.history may.more fit_longer.rising stage.lsn.0 placed.position))
       top (subst (λ (n : ℕ). n ≤ entry.config.every) (sym kept.near.many) kept.near.few)
 
   -- ---- where the log reaches further than the session has come
@@ -210,7 +210,7 @@ module _ (entry : SessionStart) (stage : Stage) (left : CrashState) (faithful : 
   far_left offset (Some old) is began le top near =
       lag_far entry.history left.history (going.reading.more ++ may.more) (joined entry.groups) (records_of_stage stage) old offset entry.config.every
       (rising_front 0 entry.history.commits (going.reading.more ++ may.more) rise_all) grown_all
-      (behind_top entry.history (going.reading.more ++ may.more) rise_all (joined entry.groups) (λ place item at. faithful_records_stand entry.history entry.confirmed (joined entry.groups) old place item is at)) top
+      (after_top entry.history (going.reading.more ++ may.more) rise_all (joined entry.groups) (λ place item at. faithful_records_stand entry.history entry.confirmed (joined entry.groups) old place item is at)) top
       (le_on old.lsn.0 stage.stored.lsn.0 offset.lsn.0 (le_on old.lsn.0 stage.first.lsn.0 stage.stored.lsn.0 (same_le stage.first.lsn.0 old.lsn.0 (ap (λ (l : Lsn). l.0) began.0.lsn)) kept.from) le)
 
   lag_left : (offset : Offset) → stage.stored.lsn.0 ≤ offset.lsn.0 → lag left.history (records_of_stage stage) (Some offset) ≤ max entry.config.every (lag entry.history (joined entry.groups) entry.offset)

@@ -19,7 +19,7 @@ use Rattle.dbl_faithful.proofs.ConsumeLawsNotices.{all_append}
 use Rattle.dbl_faithful.specs.ToldEvents.{tell, events_of_commit}
 use Rattle.dbl_faithful.specs.CaughtUp.{HasDeliveredUpTo}
 use Rattle.dbl_faithful.proofs.Items.{all_weaker}
-use Rattle.dbl_faithful.proofs.Positions.{all_above, rising_behind}
+use Rattle.dbl_faithful.proofs.Positions.{all_above, rising_after}
 use Rattle.dbl_faithful.specs.Stores.{top_position}
 use Rattle.dbl_faithful.specs.Faithful.{IsFaithful}
 use Rattle.dbl_faithful.specs.Lag.{IsOffsetOf}
@@ -81,7 +81,7 @@ module _ (entry : SessionStart) (stage : Stage) (m : Message) (commit : Commit) 
   up = subst (λ (l : List Commit). HasDeliveredUpTo stage.first.identity stage.first.infos (commits_at stage) stage.first.start.0 (far_at entry stage) before l 0 (records_of_stage stage)) next.is kept.up
 
   pub over_rest : AllByRecursion (λ c. commit.lsn.0 < c.lsn.0) next.rest
-  over_rest = all_above commit.lsn.0 next.rest (rising_behind 0 before commit next.rest (subst (λ (l : List Commit). AreRising 0 (lsns l)) spelled up.fit.rise))
+  over_rest = all_above commit.lsn.0 next.rest (rising_after 0 before commit next.rest (subst (λ (l : List Commit). AreRising 0 (lsns l)) spelled up.fit.rise))
 
   -- the history has it after the commits that were followed
   pub raw : RawNext kept.near.later commit.lsn.0

@@ -28,7 +28,7 @@ use Rattle.dbl_faithful.proofs.Longer.{longer_histories_keep_offsets}
 use Rattle.dbl_capture_model.specs.Entries.{SessionStart}
 use Rattle.dbl_capture_model.specs.Stages.{Stage, records_of_stage, next_offset, commits_at, read_at, PartsHistory, far_at}
 use Rattle.dbl_capture_model.specs.Going.{IsFirstOf, IsNear}
-use Rattle.dbl_faithful.proofs.Lists.{longer, map_append, typed_more, behind_position, behind_top, still_position, over_both, pairs}
+use Rattle.dbl_faithful.proofs.Lists.{longer, map_append, typed_more, after_position, after_top, still_position, over_both, pairs}
 
 -- ---- what names no stage
 
@@ -85,13 +85,13 @@ module _ (entry : SessionStart) (stage : Stage) (more : List RawCommit) (fit : I
       (right_more stage.first.infos stage.first.lsn (to_state stage.first.infos stage.first.lsn stage.history) (map (typed_commit stage.first.infos) (commits_after stage.first.lsn more)) stage.messages right)
 
   pub over_lsn : IsPositionOf stage.history stage.lsn.0 → AllByRecursion (λ c. stage.lsn.0 < c.lsn.0) new
-  over_lsn at = typed_more stage.first.infos (λ n. stage.lsn.0 < n) more (behind_position stage.history more fit.rising stage.lsn.0 at)
+  over_lsn at = typed_more stage.first.infos (λ n. stage.lsn.0 < n) more (after_position stage.history more fit.rising stage.lsn.0 at)
 
   all_after : IsPositionOf stage.history stage.lsn.0 → stage.first.lsn.0 ≤ stage.lsn.0 → commits_after stage.first.lsn more ≡ more
   all_after at le =
       filter_whole (λ (commit : RawCommit). nat_lt stage.first.lsn.0 commit.lsn.0) more
       (all_weaker (λ (c : RawCommit). stage.lsn.0 < c.lsn.0) (λ (c : RawCommit). nat_lt stage.first.lsn.0 c.lsn.0 ≡ true) more (λ c lt. passes stage.first.lsn.0 stage.lsn.0 c.lsn.0 le lt)
-      (behind_position stage.history more fit.rising stage.lsn.0 at))
+      (after_position stage.history more fit.rising stage.lsn.0 at))
 
   pub stated_longer : IsPositionOf stage.history stage.lsn.0 → stage.first.lsn.0 ≤ stage.lsn.0 → (later : List Commit) → to_state stage.first.infos stage.first.lsn stage.history ≡ read_at stage ++ later
       → to_state stage.first.infos stage.first.lsn (longer stage.history more) ≡ read_at stage ++ (later ++ new)
@@ -121,7 +121,7 @@ module _ (entry : SessionStart) (stage : Stage) (more : List RawCommit) (fit : I
         (subst (λ (n : ℕ). AllByRecursion (λ (commit : RawCommit). IsMarkedBy n commit.body) more) (sym same) marks)).0 is
 
     start_under : (offset : Offset) → IsOffsetOf stage.history stage.confirmed (records_of_stage stage) offset → AllByRecursion (λ c. offset.start.0 < c.lsn.0) new
-    start_under offset is = typed_more stage.first.infos (λ n. offset.start.0 < n) more (behind_position stage.history more fit.rising offset.start.0 is.start)
+    start_under offset is = typed_more stage.first.infos (λ n. offset.start.0 < n) more (after_position stage.history more fit.rising offset.start.0 is.start)
 
     pub up_longer : AreInfosOf (longer stage.history more) stage.first.infos → IsOffsetOf stage.history stage.confirmed (records_of_stage stage) (next_offset stage)
         → ((place : ℕ) (item : Record) → slice_get (joined entry.groups) place ≡ Some item → IsCommitAt stage.history item.position)
@@ -131,7 +131,7 @@ module _ (entry : SessionStart) (stage : Stage) (more : List RawCommit) (fit : I
         let facts : AreFitCommits stage.first.infos (commits_at stage ++ new) = subst (AreFitCommits stage.first.infos) list (fit_commits (longer stage.history more) stage.first.infos fit infos) in
         let far : AllByRecursion (λ (c : Commit). far_at entry stage < c.lsn.0) new =
         over_both (top_position (joined entry.groups)) stage.lsn.0 new
-        (typed_more stage.first.infos (λ n. top_position (joined entry.groups) < n) more (behind_top stage.history more fit.rising (joined entry.groups) stand)) (over_lsn at) in
+        (typed_more stage.first.infos (λ n. top_position (joined entry.groups) < n) more (after_top stage.history more fit.rising (joined entry.groups) stand)) (over_lsn at) in
         subst (λ (l : List Commit). HasDeliveredUpTo stage.first.identity stage.first.infos l stage.first.start.0 (far_at entry stage) (parts.old ++ read_at stage) (parts.later ++ new) 0 (records_of_stage stage)) (sym list)
         (longer_histories_are_caught_up stage.first.identity stage.first.infos (commits_at stage) (parts.old ++ read_at stage) parts.later new stage.first.start.0 (far_at entry stage) 0 (records_of_stage stage) facts
         (pairs (far_at entry stage) stage.first.start.0 new far (start_under (next_offset stage) is)) up)
@@ -145,7 +145,7 @@ module _ (entry : SessionStart) (stage : Stage) (more : List RawCommit) (fit : I
       settled = near.settled;
       followed = near.followed;
       many = near.many;
-      over = all_append (λ (c : RawCommit). stage.lsn.0 < c.lsn.0) near.later more near.over (behind_position stage.history more fit.rising stage.lsn.0 at);
+      over = all_append (λ (c : RawCommit). stage.lsn.0 < c.lsn.0) near.later more near.over (after_position stage.history more fit.rising stage.lsn.0 at);
       few = near.few;
       top = near.top;
     }

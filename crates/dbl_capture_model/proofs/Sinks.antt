@@ -20,7 +20,7 @@ use Rattle.dbl_capture_model.specs.Going.{IsFirstOf, IsPlacedInHistory, KeepsSta
 use Rattle.dbl_capture_model.specs.Steps.{WasFollowed}
 use Rattle.dbl_capture_model.specs.Exits.{SinksMayEnd}
 use Rattle.dbl_capture_model.specs.Outcomes.{FollowsSession}
-use Rattle.dbl_faithful.proofs.Lists.{longer, is_longer, behind_top}
+use Rattle.dbl_faithful.proofs.Lists.{longer, is_longer, after_top}
 use Rattle.dbl_faithful.proofs.Splits.{RawNext}
 use Rattle.dbl_capture_model.proofs.Sending.{AreSent, adds_more, grouped_more, joined_more}
 use Rattle.dbl_capture_model.proofs.Ending.{stood_of, rising_front, offset_goes, appends_so, lag_near, lag_far}
@@ -52,7 +52,7 @@ far_still entry stage going records offset (Some old) is began le top near =
     let grown : stage.history ≡ longer entry.history going.reading.more = is_longer entry.history stage.history going.reading.more going.reading.grown in
     let rise : IsRising (longer entry.history going.reading.more) = subst IsRising grown going.reading.fit.rising in
     lag_far entry.history stage.history going.reading.more (joined entry.groups) records old offset entry.config.every (rising_front 0 entry.history.commits going.reading.more rise) going.reading.grown.commits
-    (behind_top entry.history going.reading.more rise (joined entry.groups) (λ place item at. faithful_records_stand entry.history entry.confirmed (joined entry.groups) old place item is at)) top
+    (after_top entry.history going.reading.more rise (joined entry.groups) (λ place item at. faithful_records_stand entry.history entry.confirmed (joined entry.groups) old place item is at)) top
     (le_on old.lsn.0 stage.first.lsn.0 offset.lsn.0 (same_le stage.first.lsn.0 old.lsn.0 (ap (λ (l : Lsn). l.0) began.0.lsn)) le)
 
 module _ (entry : SessionStart) (stage : Stage) (m : Message) (commit : Commit) (new : Following) (in_range : IsMomentInRange entry.now) (followed : WasFollowed stage entry.now m commit new)

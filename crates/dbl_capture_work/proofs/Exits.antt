@@ -72,8 +72,8 @@ raised_on : (most a b c : ℕ) → a ≤ b → min (b + 1) most ≤ c → min (a
 raised_on most a b c le rose = omega (arith, le, rose)
 
 -- a count that rose after a call rose
-pub rose_behind : (a b c : ℕ) → a ≤ b → FaultCounted b c → FaultCounted a c
-rose_behind a b c le rose = raised_on (2 ^ 64 - 1) a b c le rose
+pub rose_after : (a b c : ℕ) → a ≤ b → FaultCounted b c → FaultCounted a c
+rose_after a b c le rose = raised_on (2 ^ 64 - 1) a b c le rose
 
 -- ---- answers
 

@@ -128,9 +128,9 @@ module _ {K : Type 0} (holds : K → List (List Record) → Type 0) (snapshot : 
 
   -- ---- where it ends
 
-  behind_some : (gathered rest : List Record) → (group : List Record) × (later : List (List Record)) × (batches_after gathered rest ≡ group ∷ later)
-  behind_some gathered [] = (gathered, [], refl)
-  behind_some gathered (item ∷ rest) = by (begins_batch gathered item) (behind_some (gathered ++ item ∷ []) rest)
+  after_some : (gathered rest : List Record) → (group : List Record) × (later : List (List Record)) × (batches_after gathered rest ≡ group ∷ later)
+  after_some gathered [] = (gathered, [], refl)
+  after_some gathered (item ∷ rest) = by (begins_batch gathered item) (after_some (gathered ++ item ∷ []) rest)
     where
       by : (b : Bool) → ((group : List Record) × (later : List (List Record)) × (batches_after (gathered ++ item ∷ []) rest ≡ group ∷ later))
           → (group : List Record) × (later : List (List Record)) × (cond b (gathered ∷ batches_after (item ∷ []) rest) (batches_after (gathered ++ item ∷ []) rest) ≡ group ∷ later)
@@ -141,7 +141,7 @@ module _ {K : Type 0} (holds : K → List (List Record) → Type 0) (snapshot : 
   pub some_next : (records gathered rest : List Record) (old new : K) (before after : Report) → (p : IsPut holds snapshot records gathered rest old new before after)
       → (group : List Record) × IsNextGroup records p.put group
   some_next records gathered rest old new before after p =
-      let some = behind_some gathered rest in
+      let some = after_some gathered rest in
       let parted : cut records ≡ p.put ++ some.0 ∷ some.1 = p.parted ∙ ap (λ (l : List (List Record)). p.put ++ l) some.2 in (
         some.0,
         record {

@@ -14,10 +14,10 @@ use Rattle.dbl_cli.specs.Checks.{words_after, by_next, next_of}
 pub split_at : {X : Type 0} (ws : List X) (i : ℕ) (d : X) → i < length ws → drop i ws ≡ get_or ws i d ∷ drop (i + 1) ws
 split_at ws i d lt = rw (add-one, drop-cons ws i d)
 
-pub behind_step : (names : List Named) (waits : Bool) (ws : List (Bor (List ℕ))) (i : ℕ) (d : Bor (List ℕ)) (n : Next) → i < length ws → n ≡ next_of names waits (get_or ws i d).now
+pub after_step : (names : List Named) (waits : Bool) (ws : List (Bor (List ℕ))) (i : ℕ) (d : Bor (List ℕ)) (n : Next) → i < length ws → n ≡ next_of names waits (get_or ws i d).now
     → words_after names waits (texts (drop i ws)) ≡ by_next n (words_after names false (texts (drop (i + 1) ws))) (words_after names true (texts (drop (i + 1) ws))) (Some (texts (drop i ws)))
 unfolding words_after
-behind_step names waits ws i d n lt is =
+after_step names waits ws i d n lt is =
     let split = split_at ws i d lt in
     ap (λ l. words_after names waits (texts l)) split
     ∙ (λ k. by_next (is_back k) (words_after names false (texts (drop (i + 1) ws))) (words_after names true (texts (drop (i + 1) ws))) (Some (texts (split_back k))))
@@ -28,9 +28,9 @@ behind_step names waits ws i d n lt is =
     split_back : get_or ws i d ∷ drop (i + 1) ws ≡ drop i ws
     split_back = sym (split_at ws i d lt)
 
-pub behind_end : (names : List Named) (waits : Bool) (ws : List (Bor (List ℕ))) (i : ℕ) → length ws ≤ i → words_after names waits (texts (drop i ws)) ≡ cond waits None (Some [])
+pub after_end : (names : List Named) (waits : Bool) (ws : List (Bor (List ℕ))) (i : ℕ) → length ws ≤ i → words_after names waits (texts (drop i ws)) ≡ cond waits None (Some [])
 unfolding words_after
-behind_end names waits ws i past = ap (λ l. words_after names waits (texts l)) (drop_all i ws past)
+after_end names waits ws i past = ap (λ l. words_after names waits (texts l)) (drop_all i ws past)
 
 pub end_is : (ws : List (Bor (List ℕ))) (end : ℕ) → end ≤ length ws → (end == length ws) ≡ (length (texts (drop end ws)) == 0)
 end_is ws end within = rw (length-map, length-drop) (grind (arith, nat_tests))

@@ -53,9 +53,9 @@ has_append id (x ∷ xs) ys none =
     let parts = or_parts (bytes_eq x.id id) (has_row id xs) none in
     rw parts.0 (has_append id xs ys parts.1)
 
-pub has_behind : (id : Text) (xs ys : List Row) → has_row id ys ≡ false → has_row id (xs ++ ys) ≡ has_row id xs
-has_behind id [] ys none = none
-has_behind id (x ∷ xs) ys none = ap (λ b. bytes_eq x.id id || b) (has_behind id xs ys none)
+pub has_after : (id : Text) (xs ys : List Row) → has_row id ys ≡ false → has_row id (xs ++ ys) ≡ has_row id xs
+has_after id [] ys none = none
+has_after id (x ∷ xs) ys none = ap (λ b. bytes_eq x.id id || b) (has_after id xs ys none)
 
 pub place_lacks : (name : Text) (texts : List Text) → bytes_eq place name ≡ false → has_row name (place_rows texts) ≡ false
 place_lacks name [] other = refl
@@ -72,15 +72,15 @@ apart_places : (names : List Named) → AreNames names → (gs : List Setting) �
 apart_places names names_are [] known rows texts = refl
 apart_places names names_are (g ∷ gs) known rows texts =
     let parts = and_parts (is_known names g) (list_all (is_known names) gs) known in
-    let own = has_behind (name_in g) rows (place_rows texts) (place_lacks (name_in g) texts (not_place names names_are g parts.0)) in
+    let own = has_after (name_in g) rows (place_rows texts) (place_lacks (name_in g) texts (not_place names names_are g parts.0)) in
     (λ i. not (own i) && apart_places names names_are gs parts.1 rows texts i)
 
-pub find_behind : (id : Text) (xs ys : List Row) → has_row id ys ≡ false → find (with_id id) (xs ++ ys) ≡ find (with_id id) xs
-find_behind id [] [] none = refl
-find_behind id [] (y ∷ ys) none =
+pub find_after : (id : Text) (xs ys : List Row) → has_row id ys ≡ false → find (with_id id) (xs ++ ys) ≡ find (with_id id) xs
+find_after id [] [] none = refl
+find_after id [] (y ∷ ys) none =
     let parts = or_parts (bytes_eq y.id id) (has_row id ys) none in
-    rw parts.0 (find_behind id [] ys parts.1)
-find_behind id (x ∷ xs) ys none = ap (λ o. cond (bytes_eq x.id id) (Some x) o) (find_behind id xs ys none)
+    rw parts.0 (find_after id [] ys parts.1)
+find_after id (x ∷ xs) ys none = ap (λ o. cond (bytes_eq x.id id) (Some x) o) (find_after id xs ys none)
 
 pub find_past : (id : Text) (xs ys : List Row) → has_row id xs ≡ false → find (with_id id) (xs ++ ys) ≡ find (with_id id) ys
 find_past id [] ys none = refl
@@ -104,8 +104,8 @@ find_kept id (x ∷ xs) ys r found = go (bytes_eq x.id id) (λ h. find_kept id x
 
 module _ (names : List Named) (names_are : AreNames names) (front back : List Setting) (texts : List Text)
     (known_before : list_all (is_known names) front ≡ true) (known_since : list_all (is_known names) back ≡ true) where
-  behind_is : fresh back (map row_for front ++ place_rows texts) ≡ fresh back (map row_for front)
-  behind_is =
+  beyond_is : fresh back (map row_for front ++ place_rows texts) ≡ fresh back (map row_for front)
+  beyond_is =
       fresh_is back (map row_for front ++ place_rows texts)
       ∙ ap (λ b. b && are_distinct bytes_eq (names_in back)) (apart_places names names_are back known_since (map row_for front) texts)
       ∙ sym (fresh_is back (map row_for front))
@@ -121,7 +121,7 @@ module _ (names : List Named) (names_are : AreNames names) (front back : List Se
   distinct_clear distinct =
       let parts = and_parts (fresh front []) (fresh back (map row_for front)) (all_fresh ∙ distinct) in
       (λ i. or_else (fresh_clear front [] parts.0 i) (or_else (fault_by back (placed_rows parts.0 i)) []))
-      ∙ or_else-nil _ ∙ fresh_clear back (map row_for front ++ place_rows texts) (behind_is ∙ parts.1)
+      ∙ or_else-nil _ ∙ fresh_clear back (map row_for front ++ place_rows texts) (beyond_is ∙ parts.1)
 
   -- no fault: no name twice
   pub clear_distinct : fault_of_items front texts back ≡ [] → are_distinct bytes_eq (names_in (front ++ back)) ≡ true
@@ -129,7 +129,7 @@ module _ (names : List Named) (names_are : AreNames names) (front back : List Se
       let first = no_first (fault_by front []) _ none in
       let clear = clear_fresh front [] first.0 in
       let then_none : fault_by back (map row_for front ++ place_rows texts) ≡ [] = ap (fault_by back) (sym (placed_rows clear)) ∙ sym (or_else-nil _) ∙ first.1 in
-      sym all_fresh ∙ and_from _ _ clear (sym behind_is ∙ clear_fresh back (map row_for front ++ place_rows texts) then_none)
+      sym all_fresh ∙ and_from _ _ clear (sym beyond_is ∙ clear_fresh back (map row_for front ++ place_rows texts) then_none)
     where
       no_first : (a b : Kinds) → or_else a b ≡ [] → (a ≡ []) × (b ≡ [])
       no_first [] b h = (refl, h)
@@ -138,4 +138,4 @@ module _ (names : List Named) (names_are : AreNames names) (front back : List Se
   pub distinct_rows : are_distinct bytes_eq (names_in (front ++ back)) ≡ true → rows_of_items front texts back ≡ (map row_for front ++ place_rows texts) ++ map row_for back
   distinct_rows distinct =
       let parts = and_parts (fresh front []) (fresh back (map row_for front)) (all_fresh ∙ distinct) in
-      ap (used_by back) (placed_rows parts.0) ∙ fresh_used back (map row_for front ++ place_rows texts) (behind_is ∙ parts.1)
+      ap (used_by back) (placed_rows parts.0) ∙ fresh_used back (map row_for front ++ place_rows texts) (beyond_is ∙ parts.1)

@@ -16,7 +16,7 @@ use Rattle.dbl_cli.specs.Items.{Setting, Flag, Joined, Apart, Named, name_in, va
 use Rattle.dbl_cli.proofs.ClapRules.{place, place_rule, rule_by, places_by, all_rules}
 use Rattle.dbl_cli.proofs.ClapRuns.{AreNames, option_is, flag_is}
 use Rattle.dbl_cli.proofs.ClapRows.{row_for, place_rows, at_none}
-use Rattle.dbl_cli.proofs.ClapItems.{with_id, with_name, find_behind, find_past, find_between, find_kept, place_lacks, rows_lack_place}
+use Rattle.dbl_cli.proofs.ClapItems.{with_id, with_name, find_after, find_past, find_between, find_kept, place_lacks, rows_lack_place}
 
 -- ---- defaults
 
@@ -68,7 +68,7 @@ other_once : (id : Text) (rows : List Row) (b : Bool) (own : Text) → (b || not
 other_once id rows true own other = ap (find (with_id id)) (option_default rows own)
 other_once id rows false own other = elim (cases_Bool (has_row own rows)) [
   | inl has ↦ ap (find (with_id id)) (flag_there rows own has)
-  | inr none ↦ ap (find (with_id id)) (flag_missing rows own none) ∙ find_behind id rows (default_row own ∷ []) (or_from _ _ (not-true (bytes_eq own id) other) refl)
+  | inr none ↦ ap (find (with_id id)) (flag_missing rows own none) ∙ find_after id rows (default_row own ∷ []) (or_from _ _ (not-true (bytes_eq own id) other) refl)
 ]
 
 others : (id : Text) (names : List Named) → list_all (λ (m : Named). m.has_value || not (bytes_eq m.name id)) names ≡ true

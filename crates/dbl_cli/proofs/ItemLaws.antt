@@ -56,30 +56,30 @@ option_known names name has = ap (λ o. option_map_or (λ b. b) o false) has
 flag_known : (names : List Named) (name : List ℕ) → has_value names name ≡ Some false → is_flag names name ≡ true
 flag_known names name has = ap (λ o. option_map_or not o false) has
 
-behind_item : (names : List Named) (word : List ℕ) (rest : List (List ℕ)) → is_dashed word ≡ true → kind_of names word ≡ Item → words_after names false (word ∷ rest) ≡ words_after names false rest
+after_item : (names : List Named) (word : List ℕ) (rest : List (List ℕ)) → is_dashed word ≡ true → kind_of names word ≡ Item → words_after names false (word ∷ rest) ≡ words_after names false rest
 unfolding words_after
-behind_item names word rest dash is = rw (dash, is) refl
+after_item names word rest dash is = rw (dash, is) refl
 
-behind_half : (names : List Named) (word value : List ℕ) (rest : List (List ℕ)) → is_dashed word ≡ true → kind_of names word ≡ Value → is_dashed value ≡ false
+after_half : (names : List Named) (word value : List ℕ) (rest : List (List ℕ)) → is_dashed word ≡ true → kind_of names word ≡ Value → is_dashed value ≡ false
     → words_after names false (word ∷ value ∷ rest) ≡ words_after names false rest
 unfolding words_after
-behind_half names word value rest dash is plain = rw (dash, is, plain) refl
+after_half names word value rest dash is plain = rw (dash, is, plain) refl
 
 -- flags and options are passed over
-pub behind_settings : (names : List Named) → AreNames names → (settings : List Setting) → list_all (is_known names) settings ≡ true → (rest : List (List ℕ))
+pub after_settings : (names : List Named) → AreNames names → (settings : List Setting) → list_all (is_known names) settings ≡ true → (rest : List (List ℕ))
     → words_after names false (words_of settings ++ rest) ≡ words_after names false rest
-behind_settings names names_are [] known rest = refl
-behind_settings names names_are (Flag name ∷ gs) known rest =
+after_settings names names_are [] known rest = refl
+after_settings names names_are (Flag name ∷ gs) known rest =
     let parts = and_parts (is_known names (Flag name)) (list_all (is_known names) gs) known in
-    behind_item names (dashed name) (words_of gs ++ rest) refl (kind_bare names names_are name false (flag_is names name parts.0)) ∙ behind_settings names names_are gs parts.1 rest
-behind_settings names names_are (Joined name value ∷ gs) known rest =
+    after_item names (dashed name) (words_of gs ++ rest) refl (kind_bare names names_are name false (flag_is names name parts.0)) ∙ after_settings names names_are gs parts.1 rest
+after_settings names names_are (Joined name value ∷ gs) known rest =
     let parts = and_parts (is_known names (Joined name value)) (list_all (is_known names) gs) known in
-    behind_item names (dashed name ++ (codes "=" ++ value)) (words_of gs ++ rest) refl (kind_joined names names_are name value (option_is names name parts.0)) ∙ behind_settings names names_are gs parts.1 rest
-behind_settings names names_are (Apart name value ∷ gs) known rest =
+    after_item names (dashed name ++ (codes "=" ++ value)) (words_of gs ++ rest) refl (kind_joined names names_are name value (option_is names name parts.0)) ∙ after_settings names names_are gs parts.1 rest
+after_settings names names_are (Apart name value ∷ gs) known rest =
     let parts = and_parts (is_known names (Apart name value)) (list_all (is_known names) gs) known in
     let halves = and_parts (is_option names name) (not (is_dashed value)) parts.0 in
-    behind_half names (dashed name) value (words_of gs ++ rest) refl (kind_bare names names_are name true (option_is names name halves.0)) (not-true (is_dashed value) halves.1)
-    ∙ behind_settings names names_are gs parts.1 rest
+    after_half names (dashed name) value (words_of gs ++ rest) refl (kind_bare names names_are name true (option_is names name halves.0)) (not-true (is_dashed value) halves.1)
+    ∙ after_settings names names_are gs parts.1 rest
 
 -- ---- and nothing else is
 
@@ -252,37 +252,37 @@ taken_len (word ∷ words) = go (is_dashed word) (taken_len words)
 
 -- ---- the whole look
 
-behind_nothing : (names : List Named) → words_after names false [] ≡ Some []
+after_nothing : (names : List Named) → words_after names false [] ≡ Some []
 unfolding words_after
-behind_nothing names = refl
+after_nothing names = refl
 
-behind_stops : (names : List Named) (text : List ℕ) (rest : List (List ℕ)) → is_dashed text ≡ false → words_after names false (text ∷ rest) ≡ Some (text ∷ rest)
+after_stops : (names : List Named) (text : List ℕ) (rest : List (List ℕ)) → is_dashed text ≡ false → words_after names false (text ∷ rest) ≡ Some (text ∷ rest)
 unfolding words_after
-behind_stops names text rest plain = rw plain refl
+after_stops names text rest plain = rw plain refl
 
-behind_back : (names : List Named) → AreNames names → (back : List Setting) → list_all (is_known names) back ≡ true → words_after names false (words_of back) ≡ Some []
-behind_back names names_are back known = ap (words_after names false) (sym (append-nil (words_of back))) ∙ behind_settings names names_are back known [] ∙ behind_nothing names
+after_back : (names : List Named) → AreNames names → (back : List Setting) → list_all (is_known names) back ≡ true → words_after names false (words_of back) ≡ Some []
+after_back names names_are back known = ap (words_after names false) (sym (append-nil (words_of back))) ∙ after_settings names names_are back known [] ∙ after_nothing names
 
 -- the look passes a list of items
 pub look_passes : (names : List Named) → AreNames names → (least most : ℕ) (front back : List Setting) (texts : List (List ℕ)) → list_all (is_known names) front ≡ true → list_all (is_known names) back ≡ true
     → list_all (λ text. not (is_dashed text)) texts ≡ true → leb least (length texts) ≡ true → leb (length texts) most ≡ true
     → are_items names least most (words_of front ++ (texts ++ words_of back)) ≡ true
 look_passes names names_are least most front back texts known_before known_since plain enough few =
-    ap (ends_well names least most) (behind_settings names names_are front known_before (texts ++ words_of back)) ∙ go texts plain enough few
+    ap (ends_well names least most) (after_settings names names_are front known_before (texts ++ words_of back)) ∙ go texts plain enough few
   where
     go : (ts : List (List ℕ)) → list_all (λ text. not (is_dashed text)) ts ≡ true → leb least (length ts) ≡ true → leb (length ts) most ≡ true
         → ends_well names least most (words_after names false (ts ++ words_of back)) ≡ true
     go [] p e f =
-        ap (ends_well names least most) (behind_back names names_are back known_since) ∙ (λ i. is_end (behind_nothing names i) && leb least 0 && leb 0 most) ∙ rw (e, f) refl
+        ap (ends_well names least most) (after_back names names_are back known_since) ∙ (λ i. is_end (after_nothing names i) && leb least 0 && leb 0 most) ∙ rw (e, f) refl
     go (t ∷ ts) p e f =
         let parts = and_parts (not (is_dashed t)) (list_all (λ text. not (is_dashed text)) ts) p in
         let all : List (List ℕ) = t ∷ (ts ++ words_of back) in
         let len : plain_len all ≡ length (t ∷ ts) = plain_len-front (t ∷ ts) p back in
         let left : drop (plain_len all) all ≡ words_of back = ap (λ n. drop n all) len ∙ drop_at (t ∷ ts) (words_of back) (length (t ∷ ts)) refl in
-        let ends : is_end (words_after names false (drop (plain_len all) all)) ≡ true = ap (λ l. is_end (words_after names false l)) left ∙ ap is_end (behind_back names names_are back known_since) in
+        let ends : is_end (words_after names false (drop (plain_len all) all)) ≡ true = ap (λ l. is_end (words_after names false l)) left ∙ ap is_end (after_back names names_are back known_since) in
         let low : leb least (plain_len all) ≡ true = ap (leb least) len ∙ e in
         let high : leb (plain_len all) most ≡ true = ap (λ n. leb n most) len ∙ f in
-        ap (ends_well names least most) (behind_stops names t (ts ++ words_of back) (not-true (is_dashed t) parts.0)) ∙ rw (ends, low, high) refl
+        ap (ends_well names least most) (after_stops names t (ts ++ words_of back) (not-true (is_dashed t) parts.0)) ∙ rw (ends, low, high) refl
 
 -- a list of items, but for names that are given twice
 pub record Items (names : List Named) (least most : ℕ) (words : List (List ℕ)) : Type 0 where

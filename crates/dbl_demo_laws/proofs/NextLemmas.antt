@@ -48,8 +48,8 @@ module _ {D : Type 0} (model : DiskModel D) (old : Demo D) (wal : Wal) (place : 
         by (inl none) = absurd (let wrong : None ≡ Some logged = sym none ∙ is in cc)
         by (inr kept) = ap (slice_get log) (same_index kept.1) ∙ running.reader.held_is place logged at (sym kept.0 ∙ is)
 
-    reader_behind : IsReader old.tables log (Some step.place) described held
-    reader_behind = record {
+    reader_after : IsReader old.tables log (Some step.place) described held
+    reader_after = record {
       placed = λ p is. (let same : step.place ≡ p = cc in subst (IsPlaceIn log) same next.placed);
       recalled = λ p is. (let same : step.place ≡ p = cc in subst (λ (q : ReaderPosition). Describes described (told_at old.tables log q)) same describes);
       held_is = λ p logged is holds_it. (let same : step.place ≡ p = cc in subst (λ (q : ReaderPosition). slice_get log (index_of q) ≡ Some logged) same (held_there logged holds_it));
@@ -74,7 +74,7 @@ module _ {D : Type 0} (model : DiskModel D) (old : Demo D) (wal : Wal) (place : 
         silent = running.silent;
         commits = running.commits;
         confirmed = running.confirmed;
-        reader = reader_behind;
+        reader = reader_after;
       };
     }
 

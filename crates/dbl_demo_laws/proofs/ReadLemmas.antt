@@ -89,9 +89,9 @@ module _ {D : Type 0} (model : DiskModel D) (old new : Demo D) (wal : Wal) (plac
   }
 
   -- the source after it
-  pub demo_behind : IsTrue new.live → (read : Option (List ℕ)) → new.ended ≡ is_none read → ReadAfter model wal place old new read → IsDemo model next new
-  demo_behind live None ended subsequent = record { live = live; running = subsequent.next.running; ended = λ is. ended_whole (read_whole subsequent) subsequent.next.running }
-  demo_behind live (Some bytes) ended subsequent = record { live = live; running = subsequent.next.running; ended = λ is. absurd (let wrong : true ≡ false = sym is ∙ ended in cc) }
+  pub demo_after : IsTrue new.live → (read : Option (List ℕ)) → new.ended ≡ is_none read → ReadAfter model wal place old new read → IsDemo model next new
+  demo_after live None ended subsequent = record { live = live; running = subsequent.next.running; ended = λ is. ended_whole (read_whole subsequent) subsequent.next.running }
+  demo_after live (Some bytes) ended subsequent = record { live = live; running = subsequent.next.running; ended = λ is. absurd (let wrong : true ≡ false = sym is ∙ ended in cc) }
 
   -- no message is left
   lead_none : (s : SourceState) → HasDemoState model old s → IsDemo model next new → ReadNone model next place new → HasState (HasDemoState model) new (λ t. Moved s t × (Unit {0} → HasReadAll s t))
@@ -154,14 +154,14 @@ module _ {D : Type 0} (model : DiskModel D) (old new : Demo D) (result : Result 
     where
       by : (r : Result (Option (List ℕ)) SourceError) → OnOk r (IsTrue new.live) → IfOk r (λ read. new.ended ≡ is_none read) → IfOk r (λ read. ReadAfter model stands.0 at.0 old new read)
           → IfOk r (λ read. MatchOption read (HasState (HasDemoState model) new (λ t. Moved s t × (Unit {0} → HasReadAll s t))) (λ bytes. (m : Message) × Spells bytes m × HasState (HasDemoState model) new (HasReadOneMore m s)))
-      by (Ok read) live ended subsequent = lead_read model old new stands.0 at.0 stands.1 at.1 s stands read (demo_behind model old new stands.0 at.0 stands.1 at.1 live read ended subsequent) subsequent
+      by (Ok read) live ended subsequent = lead_read model old new stands.0 at.0 stands.1 at.1 s stands read (demo_after model old new stands.0 at.0 stands.1 at.1 live read ended subsequent) subsequent
       by (Err e) live ended subsequent = tt
 
   pub read_released : OnOk result (ReadsOnTo model old new)
   read_released = by result adds.live adds.ended (λ wal is. adds.reads wal at.0 is at.1)
     where
       by : (r : Result (Option (List ℕ)) SourceError) → OnOk r (IsTrue new.live) → IfOk r (λ read. new.ended ≡ is_none read) → ((wal : Wal) → IsDemo model wal old → IfOk r (λ read. ReadAfter model wal at.0 old new read)) → OnOk r (ReadsOnTo model old new)
-      by (Ok read) live ended subsequent = λ wal is. read_on model old new wal at.0 is at.1 read (demo_behind model old new wal at.0 is at.1 live read ended (subsequent wal is)) (subsequent wal is)
+      by (Ok read) live ended subsequent = λ wal is. read_on model old new wal at.0 is at.1 read (demo_after model old new wal at.0 is at.1 live read ended (subsequent wal is)) (subsequent wal is)
       by (Err e) live ended subsequent = tt
 
   pub read_ended : IfOk result (λ read. read ≡ None → (wal : Wal) → IsDemo model wal old → HasReadWhole (with_entries wal (added_by wal old.done new.done [])) new)

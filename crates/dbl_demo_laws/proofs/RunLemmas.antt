@@ -29,7 +29,7 @@ use Rattle.dbl_demo_workload.proofs.DemoWalGrowthLaws.{forms_push, go_on}
 use Rattle.dbl_demo_laws.specs.Demo.{Demo, IsReader, IsRunning}
 use Rattle.dbl_demo_laws.specs.Reading.{IsLogged, LeavesLogged}
 use Rattle.dbl_demo_laws.specs.Running.{IsRunOf, LeavesRun, Ran}
-use Rattle.dbl_demo_workload.proofs.StepLemmas.{commit_next, places_append, silent_behind, silent_next}
+use Rattle.dbl_demo_workload.proofs.StepLemmas.{commit_next, places_append, silent_after, silent_next}
 use Rattle.dbl_demo_workload.specs.Checking.{commit_places}
 use Rattle.dbl_demo_workload.specs.Steps.{IsNextRun}
 use Rattle.std.specs.Prelude.{option_to_list, None}
@@ -205,7 +205,7 @@ module _ {D : Type 0} (model : DiskModel D) (wal : Wal) (old : Demo D) (running 
       ran_logged new logged same stays =
           let form : entry_form (Commits (old.done + 1) messages) ≡ entry_form entry = ap entry_form same_entry in
           let lists = lists_push model new.journal wal entry (entry_form (Commits (old.done + 1) messages)) form (logged.lists (forms_of wal) running.lists) in
-          let silent = silent_behind wal.workload wal.entries old.done running.silent left_in messages (log_more (Some messages) next) in
+          let silent = silent_after wal.workload wal.entries old.done running.silent left_in messages (log_more (Some messages) next) in
           let number : length old.journal.places ≡ 1 + length wal.entries = count_is model wal old running in
           let commits : new.commits ≡ commit_places 1 (one_more wal entry).entries =
           logged.commits ∙ ap (λ (l : List ℕ). l ++ length old.journal.places ∷ []) running.commits ∙ ap (λ (n : ℕ). commit_places 1 wal.entries ++ n ∷ []) number ∙ sym (places_append 1 wal.entries (entry ∷ [])) in

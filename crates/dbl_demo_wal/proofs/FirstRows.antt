@@ -29,8 +29,8 @@ module _ (raw : RawTable) where
 
   -- ---- each row stands in the table
 
-  shown_behind : (row : RawRow) (rows : List RawRow) (key : Key) → IsAbove (Some (key_as row)) key → row_shown raw (row ∷ rows) key ≡ row_shown raw rows key
-  shown_behind row rows key subsequent =
+  shown_after : (row : RawRow) (rows : List RawRow) (key : Key) → IsAbove (Some (key_as row)) key → row_shown raw (row ∷ rows) key ≡ row_shown raw rows key
+  shown_after row rows key subsequent =
       let other : key_as row ≢ key = λ same. not_below_itself key (subst (λ (k : Key). key_cmp k key ≡ Less) same subsequent) in
       shown_apart raw row rows key (same_key-other (key_as row) key other)
 
@@ -39,7 +39,7 @@ module _ (raw : RawTable) where
   each_there at bound [] rising right = tt
   each_there at bound (row ∷ rows) rising right = (
     sym (right (key_as row) rising.0 (last_up raw (key_as row) rows (key_as row) rising.1 (inl refl))) ∙ shown_first raw row rows,
-    each_there at (Some (key_as row)) rows rising.1 (λ key subsequent up. sym (shown_behind row rows key subsequent) ∙ right key (above_goes_on bound (key_as row) key rising.0 subsequent) up),
+    each_there at (Some (key_as row)) rows rising.1 (λ key subsequent up. sym (shown_after row rows key subsequent) ∙ right key (above_goes_on bound (key_as row) key rising.0 subsequent) up),
   )
 
   -- ---- the same rows as values

@@ -53,23 +53,23 @@ confirmed_from-append lsn (Confirms upto ∷ xs) ys = confirmed_from-append upto
 
 -- ---- a step
 
-commits_behind_are : (steps : ℕ) (log : List (List Message)) (known : ℕ) → AreCommits (released_commits steps log known)
-commits_behind_are steps [] known = tt
-commits_behind_are steps (messages ∷ log) zero = (tt, commits_behind_are steps log zero)
-commits_behind_are steps (messages ∷ log) (suc known) = commits_behind_are steps log known
+commits_after_are : (steps : ℕ) (log : List (List Message)) (known : ℕ) → AreCommits (released_commits steps log known)
+commits_after_are steps [] known = tt
+commits_after_are steps (messages ∷ log) zero = (tt, commits_after_are steps log zero)
+commits_after_are steps (messages ∷ log) (suc known) = commits_after_are steps log known
 
-commits_behind_is : (steps : ℕ) (old new : List (List Message)) → released_commits steps (old ++ new) (length old) ≡ map (Commits steps) new
-commits_behind_is steps [] [] = refl
-commits_behind_is steps [] (messages ∷ new) = ap (λ (l : List Entry). Commits steps messages ∷ l) (commits_behind_is steps [] new)
-commits_behind_is steps (messages ∷ old) new = commits_behind_is steps old new
+commits_after_is : (steps : ℕ) (old new : List (List Message)) → released_commits steps (old ++ new) (length old) ≡ map (Commits steps) new
+commits_after_is steps [] [] = refl
+commits_after_is steps [] (messages ∷ new) = ap (λ (l : List Entry). Commits steps messages ∷ l) (commits_after_is steps [] new)
+commits_after_is steps (messages ∷ old) new = commits_after_is steps old new
 
 -- what a step adds is what it committed
 pub entry_of_step_is : (w : Workload) (done : ℕ) (committed : Option (List Message)) → log_at w (suc done) ≡ log_at w done ++ option_to_list committed → entry_of_step w done ≡ map (Commits (suc done)) (option_to_list committed)
 entry_of_step_is w done committed h =
-    ap (λ (log : List (List Message)). released_commits (suc done) log (length (log_at w done))) h ∙ commits_behind_is (suc done) (log_at w done) (option_to_list committed)
+    ap (λ (log : List (List Message)). released_commits (suc done) log (length (log_at w done))) h ∙ commits_after_is (suc done) (log_at w done) (option_to_list committed)
 
 pub step_are : (w : Workload) (done : ℕ) → AreCommits (entry_of_step w done)
-step_are w done = commits_behind_are (suc done) (log_at w (suc done)) (length (log_at w done))
+step_are w done = commits_after_are (suc done) (log_at w (suc done)) (length (log_at w done))
 
 -- ---- steps
 

@@ -12,17 +12,17 @@ use Rattle.dbl_tables_laws.proofs.SourceLogFitLogLemmas.{message_rows}
 use Rattle.dbl_demo_wal.specs.declared.entry.Entry.{Entry}
 use Rattle.dbl_demo_wal.specs.declared.entry.Entry.TheVariants.{Commits, Marks, Confirms}
 use Rattle.dbl_tables_laws.specs.Reachable.{AreKeyed}
-use Rattle.dbl_tables_laws.proofs.KeyedLemmas.{keyed_behind}
-use Rattle.dbl_tables_laws.proofs.RangeLemmas.{AreRowsInRange, rows_behind_ranged}
+use Rattle.dbl_tables_laws.proofs.KeyedLemmas.{keyed_since}
+use Rattle.dbl_tables_laws.proofs.RangeLemmas.{AreRowsInRange, rows_since_ranged}
 use Rattle.dbl_demo_wal.specs.Sound.{session_commits, logged_in}
 
 module _ (tables : List LogTable) where
   entry_keyed : (rows : TextRows) (entry : Logged) → IsFitEntry tables rows entry → AreKeyed tables rows → AreKeyed tables (text_rows_at tables rows entry)
-  entry_keyed rows (Changes ms) fit keyed = subst (AreKeyed tables) (sym (message_rows tables ms rows)) (keyed_behind tables (changes_from tables rows ms) rows fit.changes keyed)
+  entry_keyed rows (Changes ms) fit keyed = subst (AreKeyed tables) (sym (message_rows tables ms rows)) (keyed_since tables (changes_from tables rows ms) rows fit.changes keyed)
   entry_keyed rows (Mark value) fit keyed = keyed
 
   entry_ranged : (rows : TextRows) (entry : Logged) → IsFitEntry tables rows entry → AreRowsInRange rows → AreRowsInRange (text_rows_at tables rows entry)
-  entry_ranged rows (Changes ms) fit ranged = subst AreRowsInRange (sym (message_rows tables ms rows)) (rows_behind_ranged tables (changes_from tables rows ms) rows fit.ranges.1 ranged)
+  entry_ranged rows (Changes ms) fit ranged = subst AreRowsInRange (sym (message_rows tables ms rows)) (rows_since_ranged tables (changes_from tables rows ms) rows fit.ranges.1 ranged)
   entry_ranged rows (Mark value) fit ranged = ranged
 
   pub log_keyed : (log : List Logged) (rows : TextRows) → AreFitEntries tables rows log → AreKeyed tables rows → AreKeyed tables (text_rows_through tables rows log)

@@ -20,7 +20,7 @@ use Rattle.dbl_tables_laws.specs.Laws.{MovesAtMost}
 use Rattle.dbl_tables_laws.specs.Reachable.{AreTables, IsReachable}
 use Rattle.dbl_tables_laws.proofs.AcceptedLemmas.{stands_on}
 use Rattle.dbl_tables_laws.proofs.MovedLemmas.{AreSent, IsSpelled, good_on, sent_none, spelled_none}
-use Rattle.dbl_tables_laws.proofs.SpelledLemmas.{AreRowsSpelled, IsSpelledChange, rows_behind_spelled}
+use Rattle.dbl_tables_laws.proofs.SpelledLemmas.{AreRowsSpelled, IsSpelledChange, rows_since_spelled}
 use Rattle.dbl_tables_laws.proofs.StandingLemmas.{stands_none}
 use Rattle.dbl_demo_wal.specs.declared.entry.Entry.{Entry}
 use Rattle.dbl_demo_wal.specs.declared.entry.Entry.TheVariants.{Commits, Marks, Confirms}
@@ -66,6 +66,6 @@ front_spelled tables entries rows zero are spelled = spelled
 front_spelled tables [] rows (suc count) are spelled = spelled
 front_spelled tables (Commits steps ms ∷ entries) rows (suc count) are spelled =
     front_spelled tables entries (text_rows_from tables rows ms) count are.1
-    (subst (AreRowsSpelled tables) (sym (message_rows tables ms rows)) (rows_behind_spelled tables (changes_from tables rows ms) rows are.0 spelled))
+    (subst (AreRowsSpelled tables) (sym (message_rows tables ms rows)) (rows_since_spelled tables (changes_from tables rows ms) rows are.0 spelled))
 front_spelled tables (Marks steps value ∷ entries) rows (suc count) are spelled = front_spelled tables entries rows count are spelled
 front_spelled tables (Confirms upto ∷ entries) rows (suc count) are spelled = front_spelled tables entries rows (suc count) are spelled

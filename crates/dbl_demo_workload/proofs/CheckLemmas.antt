@@ -191,14 +191,14 @@ module _ (old now : Checked) (number : ℕ) (run : IsRunTo old now number) (comm
 
 -- the steps, as the code has them
 module _ (old now : Checked) (number : ℕ) (run : IsRunTo old now number) (steps : List Step) (are : steps ≡ now.prepared.steps.items) where
-  pub behind_here : HasRunSteps steps number now.prepared.store
-  behind_here = subst (λ (s : List Step). HasRunSteps s number now.prepared.store) (sym are) (subst (λ (n : ℕ). HasRunSteps now.prepared.steps.items n now.prepared.store) run.at run.goes.has_run)
+  pub after_here : HasRunSteps steps number now.prepared.store
+  after_here = subst (λ (s : List Step). HasRunSteps s number now.prepared.store) (sym are) (subst (λ (n : ℕ). HasRunSteps now.prepared.steps.items n now.prepared.store) run.at run.goes.has_run)
 
   pub left_here : (last : ℕ) → number < last → last ≤ length old.prepared.steps.items → number < length steps
   left_here last lt le = omega (arith, lt, le, ap (λ (l : List Step). length l) (are ∙ ap (λ (x : Checked). x.prepared.steps.items) run.same))
 
-  pub behind_at : (n : ℕ) (store : Tables) → HasRunSteps steps n store → HasRunSteps now.prepared.steps.items n store
-  behind_at n store has_run = subst (λ (s : List Step). HasRunSteps s n store) are has_run
+  pub after_at : (n : ℕ) (store : Tables) → HasRunSteps steps n store → HasRunSteps now.prepared.steps.items n store
+  after_at n store has_run = subst (λ (s : List Step). HasRunSteps s n store) are has_run
 
   pub runs_next : (committed : Option (List Message)) (store : Tables) → ((w : Workload) → steps ≡ steps_of w → Stands w.tables (acts_at w number) now.prepared.store → IsNextRun w number committed store) → RunsNext now number committed store
   runs_next committed store ran w all stands = ran w (are ∙ all) stands

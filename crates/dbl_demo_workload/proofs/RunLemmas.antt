@@ -91,12 +91,12 @@ module _ (tables : List DemoTable) (past : List Accepted) (call : SessionStep) (
   ended_onto (Err e) is = onto_refused e is.0 is.1
 
   module _ (s : Step) (asks : session_step_of s ≡ Some call) where
-    behind_asked : Stands tables (accepted_onto (judged tables past call) past) new → Stands tables (acts_with tables past s) new
-    behind_asked stands = subst (λ (o : Option SessionStep). Stands tables (acts_with_call tables past o) new) (sym asks) stands
+    after_asked : Stands tables (accepted_onto (judged tables past call) past) new → Stands tables (acts_with tables past s) new
+    after_asked stands = subst (λ (o : Option SessionStep). Stands tables (acts_with_call tables past o) new) (sym asks) stands
 
     silent_run : AddsNothing tables past call → Stands tables (accepted_onto (judged tables past call) past) new → IsRun tables past s None new
     silent_run silent stands = record {
-      stands = behind_asked stands;
+      stands = after_asked stands;
       log = ap (λ (o : Option SessionStep). log_in (acts_with_call tables past o)) asks ∙ log_onto tables past call silent (judged tables past call) refl ∙ sym (append-nil (log_in past));
       short = tt;
     }

@@ -74,8 +74,8 @@ module _ (w : Workload) (entries : List Entry) (done : ℕ) (silent : IsSilent w
     pub commit_next : IsNextCommit w entries (suc done) messages
     commit_next = record { later = omega (arith, silent.later); there = omega (arith, left); none_between = silent.none_between; is = is_next }
 
-    pub silent_behind : IsSilent w (entries ++ Commits (suc done) messages ∷ []) (suc done)
-    silent_behind = record {
+    pub silent_after : IsSilent w (entries ++ Commits (suc done) messages ∷ []) (suc done)
+    silent_after = record {
       later = omega (arith, steps_from-append 0 entries (Commits (suc done) messages ∷ []));
       there = omega (arith, left);
       none_between = is_next ∙ sym (committed-push entries (Commits (suc done) messages));

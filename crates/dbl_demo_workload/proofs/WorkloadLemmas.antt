@@ -107,7 +107,7 @@ module _ (steps : List Step) (done : ℕ) (step : Step) (new : Tables) (there : 
     all_fit (Ok committed) ran = fits_entry has_run.script has_run.w has_run.is (done + 1) (log_at has_run.w done) committed (next_ran has_run.w has_run.are committed ran).log ran.short
     all_fit (Err e) ran = tt
 
-    pub all_behind : {E : Type 0} → done < length steps → (r : Result (Option (List Message)) E) → IfOk r Behind → OnOk r (HasRunSteps steps (done + 1) new)
-    all_behind left (Ok committed) ran =
+    pub all_since : {E : Type 0} → done < length steps → (r : Result (Option (List Message)) E) → IfOk r Behind → OnOk r (HasRunSteps steps (done + 1) new)
+    all_since left (Ok committed) ran =
         record { script = has_run.script; w = has_run.w; is = has_run.is; are = has_run.are; there = omega (arith, left); stands = (next_ran has_run.w has_run.are committed ran).stands }
-    all_behind left (Err e) ran = tt
+    all_since left (Err e) ran = tt

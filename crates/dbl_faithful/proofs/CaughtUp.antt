@@ -35,11 +35,11 @@ use Rattle.dbl_faithful.proofs.Caught.{starts_are_caught, earlier_moments_are_ca
 use Rattle.dbl_faithful.proofs.Exact.{AreBehind, GoOn, put_among, first_print, log_more, log_others}
 use Rattle.dbl_faithful.proofs.Items.{at_left, at_right, at_cases, taken_at, drop_get, take_within, all_by_place, at_all, all_weaker, zip_at, zip_append, zip_length, filter_whole}
 use Rattle.dbl_faithful.proofs.News.{AreBefore, fresh_place}
-use Rattle.dbl_faithful.proofs.Positions.{rising_behind, end_after, end_under, end_moment, start_moment}
+use Rattle.dbl_faithful.proofs.Positions.{rising_after, end_after, end_under, end_moment, start_moment}
 use Rattle.dbl_faithful.proofs.Prints.{prints_are_caught, all_prints_are_caught}
 use Rattle.dbl_faithful.proofs.Reached.{put_reached}
-use Rattle.dbl_faithful.proofs.RightSnapshots.{at_test, at-append, at_others, mark_is_silent, right_behind, right_kept, right_longer, listing, listing_places, listing_others, rows_in_range}
-use Rattle.dbl_faithful.proofs.Trace.{of_commit, told_above, events_since-append, behind_rise, behind_changes, behind_all, behind_none, print_place}
+use Rattle.dbl_faithful.proofs.RightSnapshots.{at_test, at-append, at_others, mark_is_silent, right_after, right_kept, right_longer, listing, listing_places, listing_others, rows_in_range}
+use Rattle.dbl_faithful.proofs.Trace.{of_commit, told_above, events_since-append, after_rise, after_changes, since_all, since_none, print_place}
 
 -- ---- numbers and lists
 
@@ -70,14 +70,14 @@ under_count (x ∷ xs) (suc count) under =
 told_parts : (infos : List TableInfo) (start : ℕ) (commits before later : List Commit) → commits ≡ before ++ later → AllByRecursion (λ c. start < c.lsn.0) later → events_since infos start commits ≡ events_since infos start before ++ events_of_commits infos later
 told_parts infos start commits before later is ahead =
     ap (events_since infos start) is
-    ∙ (events_since-append infos start before later ∙ ap (λ (l : List Commit). events_since infos start before ++ events_of_commits infos l) (behind_all start later ahead))
+    ∙ (events_since-append infos start before later ∙ ap (λ (l : List Commit). events_since infos start before ++ events_of_commits infos l) (since_all start later ahead))
 
 -- with the next commit
 told_next : (infos : List TableInfo) (start : ℕ) (before : List Commit) (c : Commit) → start < c.lsn.0 → length (events_since infos start (before ++ c ∷ [])) ≡ length (events_since infos start before) + length (events_of_commit infos c)
 told_next infos start before c lt =
     ap length (events_since-append infos start before (c ∷ []))
     ∙ (length-append (events_since infos start before) (events_since infos start (c ∷ []))
-    ∙ ap (λ (n : ℕ). length (events_since infos start before) + n) (ap (λ (l : List Commit). length (events_of_commits infos l)) (behind_all start (c ∷ []) (lt, tt)) ∙ ap length (append-nil (events_of_commit infos c))))
+    ∙ ap (λ (n : ℕ). length (events_since infos start before) + n) (ap (λ (l : List Commit). length (events_of_commits infos l)) (since_all start (c ∷ []) (lt, tt)) ∙ ap length (append-nil (events_of_commit infos c))))
 
 split_next : (commits before : List Commit) (c : Commit) (later : List Commit) → commits ≡ before ++ c ∷ later → commits ≡ (before ++ c ∷ []) ++ later
 split_next commits before c later is = is ∙ sym (append_assoc before (c ∷ []) later)
@@ -110,7 +110,7 @@ pub starts_are_caught_up : StartsAreCaughtUp
 starts_are_caught_up identity infos commits before later start far fit is ends =
     let rise : AreRising 0 (lsns (before ++ later)) = subst (λ (l : List Commit). AreRising 0 (lsns l)) is fit.rise in
     let moment : moment_at commits start ≡ moment_after before = ap (λ (l : List Commit). moment_at l start) is ∙ end_moment start before later rise ends in
-    let none : events_since infos start before ≡ [] = ap (events_of_commits infos) (behind_none start before (end_under start before later rise ends)) in
+    let none : events_since infos start before ≡ [] = ap (events_of_commits infos) (since_none start before (end_under start before later rise ends)) in
     fresh_start identity infos commits before later start far [] fit is (end_after start before later rise ends)
     (subst (AgreesUpTo identity infos commits (moment_at commits start) []) moment (starts_are_caught identity infos commits (moment_at commits start)))
     (record {
@@ -127,7 +127,7 @@ put_logs_are_caught_up identity infos commits before later start far records fit
     let reached : moment_after before ≤ last_moment infos commits (moment_at commits start) records =
     subst (λ (l : List Commit). moment_after before ≤ last_moment infos l (moment_at l start) records) (sym is) (put_reached identity infos start before later records (subst (AreFitCommits infos) is fit) put) in
     let under : (k : ℕ) (t : ToldEvent) → slice_get (events_since infos start before) k ≡ Some t → k < exact.0 =
-    (λ k t at. put_among identity told (behind_rise infos start 0 commits fit.rise) (behind_changes identity infos start commits fit.in_range) records exact.0 k t exact.1
+    (λ k t at. put_among identity told (after_rise infos start 0 commits fit.rise) (after_changes identity infos start commits fit.in_range) records exact.0 k t exact.1
     (ap (λ (l : List ToldEvent). slice_get l k) parts ∙ at_left (events_since infos start before) (events_of_commits infos later) k t at) (put k t at)) in
     fresh_start identity infos commits before later start far records fit is ahead
     (record { aged = aged; reached = reached; agrees = agrees; named = named })
@@ -164,7 +164,7 @@ pub sent_records_are_caught_up : SentRecordsAreCaughtUp
 sent_records_are_caught_up identity infos commits before commit later start far sent records more zipped up =
     let told : List ToldEvent = events_since infos start commits in
     let parts : told ≡ events_since infos start before ++ events_of_commits infos (commit ∷ later) = told_parts infos start commits before (commit ∷ later) up.spelled up.after_start in
-    let kinds = behind_changes identity infos start commits up.fit.in_range in
+    let kinds = after_changes identity infos start commits up.fit.in_range in
     let stands : (j : ℕ) (item : Record) → slice_get more j ≡ Some item → (t : ToldEvent) × (slice_get (events_of_commit infos commit) (sent + j) ≡ Some t) × IsPrint identity t item =
     (λ j item at. (
     let found = zip_at (IsClearPrint identity) (take (length more) (drop sent (events_of_commit infos commit))) more j item zipped at in
@@ -183,8 +183,8 @@ sent_records_are_caught_up identity infos commits before commit later start far 
     (λ j item at. (
     let found = stands j item at in
     ap (λ (p : Place). p.0) (print_place identity found.0 item found.2) ∙ (of_commit infos commit (sent + j) found.0 found.1).1)) in
-    let subsequent : AreBehind identity told records = right_behind identity infos start commits records up.fit.rise up.snapshots in
-    let logged = log_more identity told (behind_rise infos start 0 commits up.fit.rise) kinds records more (length (events_since infos start before) + sent) go_on subsequent up.log in
+    let subsequent : AreBehind identity told records = right_after identity infos start commits records up.fit.rise up.snapshots in
+    let logged = log_more identity told (after_rise infos start 0 commits up.fit.rise) kinds records more (length (events_since infos start before) + sent) go_on subsequent up.log in
     let change : (j : ℕ) (item : Record) → slice_get more j ≡ Some item → is_change_record item ≡ true =
     (λ j item at. (let found = go_on j item at in kinds (length (events_since infos start before) + sent + j) found.0 item found.1 found.2)) in
     let apart : (place : ℕ) (old : Record) → slice_get records place ≡ Some old → is_change_record old ≡ false → (j : ℕ) (item : Record) → slice_get more j ≡ Some item → item.position ≡ old.position → ⊥ =
@@ -338,11 +338,11 @@ module _ (identity : Identity) (infos : List TableInfo) (commits before : List C
       elim (at_cases (events_since infos start before) (events_of_commits infos (mark ∷ later)) number t (ap (λ (l : List ToldEvent). slice_get l number) (sym (told_parts infos start commits before (mark ∷ later) up.spelled up.after_start)) ∙ at)) [
         | inl early ↦ (
             let index : number < up.log.count = soon number (length (events_since infos start before)) up.log.count (slice_get-lt (events_since infos start before) number t early) up.log.not_after in
-            let first = first_print identity told (behind_rise infos start 0 commits up.fit.rise) (behind_changes identity infos start commits up.fit.in_range) records up.log.count number t up.log.exact at index in
+            let first = first_print identity told (after_rise infos start 0 commits up.fit.rise) (after_changes identity infos start commits up.fit.in_range) records up.log.count number t up.log.exact at index in
             record { place = first.2.place; item = first.0; stands = at_left records (take n snapshot) first.2.place first.0 first.2.stands; is = first.1 })
         | inr late ↦ elim (at_cases (events_of_commit infos mark) (events_of_commits infos later) late.0 t late.1) [
           | inl here ↦ absurd (not_below mark.lsn.0 t.event.position lt (of_commit infos mark late.0 t here).1)
-          | inr subsequent ↦ absurd (not_above mark.lsn.0 t.event.position lt (told_above infos mark.lsn.0 later (rising_behind 0 before mark later facts.rise) subsequent.0 t subsequent.1))
+          | inr subsequent ↦ absurd (not_above mark.lsn.0 t.event.position lt (told_above infos mark.lsn.0 later (rising_after 0 before mark later facts.rise) subsequent.0 t subsequent.1))
         ]
       ]
     where
@@ -388,7 +388,7 @@ module _ (identity : Identity) (infos : List TableInfo) (commits before : List C
 
   window_log : IsExactLog identity told (records ++ take n snapshot) (length (events_since infos start before))
   window_log =
-      log_others identity told (behind_rise infos start 0 commits up.fit.rise) (behind_changes identity infos start commits up.fit.in_range) records (take n snapshot) (length (events_since infos start before)) others
+      log_others identity told (after_rise infos start 0 commits up.fit.rise) (after_changes identity infos start commits up.fit.in_range) records (take n snapshot) (length (events_since infos start before)) others
       (subst (IsExactLog identity told records) (sym (nothing_sent (length (events_since infos start before)))) up.log)
 
 pub snapshots_are_caught_up : SnapshotsAreCaughtUp
@@ -480,5 +480,5 @@ delivered_events_are_put identity infos commits before later start far sent reco
     let parts : told ≡ events_since infos start before ++ events_of_commits infos later = told_parts infos start commits before later up.spelled up.after_start in
     let here : slice_get told number ≡ Some t = ap (λ (l : List ToldEvent). slice_get l number) parts ∙ at_left (events_since infos start before) (events_of_commits infos later) number t at in
     let index : number < up.log.count = among_first number (length (events_since infos start before)) sent up.log.count (slice_get-lt (events_since infos start before) number t at) up.log.not_after in
-    let first = first_print identity told (behind_rise infos start 0 commits up.fit.rise) (behind_changes identity infos start commits up.fit.in_range) records up.log.count number t up.log.exact here index in
+    let first = first_print identity told (after_rise infos start 0 commits up.fit.rise) (after_changes identity infos start commits up.fit.in_range) records up.log.count number t up.log.exact here index in
     record { place = first.2.place; item = first.0; stands = first.2.stands; is = first.1 }

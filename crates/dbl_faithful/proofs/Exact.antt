@@ -13,7 +13,7 @@ use Rattle.dbl_faithful.specs.ExactLogs.{is_fresh, news_of, news, IsExact}
 use Rattle.dbl_faithful.specs.ExactLaws.{IsFreshChange, Repeats, ExactLogsHaveOneCount, RepeatsAreEarlier, GapsSpoilExactLogs}
 use Rattle.dbl_faithful.specs.CaughtUp.{IsExactLog}
 use Rattle.dbl_faithful.proofs.Items.{at_left, at_cases, at_take, taken_at, only_item, take_push, taken_length, all_by_place, at_all, zip_beside, zip_length, zip_append}
-use Rattle.dbl_faithful.proofs.Trace.{told_place, print_place, TellsRise, TellChanges, not_at_itself, told_one, behind_rise, behind_changes}
+use Rattle.dbl_faithful.proofs.Trace.{told_place, print_place, TellsRise, TellChanges, not_at_itself, told_one, after_rise, after_changes}
 use Rattle.dbl_faithful.proofs.News.{AreBefore, fresh_true, stale, fresh_before, news_fresh, news_stale, news_other, news-push, news_same, news_stand}
 
 two_ways : {X : Type 0} (b : Bool) → b ≡ true → b ≡ false → X
@@ -80,8 +80,8 @@ module _ (identity : Identity) (told : List ToldEvent) (rise : TellsRise told) (
       }
 
   -- the next event is after every record
-  next_behind : (records : List Record) (t : ToldEvent) (item : Record) (count : ℕ) → IsExact identity told records count → AreBehind identity told records → slice_get told count ≡ Some t → IsPrint identity t item → AreBefore records item
-  next_behind records t item count exact subsequent at is = all_by_place (λ (earlier : Record). IsBefore (place_of earlier) (place_of item)) records (λ k x there. before k x there (bool_case (is_change_record x)))
+  next_after : (records : List Record) (t : ToldEvent) (item : Record) (count : ℕ) → IsExact identity told records count → AreBehind identity told records → slice_get told count ≡ Some t → IsPrint identity t item → AreBefore records item
+  next_after records t item count exact subsequent at is = all_by_place (λ (earlier : Record). IsBefore (place_of earlier) (place_of item)) records (λ k x there. before k x there (bool_case (is_change_record x)))
     where
       before : (k : ℕ) (x : Record) → slice_get records k ≡ Some x → (is_change_record x ≡ true) ⊎ (is_change_record x ≡ false) → IsBefore (place_of x) (place_of item)
       before k x there (inl change) = (
@@ -104,7 +104,7 @@ module _ (identity : Identity) (told : List ToldEvent) (rise : TellsRise told) (
       → IsExact identity told (records ++ item ∷ []) (suc count)
   exact_next records t item count exact subsequent at is =
       let change : is_change_record item ≡ true = kinds count t item at is in
-      let fresh : is_fresh records item ≡ true = fresh_true records item (next_behind records t item count exact subsequent at is) in
+      let fresh : is_fresh records item ≡ true = fresh_true records item (next_after records t item count exact subsequent at is) in
       let one : news_of records item ≡ item ∷ [] = news_fresh records item fresh change in
       let news_are : news (records ++ item ∷ []) ≡ news records ++ item ∷ [] = news-push records item ∙ ap (λ (l : List Record). news records ++ l) one in
       let told_are : take (suc count) told ≡ take count told ++ t ∷ [] = take_push told count t at in
@@ -144,8 +144,8 @@ module _ (identity : Identity) (told : List ToldEvent) (rise : TellsRise told) (
 
   -- ---- what was put stays put
 
-  pub behind_change : (records : List Record) (item : Record) → is_change_record item ≡ true → AreBehind identity told records → AreBehind identity told (records ++ item ∷ [])
-  behind_change records item change subsequent = record {
+  pub after_change : (records : List Record) (item : Record) → is_change_record item ≡ true → AreBehind identity told records → AreBehind identity told (records ++ item ∷ [])
+  after_change records item change subsequent = record {
     put = λ place x there other number t at lt. elim (at_cases records (item ∷ []) place x there) [
       | inl before ↦ put_more identity records (item ∷ []) t (subsequent.put place x before other number t at lt)
       | inr last ↦ two_ways (is_change_record x) (ap is_change_record (sym (only_item item x last.0 last.1)) ∙ change) other
@@ -189,7 +189,7 @@ module _ (identity : Identity) (told : List ToldEvent) (rise : TellsRise told) (
       let here : index + 0 ≡ index = omega arith in
       let at : slice_get told index ≡ Some own.0 = ap (slice_get told) (sym here) ∙ own.1 in
       let later : GoOn identity told (suc index) more = (λ j x there. moved j (next (suc j) x there)) in
-      let rest = log_more (records ++ item ∷ []) more (suc index) later (behind_change records item (kinds index own.0 item at own.2) subsequent) (log_one records index own.0 item at own.2 subsequent log) in
+      let rest = log_more (records ++ item ∷ []) more (suc index) later (after_change records item (kinds index own.0 item at own.2) subsequent) (log_one records index own.0 item at own.2 subsequent log) in
       let count : suc index + length more ≡ index + suc (length more) = omega arith in
       let list : (records ++ item ∷ []) ++ more ≡ records ++ item ∷ more = append_assoc records (item ∷ []) more in (
         subst (IsExactLog identity told (records ++ item ∷ more)) count (subst (λ (l : List Record). IsExactLog identity told l (suc index + length more)) list rest.0),
@@ -255,8 +255,8 @@ exact_logs_have_one_count identity told records a b one two =
 
 pub repeats_are_earlier : RepeatsAreEarlier
 repeats_are_earlier identity infos commits start records place item fit log at change isnt =
-    repeats identity (events_since infos start commits) (behind_rise infos start 0 commits fit.rise) (behind_changes identity infos start commits fit.in_range) records log.0 place item log.1 at change isnt
+    repeats identity (events_since infos start commits) (after_rise infos start 0 commits fit.rise) (after_changes identity infos start commits fit.in_range) records log.0 place item log.1 at change isnt
 
 pub gaps_spoil_exact_logs : GapsSpoilExactLogs
 gaps_spoil_exact_logs identity infos commits start records place number item late event fit at at_told lt unput is log =
-    gaps identity (events_since infos start commits) (behind_rise infos start 0 commits fit.rise) (behind_changes identity infos start commits fit.in_range) records log.0 place number item late event at at_told lt unput is log.1
+    gaps identity (events_since infos start commits) (after_rise infos start 0 commits fit.rise) (after_changes identity infos start commits fit.in_range) records log.0 place number item late event at at_told lt unput is log.1

@@ -127,8 +127,8 @@ caught_up_stores_are_faithful history confirmed records offset before later far 
     not_both p l le lt = omega (arith, le, lt)
 
     -- an event after the delivered commits is after the LSN
-    behind_lsn : (k : ℕ) (t : ToldEvent) → slice_get (events_since offset.infos offset.start.0 later) k ≡ Some t → offset.lsn.0 < t.event.position
-    behind_lsn k t at =
+    after_lsn : (k : ℕ) (t : ToldEvent) → slice_get (events_since offset.infos offset.start.0 later) k ≡ Some t → offset.lsn.0 < t.event.position
+    after_lsn k t at =
         let found = told_at offset.infos (commits_since offset.start.0 later) k t at in
         subst (λ (p : ℕ). offset.lsn.0 < p) (sym (event_position offset.infos (commits_since offset.start.0 later) t found))
         (at_all (λ (c : Commit). offset.lsn.0 < c.lsn.0) (commits_since offset.start.0 later) found.place t.commit
@@ -139,7 +139,7 @@ caught_up_stores_are_faithful history confirmed records offset before later far 
         elim (at_cases (events_since offset.infos offset.start.0 before) (events_since offset.infos offset.start.0 later) number t
         (ap (λ (l : List ToldEvent). slice_get l number) (sym (ap (events_since offset.infos offset.start.0) up.spelled ∙ events_since-append offset.infos offset.start.0 before later)) ∙ at)) [
           | inl known ↦ delivered_events_are_put offset.identity offset.infos (captured_commits history offset) before later offset.start.0 far sent records up number t known
-          | inr late ↦ absurd (not_both t.event.position offset.lsn.0 le (behind_lsn late.0 t late.1))
+          | inr late ↦ absurd (not_both t.event.position offset.lsn.0 le (after_lsn late.0 t late.1))
         ]
 
 -- ---- a first offset

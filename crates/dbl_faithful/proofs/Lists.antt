@@ -41,31 +41,31 @@ last_above : (most : ℕ) (rest more : List RawCommit) → AreRising most (map (
 last_above most [] more is = raw_above most most more (le_refl most) is
 last_above most (x ∷ rest) more is = all_over most x.lsn.0 more is.0 (last_above x.lsn.0 rest more is.1)
 
-behind_old : (low : ℕ) (commits more : List RawCommit) → AreRising low (map (λ (c : RawCommit). c.lsn.0) (commits ++ more)) → (place position : ℕ) → slice_get (map (λ (c : RawCommit). c.lsn.0) commits) place ≡ Some position
+after_old : (low : ℕ) (commits more : List RawCommit) → AreRising low (map (λ (c : RawCommit). c.lsn.0) (commits ++ more)) → (place position : ℕ) → slice_get (map (λ (c : RawCommit). c.lsn.0) commits) place ≡ Some position
     → AllByRecursion (λ commit. position < commit.lsn.0) more
-behind_old low [] more rise place position at = cc
-behind_old low (c ∷ commits) more rise zero position at = subst (λ (p : ℕ). AllByRecursion (λ (commit : RawCommit). p < commit.lsn.0) more) (first_some c.lsn.0 position at) (last_above c.lsn.0 commits more rise.1)
-behind_old low (c ∷ commits) more rise (suc place) position at = behind_old c.lsn.0 commits more rise.1 place position at
+after_old low [] more rise place position at = cc
+after_old low (c ∷ commits) more rise zero position at = subst (λ (p : ℕ). AllByRecursion (λ (commit : RawCommit). p < commit.lsn.0) more) (first_some c.lsn.0 position at) (last_above c.lsn.0 commits more rise.1)
+after_old low (c ∷ commits) more rise (suc place) position at = after_old c.lsn.0 commits more rise.1 place position at
 
-behind_zero : (low : ℕ) (commits more : List RawCommit) → AreRising low (map (λ (c : RawCommit). c.lsn.0) (commits ++ more)) → AllByRecursion (λ commit. 0 < commit.lsn.0) more
-behind_zero low [] more rise = raw_above 0 low more (least low) rise
+after_zero : (low : ℕ) (commits more : List RawCommit) → AreRising low (map (λ (c : RawCommit). c.lsn.0) (commits ++ more)) → AllByRecursion (λ commit. 0 < commit.lsn.0) more
+after_zero low [] more rise = raw_above 0 low more (least low) rise
   where
     least : (n : ℕ) → 0 ≤ n
     least n = omega arith
-behind_zero low (c ∷ commits) more rise = behind_zero c.lsn.0 commits more rise.1
+after_zero low (c ∷ commits) more rise = after_zero c.lsn.0 commits more rise.1
 
 -- new commits are after each position of the history
-pub behind_position : (history : History) (more : List RawCommit) → IsRising (longer history more) → (position : ℕ) → IsPositionOf history position → AllByRecursion (λ commit. position < commit.lsn.0) more
-behind_position history more rise position (inl none) = subst (λ (p : ℕ). AllByRecursion (λ (commit : RawCommit). p < commit.lsn.0) more) (sym none) (behind_zero 0 history.commits more rise)
-behind_position history more rise position (inr at) = behind_old 0 history.commits more rise at.0 position at.1
+pub after_position : (history : History) (more : List RawCommit) → IsRising (longer history more) → (position : ℕ) → IsPositionOf history position → AllByRecursion (λ commit. position < commit.lsn.0) more
+after_position history more rise position (inl none) = subst (λ (p : ℕ). AllByRecursion (λ (commit : RawCommit). p < commit.lsn.0) more) (sym none) (after_zero 0 history.commits more rise)
+after_position history more rise position (inr at) = after_old 0 history.commits more rise at.0 position at.1
 
 -- and after every record that stands at a commit
-pub behind_top : (history : History) (more : List RawCommit) → IsRising (longer history more) → (records : List Record) → ((place : ℕ) (item : Record) → slice_get records place ≡ Some item → IsCommitAt history item.position)
+pub after_top : (history : History) (more : List RawCommit) → IsRising (longer history more) → (records : List Record) → ((place : ℕ) (item : Record) → slice_get records place ≡ Some item → IsCommitAt history item.position)
     → AllByRecursion (λ commit. top_position records < commit.lsn.0) more
-behind_top history more rise records stand = all_by_place (λ (commit : RawCommit). top_position records < commit.lsn.0) more (λ k commit at.
-    top_below commit.lsn.0 records (at_all (λ (c : RawCommit). 0 < c.lsn.0) more k commit (behind_zero 0 history.commits more rise) at)
+after_top history more rise records stand = all_by_place (λ (commit : RawCommit). top_position records < commit.lsn.0) more (λ k commit at.
+    top_below commit.lsn.0 records (at_all (λ (c : RawCommit). 0 < c.lsn.0) more k commit (after_zero 0 history.commits more rise) at)
     (all_by_place (λ (item : Record). item.position < commit.lsn.0) records (λ place item there.
-    at_all (λ (c : RawCommit). item.position < c.lsn.0) more k commit (behind_position history more rise item.position (inr (stand place item there))) at)))
+    at_all (λ (c : RawCommit). item.position < c.lsn.0) more k commit (after_position history more rise item.position (inr (stand place item there))) at)))
 
 pub still_at : (history : History) (more : List RawCommit) (position : ℕ) → IsCommitAt history position → IsCommitAt (longer history more) position
 still_at history more position at =

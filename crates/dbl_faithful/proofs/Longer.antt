@@ -52,10 +52,10 @@ not_both p l le lt = omega (arith, le, lt)
 -- ---- where new commits stand
 
 -- after each commit that was there
-behind_old : (low : ℕ) (commits more : List RawCommit) → AreRising low (map (λ (c : RawCommit). c.lsn.0) (commits ++ more)) → (place position : ℕ) → slice_get (map (λ (c : RawCommit). c.lsn.0) commits) place ≡ Some position
+after_old : (low : ℕ) (commits more : List RawCommit) → AreRising low (map (λ (c : RawCommit). c.lsn.0) (commits ++ more)) → (place position : ℕ) → slice_get (map (λ (c : RawCommit). c.lsn.0) commits) place ≡ Some position
     → AllByRecursion (λ commit. position < commit.lsn.0) more
-behind_old low [] more rise place position at = cc
-behind_old low (c ∷ commits) more rise zero position at = subst (λ (p : ℕ). AllByRecursion (λ (commit : RawCommit). p < commit.lsn.0) more) (first_some c.lsn.0 position at) (last_above c.lsn.0 commits rise.1)
+after_old low [] more rise place position at = cc
+after_old low (c ∷ commits) more rise zero position at = subst (λ (p : ℕ). AllByRecursion (λ (commit : RawCommit). p < commit.lsn.0) more) (first_some c.lsn.0 position at) (last_above c.lsn.0 commits rise.1)
   where
     last_above : (most : ℕ) (rest : List RawCommit) → AreRising most (map (λ (x : RawCommit). x.lsn.0) (rest ++ more)) → AllByRecursion (λ commit. most < commit.lsn.0) more
     last_above most [] is = raw_above most most more (le_refl most) is
@@ -67,31 +67,31 @@ behind_old low (c ∷ commits) more rise zero position at = subst (λ (p : ℕ).
         all_over : (a b : ℕ) (cs : List RawCommit) → a < b → AllByRecursion (λ commit. b < commit.lsn.0) cs → AllByRecursion (λ commit. a < commit.lsn.0) cs
         all_over a b [] lt all = tt
         all_over a b (y ∷ cs) lt all = (further a b y.lsn.0 lt all.0, all_over a b cs lt all.1)
-behind_old low (c ∷ commits) more rise (suc place) position at = behind_old c.lsn.0 commits more rise.1 place position at
+after_old low (c ∷ commits) more rise (suc place) position at = after_old c.lsn.0 commits more rise.1 place position at
 
 -- and after 0
-behind_zero : (low : ℕ) (commits more : List RawCommit) → AreRising low (map (λ (c : RawCommit). c.lsn.0) (commits ++ more)) → AllByRecursion (λ commit. 0 < commit.lsn.0) more
-behind_zero low [] more rise = raw_above 0 low more (least low) rise
+after_zero : (low : ℕ) (commits more : List RawCommit) → AreRising low (map (λ (c : RawCommit). c.lsn.0) (commits ++ more)) → AllByRecursion (λ commit. 0 < commit.lsn.0) more
+after_zero low [] more rise = raw_above 0 low more (least low) rise
   where
     least : (n : ℕ) → 0 ≤ n
     least n = omega arith
-behind_zero low (c ∷ commits) more rise = behind_zero c.lsn.0 commits more rise.1
+after_zero low (c ∷ commits) more rise = after_zero c.lsn.0 commits more rise.1
 
 module _ (history : History) (more : List RawCommit) (rise : AreRising 0 (map (λ (c : RawCommit). c.lsn.0) (history.commits ++ more))) where
-  behind_position : (position : ℕ) → IsPositionOf history position → AllByRecursion (λ commit. position < commit.lsn.0) more
-  behind_position position (inl none) = subst (λ (p : ℕ). AllByRecursion (λ (commit : RawCommit). p < commit.lsn.0) more) (sym none) (behind_zero 0 history.commits more rise)
-  behind_position position (inr at) = behind_old 0 history.commits more rise at.0 position at.1
+  after_position : (position : ℕ) → IsPositionOf history position → AllByRecursion (λ commit. position < commit.lsn.0) more
+  after_position position (inl none) = subst (λ (p : ℕ). AllByRecursion (λ (commit : RawCommit). p < commit.lsn.0) more) (sym none) (after_zero 0 history.commits more rise)
+  after_position position (inr at) = after_old 0 history.commits more rise at.0 position at.1
 
-  behind_lsn : (offset : Offset) → IsPositionOf history offset.start.0 → (offset.lsn.0 ≡ offset.start.0) ⊎ IsCommitAt history offset.lsn.0 → AllByRecursion (λ commit. offset.lsn.0 < commit.lsn.0) more
-  behind_lsn offset start (inl same) = subst (λ (p : ℕ). AllByRecursion (λ (commit : RawCommit). p < commit.lsn.0) more) (sym same) (behind_position offset.start.0 start)
-  behind_lsn offset start (inr at) = behind_position offset.lsn.0 (inr at)
+  after_lsn : (offset : Offset) → IsPositionOf history offset.start.0 → (offset.lsn.0 ≡ offset.start.0) ⊎ IsCommitAt history offset.lsn.0 → AllByRecursion (λ commit. offset.lsn.0 < commit.lsn.0) more
+  after_lsn offset start (inl same) = subst (λ (p : ℕ). AllByRecursion (λ (commit : RawCommit). p < commit.lsn.0) more) (sym same) (after_position offset.start.0 start)
+  after_lsn offset start (inr at) = after_position offset.lsn.0 (inr at)
 
   -- and after every record that stands at a commit
-  behind_top : (records : List Record) → ((place : ℕ) (item : Record) → slice_get records place ≡ Some item → IsCommitAt history item.position) → AllByRecursion (λ commit. top_position records < commit.lsn.0) more
-  behind_top records stand = all_by_place (λ (commit : RawCommit). top_position records < commit.lsn.0) more (λ k commit at.
-      top_below commit.lsn.0 records (at_all (λ (c : RawCommit). 0 < c.lsn.0) more k commit (behind_zero 0 history.commits more rise) at)
+  after_top : (records : List Record) → ((place : ℕ) (item : Record) → slice_get records place ≡ Some item → IsCommitAt history item.position) → AllByRecursion (λ commit. top_position records < commit.lsn.0) more
+  after_top records stand = all_by_place (λ (commit : RawCommit). top_position records < commit.lsn.0) more (λ k commit at.
+      top_below commit.lsn.0 records (at_all (λ (c : RawCommit). 0 < c.lsn.0) more k commit (after_zero 0 history.commits more rise) at)
       (all_by_place (λ (item : Record). item.position < commit.lsn.0) records (λ place item there.
-      at_all (λ (c : RawCommit). item.position < c.lsn.0) more k commit (behind_position item.position (inr (stand place item there))) at)))
+      at_all (λ (c : RawCommit). item.position < c.lsn.0) more k commit (after_position item.position (inr (stand place item there))) at)))
 
 -- ---- what stands of an offset
 
@@ -135,9 +135,9 @@ module _ (history : History) (more : List RawCommit) (confirmed : Lsn) (records 
       subst (λ (p : ℕ). offset.lsn.0 < p) (sym (event_position offset.infos (commits_since offset.start.0 new) t found))
       (at_all (λ (c : Commit). offset.lsn.0 < c.lsn.0) (commits_since offset.start.0 new) found.place t.commit (all_filter (λ (c : Commit). offset.lsn.0 < c.lsn.0) (λ (c : Commit). nat_lt offset.start.0 c.lsn.0) new high) found.commit_at)
 
-  still_behind : IsFitHistory (longer history more) → IsBehind history confirmed records offset → IsBehind (longer history more) confirmed records offset
-  still_behind fit lags =
-      let high : AllByRecursion (λ (c : Commit). offset.lsn.0 < c.lsn.0) new = typed_more offset.infos (λ n. offset.lsn.0 < n) more (behind_lsn history more fit.rising offset lags.offset_is.start lags.offset_is.lsn) in
+  still_after : IsFitHistory (longer history more) → IsBehind history confirmed records offset → IsBehind (longer history more) confirmed records offset
+  still_after fit lags =
+      let high : AllByRecursion (λ (c : Commit). offset.lsn.0 < c.lsn.0) new = typed_more offset.infos (λ n. offset.lsn.0 < n) more (after_lsn history more fit.rising offset lags.offset_is.start lags.offset_is.lsn) in
       record {
         offset_is = still_offset lags.offset_is;
         has_records = λ number t at le. elim (at_cases (events_since offset.infos offset.start.0 (captured_commits history offset)) (events_since offset.infos offset.start.0 new) number t
@@ -158,8 +158,8 @@ module _ (history : History) (more : List RawCommit) (confirmed : Lsn) (records 
       let is : IsOffsetOf history confirmed records offset = faithful.lags.offset_is in
       let begins = faithful_stores_are_caught_up history confirmed records offset fit faithful in
       let facts : AreFitCommits offset.infos (captured_commits (longer history more) offset) = fit_commits (longer history more) offset.infos fit_longer (still_infos is.infos) in
-      let far : AllByRecursion (λ (c : Commit). top_position records < c.lsn.0) new = typed_more offset.infos (λ n. top_position records < n) more (behind_top history more fit_longer.rising records (λ place item at. faithful_records_stand history confirmed records offset place item faithful at)) in
-      let high : AllByRecursion (λ (c : Commit). offset.lsn.0 < c.lsn.0) new = typed_more offset.infos (λ n. offset.lsn.0 < n) more (behind_lsn history more fit_longer.rising offset is.start is.lsn) in
+      let far : AllByRecursion (λ (c : Commit). top_position records < c.lsn.0) new = typed_more offset.infos (λ n. top_position records < n) more (after_top history more fit_longer.rising records (λ place item at. faithful_records_stand history confirmed records offset place item faithful at)) in
+      let high : AllByRecursion (λ (c : Commit). offset.lsn.0 < c.lsn.0) new = typed_more offset.infos (λ n. offset.lsn.0 < n) more (after_lsn history more fit_longer.rising offset is.start is.lsn) in
       let up : HasDeliveredUpTo offset.identity offset.infos (captured_commits (longer history more) offset) offset.start.0 (top_position records) begins.before (begins.later ++ new) 0 records =
       subst (λ (l : List Commit). HasDeliveredUpTo offset.identity offset.infos l offset.start.0 (top_position records) begins.before (begins.later ++ new) 0 records) (sym list)
       (longer_histories_are_caught_up offset.identity offset.infos (captured_commits history offset) begins.before begins.later new offset.start.0 (top_position records) 0 records (subst (AreFitCommits offset.infos) list facts) (pairs new far high is.order) begins.delivered) in
@@ -174,7 +174,7 @@ pub longer_histories_keep_offsets : LongerHistoriesKeepOffsets
 longer_histories_keep_offsets old new more confirmed records offset grown marks =
     let same : longer old more ≡ new = sym (is_longer old new more grown) in (
       λ is. subst (λ (h : History). IsOffsetOf h confirmed records offset) same (still_offset old more confirmed records offset marks is),
-      λ fit lags. subst (λ (h : History). IsBehind h confirmed records offset) same (still_behind old more confirmed records offset marks (subst IsFitHistory (sym same) fit) lags),
+      λ fit lags. subst (λ (h : History). IsBehind h confirmed records offset) same (still_after old more confirmed records offset marks (subst IsFitHistory (sym same) fit) lags),
     )
 
 pub longer_histories_stay_faithful : LongerHistoriesStayFaithful

@@ -104,10 +104,10 @@ of_news true true x item (suc number) at = cc
 of_news true false x item number at = cc
 of_news false change x item number at = cc
 
-stands_behind : (before items : List Record) (number : ℕ) (item : Record) → slice_get (fresh_after before items) number ≡ Some item
+stands_since : (before items : List Record) (number : ℕ) (item : Record) → slice_get (fresh_after before items) number ≡ Some item
     → (j : ℕ) × (slice_get items j ≡ Some item) × (is_fresh (before ++ take j items) item ≡ true) × (is_change_record item ≡ true)
-stands_behind before [] number item at = cc
-stands_behind before (x ∷ items) number item at = elim (at_cases (news_of before x) (fresh_after (before ++ x ∷ []) items) number item at) [
+stands_since before [] number item at = cc
+stands_since before (x ∷ items) number item at = elim (at_cases (news_of before x) (fresh_after (before ++ x ∷ []) items) number item at) [
   | inl here ↦ (
       let own = of_news (is_fresh before x) (is_change_record x) x item number here in
       let one : x ≡ item = own.0 in (
@@ -117,29 +117,29 @@ stands_behind before (x ∷ items) number item at = elim (at_cases (news_of befo
         ap is_change_record (sym one) ∙ own.2,
       ))
   | inr later ↦ (
-      let rest = stands_behind (before ++ x ∷ []) items later.0 item later.1 in
+      let rest = stands_since (before ++ x ∷ []) items later.0 item later.1 in
       (suc rest.0, rest.1, subst (λ (l : List Record). is_fresh l item ≡ true) (append_assoc before (x ∷ []) (take rest.0 items)) rest.2, rest.3))
 ]
 
 pub news_stand : (records : List Record) (number : ℕ) (item : Record) → slice_get (news records) number ≡ Some item → IsFreshChange records item
 news_stand records number item at =
-    let found = stands_behind [] records number item at in
+    let found = stands_since [] records number item at in
     record { place = found.0; stands = found.1; fresh = fresh_place records found.0 item found.1 (fresh_is (take found.0 records) item found.2); change = found.3 }
 
-has_behind : (before items : List Record) (j : ℕ) (item : Record) → slice_get items j ≡ Some item → is_fresh (before ++ take j items) item ≡ true → is_change_record item ≡ true
+has_after : (before items : List Record) (j : ℕ) (item : Record) → slice_get items j ≡ Some item → is_fresh (before ++ take j items) item ≡ true → is_change_record item ≡ true
     → (number : ℕ) × (slice_get (fresh_after before items) number ≡ Some item)
-has_behind before [] j item at fresh change = cc
-has_behind before (x ∷ items) zero item at fresh change =
+has_after before [] j item at fresh change = cc
+has_after before (x ∷ items) zero item at fresh change =
     let one : item ≡ x = sym (first_some x item at) in
     let here : is_fresh before x ≡ true = subst (λ (r : Record). is_fresh before r ≡ true) one (subst (λ (l : List Record). is_fresh l item ≡ true) (append-nil before) fresh) in
     let made : news_of before x ≡ x ∷ [] = news_fresh before x here (ap is_change_record (sym one) ∙ change) in
     (0, ap (λ (l : List Record). slice_get (l ++ fresh_after (before ++ x ∷ []) items) 0) made ∙ ap Some (sym one))
-has_behind before (x ∷ items) (suc j) item at fresh change =
-    let rest = has_behind (before ++ x ∷ []) items j item at (subst (λ (l : List Record). is_fresh l item ≡ true) (sym (append_assoc before (x ∷ []) (take j items))) fresh) change in
+has_after before (x ∷ items) (suc j) item at fresh change =
+    let rest = has_after (before ++ x ∷ []) items j item at (subst (λ (l : List Record). is_fresh l item ≡ true) (sym (append_assoc before (x ∷ []) (take j items))) fresh) change in
     (length (news_of before x) + rest.0, at_right (news_of before x) (fresh_after (before ++ x ∷ []) items) rest.0 item rest.1)
 
 pub news_have : (records : List Record) (place : ℕ) (item : Record) → slice_get records place ≡ Some item → IsFresh records place → is_change_record item ≡ true → (number : ℕ) × (slice_get (news records) number ≡ Some item)
-news_have records place item at fresh change = has_behind [] records place item at (fresh_true (take place records) item (fresh_before records place item at fresh)) change
+news_have records place item at fresh change = has_after [] records place item at (fresh_true (take place records) item (fresh_before records place item at fresh)) change
 
 pub news_are_fresh : NewsAreFresh
 news_are_fresh records item = (
@@ -150,9 +150,9 @@ news_are_fresh records item = (
 -- ---- they rise
 
 -- what is news after a record is after that record
-behind_one : (before items : List Record) (x : Record) (number : ℕ) (item : Record) → slice_get (fresh_after (before ++ x ∷ []) items) number ≡ Some item → IsBefore (place_of x) (place_of item)
-behind_one before items x number item at =
-    let found = stands_behind (before ++ x ∷ []) items number item at in
+after_one : (before items : List Record) (x : Record) (number : ℕ) (item : Record) → slice_get (fresh_after (before ++ x ∷ []) items) number ≡ Some item → IsBefore (place_of x) (place_of item)
+after_one before items x number item at =
+    let found = stands_since (before ++ x ∷ []) items number item at in
     let all : AreBefore ((before ++ x ∷ []) ++ take found.0 items) item = fresh_is ((before ++ x ∷ []) ++ take found.0 items) item found.2 in
     at_all (λ (earlier : Record). IsBefore (place_of earlier) (place_of item)) ((before ++ x ∷ []) ++ take found.0 items) (length before) x all
     (at_left (before ++ x ∷ []) (take found.0 items) (length before) x (slice_get-seam before x []))
@@ -169,18 +169,18 @@ never_back i j n k lt is le = omega (arith, lt, is, le)
 still_later : (i j n k l : ℕ) → i < j → i ≡ n + k → j ≡ n + l → k < l
 still_later i j n k l lt one two = omega (arith, lt, one, two)
 
-rise_behind : (before items : List Record) (i j : ℕ) (a b : Record) → i < j → slice_get (fresh_after before items) i ≡ Some a → slice_get (fresh_after before items) j ≡ Some b → IsBefore (place_of a) (place_of b)
-rise_behind before [] i j a b lt at_a at_b = cc
-rise_behind before (x ∷ items) i j a b lt at_a at_b = elim (at_cases (news_of before x) (fresh_after (before ++ x ∷ []) items) i a at_a) [
+rise_after : (before items : List Record) (i j : ℕ) (a b : Record) → i < j → slice_get (fresh_after before items) i ≡ Some a → slice_get (fresh_after before items) j ≡ Some b → IsBefore (place_of a) (place_of b)
+rise_after before [] i j a b lt at_a at_b = cc
+rise_after before (x ∷ items) i j a b lt at_a at_b = elim (at_cases (news_of before x) (fresh_after (before ++ x ∷ []) items) i a at_a) [
   | inl first ↦ elim (at_cases (news_of before x) (fresh_after (before ++ x ∷ []) items) j b at_b) [
     | inl second ↦ absurd (never_two (is_fresh before x) (is_change_record x) x i j b lt second)
-    | inr later ↦ subst (λ (r : Record). IsBefore (place_of r) (place_of b)) (of_news (is_fresh before x) (is_change_record x) x a i first).0 (behind_one before items x later.0 b later.1)
+    | inr later ↦ subst (λ (r : Record). IsBefore (place_of r) (place_of b)) (of_news (is_fresh before x) (is_change_record x) x a i first).0 (after_one before items x later.0 b later.1)
   ]
   | inr rest ↦ elim (at_cases (news_of before x) (fresh_after (before ++ x ∷ []) items) j b at_b) [
     | inl second ↦ absurd (never_back i j (length (news_of before x)) rest.0 lt rest.2 (slice_get-lt (news_of before x) j b second))
-    | inr later ↦ rise_behind (before ++ x ∷ []) items rest.0 later.0 a b (still_later i j (length (news_of before x)) rest.0 later.0 lt rest.2 later.2) rest.1 later.1
+    | inr later ↦ rise_after (before ++ x ∷ []) items rest.0 later.0 a b (still_later i j (length (news_of before x)) rest.0 later.0 lt rest.2 later.2) rest.1 later.1
   ]
 ]
 
 pub news_rise : NewsRise
-news_rise records i j a b lt at_a at_b = rise_behind [] records i j a b lt at_a at_b
+news_rise records i j a b lt at_a at_b = rise_after [] records i j a b lt at_a at_b

@@ -16,7 +16,7 @@ use Rattle.dbl_consume_laws.proofs.Notices.{all_append}
 use Rattle.dbl_faithful.specs.ToldEvents.{ToldEvent, commits_since, events_since, IsPrint}
 use Rattle.dbl_faithful.proofs.Items.{taken_at, drop_get, all_by_place, at_all, zip_at}
 use Rattle.dbl_faithful.proofs.RightSnapshots.{event_position, listing, listing_places}
-use Rattle.dbl_faithful.proofs.Trace.{told_place, print_place, told_at, behind_rise}
+use Rattle.dbl_faithful.proofs.Trace.{told_place, print_place, told_at, after_rise}
 use Rattle.dbl_faithful.specs.Onward.{IsLaterCursor, OffsetGoesOn, PlacesRise}
 use Rattle.dbl_faithful.specs.Laws.{StoresStayOnward, AddsGoOn, AddsAreOne, SentRecordsRise, WindowsRise}
 
@@ -100,11 +100,11 @@ both_on n i j lt = omega (arith, lt)
 
 pub sent_records_rise : SentRecordsRise
 sent_records_rise identity infos commits from n more rise zipped = (
-  all_by_place (λ (item : Record). from < item.position) more (λ j item at. let one = stands j item at in subst (λ (p : ℕ). from < p) (sym (ap (λ (p : Place). p.0) (print_place identity one.0 item one.2))) (behind_from (n + j) one.0 one.1)),
+  all_by_place (λ (item : Record). from < item.position) more (λ j item at. let one = stands j item at in subst (λ (p : ℕ). from < p) (sym (ap (λ (p : Place). p.0) (print_place identity one.0 item one.2))) (after_from (n + j) one.0 one.1)),
   rise_by_place more (λ i j a b lt at_a at_b. (
       let one = stands i a at_a in
       let two = stands j b at_b in
-      let told : IsBefore (told_place one.0) (told_place two.0) = behind_rise infos from 0 commits rise (n + i) (n + j) one.0 two.0 (both_on n i j lt) one.1 two.1 in
+      let told : IsBefore (told_place one.0) (told_place two.0) = after_rise infos from 0 commits rise (n + i) (n + j) one.0 two.0 (both_on n i j lt) one.1 two.1 in
       subst (λ (p : Place). IsBefore p (place_of b)) (sym (print_place identity one.0 a one.2)) (subst (IsBefore (told_place one.0)) (sym (print_place identity two.0 b two.2)) told))),
 )
   where
@@ -114,8 +114,8 @@ sent_records_rise identity infos commits from n more rise zipped = (
         let placed = taken_at (length more) (drop n (events_since infos from commits)) k found.0 found.1 in
         (found.0, sym (drop_get n (events_since infos from commits) k) ∙ placed.1, found.2)
 
-    behind_from : (k : ℕ) (t : ToldEvent) → slice_get (events_since infos from commits) k ≡ Some t → from < t.event.position
-    behind_from k t at =
+    after_from : (k : ℕ) (t : ToldEvent) → slice_get (events_since infos from commits) k ≡ Some t → from < t.event.position
+    after_from k t at =
         let found = told_at infos (commits_since from commits) k t at in
         let passes : nat_lt from t.commit.lsn.0 ≡ true = at_all (λ (c : Commit). nat_lt from c.lsn.0 ≡ true) (commits_since from commits) found.place t.commit (passing (λ (c : Commit). nat_lt from c.lsn.0) commits) found.commit_at in
         subst (λ (p : ℕ). from < p) (sym (event_position infos (commits_since from commits) t found)) ((Decides-ltb from t.commit.lsn.0).0 passes)

@@ -31,9 +31,9 @@ all_above low (c ∷ commits) rise = (
   all_weaker (λ (x : Commit). c.lsn.0 < x.lsn.0) (λ (x : Commit). low < x.lsn.0) commits (λ x lt. chain low c.lsn.0 x.lsn.0 rise.0 lt) (all_above c.lsn.0 commits rise.1),
 )
 
-pub rising_behind : (low : ℕ) (before : List Commit) (c : Commit) (later : List Commit) → AreRising low (lsns (before ++ c ∷ later)) → AreRising c.lsn.0 (lsns later)
-rising_behind low [] c later rise = rise.1
-rising_behind low (b ∷ before) c later rise = rising_behind b.lsn.0 before c later rise.1
+pub rising_after : (low : ℕ) (before : List Commit) (c : Commit) (later : List Commit) → AreRising low (lsns (before ++ c ∷ later)) → AreRising c.lsn.0 (lsns later)
+rising_after low [] c later rise = rise.1
+rising_after low (b ∷ before) c later rise = rising_after b.lsn.0 before c later rise.1
 
 -- the commits up to one of them
 pub all_under : (low : ℕ) (before : List Commit) (c : Commit) (later : List Commit) → AreRising low (lsns (before ++ c ∷ later)) → AllByRecursion (λ x. x.lsn.0 ≤ c.lsn.0) (before ++ c ∷ [])
@@ -51,7 +51,7 @@ end_after position before later rise (inl none) =
 end_after position before later rise (inr end) =
     let here : AreRising 0 (lsns (end.front ++ end.last ∷ later)) =
     subst (λ (l : List Commit). AreRising 0 (lsns l)) (seam end.front end.last later) (subst (λ (l : List Commit). AreRising 0 (lsns (l ++ later))) end.spelled rise) in
-    subst (λ (p : ℕ). AllByRecursion (λ (c : Commit). p < c.lsn.0) later) end.lsn_is (all_above end.last.lsn.0 later (rising_behind 0 end.front end.last later here))
+    subst (λ (p : ℕ). AllByRecursion (λ (c : Commit). p < c.lsn.0) later) end.lsn_is (all_above end.last.lsn.0 later (rising_after 0 end.front end.last later here))
 
 pub end_under : (position : ℕ) (before later : List Commit) → AreRising 0 (lsns (before ++ later)) → IsEndOf position before → AllByRecursion (λ c. c.lsn.0 ≤ position) before
 end_under position before later rise (inl none) = subst (AllByRecursion (λ (c : Commit). c.lsn.0 ≤ position)) (sym none.1) tt

@@ -109,9 +109,9 @@ no_event_at_mark infos start commits before mark later rise is none number t at 
 
 -- ---- what right snapshots are to the events
 
-pub right_behind : (identity : Identity) (infos : List TableInfo) (start : ℕ) (commits : List Commit) (records : List Record) → AreRising 0 (lsns commits) → AreSnapshotsRight identity infos commits (events_since infos start commits) records
+pub right_after : (identity : Identity) (infos : List TableInfo) (start : ℕ) (commits : List Commit) (records : List Record) → AreRising 0 (lsns commits) → AreSnapshotsRight identity infos commits (events_since infos start commits) records
     → AreBehind identity (events_since infos start commits) records
-right_behind identity infos start commits records rise right = record {
+right_after identity infos start commits records rise right = record {
   put = λ place item at other. (right.each place item at other).put;
   apart = λ place item at other number t at_told same. (
       let window = (right.each place item at other).window in

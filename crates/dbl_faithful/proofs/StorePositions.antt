@@ -158,8 +158,8 @@ filter_short p (x ∷ xs) = by (filter_short p xs) (p x)
 passes_none : (low top : ℕ) (commits : List RawCommit) → AllByRecursion (λ commit. commit.lsn.0 ≤ low) commits → AllByRecursion (λ commit. (nat_lt low commit.lsn.0 && nat_le commit.lsn.0 top) ≡ false) commits
 passes_none low top commits under = all_weaker (λ (c : RawCommit). c.lsn.0 ≤ low) (λ (c : RawCommit). (nat_lt low c.lsn.0 && nat_le c.lsn.0 top) ≡ false) commits (λ c le. ap (λ (t : Bool). t && nat_le c.lsn.0 top) (not_lt low c.lsn.0 le)) under
 
-passes_none_behind : (low top : ℕ) (commits : List RawCommit) → AllByRecursion (λ commit. top < commit.lsn.0) commits → AllByRecursion (λ commit. (nat_lt low commit.lsn.0 && nat_le commit.lsn.0 top) ≡ false) commits
-passes_none_behind low top commits over =
+passes_none_after : (low top : ℕ) (commits : List RawCommit) → AllByRecursion (λ commit. top < commit.lsn.0) commits → AllByRecursion (λ commit. (nat_lt low commit.lsn.0 && nat_le commit.lsn.0 top) ≡ false) commits
+passes_none_after low top commits over =
     all_weaker (λ (c : RawCommit). top < c.lsn.0) (λ (c : RawCommit). (nat_lt low c.lsn.0 && nat_le c.lsn.0 top) ≡ false) commits
     (λ c lt. ap (λ (t : Bool). nat_lt low c.lsn.0 && t) (not_le c.lsn.0 top lt) ∙ and_false (nat_lt low c.lsn.0)) over
 
@@ -173,7 +173,7 @@ filter_between p before between later low high =
 pub lags_are_bounded : LagsAreBounded
 lags_are_bounded history records offset before between later is low high =
     let p : RawCommit → Bool = (λ commit. nat_lt offset.lsn.0 commit.lsn.0 && nat_le commit.lsn.0 (top_position records)) in
-    let all : filter p history.commits ≡ filter p between = ap (filter p) is ∙ filter_between p before between later (passes_none offset.lsn.0 (top_position records) before low) (passes_none_behind offset.lsn.0 (top_position records) later high) in
+    let all : filter p history.commits ≡ filter p between = ap (filter p) is ∙ filter_between p before between later (passes_none offset.lsn.0 (top_position records) before low) (passes_none_after offset.lsn.0 (top_position records) later high) in
     subst (λ (l : List RawCommit). length l ≤ length between) (sym all) (filter_short p between)
 
 both_pass : (low top c : ℕ) → low < c → c ≤ top → (nat_lt low c && nat_le c top) ≡ true
@@ -267,7 +267,7 @@ repeated_commits_stand_together history records offset rise =
     let whole : history.commits ≡ first.front ++ (next.front ++ next.back) = first.spelled ∙ ap (λ (l : List RawCommit). first.front ++ l) next.spelled in
     let same : next.front ≡ repeated history records offset =
     sym (ap (filter p) whole
-    ∙ (filter_between p first.front next.front next.back (passes_none low top first.front first.under) (passes_none_behind low top next.back next.over)
+    ∙ (filter_between p first.front next.front next.back (passes_none low top first.front first.under) (passes_none_after low top next.back next.over)
     ∙ filter_whole p next.front (all_weaker (λ (c : RawCommit). (low < c.lsn.0) × (c.lsn.0 ≤ top)) (λ (c : RawCommit). p c ≡ true) next.front (λ c both. both_pass low top c.lsn.0 both.0 both.1) middle))) in
     record {
       before = first.front;

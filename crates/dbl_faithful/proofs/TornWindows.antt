@@ -47,7 +47,7 @@ use Rattle.dbl_faithful.proofs.Exact.{log_others, gaps_spoil_exact_logs}
 use Rattle.dbl_faithful.proofs.Items.{first_some, at_left, at_right, taken_at, take_within, all_by_place}
 use Rattle.dbl_faithful.proofs.Positions.{end_after, end_moment}
 use Rattle.dbl_faithful.proofs.RightSnapshots.{mark_is_silent, listing, listing_places, listing_others, rows_in_range}
-use Rattle.dbl_faithful.proofs.Trace.{behind_all, behind_rise, behind_changes, events_since-append, of_commit}
+use Rattle.dbl_faithful.proofs.Trace.{since_all, after_rise, after_changes, events_since-append, of_commit}
 
 -- ---- the records of rows
 
@@ -293,7 +293,7 @@ module _ (identity : Identity) (infos : List TableInfo) (commits : List Commit) 
 
   log : IsExactLog identity told records 0
   log =
-      log_others identity told (behind_rise infos start 0 commits fit.rise) (behind_changes identity infos start commits fit.in_range) [] records 0 no_change
+      log_others identity told (after_rise infos start 0 commits fit.rise) (after_changes identity infos start commits fit.in_range) [] records 0 no_change
       (record { count = 0; exact = record { few = omega arith; fresh = tt; others = λ place item at change. never place item at }; not_after = le_refl 0 })
     where
       never : {X : Type 0} (k : ℕ) (item : Record) → slice_get [] k ≡ Some item → X
@@ -318,7 +318,7 @@ module _ (identity : Identity) (infos : List TableInfo) (commits : List Commit) 
       let parts : told ≡ events_since infos start torn.before ++ events_of_commits infos (low ∷ late ∷ mark ∷ torn.later) =
       ap (events_since infos start) torn.spelled
       ∙ (events_since-append infos start torn.before (low ∷ late ∷ mark ∷ torn.later)
-      ∙ ap (λ (l : List Commit). events_since infos start torn.before ++ events_of_commits infos l) (behind_all start (low ∷ late ∷ mark ∷ torn.later) (end_after start torn.before (low ∷ late ∷ mark ∷ torn.later) rise torn.ends))) in
+      ∙ ap (λ (l : List Commit). events_since infos start torn.before ++ events_of_commits infos l) (since_all start (low ∷ late ∷ mark ∷ torn.later) (end_after start torn.before (low ∷ late ∷ mark ∷ torn.later) rise torn.ends))) in
       let there : slice_get (events_of_commits infos (low ∷ late ∷ mark ∷ torn.later)) (length (events_of_commit infos low) + k) ≡ Some t =
       at_right (events_of_commit infos low) (events_of_commits infos (late ∷ mark ∷ torn.later)) k t (at_left (events_of_commit infos late) (events_of_commits infos (mark ∷ torn.later)) k t at) in (
         length (events_since infos start torn.before) + (length (events_of_commit infos low) + k),
@@ -345,7 +345,7 @@ module _ (identity : Identity) (infos : List TableInfo) (commits : List Commit) 
           before_mark p l q h one lt two = omega (arith, one, lt, two)
 
           unput : (number : ℕ) → slice_get told number ≡ Some among.event → HasRecordOfEvent identity records among.event → ⊥
-          unput number at put = both_ways (is_change_record put.item) (behind_changes identity infos start commits fit.in_range number among.event put.item at put.is) (no_change put.place put.item put.stands)
+          unput number at put = both_ways (is_change_record put.item) (after_changes identity infos start commits fit.in_range number among.event put.item at put.is) (no_change put.place put.item put.stands)
 
 pub torn_windows_are_spoilt : TornWindowsAreSpoilt
 torn_windows_are_spoilt identity infos commits start late records fit torn = (meets identity infos commits start late records fit torn, spoilt identity infos commits start late records fit torn)

@@ -164,11 +164,11 @@ all_filter P p (c ∷ commits) all = by (all_filter P p commits all.1) (p c)
     by rest true = (all.0, rest)
     by rest false = rest
 
-pub behind_rise : (infos : List TableInfo) (start low : ℕ) (commits : List Commit) → AreRising low (lsns commits) → TellsRise (events_since infos start commits)
-behind_rise infos start low commits rise = told_rise infos low (commits_since start commits) (rising_filter (λ (c : Commit). nat_lt start c.lsn.0) low commits rise)
+pub after_rise : (infos : List TableInfo) (start low : ℕ) (commits : List Commit) → AreRising low (lsns commits) → TellsRise (events_since infos start commits)
+after_rise infos start low commits rise = told_rise infos low (commits_since start commits) (rising_filter (λ (c : Commit). nat_lt start c.lsn.0) low commits rise)
 
-pub behind_changes : (identity : Identity) (infos : List TableInfo) (start : ℕ) (commits : List Commit) → AllByRecursion IsCommitInRange commits → TellChanges identity (events_since infos start commits)
-behind_changes identity infos start commits ranges = tell_changes identity infos (commits_since start commits) (all_filter IsCommitInRange (λ (c : Commit). nat_lt start c.lsn.0) commits ranges)
+pub after_changes : (identity : Identity) (infos : List TableInfo) (start : ℕ) (commits : List Commit) → AllByRecursion IsCommitInRange commits → TellChanges identity (events_since infos start commits)
+after_changes identity infos start commits ranges = tell_changes identity infos (commits_since start commits) (all_filter IsCommitInRange (λ (c : Commit). nat_lt start c.lsn.0) commits ranges)
 
 tests_above : (a b : ℕ) → a < b → nat_lt a b ≡ true
 tests_above a b lt = grind (arith, nat_tests)
@@ -177,10 +177,10 @@ tests_under : (a b : ℕ) → b ≤ a → nat_lt a b ≡ false
 tests_under a b le = grind (arith, nat_tests)
 
 -- commits that are all after the position, and ones of which none does
-pub behind_all : (start : ℕ) (commits : List Commit) → AllByRecursion (λ c. start < c.lsn.0) commits → commits_since start commits ≡ commits
-behind_all start commits all = filter_whole (λ (c : Commit). nat_lt start c.lsn.0) commits
+pub since_all : (start : ℕ) (commits : List Commit) → AllByRecursion (λ c. start < c.lsn.0) commits → commits_since start commits ≡ commits
+since_all start commits all = filter_whole (λ (c : Commit). nat_lt start c.lsn.0) commits
     (all_weaker (λ (c : Commit). start < c.lsn.0) (λ (c : Commit). nat_lt start c.lsn.0 ≡ true) commits (λ c lt. tests_above start c.lsn.0 lt) all)
 
-pub behind_none : (start : ℕ) (commits : List Commit) → AllByRecursion (λ c. c.lsn.0 ≤ start) commits → commits_since start commits ≡ []
-behind_none start commits all = filter_none (λ (c : Commit). nat_lt start c.lsn.0) commits
+pub since_none : (start : ℕ) (commits : List Commit) → AllByRecursion (λ c. c.lsn.0 ≤ start) commits → commits_since start commits ≡ []
+since_none start commits all = filter_none (λ (c : Commit). nat_lt start c.lsn.0) commits
     (all_weaker (λ (c : Commit). c.lsn.0 ≤ start) (λ (c : Commit). nat_lt start c.lsn.0 ≡ false) commits (λ c le. tests_under start c.lsn.0 le) all)

@@ -43,7 +43,7 @@ use Rattle.dbl_faithful.proofs.RecordKinds.{rows_are_no_changes, progress_is_nei
 use Rattle.dbl_faithful.proofs.News.{fresh_before}
 use Rattle.dbl_faithful.proofs.Positions.{end_after, start_moment}
 use Rattle.dbl_faithful.proofs.RightSnapshots.{at_test, filter_has, listing, listing_cases}
-use Rattle.dbl_faithful.proofs.Trace.{behind_rise, behind_changes, print_place}
+use Rattle.dbl_faithful.proofs.Trace.{after_rise, after_changes, print_place}
 
 -- ---- cells and rows
 
@@ -88,8 +88,8 @@ module _ (identity : Identity) (infos : List TableInfo) (commits : List Commit) 
   put_ahead : AreFitCommits infos commits → (count : ℕ) → IsExact identity (events_since infos start commits) records count → IsRightSnapshot identity infos commits (events_since infos start commits) records place item.position
       → (number : ℕ) (t : ToldEvent) → slice_get (events_since infos start commits) number ≡ Some t → t.event.position < item.position → IsPutAhead identity records place t
   put_ahead fit count exact right number t at_told lt =
-      let rise = behind_rise infos start 0 commits fit.rise in
-      let kinds = behind_changes identity infos start commits fit.in_range in
+      let rise = after_rise infos start 0 commits fit.rise in
+      let kinds = after_changes identity infos start commits fit.in_range in
       let under : number < count = put_among identity (events_since infos start commits) rise kinds records count number t exact at_told (right.put number t at_told lt) in
       let first = first_print identity (events_since infos start commits) rise kinds records count number t exact at_told under in
       let here : first.0.position ≡ t.event.position = ap (λ (p : Place). p.0) (print_place identity t first.0 first.1) in

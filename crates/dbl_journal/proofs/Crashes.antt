@@ -6,9 +6,9 @@ use Rattle.dbl_journal.specs.Form.{IsEntry, IsJournal, up_to_gate}
 use Rattle.dbl_journal.specs.Steps.{IsStaged}
 use Rattle.dbl_journal.proofs.Appends.{subsequent, torn_gate}
 
-pub behind_crash : (entries : List (List ℕ)) (gate n : ℕ) (bytes : List ℕ) (old new : List ℕ → Type 0) → gate ≡ length (up_to_gate entries) → IsJournal bytes entries → IsOnly bytes old → Follows (Torn (gate + 1) n) old new
+pub after_crash : (entries : List (List ℕ)) (gate n : ℕ) (bytes : List ℕ) (old new : List ℕ → Type 0) → gate ≡ length (up_to_gate entries) → IsJournal bytes entries → IsOnly bytes old → Follows (Torn (gate + 1) n) old new
     → (crashed : List ℕ) → new crashed → (left : List (List ℕ)) × IsJournal crashed left × (left ≡ entries)
-behind_crash entries gate n bytes old new gate_is journal only follows crashed left =
+after_crash entries gate n bytes old new gate_is journal only follows crashed left =
     let from = follows crashed left in
     (entries, subsequent entries gate gate_is n bytes crashed journal (subst (λ (l : List ℕ). Torn (gate + 1) n l crashed) (only from.0 from.1) from.2), refl)
 

@@ -77,8 +77,8 @@ pub first_is_there : (info : TableInfo) (at : Key → Option (List Val)) (above 
 first_is_there info at above limit entry rows are =
     sym (are.right entry.0 are.keys.0 are.ordered.0 (inr (up_to_last entry.0 rows entry.0 are.ordered.1 (inl refl)))) ∙ row_in-first entry rows
 
-first_behind : (info : TableInfo) (at : Key → Option (List Val)) (above : Option Key) (limit : ℕ) (entry : Key × Row) (rows : List (Key × Row)) → AreFirst info at above limit (entry ∷ rows) → AreFirst info at (Some entry.0) (limit - 1) rows
-first_behind info at above limit entry rows are = record {
+first_after : (info : TableInfo) (at : Key → Option (List Val)) (above : Option Key) (limit : ℕ) (entry : Key × Row) (rows : List (Key × Row)) → AreFirst info at above limit (entry ∷ rows) → AreFirst info at (Some entry.0) (limit - 1) rows
+first_after info at above limit entry rows are = record {
   keys = are.keys.1;
   ordered = are.ordered.1;
   few = (let few : suc (length rows) ≤ limit = are.few in omega (arith, few));
@@ -109,7 +109,7 @@ pub first_rows_one : FirstRowsAreOne
 first_rows_one info at above limit [] [] fa fb = refl
 first_rows_one info at above limit [] (e ∷ b) fa fb = absurd (not_empty info at above limit e b fa fb)
 first_rows_one info at above limit (d ∷ a) [] fa fb = absurd (not_empty info at above limit d a fb fa)
-first_rows_one info at above limit (d ∷ a) (e ∷ b) fa fb = by (key_cmp d.0 e.0) refl (first_rows_one info at (Some d.0) (limit - 1) a b (first_behind info at above limit d a fa))
+first_rows_one info at above limit (d ∷ a) (e ∷ b) fa fb = by (key_cmp d.0 e.0) refl (first_rows_one info at (Some d.0) (limit - 1) a b (first_after info at above limit d a fa))
   where
     by : (o : Ordering) → key_cmp d.0 e.0 ≡ o → (AreFirst info at (Some d.0) (limit - 1) b → a ≡ b) → d ∷ a ≡ e ∷ b
     by Less is same = absurd (none_before info at above limit d e a b fa fb is)
@@ -118,7 +118,7 @@ first_rows_one info at above limit (d ∷ a) (e ∷ b) fa fb = by (key_cmp d.0 e
         let key : d.0 ≡ e.0 = same_key-is d.0 e.0 (ap is_eq is) in
         let found : Some d.1.cells ≡ Some e.1.cells = sym (first_is_there info at above limit d a fa) ∙ (ap at key ∙ first_is_there info at above limit e b fb) in
         let cells : d.1.cells ≡ e.1.cells = cc in
-        let rest : a ≡ b = same (subst (λ (k : Key). AreFirst info at (Some k) (limit - 1) b) (sym key) (first_behind info at above limit e b fb)) in
+        let rest : a ≡ b = same (subst (λ (k : Key). AreFirst info at (Some k) (limit - 1) b) (sym key) (first_after info at above limit e b fb)) in
         λ i. (key i, record { cells = cells i }) ∷ rest i
 
 -- ---- what a change leaves

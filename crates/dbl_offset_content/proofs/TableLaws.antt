@@ -224,9 +224,9 @@ module _ (format : ℕ) (bytes schema after_schema name after_name : List ℕ) (
   pub table_none : is_table (record { schema = schema; name = name }) columns key ≡ false → offset_table_at format bytes ≡ Err no_offset
   table_none h = fields_read ∙ ap (λ (o : Result TableInfo RecordError). o >>= λ (x : TableInfo). Ok ((x, version), rest)) (info_none (record { schema = schema; name = name }) columns key h)
 
-pub typed_behind : (format : ℕ) (bytes schema after_schema name after_name : List ℕ) (version : ℕ) (after_version : List ℕ) (columns : List Column) (after_columns : List ℕ) → IsBytes bytes → text_at 0 bytes ≡ Ok (schema, after_schema) → text_at 0 after_schema ≡ Ok (name, after_name)
+pub typed_after : (format : ℕ) (bytes schema after_schema name after_name : List ℕ) (version : ℕ) (after_version : List ℕ) (columns : List Column) (after_columns : List ℕ) → IsBytes bytes → text_at 0 bytes ≡ Ok (schema, after_schema) → text_at 0 after_schema ≡ Ok (name, after_name)
     → table_version_at format after_name ≡ Ok (version, after_version) → offset_items_at offset_column_at after_version ≡ Ok (columns, after_columns) → are_typed columns ≡ true
-typed_behind format bytes schema after_schema name after_name version after_version columns after_columns fits of_schema of_name of_version of_columns =
+typed_after format bytes schema after_schema name after_name version after_version columns after_columns fits of_schema of_name of_version of_columns =
     let first = (text_reads 0).takes bytes schema after_schema fits of_schema in
     let second = (text_reads 0).takes after_schema name after_name first.0.rest_fits of_name in
     let third = (version_reads format).takes after_name version after_version second.0.rest_fits of_version in

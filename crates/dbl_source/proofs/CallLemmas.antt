@@ -34,7 +34,7 @@ use Rattle.dbl_source.specs.declared.asked.Last.{Last}
 use Rattle.dbl_source.specs.declared.asked.Last.TheVariants as answers
 use Rattle.dbl_source.specs.Played.{Played, played_messages, reading_at, played_state, standing_of, with_answer, with_mark, with_confirmed, started_at, place_of, with_start, with_head, next_selected, question_of, with_select}
 use Rattle.dbl_source.specs.Steps.{KeepsPlayed, HasPlayedState, MayLeavePlayed, WasFair}
-use Rattle.dbl_source.proofs.PlayLemmas.{IsAtPlace, moved, marked_at, gone_behind, begun_after, read_all, is_head, selects_right, fair_same}
+use Rattle.dbl_source.proofs.PlayLemmas.{IsAtPlace, moved, marked_at, gone_after, begun_after, read_all, is_head, selects_right, fair_same}
 
 -- other clients committed, and what a reader, a confirm and a select have made of the source is as it was
 pub record WentOn (old new : Played) : Type 0 where
@@ -151,7 +151,7 @@ module _ (old mid : Played) (s : SourceState) (w : WentOn old mid) (kept : Keeps
       by : (b : Bool) → nat_lt after.0 mid.confirmed.0 ≡ b → HasState HasPlayedState (with_answer (answers.Began (at b)) (record mid { place = place_of after (at b); ended = false })) (Starts after (at b) s)
       by true low =
           let lt : after.0 < mid.confirmed.0 = grind (arith, nat_tests) in
-          let gone = gone_behind mid.tables mid.log mid.confirmed after mid.place lt in
+          let gone = gone_after mid.tables mid.log mid.confirmed after mid.place lt in
           record {
             standing = played_state mid.tables mid.log mid.confirmed None;
             is = (refl, refl);

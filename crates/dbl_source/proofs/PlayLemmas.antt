@@ -59,8 +59,8 @@ module _ (tables : List LogTable) (log : List Logged) (confirmed : Lsn) where
       let p : ReaderPosition = record { after = after; commits = 0; begun = false; change = 0; table = 0 } in
       record { grows = grows_not; confirmed = refl; reading = ap (λ (ms : List Message). let r : Reading = record { after = after; messages = ms } in Some r) (told_waiting tables log p refl) }
 
-  pub gone_behind : (after : Lsn) (place : Option ReaderPosition) → after.0 < confirmed.0 → IsGone after confirmed (played_state tables log confirmed place) (played_state tables log confirmed None)
-  gone_behind after place lt = record { grows = grows_not; confirmed = refl; reading = refl; later = lt; dropped = omega arith }
+  pub gone_after : (after : Lsn) (place : Option ReaderPosition) → after.0 < confirmed.0 → IsGone after confirmed (played_state tables log confirmed place) (played_state tables log confirmed None)
+  gone_after after place lt = record { grows = grows_not; confirmed = refl; reading = refl; later = lt; dropped = omega arith }
 
   -- ---- all was read
 

@@ -70,8 +70,8 @@ lt_false : (a b : ℕ) → b ≤ a → nat_lt a b ≡ false
 lt_false a b le = grind (arith, nat_tests)
 
 -- an LSN of the log is after another if and only if its number is
-behind_lsn : (after n : ℕ) → nat_lt after (256 * n) ≡ nat_lt (after / 256) n
-behind_lsn after n = elim (nat_cases (after / 256) n) [
+after_lsn : (after n : ℕ) → nat_lt after (256 * n) ≡ nat_lt (after / 256) n
+after_lsn after n = elim (nat_cases (after / 256) n) [
   | inl lt ↦ lt_true after (256 * n) (omega (arith, (div-lt_iff_lt-mul {k = 256} {x = after} {y = n} (omega arith)).0 lt)) ∙ sym (lt_true (after / 256) n lt)
   | inr le ↦ lt_false after (256 * n) (omega (arith, le, div-mul-le_self after 256)) ∙ sym (lt_false (after / 256) n le)
 ]
@@ -86,7 +86,7 @@ module _ (tables : List LogTable) (after : Lsn) where
   none_before rows n (entry ∷ log) lt =
       let c : RawCommit = raw_commit_at tables rows n entry in
       let cs : List RawCommit = commits_from tables (text_rows_at tables rows entry) (n + 1) log in
-      passed c cs true (behind_lsn after.0 n ∙ lt_true (after.0 / 256) n lt) ∙ ap (λ (l : List RawCommit). c ∷ l) (none_before (text_rows_at tables rows entry) (n + 1) log (omega (arith, lt)))
+      passed c cs true (after_lsn after.0 n ∙ lt_true (after.0 / 256) n lt) ∙ ap (λ (l : List RawCommit). c ∷ l) (none_before (text_rows_at tables rows entry) (n + 1) log (omega (arith, lt)))
 
   -- and passes over those before it
   pub commits_after-from : (k : ℕ) (rows : TextRows) (n : ℕ) (log : List Logged) → n + k ≡ commits_upto after + 1
@@ -96,7 +96,7 @@ module _ (tables : List LogTable) (after : Lsn) where
       none_before rows n log (omega (arith, is)) ∙ ap (λ (m : ℕ). commits_from tables rows m log) same
   commits_after-from (suc k) rows n [] is = refl
   commits_after-from (suc k) rows n (entry ∷ log) is =
-      passed (raw_commit_at tables rows n entry) (commits_from tables (text_rows_at tables rows entry) (n + 1) log) false (behind_lsn after.0 n ∙ lt_false (after.0 / 256) n (omega (arith, is)))
+      passed (raw_commit_at tables rows n entry) (commits_from tables (text_rows_at tables rows entry) (n + 1) log) false (after_lsn after.0 n ∙ lt_false (after.0 / 256) n (omega (arith, is)))
       ∙ commits_after-from k (text_rows_at tables rows entry) (n + 1) log (omega (arith, is))
 
 -- ---- a reader

@@ -29,9 +29,9 @@ use Rattle.dbl_source_log.specs.Fair.{IsChangeOf, HasFewFaults, changes_given, I
 use Rattle.dbl_source_log.proofs.LogLemmas.{is_rising, history_grown, length-history}
 use Rattle.dbl_source_log.proofs.FitLogLemmas.{commit_in_range}
 
-all_behind : {A : Type 0} (P : A → Type 0) (xs : List A) (x : A) → AllByRecursion P xs → P x → AllByRecursion P (xs ++ x ∷ [])
-all_behind P [] x all one = (one, tt)
-all_behind P (y ∷ ys) x all one = (all.0, all_behind P ys x all.1 one)
+all_since : {A : Type 0} (P : A → Type 0) (xs : List A) (x : A) → AllByRecursion P xs → P x → AllByRecursion P (xs ++ x ∷ [])
+all_since P [] x all one = (one, tt)
+all_since P (y ∷ ys) x all one = (all.0, all_since P ys x all.1 one)
 
 module _ (tables : List LogTable) (log : List Logged) (value : List ℕ) where
   abbrev mark : RawCommit
@@ -66,12 +66,12 @@ module _ (tables : List LogTable) (log : List Logged) (value : List ℕ) where
       subst IsFitHistory (sym marked_is) (record {
         ranges = record {
           tables = fit.ranges.tables;
-          commits = all_behind IsRawCommitInRange commits mark fit.ranges.commits (commit_in_range tables (text_rows_through tables no_text_rows log) (1 + length log) (Mark value) small plain);
+          commits = all_since IsRawCommitInRange commits mark fit.ranges.commits (commit_in_range tables (text_rows_through tables no_text_rows log) (1 + length log) (Mark value) small plain);
         };
         rising = subst IsRising marked_is (is_rising tables marked_log);
         distinct = fit.distinct;
         opening = fit.opening;
-        known = all_behind (λ (commit : RawCommit). AllByRecursion (λ (change : RawChange). IsSome (entry_of (history_of tables log) (name_of change))) (raw_changes_of commit.body)) commits mark fit.known tt;
+        known = all_since (λ (commit : RawCommit). AllByRecursion (λ (change : RawChange). IsSome (entry_of (history_of tables log) (name_of change))) (raw_changes_of commit.body)) commits mark fit.known tt;
         fit = λ infos captured. subst (AreFit infos no_rows) (sym (same_changes infos)) (fit.fit infos (captured_before infos captured));
       })
 
@@ -79,7 +79,7 @@ module _ (tables : List LogTable) (log : List Logged) (value : List ℕ) where
   fair_marked fair = record {
     named = fair.named;
     relations = fair.relations;
-    changes = all_behind (λ (entry : Logged). AllByRecursion (λ (message : Message). IsChangeOf tables message × HasFewFaults tables message) (changes_given entry)) log (Mark value) fair.changes tt;
+    changes = all_since (λ (entry : Logged). AllByRecursion (λ (message : Message). IsChangeOf tables message × HasFewFaults tables message) (changes_given entry)) log (Mark value) fair.changes tt;
   }
 
   rows_marked : (place : ℕ) (name : TableName) (above : Option Key) (limit : ℕ) (rows : List RawRow) → place ≤ length commits → AreRowsAt (history_of tables log) place name above limit rows → AreRowsAt marked place name above limit rows

@@ -69,10 +69,10 @@ log_right tables infos after n rows done (entry ∷ log) past named_so fair capt
 captured_of : (tables : List LogTable) (log : List Logged) (infos : List TableInfo) → AreInfosOf (history_of tables log) infos → AreInfosOf (history_of tables []) infos
 captured_of tables log infos captured = record { distinct = captured.distinct; each = captured.each }
 
-fair_behind : {A : Type 0} (P : A → Type 0) (n : ℕ) (xs : List A) → AllByRecursion P xs → AllByRecursion P (drop n xs)
-fair_behind P zero xs all = all
-fair_behind P (suc n) [] all = tt
-fair_behind P (suc n) (x ∷ xs) all = fair_behind P n xs all.1
+fair_after : {A : Type 0} (P : A → Type 0) (n : ℕ) (xs : List A) → AllByRecursion P xs → AllByRecursion P (drop n xs)
+fair_after P zero xs all = all
+fair_after P (suc n) [] all = tt
+fair_after P (suc n) (x ∷ xs) all = fair_after P n xs all.1
 
 pub read_right : (tables : List LogTable) (log : List Logged) (place : ReaderPosition) → IsFairLog tables log → IsReadRight (history_of tables log) (record { after = place.after; messages = told_at tables log place })
 read_right tables log place fair infos captured =
@@ -99,7 +99,7 @@ read_right tables log place fair infos captured =
 
     whole_right : ReadsRight infos place.after commits (told_from tables (first + 1) subsequent [])
     whole_right =
-        let all = log_right tables infos place.after (first + 1) rows [] subsequent [] fair.named (fair_behind (λ entry. AllByRecursion (λ message. IsChangeOf tables message × HasFewFaults tables message) (changes_given entry)) first log fair.changes) (captured_of tables log infos captured) nothing_yet in
+        let all = log_right tables infos place.after (first + 1) rows [] subsequent [] fair.named (fair_after (λ entry. AllByRecursion (λ message. IsChangeOf tables message × HasFewFaults tables message) (changes_given entry)) first log fair.changes) (captured_of tables log infos captured) nothing_yet in
         subst (λ (cs : List Commit). ReadsRight infos place.after cs (told_from tables (first + 1) subsequent [])) (append-nil (map (typed_commit infos) (commits_from tables rows (first + 1) subsequent)) ∙ sym commits_are) all.right
 
 pub reads_right : FairLogsAreReadRight
@@ -189,5 +189,5 @@ reads_all tables log place infos fair placed ends =
     let stands : length (commits_after place.after (history_of tables log).commits) ≡ length subsequent =
     ap length (commits_after-from tables place.after first no_text_rows 1 log (omega arith)) ∙ length-commits_from tables (text_rows_through tables no_text_rows (take first log)) (first + 1) subsequent in
     let counted : length (commits_of infos (told_from tables (first + 1) subsequent [])) ≡ length {A = Commit} [] + length subsequent =
-    counts_from tables infos place.after (first + 1) subsequent [] (fair_behind (λ entry. AllByRecursion (λ message. IsChangeOf tables message × HasFewFaults tables message) (changes_given entry)) first log fair.changes) in
+    counts_from tables infos place.after (first + 1) subsequent [] (fair_after (λ entry. AllByRecursion (λ message. IsChangeOf tables message × HasFewFaults tables message) (changes_given entry)) first log fair.changes) in
     omega (arith, stands, counted, ap (λ (l : List Message). length (commits_of infos l)) told)

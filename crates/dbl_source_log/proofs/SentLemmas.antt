@@ -132,11 +132,11 @@ module _ (tables : List LogTable) where
   there_more (entry ∷ log) more (suc i) lt = there_more log more i (omega arith)
 
   -- as many entries after a place as there are, of a log that grew
-  pub behind_more : (first n : ℕ) (log more : List Logged) → n ≤ length log - first → take n (drop first (log ++ more)) ≡ take n (drop first log)
-  behind_more zero n log more le = take-append-le n log more (omega (arith, le))
-  behind_more (suc first) zero [] more le = refl
-  behind_more (suc first) (suc n) [] more le = absurd (omega arith)
-  behind_more (suc first) n (entry ∷ log) more le = behind_more first n log more (omega arith)
+  pub after_more : (first n : ℕ) (log more : List Logged) → n ≤ length log - first → take n (drop first (log ++ more)) ≡ take n (drop first log)
+  after_more zero n log more le = take-append-le n log more (omega (arith, le))
+  after_more (suc first) zero [] more le = refl
+  after_more (suc first) (suc n) [] more le = absurd (omega arith)
+  after_more (suc first) n (entry ∷ log) more le = after_more first n log more (omega arith)
 
   open_stays : (log more : List Logged) (place : ReaderPosition) (b : Bool) (past : List Message) → place.begun ≡ b → (IsTrue b → index_of place < length log)
       → told_open tables place (slice_get (log ++ more) (index_of place)) past ≡ told_open tables place (slice_get log (index_of place)) past
@@ -149,7 +149,7 @@ module _ (tables : List LogTable) where
 
   pub told_at-grown : (log more : List Logged) (place : ReaderPosition) → IsPlaceIn log place → told_at tables (log ++ more) place ≡ told_at tables log place
   told_at-grown log more place placed =
-      ap (λ (l : List Logged). told_open tables place (slice_get (log ++ more) (index_of place)) (told_from tables (commits_upto place.after + 1) l [])) (behind_more (commits_upto place.after) place.commits log more placed.few)
+      ap (λ (l : List Logged). told_open tables place (slice_get (log ++ more) (index_of place)) (told_from tables (commits_upto place.after + 1) l [])) (after_more (commits_upto place.after) place.commits log more placed.few)
       ∙ open_stays log more place place.begun (told_whole tables place.after place.commits log) refl placed.there
 
   -- ---- prefixes
@@ -182,9 +182,9 @@ module _ (tables : List LogTable) where
       (on_top_one (commit_message (index_of place + 1)) all)
 
   -- what is left of a log after the whole commits that were read
-  left_behind : (place : ReaderPosition) (o : Option Logged) (rest : List Logged) (past : List Message) → IsOnTop (told_open tables place o past) (told_from tables (index_of place + 1) (list_of o ++ rest) past)
-  left_behind place None rest past = on_log (index_of place + 1) rest past
-  left_behind place (Some entry) rest past =
+  left_since : (place : ReaderPosition) (o : Option Logged) (rest : List Logged) (past : List Message) → IsOnTop (told_open tables place o past) (told_from tables (index_of place + 1) (list_of o ++ rest) past)
+  left_since place None rest past = on_log (index_of place + 1) rest past
+  left_since place (Some entry) rest past =
       let whole : List Message = told_commit tables (index_of place + 1) entry past in
       on_top_twice (if place.begun then told_part tables place entry past else past) whole (told_from tables ((index_of place + 1) + 1) rest whole)
       (by place.begun) (on_log ((index_of place + 1) + 1) rest whole)
@@ -202,7 +202,7 @@ module _ (tables : List LogTable) where
 
   pub at_front : (log : List Logged) (place : ReaderPosition) → IsOnTop (told_at tables log place) (told_from tables (commits_upto place.after + 1) (drop (commits_upto place.after) log) [])
   at_front log place = elim (nat_cases place.commits (length subsequent)) [
-    | inl within ↦ subst (IsOnTop (told_at tables log place)) (sym (all_is (omega (arith, within)))) (subst (λ (o : Option Logged). IsOnTop (told_open tables place o whole) (told_from tables (index_of place + 1) (list_of (slice_get subsequent place.commits) ++ drop (suc place.commits) subsequent) whole)) (slice_get-drop (commits_upto place.after) place.commits log) (left_behind place (slice_get subsequent place.commits) (drop (suc place.commits) subsequent) whole))
+    | inl within ↦ subst (IsOnTop (told_at tables log place)) (sym (all_is (omega (arith, within)))) (subst (λ (o : Option Logged). IsOnTop (told_open tables place o whole) (told_from tables (index_of place + 1) (list_of (slice_get subsequent place.commits) ++ drop (suc place.commits) subsequent) whole)) (slice_get-drop (commits_upto place.after) place.commits log) (left_since place (slice_get subsequent place.commits) (drop (suc place.commits) subsequent) whole))
     | inr past_end ↦ subst (λ (l : List Message). IsOnTop l (told_from tables (commits_upto place.after + 1) subsequent [])) (sym (none_left place log whole past_end)) (subst (λ (l : List Logged). IsOnTop whole (told_from tables (commits_upto place.after + 1) l [])) (take_all place.commits subsequent past_end) (on_top whole))
   ]
     where

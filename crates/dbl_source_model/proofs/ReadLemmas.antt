@@ -102,11 +102,11 @@ all_stated infos s t reading g is captured right accepted all =
 at_once : (after : Lsn) (c : RawCommit) (cs : List RawCommit) (b : Bool) → nat_lt after.0 c.lsn.0 ≡ b → commits_after after (c ∷ cs) ≡ cond b (c ∷ commits_after after cs) (commits_after after cs)
 at_once after c cs b is = ap (λ (t : Bool). cond t (c ∷ commits_after after cs) (commits_after after cs)) is
 
-all_behind : (after : Lsn) (low : ℕ) (cs : List RawCommit) → after.0 ≤ low → AreRising low (map (λ (c : RawCommit). c.lsn.0) cs) → commits_after after cs ≡ cs
-all_behind after low [] le rising = refl
-all_behind after low (c ∷ cs) le rising =
+all_since : (after : Lsn) (low : ℕ) (cs : List RawCommit) → after.0 ≤ low → AreRising low (map (λ (c : RawCommit). c.lsn.0) cs) → commits_after after cs ≡ cs
+all_since after low [] le rising = refl
+all_since after low (c ∷ cs) le rising =
     let lt : nat_lt after.0 c.lsn.0 ≡ true = grind (arith, nat_tests, le, rising.0) in
-    at_once after c cs true lt ∙ ap (λ (l : List RawCommit). c ∷ l) (all_behind after c.lsn.0 cs (omega (arith, le, rising.0)) rising.1)
+    at_once after c cs true lt ∙ ap (λ (l : List RawCommit). c ∷ l) (all_since after c.lsn.0 cs (omega (arith, le, rising.0)) rising.1)
 
 -- the commits of a list with an LSN up to this one stand first
 abbrev PartsAt : Lsn → List RawCommit → Type 0
@@ -119,7 +119,7 @@ parted after low (c ∷ cs) rising = by (nat_lt after.0 c.lsn.0) refl (parted af
     by : (b : Bool) → nat_lt after.0 c.lsn.0 ≡ b → PartsAt after cs → PartsAt after (c ∷ cs)
     by true is rest =
         let lt : after.0 < c.lsn.0 = grind (arith, nat_tests) in
-        ([], sym (at_once after c cs true is ∙ ap (λ (l : List RawCommit). c ∷ l) (all_behind after c.lsn.0 cs (omega (arith, lt)) rising.1)), tt)
+        ([], sym (at_once after c cs true is ∙ ap (λ (l : List RawCommit). c ∷ l) (all_since after c.lsn.0 cs (omega (arith, lt)) rising.1)), tt)
     by false is rest =
         let le : c.lsn.0 ≤ after.0 = ltb-false after.0 c.lsn.0 is in
         (c ∷ rest.0, ap (λ (l : List RawCommit). c ∷ l) rest.1 ∙ ap (λ (l : List RawCommit). c ∷ rest.0 ++ l) (sym (at_once after c cs false is)), (le, rest.2))

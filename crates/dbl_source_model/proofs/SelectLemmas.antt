@@ -27,8 +27,8 @@ none_taken : {A : Type 0} (n : ℕ) → take {A = A} n [] ≡ []
 none_taken zero = refl
 none_taken (suc n) = refl
 
-no_rows_behind : (infos : List TableInfo) (history : History) (place : ℕ) → history.commits ≡ [] → rows_up_to infos history place ≡ no_rows
-no_rows_behind infos history place none =
+no_rows_after : (infos : List TableInfo) (history : History) (place : ℕ) → history.commits ≡ [] → rows_up_to infos history place ≡ no_rows
+no_rows_after infos history place none =
     ap (λ (cs : List RawCommit). rows_from infos no_rows (all_changes (take place (map (typed_commit infos) cs)))) none
     ∙ ap (λ (cs : List Commit). rows_from infos no_rows (all_changes cs)) (none_taken place)
 
@@ -51,7 +51,7 @@ no_rows_yet history from upto name above limit rows infos table none captured nu
     let are = answered.are infos captured in
     let own : (info : TableInfo) × AreFirstOf infos table info (rows_up_to infos history answered.place) above limit rows =
     subst (λ (o : Option ℕ). IfSome o (λ t. (info : TableInfo) × AreFirstOf infos t info (rows_up_to infos history answered.place) above limit rows)) number are in
-    none_answered infos table own.0 above limit rows (subst (λ (at : Rows). AreFirstOf infos table own.0 at above limit rows) (no_rows_behind infos history answered.place none) own.1)
+    none_answered infos table own.0 above limit rows (subst (λ (at : Rows). AreFirstOf infos table own.0 at above limit rows) (no_rows_after infos history answered.place none) own.1)
 
 -- ---- one answer at a place
 

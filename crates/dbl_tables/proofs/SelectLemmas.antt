@@ -71,9 +71,9 @@ none_shown raw bound key (row ∷ rows) rising below =
     by false other under later = later
 
 -- a wider bound
-behind_less : (above : Option Key) (key : Key) (es : List Entry) → IsAbove above key → AreBehind (Some key) es → AreBehind above es
-behind_less above key [] is subsequent = tt
-behind_less above key (e ∷ es) is subsequent = (above_goes_on above key e.0 is subsequent.0, subsequent.1)
+since_less : (above : Option Key) (key : Key) (es : List Entry) → IsAbove above key → AreBehind (Some key) es → AreBehind above es
+since_less above key [] is subsequent = tt
+since_less above key (e ∷ es) is subsequent = (above_goes_on above key e.0 is subsequent.0, subsequent.1)
 
 -- ---- the first rows
 
@@ -82,7 +82,7 @@ module _ (raw : RawTable) (at : Key → Option Texts) where
   first_of_slots [] above zero subsequent own same = record { ordered = tt; few = omega arith; right = λ key is_above range. same key is_above }
   first_of_slots [] above (suc limit) subsequent own same = record { ordered = tt; few = omega arith; right = λ key is_above range. same key is_above }
   first_of_slots (e ∷ es) above limit subsequent own same =
-      by e.1.committed refl limit (λ later_same. first_of_slots es above limit (behind_less above e.0 es subsequent.0 subsequent.1) own.1 later_same) (λ less later_same. first_of_slots es (Some e.0) less subsequent.1 own.1 later_same)
+      by e.1.committed refl limit (λ later_same. first_of_slots es above limit (since_less above e.0 es subsequent.0 subsequent.1) own.1 later_same) (λ less later_same. first_of_slots es (Some e.0) less subsequent.1 own.1 later_same)
     where
       -- after the first slot
       later : (key : Key) → key_cmp e.0 key ≡ Less → row_at es key ≡ row_at (e ∷ es) key
@@ -130,8 +130,8 @@ module _ (raw : RawTable) (at : Key → Option Texts) where
               shown_here key true (ap (λ (y : Key). same_key y key) (own_key ∙ sym x) ∙ same_key-itself key)
               ∙ (sym (ap texts_of is) ∙ (sym here ∙ (ap (row_at (e ∷ es)) (sym x) ∙ same key is_above)))
           at_order key is_above Greater order range =
-              let behind_it : key_cmp e.0 key ≡ Less = key_total.antisymm e.0 key ∙ ap ordering_reverse order in
-              shown_here key false (ap (λ (y : Key). same_key y key) own_key ∙ ap is_eq behind_it) ∙ rest.right key behind_it (narrowed key range)
+              let after_it : key_cmp e.0 key ≡ Less = key_total.antisymm e.0 key ∙ ap ordering_reverse order in
+              shown_here key false (ap (λ (y : Key). same_key y key) own_key ∙ ap is_eq after_it) ∙ rest.right key after_it (narrowed key range)
           at_order key is_above Less order range =
               let turned : key_cmp e.0 key ≡ Greater = key_total.antisymm e.0 key ∙ ap ordering_reverse order in
               shown_here key false (ap (λ (y : Key). same_key y key) own_key ∙ ap is_eq turned)

@@ -53,10 +53,10 @@ module _ (test : Key → Bool) where
   all_above k [] all = tt
   all_above k (e ∷ es) all = (λ passes. all.0, all_above k es all.1)
 
-  passing_behind : (bound : Option Key) (es : List Entry) → IsStrictlySortedBy key_cmp (keys_of es) → AllByRecursion (λ (e : Entry). test e.0 ≡ true → IsAbove bound e.0) es → AreBehind bound (passing es)
+  passing_after : (bound : Option Key) (es : List Entry) → IsStrictlySortedBy key_cmp (keys_of es) → AllByRecursion (λ (e : Entry). test e.0 ≡ true → IsAbove bound e.0) es → AreBehind bound (passing es)
   unfolding IsStrictlySortedBy
-  passing_behind bound [] sorted above = tt
-  passing_behind bound (e ∷ es) sorted above = by (test e.0) refl (passing_behind (Some e.0) es sorted.1 (all_above e.0 es sorted.0)) (passing_behind bound es sorted.1 above.1)
+  passing_after bound [] sorted above = tt
+  passing_after bound (e ∷ es) sorted above = by (test e.0) refl (passing_after (Some e.0) es sorted.1 (all_above e.0 es sorted.0)) (passing_after bound es sorted.1 above.1)
     where
       by : (b : Bool) → test e.0 ≡ b → AreBehind (Some e.0) (passing es) → AreBehind bound (passing es) → AreBehind bound (cond b (e ∷ passing es) (passing es))
       by true passes next skip = (above.0 passes, next)
@@ -121,7 +121,7 @@ pub first_passing : (raw : RawTable) (at : Key → Option Texts) (test : Key →
     → ((key : Key) (row : Texts) → at key ≡ Some row → key_in raw row ≡ key) → ((key : Key) → test key ≡ true → IsAbove above key) → ((key : Key) → IsAbove above key → test key ≡ true)
     → AreFirstRows raw at above limit (take limit (rows_of (filter (λ (e : Entry). test e.0) es)))
 first_passing raw at test es above limit sorted same keyed only all =
-    first_of_slots raw at (filter (λ (e : Entry). test e.0) es) above limit (passing_behind test above es sorted (each es)) (own_stay test raw es (own_of raw None es whole (λ key row is. keyed key row (sym (same key) ∙ is))))
+    first_of_slots raw at (filter (λ (e : Entry). test e.0) es) above limit (passing_after test above es sorted (each es)) (own_stay test raw es (own_of raw None es whole (λ key row is. keyed key row (sym (same key) ∙ is))))
     (λ key is_above. same_there test key es (all key is_above) ∙ same key)
   where
     each : (xs : List Entry) → AllByRecursion (λ (e : Entry). test e.0 ≡ true → IsAbove above e.0) xs
@@ -211,21 +211,21 @@ module _ (tables : List DemoTable) (past : List Accepted) (s : List ℕ) (store 
 
 -- ---- the bounds of both ranges
 
-passes_behind : (bound key : Key) → is_lt (key_cmp bound key) ≡ true → key_cmp bound key ≡ Less
-passes_behind bound key is = by (key_cmp bound key) refl is
+passes_after : (bound key : Key) → is_lt (key_cmp bound key) ≡ true → key_cmp bound key ≡ Less
+passes_after bound key is = by (key_cmp bound key) refl is
   where
     by : (o : Ordering) → key_cmp bound key ≡ o → is_lt o ≡ true → key_cmp bound key ≡ Less
     by Less order told = order
     by Equal order told = cc
     by Greater order told = cc
 
-pub behind_is_above : (above : Option Key) (key : Key) → comes_after above key ≡ true → IsAbove above key
-behind_is_above None key is = tt
-behind_is_above (Some bound) key is = passes_behind bound key is
+pub after_is_above : (above : Option Key) (key : Key) → comes_after above key ≡ true → IsAbove above key
+after_is_above None key is = tt
+after_is_above (Some bound) key is = passes_after bound key is
 
-pub above_is_behind : (above : Option Key) (key : Key) → IsAbove above key → comes_after above key ≡ true
-above_is_behind None key is = refl
-above_is_behind (Some bound) key is = ap is_lt is
+pub above_is_after : (above : Option Key) (key : Key) → IsAbove above key → comes_after above key ≡ true
+above_is_after None key is = refl
+above_is_after (Some bound) key is = ap is_lt is
 
 -- the slots of a range are those after its bound
 and_yes : (b : Bool) → (b && true) ≡ b
@@ -235,8 +235,8 @@ and_yes false = refl
 same_tests : (p q : Entry → Bool) → ((e : Entry) → p e ≡ q e) → p ≡ q
 same_tests p q same = λ i e. same e i
 
-behind_test : (bound : Key) (e : Entry) → range_contains derived_cmp (Excluded bound) Unbounded e.0 ≡ comes_after (Some bound) e.0
-behind_test bound e = and_yes (is_lt (derived_cmp bound e.0)) ∙ ap is_lt (derived_order bound e.0)
+after_test : (bound : Key) (e : Entry) → range_contains derived_cmp (Excluded bound) Unbounded e.0 ≡ comes_after (Some bound) e.0
+after_test bound e = and_yes (is_lt (derived_cmp bound e.0)) ∙ ap is_lt (derived_order bound e.0)
 
-pub range_behind : (slots : Slots) (bound : Key) (range : List Entry) → range ≡ entries_between derived_cmp (Excluded bound) Unbounded slots.entries → range ≡ filter (λ (e : Entry). comes_after (Some bound) e.0) slots.entries
-range_behind slots bound range between = between ∙ ap (λ (t : Entry → Bool). filter t slots.entries) (same_tests (λ e. range_contains derived_cmp (Excluded bound) Unbounded e.0) (λ e. comes_after (Some bound) e.0) (behind_test bound))
+pub range_after : (slots : Slots) (bound : Key) (range : List Entry) → range ≡ entries_between derived_cmp (Excluded bound) Unbounded slots.entries → range ≡ filter (λ (e : Entry). comes_after (Some bound) e.0) slots.entries
+range_after slots bound range between = between ∙ ap (λ (t : Entry → Bool). filter t slots.entries) (same_tests (λ e. range_contains derived_cmp (Excluded bound) Unbounded e.0) (λ e. comes_after (Some bound) e.0) (after_test bound))

@@ -15,7 +15,7 @@ use Rattle.dbl_tables_rows.specs.Seen.{committed_rows}
 use Rattle.dbl_tables_rows.specs.Sending.{log_tables}
 use Rattle.dbl_tables_rows.specs.Steps.{FoundTable, in_the_way}
 use Rattle.dbl_tables_laws.specs.Reachable.{IsOrderly}
-use Rattle.dbl_tables_laws.proofs.AcceptedLemmas.{stands_behind}
+use Rattle.dbl_tables_laws.proofs.AcceptedLemmas.{stands_since}
 use Rattle.dbl_tables_laws.proofs.OpenLemmas.{open_listed}
 use Rattle.dbl_tables_laws.proofs.OrderLemmas.{none_held}
 use Rattle.dbl_tables_rows.specs.declared.rows.Rows.{Rows}
@@ -106,4 +106,4 @@ module _ (tables : List DemoTable) (past : List Accepted) (s : List ℕ) (orderl
   }
 
 pub holders_first : HoldersAreFirst
-holders_first tables calls session can = first_holders tables (acts_after tables [] calls) session (stands_behind tables can calls).orderly
+holders_first tables calls session can = first_holders tables (acts_after tables [] calls) session (stands_since tables can calls).orderly

@@ -43,11 +43,11 @@ module _ (tables : List DemoTable) (can : AreTables tables) where
   stands_after past (c ∷ steps) standing = stands_after (accepted_onto (judged tables past c) past) steps (stands_on tables past can standing c (judged tables past c) refl)
 
   -- after all steps from the first on
-  pub stands_behind : (steps : List Step) → IsReachable tables (acts_after tables [] steps)
-  stands_behind steps = stands_after [] steps (stands_none tables)
+  pub stands_since : (steps : List Step) → IsReachable tables (acts_after tables [] steps)
+  stands_since steps = stands_after [] steps (stands_none tables)
 
 pub locks_apart : LocksAreApart
-locks_apart tables steps can = (stands_behind tables can steps).orderly
+locks_apart tables steps can = (stands_since tables can steps).orderly
 
 pub changes_fit : OpenChangesAreFit
-changes_fit tables steps can = (stands_behind tables can steps).fit
+changes_fit tables steps can = (stands_since tables can steps).fit

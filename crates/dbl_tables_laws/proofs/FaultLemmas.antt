@@ -263,8 +263,8 @@ module _ (table : DemoTable) (info : TableInfo) (is_info : catalogue_of info ≡
         (λ u is. bind_moved (old_row info rel (old_tuple table row)) (λ (was : Row). Ok (change.Delete n (key_of info was.cells) was)) old_fine (λ was there. tt))
 
   module _ (before subsequent : Texts) (wo : length before ≡ length (raw_of table).columns) (wr : length subsequent ≡ length (raw_of table).columns)
-      (spelled_before : AreSpelled (raw_of table).columns before) (spelled_behind : AreSpelled (raw_of table).columns subsequent)
-      (key_of_before : IsTextKey (raw_of table) (raw_key (raw_of table) before)) (key_of_behind : IsTextKey (raw_of table) (raw_key (raw_of table) subsequent)) where
+      (spelled_before : AreSpelled (raw_of table).columns before) (spelled_after : AreSpelled (raw_of table).columns subsequent)
+      (key_of_before : IsTextKey (raw_of table) (raw_key (raw_of table) before)) (key_of_after : IsTextKey (raw_of table) (raw_key (raw_of table) subsequent)) where
     abbrev sent_old : Option OldTuple
     sent_old = optional_old table (moves table before subsequent) before
 
@@ -296,7 +296,7 @@ module _ (table : DemoTable) (info : TableInfo) (is_info : catalogue_of info ≡
           ap is_fixed (sym (type_is column (passes info.columns p column (typed_columns info) at))) ∙ left_loose table (raw_column column) x y left,
           other_place info p column at (ap (λ (r : RawTable). is_key_name r column.name) is_info ∙ left_other table (raw_column column) x y left),
         )
-        by x y is false sent = as_new (is_key_place info p) column y (readable subsequent wr spelled_behind key_of_behind p column y at is)
+        by x y is false sent = as_new (is_key_place info p) column y (readable subsequent wr spelled_after key_of_after p column y at is)
 
     pub update_moved : (n : ℕ) → IsMovedAtMost (err_of (change_of n info rel (says.Update sent_old (record { cells = sent_new }))))
     unfolding change_of

@@ -50,8 +50,8 @@ module _ (raw : RawTable) where
     first_there above limit row rows are =
         sym (are.right (key_of row) are.ordered.0 (inr (last_up (key_of row) rows (key_of row) are.ordered.1 (inl refl)))) ∙ shown_first row rows
 
-    first_behind : (above : Option Key) (limit : ℕ) (row : RawRow) (rows : List RawRow) → AreFirstRows raw at above limit (row ∷ rows) → AreFirstRows raw at (Some (key_of row)) (limit - 1) rows
-    first_behind above limit row rows are = record {
+    first_after : (above : Option Key) (limit : ℕ) (row : RawRow) (rows : List RawRow) → AreFirstRows raw at above limit (row ∷ rows) → AreFirstRows raw at (Some (key_of row)) (limit - 1) rows
+    first_after above limit row rows are = record {
       ordered = are.ordered.1;
       few = (let few : suc (length rows) ≤ limit = are.few in omega (arith, few));
       right = λ key subsequent range.
@@ -81,7 +81,7 @@ module _ (raw : RawTable) where
     first_one above limit [] [] fa fb = refl
     first_one above limit [] (e ∷ b) fa fb = absurd (not_empty above limit e b fa fb)
     first_one above limit (d ∷ a) [] fa fb = absurd (not_empty above limit d a fb fa)
-    first_one above limit (d ∷ a) (e ∷ b) fa fb = by (key_cmp (key_of d) (key_of e)) refl (first_one (Some (key_of d)) (limit - 1) a b (first_behind above limit d a fa))
+    first_one above limit (d ∷ a) (e ∷ b) fa fb = by (key_cmp (key_of d) (key_of e)) refl (first_one (Some (key_of d)) (limit - 1) a b (first_after above limit d a fa))
       where
         by : (o : Ordering) → key_cmp (key_of d) (key_of e) ≡ o → (AreFirstRows raw at (Some (key_of d)) (limit - 1) b → a ≡ b) → d ∷ a ≡ e ∷ b
         by Less is same = absurd (none_before above limit d e a b fa fb is)
@@ -90,7 +90,7 @@ module _ (raw : RawTable) where
             let key : key_of d ≡ key_of e = same_key-is (key_of d) (key_of e) (ap is_eq is) in
             let found : Some d.cells ≡ Some e.cells = sym (first_there above limit d a fa) ∙ (ap at key ∙ first_there above limit e b fb) in
             let cells : d.cells ≡ e.cells = cc in
-            let rest : a ≡ b = same (subst (λ (k : Key). AreFirstRows raw at (Some k) (limit - 1) b) (sym key) (first_behind above limit e b fb)) in
+            let rest : a ≡ b = same (subst (λ (k : Key). AreFirstRows raw at (Some k) (limit - 1) b) (sym key) (first_after above limit e b fb)) in
             λ i. (record { cells = cells i }) ∷ rest i
 
 pub first_rows_one : FirstRowsAreOneList

@@ -135,9 +135,9 @@ module _ (tables : List LogTable) where
       by true same told = here (log_table_named tables (name_of c)) refl (name_same (name_of c) name same) fit.1 (ap (λ (n : TableName). text_row_in (log_table_named tables n) c (rows name) key) (name_same (name_of c) name same) ∙ told)
       by false other told = keyed name key row told
 
-  pub keyed_behind : (cs : List RawChange) (rows : TextRows) → AreFitChanges tables rows cs → AreKeyed tables rows → AreKeyed tables (text_rows_with tables cs rows)
-  keyed_behind [] rows fit keyed = keyed
-  keyed_behind (c ∷ cs) rows fit keyed = keyed_behind cs (text_rows_after tables c rows) fit.1 (keyed_after c rows fit.0 keyed)
+  pub keyed_since : (cs : List RawChange) (rows : TextRows) → AreFitChanges tables rows cs → AreKeyed tables rows → AreKeyed tables (text_rows_with tables cs rows)
+  keyed_since [] rows fit keyed = keyed
+  keyed_since (c ∷ cs) rows fit keyed = keyed_since cs (text_rows_after tables c rows) fit.1 (keyed_after c rows fit.0 keyed)
 
   pub keyed_none : AreKeyed tables no_text_rows
   keyed_none name key row is = cc

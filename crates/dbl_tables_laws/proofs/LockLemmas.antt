@@ -75,9 +75,9 @@ module _ (tables : List LogTable) where
       by true = same_in (log_table_named tables name) c (a name) (b name) key same
       by false = same
 
-  pub same_behind : (cs : List RawChange) (a b : TextRows) (name : TableName) (key : Key) → a name key ≡ b name key → text_rows_with tables cs a name key ≡ text_rows_with tables cs b name key
-  same_behind [] a b name key same = same
-  same_behind (c ∷ cs) a b name key same = same_behind cs (text_rows_after tables c a) (text_rows_after tables c b) name key (same_after c a b name key same)
+  pub same_since : (cs : List RawChange) (a b : TextRows) (name : TableName) (key : Key) → a name key ≡ b name key → text_rows_with tables cs a name key ≡ text_rows_with tables cs b name key
+  same_since [] a b name key same = same
+  same_since (c ∷ cs) a b name key same = same_since cs (text_rows_after tables c a) (text_rows_after tables c b) name key (same_after c a b name key same)
 
   -- ---- changes that fit
 

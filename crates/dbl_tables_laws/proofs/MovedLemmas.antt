@@ -41,7 +41,7 @@ use Rattle.dbl_tables_laws.proofs.JudgedLemmas.{bound, passed, was_some}
 use Rattle.dbl_tables_laws.proofs.MessageLemmas.{found_at_oid, insert_change, delete_change}
 use Rattle.dbl_tables_laws.proofs.OrderLemmas.{more_changes}
 use Rattle.dbl_tables_laws.proofs.SeenLemmas.{shows, held_stay, names_distinct}
-use Rattle.dbl_tables_laws.proofs.SpelledLemmas.{AreSpelled, IsSpelledIn, IsSpelledChange, AreRowsSpelled, cells_spelled, row_given_spelled, row_set_spelled, rows_behind_spelled}
+use Rattle.dbl_tables_laws.proofs.SpelledLemmas.{AreSpelled, IsSpelledIn, IsSpelledChange, AreRowsSpelled, cells_spelled, row_given_spelled, row_set_spelled, rows_since_spelled}
 use Rattle.dbl_tables_laws.proofs.StandingLemmas.{its_table, has_key, stands_none}
 use Rattle.dbl_tables_laws.proofs.ToldLemmas.{schemas_there, known_found, row_told, truncate_told}
 use Rattle.dbl_tables_laws.proofs.UpdateLemmas.{update_change}
@@ -115,7 +115,7 @@ module _ (tables : List DemoTable) (past : List Accepted) (can : AreTables table
   spelled_rolls_back s = record { rows = spelled.rows; changes = λ t. cut t (bytes_eq s t) }
 
   seen_spelled : (s : List ℕ) → AreRowsSpelled (log_tables tables) (seen_rows (log_tables tables) past s)
-  seen_spelled s = rows_behind_spelled (log_tables tables) (changes_by (log_tables tables) past s) (committed_rows (log_tables tables) past) (spelled.changes s) spelled.rows
+  seen_spelled s = rows_since_spelled (log_tables tables) (changes_by (log_tables tables) past s) (committed_rows (log_tables tables) past) (spelled.changes s) spelled.rows
 
   spelled_commits : (s : List ℕ) → IsSpelled tables (Committed s ∷ past)
   spelled_commits s = record { rows = subst (AreRowsSpelled (log_tables tables)) (sym (shows (log_tables tables) past s)) (seen_spelled s); changes = λ t. others t (bytes_eq s t) refl }
@@ -176,11 +176,11 @@ module _ (tables : List DemoTable) (past : List Accepted) (can : AreTables table
         row_told tables infos captured named name at found_it own (says.Delete (old_tuple at.table before)) (λ info of_it n. delete_moved at.table info of_it before has.1 (row_spelled key before there) has.2 n)
 
     module _ (key set : List NamedCell) (before : Texts) (fine : is_readable_set (raw_of at.table) set ≡ true) (there : seen tables past s at (key_given (raw_of at.table) key) ≡ Some before) where
-      abbrev row_behind : Texts
-      row_behind = row_set (raw_of at.table).columns set before
+      abbrev row_since : Texts
+      row_since = row_set (raw_of at.table).columns set before
 
-      spelled_behind : AreSpelled (raw_of at.table).columns row_behind
-      spelled_behind =
+      spelled_after : AreSpelled (raw_of at.table).columns row_since
+      spelled_after =
           let readable : are_readable (raw_of at.table) set ≡ true = and_left (are_readable (raw_of at.table) set) (list_all (λ (c : NamedCell). is_some c.text || not (is_key_name (raw_of at.table) c.column)) set) fine in
           row_set_spelled at.table.info set before (and_left (list_all (is_readable (raw_of at.table)) set) (are_distinct bytes_eq (map (λ (c : NamedCell). c.column) set)) readable)
           (row_spelled (key_given (raw_of at.table) key) before there)
@@ -189,16 +189,16 @@ module _ (tables : List DemoTable) (past : List Accepted) (can : AreTables table
       update_told infos captured =
           let has = has_key tables past s name at can standing found_it (key_given (raw_of at.table) key) before there in
           row_told tables infos captured named name at found_it own
-          (says.Update (optional_old at.table (moves at.table before row_behind) before) (record { cells = new_cells at.table (raw_of at.table).columns before row_behind })) (λ info of_it n.
-          update_moved at.table info of_it before row_behind has.1 (wide_row_set at.table.info set before has.1) (row_spelled (key_given (raw_of at.table) key) before there) spelled_behind has.2 (text_key_set at.table.info set before has.1 fine has.2) n)
+          (says.Update (optional_old at.table (moves at.table before row_since) before) (record { cells = new_cells at.table (raw_of at.table).columns before row_since })) (λ info of_it n.
+          update_moved at.table info of_it before row_since has.1 (wide_row_set at.table.info set before has.1) (row_spelled (key_given (raw_of at.table) key) before there) spelled_after has.2 (text_key_set at.table.info set before has.1 fine has.2) n)
 
       update_spelled : AllByRecursion (IsSpelledChange (log_tables tables)) (raw_changes (log_tables tables) (seen_rows (log_tables tables) past s) (updating at set before))
       update_spelled =
           let has = has_key tables past s name at can standing found_it (key_given (raw_of at.table) key) before there in
-          let u = update_change at.table before row_behind has.1 (wide_row_set at.table.info set before has.1) (log_tables tables) (seen_rows (log_tables tables) past s) at.oid (found_at_oid tables name at found_it) in
+          let u = update_change at.table before row_since has.1 (wide_row_set at.table.info set before has.1) (log_tables tables) (seen_rows (log_tables tables) past s) at.oid (found_at_oid tables name at found_it) in
           let here : seen_rows (log_tables tables) past s at.table.info.name (key_in (raw_of at.table) before) ≡ Some before = ap (seen_rows (log_tables tables) past s at.table.info.name) has.0 ∙ there in
           subst (AllByRecursion (IsSpelledChange (log_tables tables))) (sym u.is)
-          (of_table (Update at.table.info.name u.from u.old u.cells) refl (cells_spelled (raw_of at.table).columns u.cells before row_behind (u.said here) spelled_behind), tt)
+          (of_table (Update at.table.info.name u.from u.old u.cells) refl (cells_spelled (raw_of at.table).columns u.cells before row_since (u.said here) spelled_after), tt)
 
   -- ---- steps that were accepted
 

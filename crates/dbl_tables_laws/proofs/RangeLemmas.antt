@@ -141,9 +141,9 @@ module _ (tables : List LogTable) where
       by true told = here (log_table_named tables name) told
       by false told = was name key row told
 
-  pub rows_behind_ranged : (cs : List RawChange) (rows : TextRows) → AllByRecursion IsRawChangeInRange cs → AreRowsInRange rows → AreRowsInRange (text_rows_with tables cs rows)
-  rows_behind_ranged [] rows range was = was
-  rows_behind_ranged (c ∷ cs) rows range was = rows_behind_ranged cs (text_rows_after tables c rows) range.1 (rows_after_ranged c rows range.0 was)
+  pub rows_since_ranged : (cs : List RawChange) (rows : TextRows) → AllByRecursion IsRawChangeInRange cs → AreRowsInRange rows → AreRowsInRange (text_rows_with tables cs rows)
+  rows_since_ranged [] rows range was = was
+  rows_since_ranged (c ∷ cs) rows range was = rows_since_ranged cs (text_rows_after tables c rows) range.1 (rows_after_ranged c rows range.0 was)
 
 -- ---- names of tables
 

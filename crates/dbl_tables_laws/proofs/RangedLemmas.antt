@@ -40,7 +40,7 @@ use Rattle.dbl_tables_laws.proofs.GivenLemmas.{wide_row_set}
 use Rattle.dbl_tables_laws.proofs.JudgedLemmas.{bound, passed, was_some}
 use Rattle.dbl_tables_laws.proofs.MessageLemmas.{found_at_oid, insert_change, delete_change}
 use Rattle.dbl_tables_laws.proofs.OrderLemmas.{more_changes}
-use Rattle.dbl_tables_laws.proofs.RangeLemmas.{AreRowsInRange, row_given_ranged, row_set_ranged, raw_key_ranged, rows_behind_ranged, name_ranged, few_changes}
+use Rattle.dbl_tables_laws.proofs.RangeLemmas.{AreRowsInRange, row_given_ranged, row_set_ranged, raw_key_ranged, rows_since_ranged, name_ranged, few_changes}
 use Rattle.dbl_tables_laws.proofs.SeenLemmas.{shows, held_stay, names_distinct}
 use Rattle.dbl_tables_laws.proofs.StandingLemmas.{has_key, stands_none}
 use Rattle.dbl_tables_laws.proofs.UpdateLemmas.{update_change, old_ranged}
@@ -80,7 +80,7 @@ module _ (tables : List DemoTable) (past : List Accepted) (can : AreTables table
   ranged_rolls_back s = record { rows = range.rows; changes = λ t. cut t (bytes_eq s t); log = range.log }
 
   pub seen_ranged : (s : List ℕ) → AreRowsInRange (seen_rows (log_tables tables) past s)
-  seen_ranged s = rows_behind_ranged (log_tables tables) (changes_by (log_tables tables) past s) (committed_rows (log_tables tables) past) (range.changes s) range.rows
+  seen_ranged s = rows_since_ranged (log_tables tables) (changes_by (log_tables tables) past s) (committed_rows (log_tables tables) past) (range.changes s) range.rows
 
   ranged_commits : (s : List ℕ) → IsRanged tables (Committed s ∷ past)
   ranged_commits s = record {
@@ -207,8 +207,8 @@ module _ (tables : List DemoTable) (can : AreTables tables) (entries : AllByRecu
       both_after (accepted_onto (judged tables past c) past) steps given.1
       (stands_on tables past can both.0 c (judged tables past c) refl, ranged_on tables past can both.0 both.1 entries c (judged tables past c) given.0 refl)
 
-  both_behind : (steps : List Step) → AllByRecursion IsStepInRange steps → IsBoth tables (acts_after tables [] steps)
-  both_behind steps given = both_after [] steps given (stands_none tables, ranged_none tables)
+  both_since : (steps : List Step) → AllByRecursion IsStepInRange steps → IsBoth tables (acts_after tables [] steps)
+  both_since steps given = both_after [] steps given (stands_none tables, ranged_none tables)
 
 -- the initial rows are steps of such texts
 rows_given : (rows : List InitialRow) → AllByRecursion IsRowInRange rows → AllByRecursion IsStepInRange (map (λ (r : InitialRow). Insert [] r.0 r.1) rows)
@@ -236,7 +236,7 @@ opening_of (table ∷ tables) = by (is_watermark table.info.name) (opening_of ta
 pub runs_fit : SerialRunsAreFit
 runs_fit tables rows steps can entries rows_in steps_in short =
     let all : List Step = initial_steps rows ++ steps in
-    let both = both_behind tables can entries all (all-append IsStepInRange (initial_steps rows) steps (initial_given rows rows_in) steps_in) in
+    let both = both_since tables can entries all (all-append IsStepInRange (initial_steps rows) steps (initial_given rows rows_in) steps_in) in
     let log : List (List Message) = serial tables rows steps in
     let long : length (map Changes log) ≡ length log = length-map log Changes in
     record {

@@ -36,7 +36,7 @@ use Rattle.dbl_tables_rows.specs.Locks.{locks, holds_key}
 use Rattle.dbl_tables_rows.specs.Sending.{log_tables}
 use Rattle.dbl_tables_laws.specs.Reachable.{AreTables, IsOrderly}
 use Rattle.dbl_tables_laws.specs.Laws.{StepsArePrivate, CommitsShowWhatWasSeen, RollbacksLeaveNothing, HeldRowsStay}
-use Rattle.dbl_tables_laws.proofs.LockLemmas.{none_locked, same_behind, AgreeAt, locked_here}
+use Rattle.dbl_tables_laws.proofs.LockLemmas.{none_locked, same_since, AgreeAt, locked_here}
 
 -- texts that differ
 pub other_text : (a b : List ℕ) → a ≢ b → bytes_eq a b ≡ false
@@ -117,7 +117,7 @@ module _ (tables : List LogTable) (distinct : are_distinct same_name (names_in t
       let first : AgreeAt tables cs a b
       = λ name key locked. agree name key (any-append (locks tables name key) cs later ∙ ap (λ (x : Bool). x || list_any (locks tables name key) later) locked) in
       let rest : AgreeAt tables later next beside
-      = λ name key locked. same_behind tables cs a b name key (agree name key (any-append (locks tables name key) cs later ∙ (ap (λ (x : Bool). list_any (locks tables name key) cs || x) locked ∙ or_right (list_any (locks tables name key) cs)))) in
+      = λ name key locked. same_since tables cs a b name key (agree name key (any-append (locks tables name key) cs later ∙ (ap (λ (x : Bool). list_any (locks tables name key) cs || x) locked ∙ or_right (list_any (locks tables name key) cs)))) in
       ap (λ (l : List RawChange). cs ++ l) (changes_same ms next beside rest)
       ∙ ap (λ (l : List RawChange). l ++ changes_from tables (text_rows_with tables l b) ms) (raw_same m a b first)
 
@@ -198,7 +198,7 @@ module _ (tables : List DemoTable) (past : List Accepted) (can : AreTables table
     rows_stay name key held =
         ap (λ (cs : List RawChange). text_rows_with (log_tables tables) cs (committed_rows (log_tables tables) (Committed other ∷ past)) name key) changes_stay
         ∙ ap (λ (rows : TextRows). text_rows_with (log_tables tables) (changes_by (log_tables tables) past session) rows name key) (shows (log_tables tables) past other)
-        ∙ same_behind (log_tables tables) (changes_by (log_tables tables) past session) (seen_rows (log_tables tables) past other) (committed_rows (log_tables tables) past) name key (sym (stays_there name key held))
+        ∙ same_since (log_tables tables) (changes_by (log_tables tables) past session) (seen_rows (log_tables tables) past other) (committed_rows (log_tables tables) past) name key (sym (stays_there name key held))
 
 pub held_stay : HeldRowsStay
 held_stay tables past session other can orderly apart = record { changes = changes_stay tables past can orderly session other apart; rows = rows_stay tables past can orderly session other apart }

@@ -38,7 +38,7 @@ use Rattle.dbl_tables_rows.specs.Sending.{raw_of, log_table, log_tables, sent_ce
 use Rattle.dbl_tables_rows.specs.Serial.{accepted_onto, acts_after, initial_steps, serial}
 use Rattle.dbl_tables_rows.specs.Steps.{Step, FoundTable, found, seen, updating, oids_found, insert_judged, update_judged, delete_judged, truncate_judged, judged}
 use Rattle.dbl_tables_rows.specs.Steps as asked
-use Rattle.dbl_tables_laws.proofs.AcceptedLemmas.{stands_on, stands_behind}
+use Rattle.dbl_tables_laws.proofs.AcceptedLemmas.{stands_on, stands_since}
 use Rattle.dbl_tables_laws.proofs.DoneLemmas.{insert_done, delete_done, update_done, truncate_done}
 use Rattle.dbl_tables_laws.proofs.GivenLemmas.{wide_given}
 use Rattle.dbl_tables_laws.proofs.JudgedLemmas.{bound, passed, was_some}
@@ -230,7 +230,7 @@ runs_fair tables rows steps described rows_in steps_in =
     let all : List Step = initial_steps rows ++ steps in
     let given : AllByRecursion IsStepInRange all = all-append IsStepInRange (initial_steps rows) steps (initial_given rows rows_in) steps_in in
     record {
-      named = named_tables tables (acts_after tables [] all) described.can (stands_behind tables described.can all);
+      named = named_tables tables (acts_after tables [] all) described.can (stands_since tables described.can all);
       relations = described.relations;
       changes = entries_fair (log_tables tables) (serial tables rows steps) (all_changes tables described.can described.ranges all given).log (all_moved tables described.can all).log;
     }

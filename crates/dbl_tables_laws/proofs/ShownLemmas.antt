@@ -30,7 +30,7 @@ use Rattle.dbl_tables_rows.specs.Serial.{acts_after}
 use Rattle.dbl_tables_rows.specs.Steps.{FoundTable, found, seen, updating, insert_judged, update_judged, delete_judged, oids_found, truncate_judged}
 use Rattle.dbl_tables_laws.specs.Laws.{row_put, Shows, StepsShow, StepsShowTheirRows}
 use Rattle.dbl_tables_laws.specs.Reachable.{AreTables, IsReachable}
-use Rattle.dbl_tables_laws.proofs.AcceptedLemmas.{stands_behind}
+use Rattle.dbl_tables_laws.proofs.AcceptedLemmas.{stands_since}
 use Rattle.dbl_tables_laws.proofs.DoneLemmas.{insert_done, delete_done, update_done, truncate_done}
 use Rattle.dbl_tables_laws.proofs.GivenLemmas.{wide_row_set, key_in_set}
 use Rattle.dbl_tables_laws.proofs.JudgedLemmas.{bound, was_some}
@@ -48,8 +48,8 @@ module _ (tables : List DemoTable) (past : List Accepted) (s : List ℕ) (can : 
   rows = seen_rows logs past s
 
   -- the change comes on top
-  behind_did : (m : Message) → seen_rows logs (Did s m ∷ past) s ≡ text_rows_with logs (raw_changes logs rows m) rows
-  behind_did m =
+  after_did : (m : Message) → seen_rows logs (Did s m ∷ past) s ≡ text_rows_with logs (raw_changes logs rows m) rows
+  after_did m =
       ap (λ (ms : List Message). text_rows_with logs (changes_from logs (committed_rows logs past) ms) (committed_rows logs past)) (ap (λ (b : Bool). if b then messages_by s past ++ m ∷ [] else messages_by s past) (text_itself s))
       ∙ (ap (λ (cs : List RawChange). text_rows_with logs cs (committed_rows logs past)) (more_changes tables past standing.orderly (committed_rows logs past) (messages_by s past) m)
       ∙ subsequent-append logs (changes_by logs past s) (raw_changes logs rows m) (committed_rows logs past))
@@ -62,7 +62,7 @@ module _ (tables : List DemoTable) (past : List Accepted) (s : List ℕ) (can : 
     shows_one m c after is own does = record { here = here; elsewhere = elsewhere }
       where
         onto_rows : (name : TableName) (key : Key) → seen_rows logs (Did s m ∷ past) s name key ≡ text_rows_after logs c rows name key
-        onto_rows name key = ap (λ (r : TextRows). r name key) (behind_did m) ∙ ap (λ (cs : List RawChange). text_rows_with logs cs rows name key) is
+        onto_rows name key = ap (λ (r : TextRows). r name key) (after_did m) ∙ ap (λ (cs : List RawChange). text_rows_with logs cs rows name key) is
 
         here : (key : Key) → seen_rows logs (Did s m ∷ past) s at.table.info.name key ≡ after key
         here key =
@@ -220,7 +220,7 @@ module _ (tables : List DemoTable) (past : List Accepted) (s : List ℕ) (can : 
       truncates names act accepted name key =
           let d = truncate_done tables past s names act accepted in
           ap (λ (a : Accepted). seen_rows logs (a ∷ past) s name key) (sym d.did)
-          ∙ (ap (λ (r : TextRows). r name key) (behind_did (truncate_message d.oids)) ∙ cleared names d.oids rows d.are name key)
+          ∙ (ap (λ (r : TextRows). r name key) (after_did (truncate_message d.oids)) ∙ cleared names d.oids rows d.are name key)
 
 pub steps_shown : StepsShowTheirRows
-steps_shown tables steps session can = steps_show tables (acts_after tables [] steps) session can (stands_behind tables can steps)
+steps_shown tables steps session can = steps_show tables (acts_after tables [] steps) session can (stands_since tables can steps)

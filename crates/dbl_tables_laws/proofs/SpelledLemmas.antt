@@ -217,6 +217,6 @@ module _ (tables : List LogTable) where
           row_after_spelled t.raw c (rows name) key row (fine t own) (λ r there. was name key r t there at) here
       by false other told = was name key row t told at
 
-  pub rows_behind_spelled : (cs : List RawChange) (rows : TextRows) → AllByRecursion (IsSpelledChange tables) cs → AreRowsSpelled tables rows → AreRowsSpelled tables (text_rows_with tables cs rows)
-  rows_behind_spelled [] rows fine was = was
-  rows_behind_spelled (c ∷ cs) rows fine was = rows_behind_spelled cs (text_rows_after tables c rows) fine.1 (rows_after_spelled c rows fine.0 was)
+  pub rows_since_spelled : (cs : List RawChange) (rows : TextRows) → AllByRecursion (IsSpelledChange tables) cs → AreRowsSpelled tables rows → AreRowsSpelled tables (text_rows_with tables cs rows)
+  rows_since_spelled [] rows fine was = was
+  rows_since_spelled (c ∷ cs) rows fine was = rows_since_spelled cs (text_rows_after tables c rows) fine.1 (rows_after_spelled c rows fine.0 was)

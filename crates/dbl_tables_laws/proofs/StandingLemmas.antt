@@ -34,7 +34,7 @@ use Rattle.dbl_tables_laws.proofs.DoneLemmas.{insert_done, delete_done, update_d
 use Rattle.dbl_tables_laws.proofs.FitOpenLemmas.{fit_none, fit_begins, fit_rolls_back, fit_commits, fit_does}
 use Rattle.dbl_tables_laws.proofs.GivenLemmas.{text_key_row, wide_given, text_key_set, key_in_set, wide_row_set}
 use Rattle.dbl_tables_laws.proofs.JudgedLemmas.{bound, was_some, named_at, order_change, order_inserts}
-use Rattle.dbl_tables_laws.proofs.KeyedLemmas.{HasKey, keyed_behind, keyed_none}
+use Rattle.dbl_tables_laws.proofs.KeyedLemmas.{HasKey, keyed_none, keyed_since}
 use Rattle.dbl_tables_laws.proofs.MessageLemmas.{found_at_oid, insert_change, delete_change}
 use Rattle.dbl_tables_laws.proofs.OrderLemmas.{order_none, order_begins, order_rolls_back, order_commits}
 use Rattle.dbl_tables_laws.proofs.SeenLemmas.{shows}
@@ -66,7 +66,7 @@ module _ (tables : List DemoTable) (past : List Accepted) (standing : IsReachabl
 
   -- what a session sees stands at its keys
   pub seen_keyed : (s : List ℕ) → AreKeyed (log_tables tables) (seen_rows (log_tables tables) past s)
-  seen_keyed s = keyed_behind (log_tables tables) (changes_by (log_tables tables) past s) (committed_rows (log_tables tables) past) (standing.fit.changes s) standing.keyed
+  seen_keyed s = keyed_since (log_tables tables) (changes_by (log_tables tables) past s) (committed_rows (log_tables tables) past) (standing.fit.changes s) standing.keyed
 
   pub stands_commits : (s : List ℕ) → AreTables tables → IsReachable tables (Committed s ∷ past)
   stands_commits s can = record {

@@ -446,10 +446,10 @@ module _ (table : DemoTable) (before row : Texts) (wo : length before ≡ length
       ∙ ap (λ (k : RawKey). not (same_key (key_in (raw_of table) before) (key_from (raw_of table) k))) sent_key
 
   -- the row at the key after it
-  row_behind : (b : Bool) (was : Option Texts) → (b ≡ true) ⊎ (was ≡ Some before) → updated_texts (all_texts (settled_if_moved b (Some before) cells_of)) (settled_if_moved b (Some before) cells_of) was ≡ Some row
-  row_behind true was why = ap (λ (o : Option Texts). updated_texts o (settled cells_of before) was) (settled_is cells_of before row cells_match)
-  row_behind false was (inl moved) = cc
-  row_behind false was (inr there) = ap (updated_texts (all_texts cells_of) cells_of) there ∙ by (all_texts cells_of) refl
+  row_since : (b : Bool) (was : Option Texts) → (b ≡ true) ⊎ (was ≡ Some before) → updated_texts (all_texts (settled_if_moved b (Some before) cells_of)) (settled_if_moved b (Some before) cells_of) was ≡ Some row
+  row_since true was why = ap (λ (o : Option Texts). updated_texts o (settled cells_of before) was) (settled_is cells_of before row cells_match)
+  row_since false was (inl moved) = cc
+  row_since false was (inr there) = ap (updated_texts (all_texts cells_of) cells_of) there ∙ by (all_texts cells_of) refl
     where
       by : (o : Option Texts) → all_texts cells_of ≡ o → updated_texts o cells_of (Some before) ≡ Some row
       by None is = ap (λ (l : Texts). Some l) (overlaid_is cells_of before row cells_match)
@@ -459,7 +459,7 @@ module _ (table : DemoTable) (before row : Texts) (wo : length before ≡ length
       → updated_texts (all_texts (settled_if_moved flag (rows table.info.name (key_from (raw_of table) (raw_key_before (raw_of table) old_of cells_of))) cells_of)) (settled_if_moved flag (rows table.info.name (key_from (raw_of table) (raw_key_before (raw_of table) old_of cells_of))) cells_of) was ≡ Some row
   row_there rows there was why =
       let here : rows table.info.name (key_from (raw_of table) (raw_key_before (raw_of table) old_of cells_of)) ≡ Some before = ap (rows table.info.name) key_was ∙ there in
-      ap (λ (o : Option Texts). updated_texts (all_texts (settled_if_moved flag o cells_of)) (settled_if_moved flag o cells_of) was) here ∙ row_behind flag was (turned why)
+      ap (λ (o : Option Texts). updated_texts (all_texts (settled_if_moved flag o cells_of)) (settled_if_moved flag o cells_of) was) here ∙ row_since flag was (turned why)
     where
       turned : (moves table before row ≡ true) ⊎ (was ≡ Some before) → (flag ≡ true) ⊎ (was ≡ Some before)
       turned (inl moved) = inl (flag_is ∙ moved)

@@ -195,9 +195,9 @@ owner_first session (Some owner) = by (bytes_eq owner session) refl
 -- ---- the first of a list in order
 
 -- a name in the rest of the list is after its head
-behind_head : (k name : List ℕ) (keys : List (List ℕ)) → AllByRecursion (λ y. text_cmp k y ≡ Less) keys → list_any (is_at (text_cmp name)) keys ≡ true → text_cmp k name ≡ Less
-behind_head k name [] below there = cc
-behind_head k name (y ∷ keys) below there = by (text_cmp name y) refl there (λ more. behind_head k name keys below.1 more)
+after_head : (k name : List ℕ) (keys : List (List ℕ)) → AllByRecursion (λ y. text_cmp k y ≡ Less) keys → list_any (is_at (text_cmp name)) keys ≡ true → text_cmp k name ≡ Less
+after_head k name [] below there = cc
+after_head k name (y ∷ keys) below there = by (text_cmp name y) refl there (λ more. after_head k name keys below.1 more)
   where
     by : (o : Ordering) → text_cmp name y ≡ o → (is_eq o || list_any (is_at (text_cmp name)) keys) ≡ true → (list_any (is_at (text_cmp name)) keys ≡ true → text_cmp k name ≡ Less) → text_cmp k name ≡ Less
     by Equal is told later = ap (text_cmp k) (exact_bytes name y is) ∙ below.0
@@ -223,7 +223,7 @@ first_sorted p (k ∷ keys) sorted = by (p k) refl (first_sorted p keys sorted.1
         at : (o : Ordering) → text_cmp name k ≡ o → (is_eq o || list_any (is_at (text_cmp name)) keys) ≡ true → is_lt (text_cmp name k) ≡ false
         at Equal is there = ap is_lt is
         at Less is there =
-            let back : text_cmp k name ≡ Less = behind_head k name keys sorted.0 there in
+            let back : text_cmp k name ≡ Less = after_head k name keys sorted.0 there in
             let contra : Greater ≡ Less = sym (nat_list_cmp_total.antisymm k name ∙ ap ordering_reverse is) ∙ back in
             cc
         at Greater is there = ap is_lt is

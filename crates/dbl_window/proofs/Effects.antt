@@ -76,8 +76,8 @@ left_alone from to k row same = by (same_key to k) (same_key from k) (ap (λ (x 
     by false false is = refl
 
 -- where they differ, the row at the new key isn't the one that goes
-pub left_behind : (from to k : Key) (row : Option (List Val)) → from ≢ to → (if same_key from k then None else row) ≡ (if same_key to k then row else (if same_key from k then None else row))
-left_behind from to k row other = by (same_key to k) (same_key from k) refl refl
+pub left_since : (from to k : Key) (row : Option (List Val)) → from ≢ to → (if same_key from k then None else row) ≡ (if same_key to k then row else (if same_key from k then None else row))
+left_since from to k row other = by (same_key to k) (same_key from k) refl refl
   where
     by : (n o : Bool) → same_key to k ≡ n → same_key from k ≡ o → (if o then None else row) ≡ (if n then row else (if o then None else row))
     by true true is_to is_from = absurd (other (same_key-is from k is_from ∙ sym (same_key-is to k is_to)))

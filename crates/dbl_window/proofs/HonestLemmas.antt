@@ -39,7 +39,7 @@ use Rattle.dbl_window.specs.Plans.{Plan, Chunk}
 use Rattle.dbl_window.specs.Reading.{◌>>=◌, is_of_key, null_read, value_read, cell_read, cells_read, comes_after, placed, with_key, row_read, rows_read, chunk_read}
 use Rattle.dbl_window.specs.Selected.{IsCaptured, IsSelected, HasUnreadable}
 use Rattle.dbl_window.proofs.CellLemmas.{cells_are}
-use Rattle.dbl_window.proofs.OrderLemmas.{first_behind}
+use Rattle.dbl_window.proofs.OrderLemmas.{first_after}
 use Rattle.dbl_window.proofs.ReadLemmas.{above_is, keyed_by, row_is, read_answered}
 
 -- ---- the window's table among the captured ones
@@ -253,9 +253,9 @@ bad_row plan number last raw e true counted wide key above test h =
     never : (cells : List Val) → cells_read plan.info number 0 plan.info.columns raw.cells ≡ Ok cells → placed number last (with_key plan.info cells) ≡ Err e → ⊥
     never cells fine wrong =
         let cells_is : cells ≡ typed_cells (column_types plan.info) raw.cells = cells_are plan.info number 0 plan.info.columns raw.cells cells wide fine in
-        let behind_it : comes_after last (with_key plan.info cells).0 ≡ true =
+        let after_it : comes_after last (with_key plan.info cells).0 ≡ true =
         ap (λ (l : List Val). comes_after last (with_key plan.info l).0) cells_is ∙ above_is last (with_key plan.info (typed_cells (column_types plan.info) raw.cells)).0 above in
-        let contra : Ok (with_key plan.info cells) ≡ Err e = sym (ap (λ (t : Bool). if t then Ok (with_key plan.info cells) else Err (window.BadChunk number)) behind_it) ∙ wrong in
+        let contra : Ok (with_key plan.info cells) ≡ Err e = sym (ap (λ (t : Bool). if t then Ok (with_key plan.info cells) else Err (window.BadChunk number)) after_it) ∙ wrong in
         cc
 
 typed_width : (types : List PgType) (cells : List (Option (List ℕ))) → length (typed_cells types cells) ≡ length cells
@@ -271,7 +271,7 @@ bad_rows infos plan at number room last [] e captured wide le are h = absurd (cc
 bad_rows infos plan at number room last (raw ∷ answered) e captured wide le are h =
     by (went_wrong (row_read plan number last raw) (λ entry. rows_read plan (number + 1) (Some entry.0) answered >>= λ entries. Ok (entry ∷ entries)) e h)
     (bad_rows infos plan at (number + 1) (room - 1) (Some (keyed_row infos plan.table plan.info raw).0) answered e captured wide fewer
-    (first_behind plan.info at last room (keyed_row infos plan.table plan.info raw) (map (keyed_row infos plan.table plan.info) answered) are))
+    (first_after plan.info at last room (keyed_row infos plan.table plan.info raw) (map (keyed_row infos plan.table plan.info) answered) are))
   where
     some : suc (length (map (keyed_row infos plan.table plan.info) answered)) ≤ room
     some = are.few

@@ -104,9 +104,9 @@ module _ (infos : List TableInfo) (table : ℕ) (key : Key) where
   whole_front (c ∷ cs) ds (inl here) = inl here
   whole_front (c ∷ cs) ds (inr later) = inr (whole_front cs ds later)
 
-  pub whole_behind : (cs ds : List Change) → HasWhole infos table key ds → HasWhole infos table key (cs ++ ds)
-  whole_behind [] ds whole = whole
-  whole_behind (c ∷ cs) ds whole = inr (whole_behind cs ds whole)
+  pub whole_after : (cs ds : List Change) → HasWhole infos table key ds → HasWhole infos table key (cs ++ ds)
+  whole_after [] ds whole = whole
+  whole_after (c ∷ cs) ds whole = inr (whole_after cs ds whole)
 
   whole_at : (changes : List Change) → HasWhole infos table key changes → IsWholeAt infos table key changes
   whole_at [] whole = elim whole [ ]
@@ -121,11 +121,11 @@ module _ (infos : List TableInfo) (table : ℕ) (key : Key) where
         whole = at.whole;
       }
 
-  get_behind : (early rest : List Change) (n : ℕ) → slice_get (early ++ rest) (length early + n) ≡ slice_get rest n
-  get_behind [] rest n = let e : 0 + n ≡ n = omega arith in ap (slice_get rest) e
-  get_behind (c ∷ early) rest n =
+  get_after : (early rest : List Change) (n : ℕ) → slice_get (early ++ rest) (length early + n) ≡ slice_get rest n
+  get_after [] rest n = let e : 0 + n ≡ n = omega arith in ap (slice_get rest) e
+  get_after (c ∷ early) rest n =
       let e : suc (length early) + n ≡ suc (length early + n) = omega arith in
-      ap (slice_get (c ∷ (early ++ rest))) e ∙ get_behind early rest n
+      ap (slice_get (c ∷ (early ++ rest))) e ∙ get_after early rest n
 
   get_front : (changes late : List Change) (n : ℕ) → n < length changes → slice_get (changes ++ late) n ≡ slice_get changes n
   get_front [] late n lt = absurd (omega (arith, lt))
@@ -144,7 +144,7 @@ module _ (infos : List TableInfo) (table : ℕ) (key : Key) where
         not_before = omega (arith, from_is);
         before = omega (arith, to_is, lt);
         is = ap (λ (l : List Change). slice_get l (length early + at.place)) spelled
-            ∙ (get_behind early (changes ++ late) at.place ∙ (get_front changes late at.place at.within ∙ at.is));
+            ∙ (get_after early (changes ++ late) at.place ∙ (get_front changes late at.place at.within ∙ at.is));
         whole = at.whole;
       }
 

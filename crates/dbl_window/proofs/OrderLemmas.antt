@@ -52,9 +52,9 @@ within info bound (entry ∷ rows) key cells above keys is = elim (bool_case (sa
 ]
 
 -- without its first one, a table's first rows are those after it
-pub first_behind : (info : TableInfo) (at : Key → Option (List Val)) (above : Option Key) (limit : ℕ) (entry : Key × Row) (rows : List (Key × Row)) → AreFirst info at above limit (entry ∷ rows)
+pub first_after : (info : TableInfo) (at : Key → Option (List Val)) (above : Option Key) (limit : ℕ) (entry : Key × Row) (rows : List (Key × Row)) → AreFirst info at above limit (entry ∷ rows)
     → AreFirst info at (Some entry.0) (limit - 1) rows
-first_behind info at above limit entry rows are = record {
+first_after info at above limit entry rows are = record {
   keys = are.keys.1;
   ordered = are.ordered.1;
   few = (let few : suc (length rows) ≤ limit = are.few in omega (arith, few));

@@ -23,7 +23,7 @@ use Rattle.dbl_window.specs.Plans.{Chunk}
 use Rattle.dbl_window.specs.Changing.{left_from}
 use Rattle.dbl_window.specs.Promise.{rows_after_first, moment_after_first, WasGiven, IsClosedOf, KeepsPromise}
 use Rattle.dbl_window.proofs.Overlays.{again}
-use Rattle.dbl_window.proofs.LeftLemmas.{HasWhole, ArePart, left-None, left-append, parts, whole_left, whole_front, whole_behind, touched}
+use Rattle.dbl_window.proofs.LeftLemmas.{HasWhole, ArePart, left-None, left-append, parts, whole_left, whole_front, whole_after, touched}
 use Rattle.dbl_window.proofs.OrderLemmas.{within, each_row}
 
 -- ---- changes between places of a history
@@ -95,7 +95,7 @@ pub settled : (infos : List TableInfo) (commits : List Commit) (low place high :
 settled infos commits low place high table key row not_before not_after same = elim (parts infos table key (all_changes (drop low (take place commits)))) [
   | inl whole ↦ inl (subst (HasWhole infos table key) (sym given_is) (whole_front infos table key (all_changes (drop low (take place commits))) (all_changes (drop place (take high commits))) whole))
   | inr first ↦ elim (parts infos table key (all_changes (drop place (take high commits)))) [
-    | inl whole ↦ inl (subst (HasWhole infos table key) (sym given_is) (whole_behind infos table key (all_changes (drop low (take place commits))) (all_changes (drop place (take high commits))) whole))
+    | inl whole ↦ inl (subst (HasWhole infos table key) (sym given_is) (whole_after infos table key (all_changes (drop low (take place commits))) (all_changes (drop place (take high commits))) whole))
     | inr last ↦ inr (kept first last)
   ]
 ]

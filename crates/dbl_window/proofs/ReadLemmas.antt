@@ -31,9 +31,9 @@ less_is Less h = refl
 less_is Equal h = cc
 less_is Greater h = cc
 
-pub behind_is : (last : Option Key) (key : Key) → comes_after last key ≡ true → IsAbove last key
-behind_is None key h = tt
-behind_is (Some bound) key h = less_is (key_cmp bound key) h
+pub beyond_is : (last : Option Key) (key : Key) → comes_after last key ≡ true → IsAbove last key
+beyond_is None key h = tt
+beyond_is (Some bound) key h = less_is (key_cmp bound key) h
 
 pub above_is : (last : Option Key) (key : Key) → IsAbove last key → comes_after last key ≡ true
 above_is None key above = refl
@@ -48,7 +48,7 @@ pub placed_by : (number : ℕ) (last : Option Key) (entry found : Key × Row) (b
     → (if b then Ok entry else Err (window.BadChunk number)) ≡ Ok found → IsPlaced number last entry found
 placed_by number last entry found true subsequent h =
     let back : entry ≡ found = cc in
-    record { same = sym back; above = behind_is last entry.0 subsequent }
+    record { same = sym back; above = beyond_is last entry.0 subsequent }
 placed_by number last entry found false subsequent h = absurd (cc)
 
 -- ---- one row

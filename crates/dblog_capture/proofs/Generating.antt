@@ -31,8 +31,8 @@ use Rattle.dbl_disk.specs.Model.{DiskModel}
 pub not_rose : FaultCounted 0 0 → ⊥
 not_rose rose = omega (arith, rose)
 
-rose_behind : (a b c : ℕ) → a ≤ b → FaultCounted b c → FaultCounted a c
-rose_behind a b c earlier rose = omega (arith, earlier, rose)
+rose_after : (a b c : ℕ) → a ≤ b → FaultCounted b c → FaultCounted a c
+rose_after a b c earlier rose = omega (arith, earlier, rose)
 
 -- ---- ends
 
@@ -210,9 +210,9 @@ module _ {W T F : Type 0} (wal_model : DiskModel W) (topics_model : DiskModel T)
       headline = λ made. went_promised made.wal_empty.told made.topics_empty.told made.offsets_empty.told;
       end = Ok tt;
       full = λ holds. absurd (none_full holds);
-      wal_failed = λ is. rose_behind (wal_model.faults old.wal) (wal_model.faults mid.wal) (wal_model.faults new.wal) wal_left.later (ran.wal_failed is);
-      topics_failed = λ is. rose_behind (topics_model.faults old.topics) (topics_model.faults mid.topics) (topics_model.faults new.topics) topics_left.later (ran.topics_failed is);
-      offsets_failed = λ is. rose_behind (offsets_model.faults old.offsets) (offsets_model.faults mid.offsets) (offsets_model.faults new.offsets) offsets_left.later (ran.offsets_failed is);
+      wal_failed = λ is. rose_after (wal_model.faults old.wal) (wal_model.faults mid.wal) (wal_model.faults new.wal) wal_left.later (ran.wal_failed is);
+      topics_failed = λ is. rose_after (topics_model.faults old.topics) (topics_model.faults mid.topics) (topics_model.faults new.topics) topics_left.later (ran.topics_failed is);
+      offsets_failed = λ is. rose_after (offsets_model.faults old.offsets) (offsets_model.faults mid.offsets) (offsets_model.faults new.offsets) offsets_left.later (ran.offsets_failed is);
       wal_short = grown_by wal_model store.Wal (Ok tt) old.wal mid.wal wal_left (IsFreshWal workload) wal_empty wal_made new.wal ran.wal_bounded;
       topics_short = grown_by topics_model store.Topics (Ok tt) old.topics mid.topics topics_left IsEmptyLog topics_empty topics_made new.topics ran.topics_bounded;
       offsets_short = store_grown_by offsets_model store.Offsets

@@ -17,7 +17,7 @@ use Rattle.dbl_demo.specs.DemoWorkload.declared.error.DemoError.{DemoError}
 use Rattle.dbl_demo.specs.DemoWorkload.declared.error.DemoError.TheVariants as demo
 use Rattle.dbl_demo.specs.DemoWal.Wals.{IsWal, Wal}
 use Rattle.dbl_demo.specs.DemoWal.Wals as wal_bytes
-use Rattle.dbl_capture.proofs.CaptureWorkExits.{rose_behind}
+use Rattle.dbl_capture.proofs.CaptureWorkExits.{rose_after}
 use Rattle.dblog_init.specs.declared.error.Store.{Store}
 use Rattle.dblog_promise.specs.Bounds.{IsBounded, IsStoreBounded}
 use Rattle.dblog_init.specs.declared.error.Store.TheVariants as store
@@ -167,31 +167,31 @@ not_before_offsets error.NotStarted subsequent before = before
 not_before_offsets (error.Halted h) subsequent before = before
 not_before_offsets error.Memory subsequent before = before
 
-pub behind_wal : (e : ConnectError) → IsAfterOpening store.Topics e → IsAfterOpening store.Wal e
-behind_wal (error.Failed s) subsequent = tt
-behind_wal (error.NotAStore store.Wal at) subsequent = subsequent
-behind_wal (error.NotAStore store.Topics at) subsequent = tt
-behind_wal (error.NotAStore store.Offsets at) subsequent = tt
-behind_wal (error.BadEntry store.Wal index) subsequent = subsequent
-behind_wal (error.BadEntry store.Topics index) subsequent = tt
-behind_wal (error.BadEntry store.Offsets index) subsequent = tt
-behind_wal error.AlreadyStarted subsequent = tt
-behind_wal error.NotStarted subsequent = tt
-behind_wal (error.Halted h) subsequent = tt
-behind_wal error.Memory subsequent = tt
+pub after_wal : (e : ConnectError) → IsAfterOpening store.Topics e → IsAfterOpening store.Wal e
+after_wal (error.Failed s) subsequent = tt
+after_wal (error.NotAStore store.Wal at) subsequent = subsequent
+after_wal (error.NotAStore store.Topics at) subsequent = tt
+after_wal (error.NotAStore store.Offsets at) subsequent = tt
+after_wal (error.BadEntry store.Wal index) subsequent = subsequent
+after_wal (error.BadEntry store.Topics index) subsequent = tt
+after_wal (error.BadEntry store.Offsets index) subsequent = tt
+after_wal error.AlreadyStarted subsequent = tt
+after_wal error.NotStarted subsequent = tt
+after_wal (error.Halted h) subsequent = tt
+after_wal error.Memory subsequent = tt
 
-pub behind_topics : (e : ConnectError) → IsAfterOpening store.Offsets e → IsAfterOpening store.Topics e
-behind_topics (error.Failed s) subsequent = tt
-behind_topics (error.NotAStore store.Wal at) subsequent = subsequent
-behind_topics (error.NotAStore store.Topics at) subsequent = subsequent
-behind_topics (error.NotAStore store.Offsets at) subsequent = tt
-behind_topics (error.BadEntry store.Wal index) subsequent = subsequent
-behind_topics (error.BadEntry store.Topics index) subsequent = subsequent
-behind_topics (error.BadEntry store.Offsets index) subsequent = tt
-behind_topics error.AlreadyStarted subsequent = tt
-behind_topics error.NotStarted subsequent = tt
-behind_topics (error.Halted h) subsequent = tt
-behind_topics error.Memory subsequent = tt
+pub after_topics : (e : ConnectError) → IsAfterOpening store.Offsets e → IsAfterOpening store.Topics e
+after_topics (error.Failed s) subsequent = tt
+after_topics (error.NotAStore store.Wal at) subsequent = subsequent
+after_topics (error.NotAStore store.Topics at) subsequent = subsequent
+after_topics (error.NotAStore store.Offsets at) subsequent = tt
+after_topics (error.BadEntry store.Wal index) subsequent = subsequent
+after_topics (error.BadEntry store.Topics index) subsequent = subsequent
+after_topics (error.BadEntry store.Offsets index) subsequent = tt
+after_topics error.AlreadyStarted subsequent = tt
+after_topics error.NotStarted subsequent = tt
+after_topics (error.Halted h) subsequent = tt
+after_topics error.Memory subsequent = tt
 
 -- ---- of an end
 
@@ -215,7 +215,7 @@ only_same model old new same = subst (OnlyRead model old) (sym same) (record { s
 pub counts_on : {D : Type 0} (model : DiskModel D) (s : Store) (end : ConnectEnd) (old mid new : D) → model.faults old ≤ model.faults mid → CountsFaults model s end mid new → CountsFaults model s end old new
 counts_on model s end old mid new later counts = record {
   later = omega (arith, later, counts.later);
-  cause = λ is. rose_behind (model.faults old) (model.faults mid) (model.faults new) later (counts.cause is);
+  cause = λ is. rose_after (model.faults old) (model.faults mid) (model.faults new) later (counts.cause is);
 }
 
 pub counts_same : {D : Type 0} (model : DiskModel D) (s : Store) (end : ConnectEnd) (old new : D) → new ≡ old → (end ≡ Err (error.Failed s) → ⊥) → CountsFaults model s end old new

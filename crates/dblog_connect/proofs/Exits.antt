@@ -56,8 +56,8 @@ refused_as P memory already not_yet asked stored e refused = by (refused_is aske
 pub refused_kind : (asked : Asked) (stored : Option Offset) (e : ConnectError) → (e ≡ error.Memory) ⊎ Refuses asked stored e → IsConnectError e
 refused_kind = refused_as IsConnectError tt tt tt
 
-pub refused_behind : (asked : Asked) (stored : Option Offset) (e : ConnectError) → (e ≡ error.Memory) ⊎ Refuses asked stored e → IsAfterOpening store.Offsets e
-refused_behind = refused_as (IsAfterOpening store.Offsets) tt tt tt
+pub refused_after : (asked : Asked) (stored : Option Offset) (e : ConnectError) → (e ≡ error.Memory) ⊎ Refuses asked stored e → IsAfterOpening store.Offsets e
+refused_after = refused_as (IsAfterOpening store.Offsets) tt tt tt
 
 pub refused_unhalted : (asked : Asked) (stored : Option Offset) (e : ConnectError) → (e ≡ error.Memory) ⊎ Refuses asked stored e → IsUnhalted e
 refused_unhalted = refused_as IsUnhalted tt tt tt

@@ -50,8 +50,8 @@ module _ {D : Type 0} (model : DiskModel D) (store : Store) where
   }
 
   -- what was left of it after the asking
-  pub leaves_behind : (first end : InitEnd) (old mid new : D) → (fails store first → ⊥) → IsAtMostMeasured model store first old mid → LeavesDisk model store end mid new → LeavesDisk model store end old new
-  leaves_behind first end old mid new before asked left = record {
+  pub leaves_after : (first end : InitEnd) (old mid new : D) → (fails store first → ⊥) → IsAtMostMeasured model store first old mid → LeavesDisk model store end mid new → LeavesDisk model store end old new
+  leaves_after first end old mid new before asked left = record {
     later = omega (arith, asked.keeps.later, left.later);
     cause = λ is. omega (arith, asked.keeps.later, left.cause is);
     steady = λ none bytes is. left.steady none bytes (asked.keeps.same ∙ is) ∙ asked.keeps.steady before bytes is;

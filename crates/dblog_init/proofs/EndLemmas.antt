@@ -21,7 +21,7 @@ use Rattle.dblog_init.specs.Answers.AnswersInput.{too_long, refused, made}
 use Rattle.dblog_init.specs.Disks.{HasStoredBytes, HoldsBytes, IsAtMostMeasured, EndsBeforeWriting, LeavesDisk}
 use Rattle.dblog_init.specs.Errors.{demo_error, input_error}
 use Rattle.dblog_init.specs.Turns.{AsksOne, IsTurnOf, MakesOne}
-use Rattle.dblog_init.proofs.DiskLemmas.{asked_as, asked_leaves, leaves_behind}
+use Rattle.dblog_init.proofs.DiskLemmas.{asked_as, asked_leaves, leaves_after}
 use Rattle.dblog_init.proofs.KindLemmas.{refused_kind}
 use Rattle.dbl_disk.specs.Model.{DiskModel}
 
@@ -168,8 +168,8 @@ module _ {D : Type 0} (model : DiskModel D) (store : Store) (old mid : D) where
   pub none_held : AsksOne model store (Ok tt) old mid → HoldsBytes model old → ⊥
   none_held asks holds = holds.2 (asks.empty holds.0 holds.1)
 
-  pub empty_behind : AsksOne model store (Ok tt) old mid → (bytes : List ℕ) → model.seen mid ≡ Some bytes → bytes ≡ []
-  empty_behind asks bytes told = asks.empty bytes (sym asks.asked.keeps.same ∙ told)
+  pub empty_after : AsksOne model store (Ok tt) old mid → (bytes : List ℕ) → model.seen mid ≡ Some bytes → bytes ≡ []
+  empty_after asks bytes told = asks.empty bytes (sym asks.asked.keeps.same ∙ told)
 
   -- it ended at the input
   pub asked_at : (f : InitError) → (f ≡ Failed store → ⊥) → AsksOne model store (Ok tt) old mid → IsAtMostMeasured model store (Err f) old mid
@@ -195,4 +195,4 @@ module _ {D : Type 0} (model : DiskModel D) (store : Store) (old mid : D) where
         subst (λ (d : D). IsAtMostMeasured model store end old d) (sym (makes.untouched unwritten)) (asked_as model store (Ok tt) end old mid (λ is. (let t = is in cc)) (spared unwritten) asks.asked)
 
     pub leaves_end : LeavesDisk model store end old new
-    leaves_end = leaves_behind model store (Ok tt) end old mid new (λ is. (let t = is in cc)) asks.asked makes.leaves
+    leaves_end = leaves_after model store (Ok tt) end old mid new (λ is. (let t = is in cc)) asks.asked makes.leaves

@@ -48,7 +48,7 @@ use Rattle.dblog_laws.specs.Budgets.{AreAtRest, GenerousBudgetsSufficeAgain, com
 use Rattle.dblog_laws.specs.Sessions.{MayLeaveContents}
 use Rattle.dblog_laws.proofs.BudgetStatuses.{not_spent, spent_end, workload_stays}
 use Rattle.dblog_laws.proofs.BudgetLaws.{counted_all, whole_of}
-use Rattle.dblog_laws.proofs.Growing.{GrewFrom, entries_grew, entries_many, grew, rest_behind, rest_of, sent_has, sizes_grew}
+use Rattle.dblog_laws.proofs.Growing.{GrewFrom, entries_grew, entries_many, grew, rest_after, rest_of, sent_has, sizes_grew}
 use Rattle.dblog_laws.proofs.SentSizes.{sent_messages_are_few}
 use Rattle.dblog_laws.proofs.WalSizes.{fronts_less, marks_counted, wal_begins}
 use Rattle.dblog_laws.proofs.WholeRows.{whole_covers}
@@ -78,7 +78,7 @@ grown_size old_bytes new_bytes old new after windows more old_is new_is same ext
     let new_here : total ≡ session_commits new.entries ++ new_whole.0 = ap (λ (x : Workload). log_at x (length (steps_of x))) (sym same) ∙ new_whole.1 in
     let rest = rest_of (session_commits old.entries) (session_commits new.entries) total old_whole.0 new_whole.0 (entries_many old.entries new.entries extended) old_whole.1 new_here in
     let grown = sizes_grew k old_log new_log rest.0 extended (entries_grew old.entries new.entries rest.0 rest.1) in
-    let subsequent : commit_sizes rest.0 ≤ commit_sizes (drop first (session_commits old.entries ++ rest.0)) = rest_behind first (session_commits old.entries) rest.0 old_is.are.sound.begun in
+    let subsequent : commit_sizes rest.0 ≤ commit_sizes (drop first (session_commits old.entries ++ rest.0)) = rest_after first (session_commits old.entries) rest.0 old_is.are.sound.begun in
     let front : commit_sizes (drop first (session_commits new.entries)) ≤ commit_sizes (drop first (session_commits new.entries ++ new_whole.0)) = fronts_less first (session_commits new.entries) new_whole.0 in
     let parts : commit_sizes (drop first (session_commits old.entries ++ rest.0)) ≡ commit_sizes (drop first (session_commits new.entries)) = ap (λ (l : List (List Message)). commit_sizes (drop first l)) (sym rest.1) in
     let all : commit_sizes (drop first total) ≡ commit_sizes (drop first (session_commits new.entries ++ new_whole.0)) = ap (λ (l : List (List Message)). commit_sizes (drop first l)) new_here in

@@ -93,9 +93,9 @@ many_upto log after le = omega (arith, le, lt-div-mul-add {a = after.0} {b = 256
 goes_first : (options : CaptureOptions) (all : List TableName) (old new : Contents) → old.offset ≡ None → Advances (asks_of (First options) all old.offset) old new → AdvancesFrom (config_of options all) old new
 goes_first options all old new none goes = subst (λ (o : Option Offset). Advances (asks_of (First options) all o) old new) none goes
 
-behind_rows : (bytes : List ℕ) (config : Config) (old new : Contents) (offset : Offset) → IsWal bytes old.wal → old.offset ≡ None → new.offset ≡ Some offset → AdvancesFrom config old new
+after_rows : (bytes : List ℕ) (config : Config) (old new : Contents) (offset : Offset) → IsWal bytes old.wal → old.offset ≡ None → new.offset ≡ Some offset → AdvancesFrom config old new
     → length (log_at old.wal.workload 0) ≤ commits_upto offset.start
-behind_rows bytes config old new offset wal none stored goes =
+after_rows bytes config old new offset wal none stored goes =
     let onward = goes.onward.offset in
     let from_none = subst (λ (o : Option Offset). OffsetGoesOn config (history_at old) (history_at new) o new.offset) none onward in
     let first : IsFirstOffset config (history_at old) (history_at new) offset = subst (λ (o : Option Offset). OffsetGoesOn config (history_at old) (history_at new) None o) stored from_none in
@@ -166,8 +166,8 @@ module _ (options : CaptureOptions) (now : ℤ) (told_wal told_topics told_offse
       by (inr more) = few_windows options held left pairs none (unmarked held held_kept none) (covers same) more
 
   -- it began to read after the rows
-  rows_behind : (offset : Offset) → left.offset ≡ Some offset → length (log_at left.wal.workload 0) ≤ commits_upto offset.start
-  rows_behind offset stored =
+  rows_since : (offset : Offset) → left.offset ≡ Some offset → length (log_at left.wal.workload 0) ≤ commits_upto offset.start
+  rows_since offset stored =
       let promised = headline may.w may.t may.f may.wal may.topics may.offsets in
       let predecessor = promised.left.predecessor in
       let config = config_of options (workload_tables predecessor.old.wal) in
@@ -176,7 +176,7 @@ module _ (options : CaptureOptions) (now : ℤ) (told_wal told_topics told_offse
       let goes : AdvancesFrom config predecessor.old left = subst (AdvancesFrom config predecessor.old) there (goes_first options (workload_tables predecessor.old.wal) predecessor.old promised.left.held empty predecessor.advances) in
       let script = subst (λ (s : List ℕ). IsWorkload s left.wal.workload) goes.script may.read.source.are.workload in
       let one : predecessor.old.wal.workload ≡ left.wal.workload = one_workload predecessor.old.wal.script predecessor.old.wal.workload left.wal.workload predecessor.read.source.are.workload script in
-      subst (λ (x : Workload). length (log_at x 0) ≤ commits_upto offset.start) one (behind_rows predecessor.wal config predecessor.old left offset predecessor.read.source empty stored goes)
+      subst (λ (x : Workload). length (log_at x 0) ≤ commits_upto offset.start) one (after_rows predecessor.wal config predecessor.old left offset predecessor.read.source empty stored goes)
 
   pub few_read : (summary : Summary) → HasRun (First options) now new_wals new_logs new_stores w t f summary → IsReported (First options) now new_wals new_logs new_stores w t f summary
       → AddsFew (First options) wals new_wals w t f → summary.report.messages ≤ most_messages 1 held.wal.workload (most_windows options held (length pairs))
@@ -194,7 +194,7 @@ module _ (options : CaptureOptions) (now : ℤ) (told_wal told_topics told_offse
       let front = ap length report.are_sent.front in
       let moved : length (messages_sent ended.left.wal after) ≡ length (messages_sent left.wal offset.start) =
       ap (λ (c : Contents). length (messages_sent c.wal after)) is_left ∙ ap (λ (l : Lsn). length (messages_sent left.wal l)) start in
-      let few = few_messages_are_sent may.w left.wal offset.start (most_windows options held (length pairs)) may.read.source (rows_behind offset stored) (few_marks same adds) in
+      let few = few_messages_are_sent may.w left.wal offset.start (most_windows options held (length pairs)) may.read.source (rows_since offset stored) (few_marks same adds) in
       let bound = ap (λ (x : Workload). most_messages 1 x (most_windows options held (length pairs))) same in
       omega (arith, counted, front, length-append report.sent_messages report.are_sent.rest, moved, few, bound)
 

@@ -173,12 +173,12 @@ commits_many (Mark value ∷ old) (Changes messages ∷ new) on = absurd on
 commits_many (Mark value ∷ old) (Mark other ∷ new) on = commits_many old new on
 
 -- what was added is after the first ones, where these were there before
-pub rest_behind : (first : ℕ) (old rest : List (List Message)) → first ≤ length old → commit_sizes rest ≤ commit_sizes (drop first (old ++ rest))
-rest_behind zero [] [] le = omega arith
-rest_behind zero [] (ms ∷ rest) le = omega arith
-rest_behind zero (ms ∷ old) rest le = omega (arith, sizes_append old rest)
-rest_behind (suc first) [] rest le = absurd (omega (arith, le))
-rest_behind (suc first) (ms ∷ old) rest le = rest_behind first old rest (omega (arith, le))
+pub rest_after : (first : ℕ) (old rest : List (List Message)) → first ≤ length old → commit_sizes rest ≤ commit_sizes (drop first (old ++ rest))
+rest_after zero [] [] le = omega arith
+rest_after zero [] (ms ∷ rest) le = omega arith
+rest_after zero (ms ∷ old) rest le = omega (arith, sizes_append old rest)
+rest_after (suc first) [] rest le = absurd (omega (arith, le))
+rest_after (suc first) (ms ∷ old) rest le = rest_after first old rest (omega (arith, le))
 
 pub sizes_grew : (k : ℕ) (old new : List Logged) (rest : List (List Message)) → GrewFrom old new → log_commits new ≡ log_commits old ++ rest
     → sizes (drop k new) + 3 * count_marks old ≤ sizes (drop k old) + commit_sizes rest + 3 * count_marks new

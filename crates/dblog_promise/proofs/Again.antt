@@ -13,7 +13,7 @@ use Rattle.dbl_capture_laws.specs.Offset.declared.offset.Offset.{Offset}
 use Rattle.dbl_capture_laws.specs.Faithful.Stores.{top_position, lag}
 use Rattle.dbl_capture_laws.specs.Faithful.Faithful.{IsFaithful}
 use Rattle.dbl_capture_laws.proofs.FaithfulFaithful.{faithful_records_stand}
-use Rattle.dbl_capture_laws.proofs.FaithfulLists.{is_longer, behind_top}
+use Rattle.dbl_capture_laws.proofs.FaithfulLists.{is_longer, after_top}
 use Rattle.dbl_capture_laws.proofs.FaithfulStorePositions.{empty_logs_have_no_lag}
 use Rattle.dbl_capture_laws.specs.CaptureModel.Entries.{SessionStart, WasFaithful}
 use Rattle.dbl_capture_laws.specs.CaptureModel.Stages.{Stage, PartsHistory, read_at}
@@ -101,7 +101,7 @@ module _ (entry : SessionStart) (stage : Stage) (fit : IsFitHistory entry.histor
   lag_was (Some old) is began =
       under_none (lag stage.history (joined entry.groups) (Some stage.first)) (lag entry.history (joined entry.groups) (Some old))
       (lag_far entry.history stage.history going.reading.more (joined entry.groups) (joined entry.groups) old stage.first 0 fit.rising going.reading.grown.commits
-      (behind_top entry.history going.reading.more (subst IsRising (is_longer entry.history stage.history going.reading.more going.reading.grown) going.reading.fit.rising) (joined entry.groups)
+      (after_top entry.history going.reading.more (subst IsRising (is_longer entry.history stage.history going.reading.more going.reading.grown) going.reading.fit.rising) (joined entry.groups)
       (λ place item at. faithful_records_stand entry.history entry.confirmed (joined entry.groups) old place item is at))
       refl (same_le old.lsn.0 stage.first.lsn.0 (sym (ap (λ (l : Lsn). l.0) began.0.lsn))))
 

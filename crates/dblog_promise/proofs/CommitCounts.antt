@@ -16,7 +16,7 @@ use Rattle.dbl_model_commit.specs.Blocks.{AreWithoutFault}
 use Rattle.dbl_model_commit.specs.Past.{Head, begin_of, last_lsn, open_mark}
 use Rattle.dbl_model_commit.specs.Stated.{commit_of, commits_of, ended_commit, first_of, list_of, mismatch, open_changes, place_fault}
 use Rattle.dbl_source.specs.SourceModel.Stated.{ReadsRight, to_state}
-use Rattle.dbl_capture_laws.proofs.FaithfulPositions.{all_above, all_under, rising_behind}
+use Rattle.dbl_capture_laws.proofs.FaithfulPositions.{all_above, all_under, rising_after}
 use Rattle.dblog_promise.specs.Reports.{commits_between}
 
 -- ---- the last commit
@@ -81,13 +81,13 @@ module _ (infos : List TableInfo) (after : Lsn) where
       subst (λ (b : Bool). AreRising low (lsns (map (typed_commit infos) (cond b (c ∷ filter (λ (c : RawCommit). nat_lt from c.lsn.0) commits) (filter (λ (c : RawCommit). nat_lt from c.lsn.0) commits)))))
       (sym (lt_is from c.lsn.0 above)) (rise.0, all_rise from c.lsn.0 commits (omega (arith, above)) rise.1)
 
-  behind_rise : (from low : ℕ) (commits : List RawCommit) → AreRising low (raw_lsns commits) → AreRising from (lsns (subsequent from commits))
-  behind_rise from low [] rise = tt
-  behind_rise from low (c ∷ commits) rise = elim (cases_lt from c.lsn.0) [
+  after_rise : (from low : ℕ) (commits : List RawCommit) → AreRising low (raw_lsns commits) → AreRising from (lsns (subsequent from commits))
+  after_rise from low [] rise = tt
+  after_rise from low (c ∷ commits) rise = elim (cases_lt from c.lsn.0) [
     | inl above ↦ subst (λ (b : Bool). AreRising from (lsns (map (typed_commit infos) (cond b (c ∷ filter (λ (c : RawCommit). nat_lt from c.lsn.0) commits) (filter (λ (c : RawCommit). nat_lt from c.lsn.0) commits)))))
         (sym (lt_is from c.lsn.0 above)) (above, all_rise from c.lsn.0 commits (omega (arith, above)) rise.1)
     | inr under ↦ subst (λ (b : Bool). AreRising from (lsns (map (typed_commit infos) (cond b (c ∷ filter (λ (c : RawCommit). nat_lt from c.lsn.0) commits) (filter (λ (c : RawCommit). nat_lt from c.lsn.0) commits)))))
-        (sym (not_lt from c.lsn.0 under)) (behind_rise from c.lsn.0 commits rise.1)
+        (sym (not_lt from c.lsn.0 under)) (after_rise from c.lsn.0 commits rise.1)
   ]
 
   -- ---- how many they are up to the last
@@ -144,7 +144,7 @@ module _ (infos : List TableInfo) (after : Lsn) where
   ended_count commits stated later lsn (inr (front, last, is, at)) to rise =
       let rise : AreRising after.0 (lsns (front ++ last ∷ later)) = subst (λ (cs : List Commit). AreRising after.0 (lsns cs)) (ap (λ (cs : List Commit). cs ++ later) is ∙ append_assoc front (last ∷ []) later) rise in
       let under = all_under after.0 front last later rise in
-      let over = all_above last.lsn.0 later (rising_behind after.0 front last later rise) in
+      let over = all_above last.lsn.0 later (rising_after after.0 front last later rise) in
       counts after.0 lsn.0 commits stated later to
       (subst (λ (l : Lsn). AllByRecursion (λ (c : Commit). c.lsn.0 ≤ l.0) stated) (sym at) (subst (AllByRecursion (λ (c : Commit). c.lsn.0 ≤ last.lsn.0)) (sym is) under))
       (subst (λ (l : Lsn). AllByRecursion (λ (c : Commit). l.0 < c.lsn.0) later) (sym at) over)
@@ -153,5 +153,5 @@ module _ (infos : List TableInfo) (after : Lsn) where
       → length (commits_of infos ms) ≡ length (commits_between after.0 (last_lsn after ms).0 history)
   commits_counted history ms rising right ok =
       let some = states (to_state infos after history) ms right ok in
-      let rise = subst (λ (cs : List Commit). AreRising after.0 (lsns cs)) some.1 (behind_rise after.0 0 history.commits rising) in
+      let rise = subst (λ (cs : List Commit). AreRising after.0 (lsns cs)) some.1 (after_rise after.0 0 history.commits rising) in
       sym (ended_count history.commits (commits_of infos ms) some.0 (last_lsn after ms) (last_read ms ok) some.1 rise)

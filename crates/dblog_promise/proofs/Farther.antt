@@ -18,7 +18,7 @@ use Rattle.dbl_capture_laws.specs.Faithful.Faithful.{IsFaithful}
 use Rattle.dbl_capture_laws.specs.Faithful.Kept.{HasGrown, IsNewBody}
 use Rattle.dbl_capture_laws.specs.Faithful.Onward.{ExtendsList, OffsetGoesOn, Adds}
 use Rattle.dbl_capture_laws.proofs.FaithfulFaithful.{faithful_records_stand}
-use Rattle.dbl_capture_laws.proofs.FaithfulLists.{is_longer, behind_top, still_position}
+use Rattle.dbl_capture_laws.proofs.FaithfulLists.{is_longer, after_top, still_position}
 use Rattle.dbl_capture_laws.proofs.FaithfulOnward.{cursors_stay, cursors_go_on}
 use Rattle.dbl_capture_laws.specs.CaptureModel.Entries.{appends_after}
 use Rattle.dbl_capture_laws.proofs.CaptureModelEnding.{lag_far}
@@ -70,9 +70,9 @@ under_both a b c every most one two = omega (arith, one, two)
 pub extends_on : {A : Type 0} (a b c : List A) → ExtendsList a b → ExtendsList b c → ExtendsList a c
 extends_on a b c one two = record { more = one.more ++ two.more; is = two.is ∙ (ap (λ (l : List _). l ++ two.more) one.is ∙ append_assoc a one.more two.more) }
 
-none_behind : {A : Type 0} (xs ys : List A) → xs ++ ys ≡ [] → ys ≡ []
-none_behind [] ys is = is
-none_behind (x ∷ xs) ys is = cc
+none_since : {A : Type 0} (xs ys : List A) → xs ++ ys ≡ [] → ys ≡ []
+none_since [] ys is = is
+none_since (x ∷ xs) ys is = cc
 
 -- ---- the offset
 
@@ -154,7 +154,7 @@ pub appends_next : (sessions : List Config) (config : Config) (first last histor
     → IsFaithful last confirmed middle b → OffsetWentOn sessions first last a b → OffsetGoesOn config last history b c
     → AppendsAfter (appends_after a b) old middle → Adds (appends_after b c) middle new → AppendsAfter (appends_after a c) old new
 appends_next sessions config first last history confirmed None None c old middle new faithful went goes one two =
-    let none : one.more ≡ [] = none_behind old one.more (sym one.is ∙ faithful.empty) in
+    let none : one.more ≡ [] = none_since old one.more (sym one.is ∙ faithful.empty) in
     both_append (appends_after None c) old middle new one.more two.more one.is two.is
     (subst (AllByRecursion (λ (r : Record). appends_after None c < r.position)) (sym none) tt) two.above
 appends_next sessions config first last history confirmed None (Some b) None old middle new faithful went goes one two = absurd goes
@@ -184,5 +184,5 @@ lag_grown last history confirmed records None fit fits grows is = le_refl 0
 lag_grown last history confirmed records (Some offset) fit fits grows is =
     under_none (lag history records (Some offset)) (lag last records (Some offset))
     (lag_far last history grows.others records records offset offset 0 fit.rising grows.commits
-    (behind_top last grows.others (subst IsRising (is_longer last history grows.others (record { tables = grows.tables; commits = grows.commits })) fits.rising) records
+    (after_top last grows.others (subst IsRising (is_longer last history grows.others (record { tables = grows.tables; commits = grows.commits })) fits.rising) records
     (λ place item at. faithful_records_stand last confirmed records offset place item is at)) refl (le_refl offset.lsn.0))

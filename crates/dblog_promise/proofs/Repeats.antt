@@ -15,7 +15,7 @@ use Rattle.dbl_capture_laws.specs.Faithful.Stores.{IsCommitAt, top_position, rep
 use Rattle.dbl_capture_laws.specs.Faithful.Faithful.{IsFaithful, IsFaithfulTo}
 use Rattle.dbl_capture_laws.specs.Faithful.Onward.{OffsetGoesOn}
 use Rattle.dbl_capture_laws.proofs.FaithfulFaithful.{faithful_records_stand}
-use Rattle.dbl_capture_laws.proofs.FaithfulLists.{longer, is_longer, map_append, behind_top}
+use Rattle.dbl_capture_laws.proofs.FaithfulLists.{longer, is_longer, map_append, after_top}
 use Rattle.dbl_capture_laws.specs.CaptureModel.Entries.{SessionStart, WasFaithful, appends_after}
 use Rattle.dbl_capture_laws.specs.CaptureModel.Outcomes.{FollowsSession}
 use Rattle.dblog_promise.specs.Outcomes.{IsCountedByLag}
@@ -50,7 +50,7 @@ module _ (entry : SessionStart) (left : CrashState) (groups : List (List Record)
   -- new commits are after the log as it was
   beyond : (more : List RawCommit) → left.history ≡ longer entry.history more → AllByRecursion (λ commit. top_position (joined entry.groups) < commit.lsn.0) more
   beyond more same =
-      behind_top entry.history more (subst IsRising same fit.rising) (joined entry.groups)
+      after_top entry.history more (subst IsRising same fit.rising) (joined entry.groups)
       (λ place item at. faithful_records_stand entry.history entry.confirmed (joined entry.groups) old place item found at)
 
   old_commit : (more : List RawCommit) (position : ℕ) → left.history ≡ longer entry.history more → IsCommitAt left.history position → position ≤ top_position (joined entry.groups) → IsCommitAt entry.history position

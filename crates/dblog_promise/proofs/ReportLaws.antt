@@ -38,10 +38,10 @@ use Rattle.dblog_promise.proofs.WholeLaws.{all_is_read}
 
 -- ---- the stored offset
 
-behind_is : (old new : Option Offset) (offset : Offset) (infos : List TableInfo) (after : Lsn) → new ≡ Some offset → BeginsAfter old new infos after → after ≡ read_after old offset
-behind_is (Some old) new offset infos after is begins = begins.1
-behind_is None None offset infos after is begins = absurd begins
-behind_is None (Some first) offset infos after is begins = begins.1 ∙ ap (λ (o : Offset). o.start) (let e : first ≡ offset = cc in e)
+beyond_is : (old new : Option Offset) (offset : Offset) (infos : List TableInfo) (after : Lsn) → new ≡ Some offset → BeginsAfter old new infos after → after ≡ read_after old offset
+beyond_is (Some old) new offset infos after is begins = begins.1
+beyond_is None None offset infos after is begins = absurd begins
+beyond_is None (Some first) offset infos after is begins = begins.1 ∙ ap (λ (o : Offset). o.start) (let e : first ≡ offset = cc in e)
 
 raised : (a b : ℕ) → b ≡ a + 1 → (a == b) ≡ false
 raised a b is = grind (arith, is)
@@ -99,7 +99,7 @@ settled_reports_are_right model config now old new ending report bytes demo plac
     let ms = settled.reading.messages in
     let after = read_after old.offset offset in
     let reading : wal_reading wal place ≡ settled.reading = (let e : Some (wal_reading wal place) ≡ Some settled.reading = settled.reading_is in cc) in
-    let after_is : settled.reading.after ≡ after = behind_is old.offset new.offset offset offset.infos settled.reading.after settled.stored.is settled.begins_after in
+    let after_is : settled.reading.after ≡ after = beyond_is old.offset new.offset offset offset.infos settled.reading.after settled.stored.is settled.begins_after in
     let from : place.after ≡ after = ap (λ (r : Reading). r.after) reading ∙ after_is in
     let told : told_at tables log place ≡ ms = ap (λ (r : Reading). r.messages) reading in
     let accepted : AreWithoutFault offset.infos after ms = subst (λ (l : Lsn). AreWithoutFault offset.infos l ms) after_is settled.accepted in

@@ -11,8 +11,8 @@ use Rattle.dbl_journal.specs.Calls.{Keeps}
 pub rose_before : (a b c : ℕ) → FaultCounted a b → b ≤ c → FaultCounted a c
 rose_before a b c rose later = omega (arith, rose, later)
 
-pub rose_behind : (a b c : ℕ) → a ≤ b → FaultCounted b c → FaultCounted a c
-rose_behind a b c earlier rose = omega (arith, earlier, rose)
+pub rose_after : (a b c : ℕ) → a ≤ b → FaultCounted b c → FaultCounted a c
+rose_after a b c earlier rose = omega (arith, earlier, rose)
 
 module _ {D : Type 0} (model : DiskModel D) where
   -- a command that only reads the disk failed with it where the status says so, and says so where it did

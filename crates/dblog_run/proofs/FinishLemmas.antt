@@ -15,7 +15,7 @@ use Rattle.dbl_lines.specs.declared.run_error.RunError.TheVariants.{InputFailed}
 use Rattle.dbl_lines.specs.Faults.{status_of}
 use Rattle.dblog_run.specs.Disks.{Finishes, SaysError}
 use Rattle.dblog_run.specs.Means.{HasOpenedTopics, IsOffsetsStatus, IsRowsStatus, IsTopicsStatus}
-use Rattle.dblog_run.proofs.DiskLemmas.{rose_before, rose_behind}
+use Rattle.dblog_run.proofs.DiskLemmas.{rose_after, rose_before}
 use Rattle.dblog_run.proofs.StatusLemmas.{offsets_other, offsets_running, offsets_whole, rows_other, topics_other, topics_running, topics_whole}
 use Rattle.dbl_lines.proofs.SayLemmas.{cut_other}
 use Rattle.dbl_lines.specs.Says.{IsCutShort}
@@ -200,7 +200,7 @@ rows_no_input status known = rows_other StdinFailed status (λ e. cc) (λ e. cc,
 -- the output's count rose where the output failed, at the text or at the error's line
 pub finished_output : (end : CommandEnd) (was middle now : ℕ) → (end ≡ Err error.OutputFailed → FaultCounted was middle) → was ≤ middle → middle ≤ now → (end ≡ Err error.OutputFailed) ⊎ FaultCounted middle now → FaultCounted was now
 finished_output end was middle now failed earlier later (inl is) = rose_before was middle now (failed is) later
-finished_output end was middle now failed earlier later (inr rose) = rose_behind was middle now earlier rose
+finished_output end was middle now failed earlier later (inr rose) = rose_after was middle now earlier rose
 
 -- ---- an error that was said
 

@@ -17,33 +17,33 @@ use Rattle.dbl_journal.specs.Calls.{Keeps}
 
 -- ---- errors after the opening
 
-pub memory_behind : (error : CommandError) → error ≡ Memory → IsAfterJournalOpening error
-memory_behind error is = λ store at f. let contra : Memory ≡ NotAStore store at = sym is ∙ f in cc
+pub memory_after : (error : CommandError) → error ≡ Memory → IsAfterJournalOpening error
+memory_after error is = λ store at f. let contra : Memory ≡ NotAStore store at = sym is ∙ f in cc
 
-failed_behind : (error : CommandError) → error ≡ Failed Topics → IsAfterJournalOpening error
-failed_behind error is = λ store at f. let contra : Failed Topics ≡ NotAStore store at = sym is ∙ f in cc
+failed_after : (error : CommandError) → error ≡ Failed Topics → IsAfterJournalOpening error
+failed_after error is = λ store at f. let contra : Failed Topics ≡ NotAStore store at = sym is ∙ f in cc
 
-bad_behind : (error : CommandError) (number : ℕ) → error ≡ BadEntry Topics number → IsAfterJournalOpening error
-bad_behind error number is = λ store at f. let contra : BadEntry Topics number ≡ NotAStore store at = sym is ∙ f in cc
+bad_after : (error : CommandError) (number : ℕ) → error ≡ BadEntry Topics number → IsAfterJournalOpening error
+bad_after error number is = λ store at f. let contra : BadEntry Topics number ≡ NotAStore store at = sym is ∙ f in cc
 
 -- of a group that isn't read, or not all
-pub group_behind : (error : TopicError) (told : CommandError) (number : ℕ) → told ≡ topic_error error → (error ≡ topic.Memory) ⊎ ((error ≡ topic.BadEntry number) ⊎ (error ≡ topic.Journal journal.Failed)) → IsAfterJournalOpening told
-group_behind error told number is (inl e) = memory_behind told (is ∙ ap topic_error e)
-group_behind error told number is (inr (inl e)) = bad_behind told number (is ∙ ap topic_error e)
-group_behind error told number is (inr (inr e)) = failed_behind told (is ∙ ap topic_error e)
+pub group_after : (error : TopicError) (told : CommandError) (number : ℕ) → told ≡ topic_error error → (error ≡ topic.Memory) ⊎ ((error ≡ topic.BadEntry number) ⊎ (error ≡ topic.Journal journal.Failed)) → IsAfterJournalOpening told
+group_after error told number is (inl e) = memory_after told (is ∙ ap topic_error e)
+group_after error told number is (inr (inl e)) = bad_after told number (is ∙ ap topic_error e)
+group_after error told number is (inr (inr e)) = failed_after told (is ∙ ap topic_error e)
 
 -- of a group that isn't taken
-pub refused_behind : (number : ℕ) (P : Type 0) (error : CommandError) → (error ≡ Memory) ⊎ ((error ≡ BadEntry Topics number) × P) → IsAfterJournalOpening error
-refused_behind number P error (inl memory) = memory_behind error memory
-refused_behind number P error (inr bad) = bad_behind error number bad.0
+pub refused_after : (number : ℕ) (P : Type 0) (error : CommandError) → (error ≡ Memory) ⊎ ((error ≡ BadEntry Topics number) × P) → IsAfterJournalOpening error
+refused_after number P error (inl memory) = memory_after error memory
+refused_after number P error (inr bad) = bad_after error number bad.0
 
 -- of printing
-pub print_behind : (error : PrintError) (told : CommandError) → told ≡ print_error error → IsAfterJournalOpening told
-print_behind error told is = by_kind (print_kind error told is)
+pub print_after : (error : PrintError) (told : CommandError) → told ≡ print_error error → IsAfterJournalOpening told
+print_after error told is = by_kind (print_kind error told is)
   where
     by_kind : (told ≡ OutputFailed) ⊎ (told ≡ Memory) → IsAfterJournalOpening told
     by_kind (inl e) = λ store at f. let contra : OutputFailed ≡ NotAStore store at = sym e ∙ f in cc
-    by_kind (inr e) = memory_behind told e
+    by_kind (inr e) = memory_after told e
 
 -- a command that ends so doesn't tell that a disk holds no store
 pub end_after : (end : CommandEnd) (store : Store) (at : ℕ) → IfErr end IsAfterJournalOpening → end ≡ Err (NotAStore store at) → ⊥

@@ -6,7 +6,7 @@ use Rattle.dbl_offset_content.specs.declared.offset.Offset.{Offset}
 use Rattle.dbl_offset.specs.Stores.{disk_of}
 use Rattle.dbl_capture_work.specs.Begins.{IsOffsetFor}
 use Rattle.dbl_capture_work.specs.Works.{next_offset_of}
-use Rattle.dbl_capture_work.proofs.Exits.{later_on, rose_behind}
+use Rattle.dbl_capture_work.proofs.Exits.{later_on, rose_after}
 use Rattle.dbl_capture_laws.proofs.StepCauses.{err_at, err_then, residual_is, residual_of}
 use Rattle.dbl_capture_laws.specs.Ends.{HasOwnStored}
 use Rattle.dbl_capture_laws.specs.Found.{session_start_at}
@@ -209,7 +209,7 @@ returns-clause-source g c = record {
   live = search rules;
   honest = λ honest. c.open_session.ensures.source.honest (c.process_messages.ensures.source.honest honest);
   comes = g.met.S.Source.comes_on c.args.src.now c.open_session.new.src c.process_messages.new.src c.open_session.ensures.source.comes c.process_messages.ensures.source.comes;
-  cause = record { later = later_on (g.S.Source.faults c.args.src.now) (g.S.Source.faults c.open_session.new.src) (g.S.Source.faults c.process_messages.new.src) c.open_session.ensures.source.cause.later c.process_messages.ensures.source.cause.later; cause = λ is. rose_behind (g.S.Source.faults c.args.src.now) (g.S.Source.faults c.open_session.new.src) (g.S.Source.faults c.process_messages.new.src) c.open_session.ensures.source.cause.later (c.process_messages.ensures.source.cause.cause is) };
+  cause = record { later = later_on (g.S.Source.faults c.args.src.now) (g.S.Source.faults c.open_session.new.src) (g.S.Source.faults c.process_messages.new.src) c.open_session.ensures.source.cause.later c.process_messages.ensures.source.cause.later; cause = λ is. rose_after (g.S.Source.faults c.args.src.now) (g.S.Source.faults c.open_session.new.src) (g.S.Source.faults c.process_messages.new.src) c.open_session.ensures.source.cause.later (c.process_messages.ensures.source.cause.cause is) };
 }
 
 pub returns-in_err-work-clause-halt : goal.returns-in_err-work-clause-halt
@@ -256,7 +256,7 @@ pub returns-clause-store : goal.returns-clause-store
 returns-clause-store g c = record {
   live = search rules;
   comes = λ most known. c.process_messages.ensures.store.comes most (c.open_session.ensures.store.comes most known);
-  cause = record { later = later_on (g.D.Disk.faults (disk_of c.args.offsets.now)) (g.D.Disk.faults (disk_of c.open_session.new.store)) (g.D.Disk.faults (disk_of c.process_messages.new.store)) c.open_session.ensures.store.cause.later c.process_messages.ensures.store.cause.later; cause = λ is. rose_behind _ _ _ c.open_session.ensures.store.cause.later (c.process_messages.ensures.store.cause.cause is) };
+  cause = record { later = later_on (g.D.Disk.faults (disk_of c.args.offsets.now)) (g.D.Disk.faults (disk_of c.open_session.new.store)) (g.D.Disk.faults (disk_of c.process_messages.new.store)) c.open_session.ensures.store.cause.later c.process_messages.ensures.store.cause.later; cause = λ is. rose_after _ _ _ c.open_session.ensures.store.cause.later (c.process_messages.ensures.store.cause.cause is) };
 }
 
 pub returns-in_err-work-clause-by_trace : goal.returns-in_err-work-clause-by_trace

@@ -6,7 +6,7 @@ use Rattle.dbl_source.specs.SourceModel.Standings.{left_of}
 use Rattle.dbl_capture_work.proofs.FaithfulItems.{first_some}
 use Rattle.dbl_offset_content.specs.declared.offset.Offset.{Offset}
 use Rattle.dbl_capture_work.specs.Works.{BeginsWithOffset}
-use Rattle.dbl_capture_work.proofs.Exits.{later_on, rose_behind}
+use Rattle.dbl_capture_work.proofs.Exits.{later_on, rose_after}
 use Rattle.dbl_capture_laws.proofs.StepCauses.{OfNone, OfSource, err_at, err_then, residual_is, residual_of, start_of}
 use Rattle.dbl_capture_laws.specs.Ends.{IsAtPosition}
 use Rattle.dbl_capture_laws.proofs.Beginnings.{begun_session}
@@ -174,7 +174,7 @@ returns-in_err-start_reading-clause-source g c = record {
   live = search rules;
   honest = λ honest. c.begin_session.ensures.source.honest (c.start_reading.ensures.source.honest honest);
   comes = g.met.S.Source.comes_on c.args.src.now c.begin_session.new.src c.start_reading.new.src c.begin_session.ensures.source.comes c.start_reading.ensures.source.comes;
-  cause = record { later = later_on (g.S.Source.faults c.args.src.now) (g.S.Source.faults c.begin_session.new.src) (g.S.Source.faults c.start_reading.new.src) c.begin_session.ensures.source.cause.later c.start_reading.ensures.source.cause.later; cause = λ is. rose_behind (g.S.Source.faults c.args.src.now) (g.S.Source.faults c.begin_session.new.src) (g.S.Source.faults c.start_reading.new.src) c.begin_session.ensures.source.cause.later (c.start_reading.ensures.source.cause.cause (residual_is c.from_residual-in_err-start_reading.result c.start_reading.result _ _ c.in_err-start_reading.was c.from_residual-in_err-start_reading.ensures.1 is)) };
+  cause = record { later = later_on (g.S.Source.faults c.args.src.now) (g.S.Source.faults c.begin_session.new.src) (g.S.Source.faults c.start_reading.new.src) c.begin_session.ensures.source.cause.later c.start_reading.ensures.source.cause.later; cause = λ is. rose_after (g.S.Source.faults c.args.src.now) (g.S.Source.faults c.begin_session.new.src) (g.S.Source.faults c.start_reading.new.src) c.begin_session.ensures.source.cause.later (c.start_reading.ensures.source.cause.cause (residual_is c.from_residual-in_err-start_reading.result c.start_reading.result _ _ c.in_err-start_reading.was c.from_residual-in_err-start_reading.ensures.1 is)) };
 }
 
 pub returns-clause-source : goal.returns-clause-source

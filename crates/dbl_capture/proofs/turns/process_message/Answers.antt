@@ -4,7 +4,7 @@ use Rattle.dbl_capture_work.specs.declared.halt.Halt.TheVariants as halt
 use Rattle.dbl_capture_work.specs.declared.report.Report.{Report}
 use Rattle.dbl_capture_work.specs.declared.work.SessionState.{SessionState}
 use Rattle.dbl_capture_work.specs.Works.{next_offset_of}
-use Rattle.dbl_capture_work.proofs.Exits.{rose_behind, later_on}
+use Rattle.dbl_capture_work.proofs.Exits.{rose_after, later_on}
 use Rattle.dbl_capture_laws.proofs.StepCauses.{residual_is, residual_of}
 use Rattle.dbl_capture_laws.specs.Turns.{IsCountedNext, IsDue}
 use Rattle.dbl_capture_laws.proofs.Endings.{done_at}
@@ -370,7 +370,7 @@ returns-in_err-read_and_deliver-clause-source g c = record {
   live = search rules;
   honest = λ honest. c.open_next_window.ensures.source.honest (c.read_and_deliver.ensures.source.honest honest);
   comes = g.met.S.Source.comes_on c.args.src.now c.open_next_window.new.src c.read_and_deliver.new.src c.open_next_window.ensures.source.comes c.read_and_deliver.ensures.source.comes;
-  cause = record { later = later_on (g.S.Source.faults c.args.src.now) (g.S.Source.faults c.open_next_window.new.src) (g.S.Source.faults c.read_and_deliver.new.src) c.open_next_window.ensures.source.cause.later c.read_and_deliver.ensures.source.cause.later; cause = λ is. rose_behind (g.S.Source.faults c.args.src.now) (g.S.Source.faults c.open_next_window.new.src) (g.S.Source.faults c.read_and_deliver.new.src) c.open_next_window.ensures.source.cause.later (c.read_and_deliver.ensures.source.cause.cause (residual_is c.from_residual-in_err-read_and_deliver.result c.read_and_deliver.result _ _ c.in_err-read_and_deliver.was c.from_residual-in_err-read_and_deliver.ensures.1 is)) };
+  cause = record { later = later_on (g.S.Source.faults c.args.src.now) (g.S.Source.faults c.open_next_window.new.src) (g.S.Source.faults c.read_and_deliver.new.src) c.open_next_window.ensures.source.cause.later c.read_and_deliver.ensures.source.cause.later; cause = λ is. rose_after (g.S.Source.faults c.args.src.now) (g.S.Source.faults c.open_next_window.new.src) (g.S.Source.faults c.read_and_deliver.new.src) c.open_next_window.ensures.source.cause.later (c.read_and_deliver.ensures.source.cause.cause (residual_is c.from_residual-in_err-read_and_deliver.result c.read_and_deliver.result _ _ c.in_err-read_and_deliver.was c.from_residual-in_err-read_and_deliver.ensures.1 is)) };
 }
 
 pub returns-in_err-store_and_confirm-in-Some-true-clause-source : goal.returns-in_err-store_and_confirm-in-Some-true-clause-source
@@ -378,7 +378,7 @@ returns-in_err-store_and_confirm-in-Some-true-clause-source g c = record {
   live = search rules;
   honest = λ honest. c.open_next_window.ensures.source.honest (c.read_and_deliver.ensures.source.honest (c.store_and_confirm.ensures.source.honest honest));
   comes = g.met.S.Source.comes_on c.args.src.now c.read_and_deliver.new.src c.store_and_confirm.new.src (g.met.S.Source.comes_on c.args.src.now c.open_next_window.new.src c.read_and_deliver.new.src c.open_next_window.ensures.source.comes c.read_and_deliver.ensures.source.comes) c.store_and_confirm.ensures.source.comes;
-  cause = record { later = later_on (g.S.Source.faults c.args.src.now) (g.S.Source.faults c.read_and_deliver.new.src) (g.S.Source.faults c.store_and_confirm.new.src) (later_on (g.S.Source.faults c.args.src.now) (g.S.Source.faults c.open_next_window.new.src) (g.S.Source.faults c.read_and_deliver.new.src) c.open_next_window.ensures.source.cause.later c.read_and_deliver.ensures.source.cause.later) c.store_and_confirm.ensures.source.cause.later; cause = λ is. rose_behind (g.S.Source.faults c.args.src.now) (g.S.Source.faults c.read_and_deliver.new.src) (g.S.Source.faults c.store_and_confirm.new.src) (later_on (g.S.Source.faults c.args.src.now) (g.S.Source.faults c.open_next_window.new.src) (g.S.Source.faults c.read_and_deliver.new.src) c.open_next_window.ensures.source.cause.later c.read_and_deliver.ensures.source.cause.later) (c.store_and_confirm.ensures.source.cause.cause (residual_is c.from_residual-in_err-store_and_confirm-in-Some-true.result c.store_and_confirm.result _ _ c.in_err-store_and_confirm-in-Some-true.was c.from_residual-in_err-store_and_confirm-in-Some-true.ensures.1 is)) };
+  cause = record { later = later_on (g.S.Source.faults c.args.src.now) (g.S.Source.faults c.read_and_deliver.new.src) (g.S.Source.faults c.store_and_confirm.new.src) (later_on (g.S.Source.faults c.args.src.now) (g.S.Source.faults c.open_next_window.new.src) (g.S.Source.faults c.read_and_deliver.new.src) c.open_next_window.ensures.source.cause.later c.read_and_deliver.ensures.source.cause.later) c.store_and_confirm.ensures.source.cause.later; cause = λ is. rose_after (g.S.Source.faults c.args.src.now) (g.S.Source.faults c.read_and_deliver.new.src) (g.S.Source.faults c.store_and_confirm.new.src) (later_on (g.S.Source.faults c.args.src.now) (g.S.Source.faults c.open_next_window.new.src) (g.S.Source.faults c.read_and_deliver.new.src) c.open_next_window.ensures.source.cause.later c.read_and_deliver.ensures.source.cause.later) (c.store_and_confirm.ensures.source.cause.cause (residual_is c.from_residual-in_err-store_and_confirm-in-Some-true.result c.store_and_confirm.result _ _ c.in_err-store_and_confirm-in-Some-true.was c.from_residual-in_err-store_and_confirm-in-Some-true.ensures.1 is)) };
 }
 
 pub returns-in_ok-store_and_confirm-in-Some-true-clause-source : goal.returns-in_ok-store_and_confirm-in-Some-true-clause-source
@@ -394,7 +394,7 @@ returns-in_err-finish_complete-in-None-clause-source g c = record {
   live = search rules;
   honest = λ honest. c.open_next_window.ensures.source.honest (c.read_and_deliver.ensures.source.honest (c.finish_complete.ensures.source.honest honest));
   comes = g.met.S.Source.comes_on c.args.src.now c.read_and_deliver.new.src c.finish_complete.new.src (g.met.S.Source.comes_on c.args.src.now c.open_next_window.new.src c.read_and_deliver.new.src c.open_next_window.ensures.source.comes c.read_and_deliver.ensures.source.comes) c.finish_complete.ensures.source.comes;
-  cause = record { later = later_on (g.S.Source.faults c.args.src.now) (g.S.Source.faults c.read_and_deliver.new.src) (g.S.Source.faults c.finish_complete.new.src) (later_on (g.S.Source.faults c.args.src.now) (g.S.Source.faults c.open_next_window.new.src) (g.S.Source.faults c.read_and_deliver.new.src) c.open_next_window.ensures.source.cause.later c.read_and_deliver.ensures.source.cause.later) c.finish_complete.ensures.source.cause.later; cause = λ is. rose_behind (g.S.Source.faults c.args.src.now) (g.S.Source.faults c.read_and_deliver.new.src) (g.S.Source.faults c.finish_complete.new.src) (later_on (g.S.Source.faults c.args.src.now) (g.S.Source.faults c.open_next_window.new.src) (g.S.Source.faults c.read_and_deliver.new.src) c.open_next_window.ensures.source.cause.later c.read_and_deliver.ensures.source.cause.later) (c.finish_complete.ensures.source.cause.cause (residual_is c.from_residual-in_err-finish_complete-in-None.result c.finish_complete.result _ _ c.in_err-finish_complete-in-None.was c.from_residual-in_err-finish_complete-in-None.ensures.1 is)) };
+  cause = record { later = later_on (g.S.Source.faults c.args.src.now) (g.S.Source.faults c.read_and_deliver.new.src) (g.S.Source.faults c.finish_complete.new.src) (later_on (g.S.Source.faults c.args.src.now) (g.S.Source.faults c.open_next_window.new.src) (g.S.Source.faults c.read_and_deliver.new.src) c.open_next_window.ensures.source.cause.later c.read_and_deliver.ensures.source.cause.later) c.finish_complete.ensures.source.cause.later; cause = λ is. rose_after (g.S.Source.faults c.args.src.now) (g.S.Source.faults c.read_and_deliver.new.src) (g.S.Source.faults c.finish_complete.new.src) (later_on (g.S.Source.faults c.args.src.now) (g.S.Source.faults c.open_next_window.new.src) (g.S.Source.faults c.read_and_deliver.new.src) c.open_next_window.ensures.source.cause.later c.read_and_deliver.ensures.source.cause.later) (c.finish_complete.ensures.source.cause.cause (residual_is c.from_residual-in_err-finish_complete-in-None.result c.finish_complete.result _ _ c.in_err-finish_complete-in-None.was c.from_residual-in_err-finish_complete-in-None.ensures.1 is)) };
 }
 
 pub returns-in_ok-finish_complete-in-None-clause-source : goal.returns-in_ok-finish_complete-in-None-clause-source

@@ -2,7 +2,7 @@ use Rattle.std.proofs.Common.{◌≡◌, ◌∙◌, ◌+◌, ℕ, Bool, Ok, IsTr
 use Rattle.dbl_model_history.specs.Ranges.{IsMomentInRange}
 use Rattle.dbl_offset.specs.Stores.{disk_of}
 use Rattle.dbl_capture_work.specs.declared.halt.Halt.TheVariants as halt
-use Rattle.dbl_capture_work.proofs.Exits.{rose_behind, later_on}
+use Rattle.dbl_capture_work.proofs.Exits.{rose_after, later_on}
 use Rattle.dbl_capture_laws.proofs.StepCauses.{residual_is, residual_of}
 use Rattle.std.specs.Prelude.{MatchBool}
 use Rattle.dbl_capture_laws.proofs.Keeping.{on_err}
@@ -170,14 +170,14 @@ returns-in_err-process_message-clause-source g c = record {
   live = search rules;
   honest = λ honest. c.turns.invariant.honest (c.process_message.ensures.source.honest honest);
   comes = g.met.S.Source.comes_on c.args.src.now c.turns.src c.process_message.new.src c.turns.invariant.source_comes c.process_message.ensures.source.comes;
-  cause = record { later = later_on (g.S.Source.faults c.args.src.now) (g.S.Source.faults c.turns.src) (g.S.Source.faults c.process_message.new.src) c.turns.invariant.source_later c.process_message.ensures.source.cause.later; cause = λ is. rose_behind (g.S.Source.faults c.args.src.now) (g.S.Source.faults c.turns.src) (g.S.Source.faults c.process_message.new.src) c.turns.invariant.source_later (c.process_message.ensures.source.cause.cause (residual_is c.from_residual.result c.process_message.result _ _ c.in_err-process_message.was c.from_residual.ensures.1 is)) };
+  cause = record { later = later_on (g.S.Source.faults c.args.src.now) (g.S.Source.faults c.turns.src) (g.S.Source.faults c.process_message.new.src) c.turns.invariant.source_later c.process_message.ensures.source.cause.later; cause = λ is. rose_after (g.S.Source.faults c.args.src.now) (g.S.Source.faults c.turns.src) (g.S.Source.faults c.process_message.new.src) c.turns.invariant.source_later (c.process_message.ensures.source.cause.cause (residual_is c.from_residual.result c.process_message.result _ _ c.in_err-process_message.was c.from_residual.ensures.1 is)) };
 }
 
 pub returns-in_err-process_message-clause-sink : goal.returns-in_err-process_message-clause-sink
 returns-in_err-process_message-clause-sink g c = record {
   live = search rules;
   comes = g.met.K.Sink.comes_on _ _ _ c.turns.invariant.sink_comes c.process_message.ensures.sink.comes;
-  cause = record { later = later_on (g.K.Sink.faults c.args.sink.now) (g.K.Sink.faults c.turns.sink) (g.K.Sink.faults c.process_message.new.sink) c.turns.invariant.sink_later c.process_message.ensures.sink.cause.later; cause = λ is. rose_behind _ _ _ c.turns.invariant.sink_later (c.process_message.ensures.sink.cause.cause (residual_is c.from_residual.result c.process_message.result _ _ c.in_err-process_message.was c.from_residual.ensures.1 is)) };
+  cause = record { later = later_on (g.K.Sink.faults c.args.sink.now) (g.K.Sink.faults c.turns.sink) (g.K.Sink.faults c.process_message.new.sink) c.turns.invariant.sink_later c.process_message.ensures.sink.cause.later; cause = λ is. rose_after _ _ _ c.turns.invariant.sink_later (c.process_message.ensures.sink.cause.cause (residual_is c.from_residual.result c.process_message.result _ _ c.in_err-process_message.was c.from_residual.ensures.1 is)) };
 }
 
 pub returns-in_err-process_message-clause-state : goal.returns-in_err-process_message-clause-state
@@ -202,7 +202,7 @@ returns-in_err-open_next_window-clause-source g c = record {
   live = search rules;
   honest = λ honest. c.turns.invariant.honest (c.open_next_window.ensures.source.honest honest);
   comes = g.met.S.Source.comes_on c.args.src.now c.turns.src c.open_next_window.new.src c.turns.invariant.source_comes c.open_next_window.ensures.source.comes;
-  cause = record { later = later_on (g.S.Source.faults c.args.src.now) (g.S.Source.faults c.turns.src) (g.S.Source.faults c.open_next_window.new.src) c.turns.invariant.source_later c.open_next_window.ensures.source.cause.later; cause = λ is. rose_behind (g.S.Source.faults c.args.src.now) (g.S.Source.faults c.turns.src) (g.S.Source.faults c.open_next_window.new.src) c.turns.invariant.source_later (c.open_next_window.ensures.source.cause.cause (residual_is c.from_residual-in_err-open_next_window.result c.open_next_window.result _ _ c.in_err-open_next_window.was c.from_residual-in_err-open_next_window.ensures.1 is)) };
+  cause = record { later = later_on (g.S.Source.faults c.args.src.now) (g.S.Source.faults c.turns.src) (g.S.Source.faults c.open_next_window.new.src) c.turns.invariant.source_later c.open_next_window.ensures.source.cause.later; cause = λ is. rose_after (g.S.Source.faults c.args.src.now) (g.S.Source.faults c.turns.src) (g.S.Source.faults c.open_next_window.new.src) c.turns.invariant.source_later (c.open_next_window.ensures.source.cause.cause (residual_is c.from_residual-in_err-open_next_window.result c.open_next_window.result _ _ c.in_err-open_next_window.was c.from_residual-in_err-open_next_window.ensures.1 is)) };
 }
 
 pub returns-in_err-store_and_confirm-clause-source : goal.returns-in_err-store_and_confirm-clause-source
@@ -210,7 +210,7 @@ returns-in_err-store_and_confirm-clause-source g c = record {
   live = search rules;
   honest = λ honest. c.turns.invariant.honest (c.open_next_window.ensures.source.honest (c.store_and_confirm.ensures.source.honest honest));
   comes = g.met.S.Source.comes_on c.args.src.now c.open_next_window.new.src c.store_and_confirm.new.src (g.met.S.Source.comes_on c.args.src.now c.turns.src c.open_next_window.new.src c.turns.invariant.source_comes c.open_next_window.ensures.source.comes) c.store_and_confirm.ensures.source.comes;
-  cause = record { later = later_on (g.S.Source.faults c.args.src.now) (g.S.Source.faults c.open_next_window.new.src) (g.S.Source.faults c.store_and_confirm.new.src) (later_on (g.S.Source.faults c.args.src.now) (g.S.Source.faults c.turns.src) (g.S.Source.faults c.open_next_window.new.src) c.turns.invariant.source_later c.open_next_window.ensures.source.cause.later) c.store_and_confirm.ensures.source.cause.later; cause = λ is. rose_behind (g.S.Source.faults c.args.src.now) (g.S.Source.faults c.open_next_window.new.src) (g.S.Source.faults c.store_and_confirm.new.src) (later_on (g.S.Source.faults c.args.src.now) (g.S.Source.faults c.turns.src) (g.S.Source.faults c.open_next_window.new.src) c.turns.invariant.source_later c.open_next_window.ensures.source.cause.later) (c.store_and_confirm.ensures.source.cause.cause (residual_is c.from_residual-in_err-store_and_confirm.result c.store_and_confirm.result _ _ c.in_err-store_and_confirm.was c.from_residual-in_err-store_and_confirm.ensures.1 is)) };
+  cause = record { later = later_on (g.S.Source.faults c.args.src.now) (g.S.Source.faults c.open_next_window.new.src) (g.S.Source.faults c.store_and_confirm.new.src) (later_on (g.S.Source.faults c.args.src.now) (g.S.Source.faults c.turns.src) (g.S.Source.faults c.open_next_window.new.src) c.turns.invariant.source_later c.open_next_window.ensures.source.cause.later) c.store_and_confirm.ensures.source.cause.later; cause = λ is. rose_after (g.S.Source.faults c.args.src.now) (g.S.Source.faults c.open_next_window.new.src) (g.S.Source.faults c.store_and_confirm.new.src) (later_on (g.S.Source.faults c.args.src.now) (g.S.Source.faults c.turns.src) (g.S.Source.faults c.open_next_window.new.src) c.turns.invariant.source_later c.open_next_window.ensures.source.cause.later) (c.store_and_confirm.ensures.source.cause.cause (residual_is c.from_residual-in_err-store_and_confirm.result c.store_and_confirm.result _ _ c.in_err-store_and_confirm.was c.from_residual-in_err-store_and_confirm.ensures.1 is)) };
 }
 
 pub returns-in_err-store_and_confirm-clause-state : goal.returns-in_err-store_and_confirm-clause-state
@@ -379,7 +379,7 @@ pub returns-in_err-process_message-clause-store : goal.returns-in_err-process_me
 returns-in_err-process_message-clause-store g c = record {
   live = search rules;
   comes = λ most known. c.process_message.ensures.store.comes most (c.turns.invariant.store_comes most known);
-  cause = record { later = later_on (g.D.Disk.faults (disk_of c.args.store.now)) (g.D.Disk.faults (disk_of c.turns.store)) (g.D.Disk.faults (disk_of c.process_message.new.store)) c.turns.invariant.store_later c.process_message.ensures.store.cause.later; cause = λ is. rose_behind _ _ _ c.turns.invariant.store_later (c.process_message.ensures.store.cause.cause (residual_is c.from_residual.result c.process_message.result _ _ c.in_err-process_message.was c.from_residual.ensures.1 is)) };
+  cause = record { later = later_on (g.D.Disk.faults (disk_of c.args.store.now)) (g.D.Disk.faults (disk_of c.turns.store)) (g.D.Disk.faults (disk_of c.process_message.new.store)) c.turns.invariant.store_later c.process_message.ensures.store.cause.later; cause = λ is. rose_after _ _ _ c.turns.invariant.store_later (c.process_message.ensures.store.cause.cause (residual_is c.from_residual.result c.process_message.result _ _ c.in_err-process_message.was c.from_residual.ensures.1 is)) };
 }
 
 pub returns-then-branch-clause-store : goal.returns-then-branch-clause-store
@@ -414,7 +414,7 @@ pub returns-in_err-store_and_confirm-clause-store : goal.returns-in_err-store_an
 returns-in_err-store_and_confirm-clause-store g c = record {
   live = search rules;
   comes = λ most known. c.store_and_confirm.ensures.store.comes most (c.turns.invariant.store_comes most known);
-  cause = record { later = later_on (g.D.Disk.faults (disk_of c.args.store.now)) (g.D.Disk.faults (disk_of c.turns.store)) (g.D.Disk.faults (disk_of c.store_and_confirm.new.store)) c.turns.invariant.store_later c.store_and_confirm.ensures.store.cause.later; cause = λ is. rose_behind _ _ _ c.turns.invariant.store_later (c.store_and_confirm.ensures.store.cause.cause (residual_is c.from_residual-in_err-store_and_confirm.result c.store_and_confirm.result _ _ c.in_err-store_and_confirm.was c.from_residual-in_err-store_and_confirm.ensures.1 is)) };
+  cause = record { later = later_on (g.D.Disk.faults (disk_of c.args.store.now)) (g.D.Disk.faults (disk_of c.turns.store)) (g.D.Disk.faults (disk_of c.store_and_confirm.new.store)) c.turns.invariant.store_later c.store_and_confirm.ensures.store.cause.later; cause = λ is. rose_after _ _ _ c.turns.invariant.store_later (c.store_and_confirm.ensures.store.cause.cause (residual_is c.from_residual-in_err-store_and_confirm.result c.store_and_confirm.result _ _ c.in_err-store_and_confirm.was c.from_residual-in_err-store_and_confirm.ensures.1 is)) };
 }
 
 pub returns-clause-sink : goal.returns-clause-sink

@@ -7,7 +7,7 @@ use Rattle.dbl_source_model.specs.Standings.{left_of}
 use Rattle.dbl_capture_work.specs.declared.halt.Halt.{Halt}
 use Rattle.dbl_capture_work.specs.declared.halt.Halt.TheVariants as halt
 use Rattle.dbl_capture_work.specs.Begins.{AreInfosAt, IsVersionAt}
-use Rattle.dbl_capture_work.proofs.Exits.{later_on, moved_on, none_taken, rose_behind, taken_on}
+use Rattle.dbl_capture_work.proofs.Exits.{later_on, moved_on, none_taken, rose_after, taken_on}
 use Rattle.dbl_capture_work.proofs.Describing.{absent_next, described_more, moved_none, name_among, named_push, rest_on, version_before, zip_push}
 use Rattle.dbl_capture_work.proofs.begin.describe_tables.Goals as goal
 
@@ -85,7 +85,7 @@ returns-in_err-table-clause-source g c = record {
   live = search rules;
   honest = search rules;
   comes = search rules;
-  cause = record { later = later_on (g.S.Source.faults c.args.src.now) (g.S.Source.faults c.tables.src) (g.S.Source.faults c.describe_table.new.src) c.tables.invariant.later c.describe_table.ensures.source.cause.later; cause = λ is. let p = err_from_is_err_and c.from_residual-in_err-table.result c.from_residual-in_err-table.ensures.1 in let both : Err p.0 ≡ Err halt.Source = sym p.1 ∙ is in let halted : p.0 ≡ halt.Source = cc in rose_behind (g.S.Source.faults c.args.src.now) (g.S.Source.faults c.tables.src) (g.S.Source.faults c.describe_table.new.src) c.tables.invariant.later (c.in_err-table.ensures.source.cause.cause (ap (λ (h : Halt). Err h) (sym p.2 ∙ halted))) };
+  cause = record { later = later_on (g.S.Source.faults c.args.src.now) (g.S.Source.faults c.tables.src) (g.S.Source.faults c.describe_table.new.src) c.tables.invariant.later c.describe_table.ensures.source.cause.later; cause = λ is. let p = err_from_is_err_and c.from_residual-in_err-table.result c.from_residual-in_err-table.ensures.1 in let both : Err p.0 ≡ Err halt.Source = sym p.1 ∙ is in let halted : p.0 ≡ halt.Source = cc in rose_after (g.S.Source.faults c.args.src.now) (g.S.Source.faults c.tables.src) (g.S.Source.faults c.describe_table.new.src) c.tables.invariant.later (c.in_err-table.ensures.source.cause.cause (ap (λ (h : Halt). Err h) (sym p.2 ∙ halted))) };
 }
 
 pub returns-in_err-push-clause-rests : goal.returns-in_err-push-clause-rests

@@ -10,7 +10,7 @@ use Rattle.dbl_source_model.specs.Trace.{Head, LastAnswerIs}
 use Rattle.dbl_source.specs.SourceLog.declared.error.SourceError.{SourceError}
 use Rattle.dbl_capture_work.specs.declared.halt.Halt.TheVariants as halt
 use Rattle.dbl_capture_work.specs.Begins.{IsAbsentHalt}
-use Rattle.dbl_capture_work.proofs.Exits.{moved_on, rose_behind, source_absent, source_failed, taken_on, later_on}
+use Rattle.dbl_capture_work.proofs.Exits.{moved_on, rose_after, source_absent, source_failed, taken_on, later_on}
 use Rattle.dbl_capture_work.proofs.Describing.{first_is_for, first_is_offset, head_from, infos_described, rest_on, versions_described}
 use Rattle.dbl_capture_work.proofs.begin.first_offset.Goals as goal
 
@@ -49,7 +49,7 @@ returns-in_err-head-clause-source g c = record {
   live = search rules;
   honest = search rules;
   comes = search rules;
-  cause = record { later = later_on (g.S.Source.faults c.args.src.now) (g.S.Source.faults c.describe_tables.new.src) (g.S.Source.faults c.head.new.self) c.describe_tables.ensures.source.cause.later c.head.ensures.cause.later; cause = λ is. let p = err_from_is_err_and c.from_residual-in_err-head.result c.from_residual-in_err-head.ensures.1 in let both : Err p.0 ≡ Err halt.Source = sym p.1 ∙ is in let halted : p.0 ≡ halt.Source = cc in let failed = source_failed c.in_err-head.field-0.0 (sym p.2 ∙ halted) in rose_behind (g.S.Source.faults c.args.src.now) (g.S.Source.faults c.describe_tables.new.src) (g.S.Source.faults c.head.new.self) c.describe_tables.ensures.source.cause.later (c.head.ensures.cause.cause (c.in_err-head.was ∙ ap (λ (e : SourceError). Err e) failed)) };
+  cause = record { later = later_on (g.S.Source.faults c.args.src.now) (g.S.Source.faults c.describe_tables.new.src) (g.S.Source.faults c.head.new.self) c.describe_tables.ensures.source.cause.later c.head.ensures.cause.later; cause = λ is. let p = err_from_is_err_and c.from_residual-in_err-head.result c.from_residual-in_err-head.ensures.1 in let both : Err p.0 ≡ Err halt.Source = sym p.1 ∙ is in let halted : p.0 ≡ halt.Source = cc in let failed = source_failed c.in_err-head.field-0.0 (sym p.2 ∙ halted) in rose_after (g.S.Source.faults c.args.src.now) (g.S.Source.faults c.describe_tables.new.src) (g.S.Source.faults c.head.new.self) c.describe_tables.ensures.source.cause.later (c.head.ensures.cause.cause (c.in_err-head.was ∙ ap (λ (e : SourceError). Err e) failed)) };
 }
 
 pub returns-in_err-offset_at-clause-rests : goal.returns-in_err-offset_at-clause-rests

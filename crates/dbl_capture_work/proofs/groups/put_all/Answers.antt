@@ -8,7 +8,7 @@ use Rattle.dbl_capture_work.specs.declared.halt.Halt.{Halt}
 use Rattle.dbl_capture_work.specs.declared.halt.Halt.TheVariants as halt
 use Rattle.dbl_capture_work.specs.declared.report.Report.{Report}
 use Rattle.dbl_capture_work.specs.Groups.{WerePut}
-use Rattle.dbl_capture_work.proofs.Exits.{later_on, rose_behind, same_error}
+use Rattle.dbl_capture_work.proofs.Exits.{later_on, rose_after, same_error}
 use Rattle.dbl_capture_work.proofs.Puts.{left_cut, next_handful}
 use Rattle.dbl_capture_work.proofs.Putting.{IsGroupHalt, IsPut, all_counted, all_held, all_put, all_short, counts_stay, gather_on, holds_put, last_group, left_still, long_group, long_put, next_begins, none_holds, none_left_over, none_long, none_put, put_at, put_begins, put_kept, put_more, put_on, torn_put, were_put}
 use Rattle.dbl_capture_work.proofs.groups.put_all.Goals as goal
@@ -98,7 +98,7 @@ pub returns-in_err-put_group-clause-sink : goal.returns-in_err-put_group-clause-
 returns-in_err-put_group-clause-sink g c = record {
   live = search rules;
   comes = g.met.K.Sink.comes_on c.args.sink.now c.records.sink c.put_group.new.sink c.records.invariant.comes c.put_group.ensures.sink.comes;
-  cause = record { later = later_on (g.K.Sink.faults c.args.sink.now) (g.K.Sink.faults c.records.sink) (g.K.Sink.faults c.put_group.new.sink) c.records.invariant.later c.put_group.ensures.sink.cause.later; cause = λ is. let p = err_from_is_err_and c.from_residual-in_err-put_group.result c.from_residual-in_err-put_group.ensures.1 in rose_behind (g.K.Sink.faults c.args.sink.now) (g.K.Sink.faults c.records.sink) (g.K.Sink.faults c.put_group.new.sink) c.records.invariant.later (c.in_err-put_group.ensures.sink.cause.cause (ap (λ (x : Halt). Err x) (sym p.2 ∙ same_error _ _ _ p.1 is))) };
+  cause = record { later = later_on (g.K.Sink.faults c.args.sink.now) (g.K.Sink.faults c.records.sink) (g.K.Sink.faults c.put_group.new.sink) c.records.invariant.later c.put_group.ensures.sink.cause.later; cause = λ is. let p = err_from_is_err_and c.from_residual-in_err-put_group.result c.from_residual-in_err-put_group.ensures.1 in rose_after (g.K.Sink.faults c.args.sink.now) (g.K.Sink.faults c.records.sink) (g.K.Sink.faults c.put_group.new.sink) c.records.invariant.later (c.in_err-put_group.ensures.sink.cause.cause (ap (λ (x : Halt). Err x) (sym p.2 ∙ same_error _ _ _ p.1 is))) };
 }
 
 pub returns-in_err-gathered-2-clause-left : goal.returns-in_err-gathered-2-clause-left
@@ -244,7 +244,7 @@ pub returns-in_err-put_group-2-clause-sink : goal.returns-in_err-put_group-2-cla
 returns-in_err-put_group-2-clause-sink g c = record {
   live = search rules;
   comes = search rules;
-  cause = record { later = later_on (g.K.Sink.faults c.args.sink.now) (g.K.Sink.faults c.records.sink) (g.K.Sink.faults c.put_group-2.new.sink) c.records.invariant.later c.put_group-2.ensures.sink.cause.later; cause = λ is. let p = err_from_is_err_and c.from_residual-in_err-put_group-2.result c.from_residual-in_err-put_group-2.ensures.1 in rose_behind (g.K.Sink.faults c.args.sink.now) (g.K.Sink.faults c.records.sink) (g.K.Sink.faults c.put_group-2.new.sink) c.records.invariant.later (c.in_err-put_group-2.ensures.sink.cause.cause (ap (λ (x : Halt). Err x) (sym p.2 ∙ same_error _ _ _ p.1 is))) };
+  cause = record { later = later_on (g.K.Sink.faults c.args.sink.now) (g.K.Sink.faults c.records.sink) (g.K.Sink.faults c.put_group-2.new.sink) c.records.invariant.later c.put_group-2.ensures.sink.cause.later; cause = λ is. let p = err_from_is_err_and c.from_residual-in_err-put_group-2.result c.from_residual-in_err-put_group-2.ensures.1 in rose_after (g.K.Sink.faults c.args.sink.now) (g.K.Sink.faults c.records.sink) (g.K.Sink.faults c.put_group-2.new.sink) c.records.invariant.later (c.in_err-put_group-2.ensures.sink.cause.cause (ap (λ (x : Halt). Err x) (sym p.2 ∙ same_error _ _ _ p.1 is))) };
 }
 
 pub returns-clause-put : goal.returns-clause-put

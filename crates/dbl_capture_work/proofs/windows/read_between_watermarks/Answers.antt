@@ -8,7 +8,7 @@ use Rattle.dbl_window.specs.Selected.{IsCaptured}
 use Rattle.dbl_capture_work.specs.Causes.{IsHonestFault, IsOfRows}
 use Rattle.dbl_capture_work.specs.Windowed.{MayHaveMarks, WasLooked, WasWindowed}
 use Rattle.dbl_capture_work.specs.Works.{IsChunkOf}
-use Rattle.dbl_capture_work.proofs.Exits.{rose_behind, taken_on, later_on}
+use Rattle.dbl_capture_work.proofs.Exits.{rose_after, taken_on, later_on}
 use Rattle.dbl_capture_work.proofs.Looking.{mark_left, marked_left, was_windowed}
 use Rattle.dbl_capture_work.proofs.WindowFaults.{captured_on, mark_fault, mark_honest}
 use Rattle.dbl_capture_work.proofs.windows.read_between_watermarks.Goals as goal
@@ -84,5 +84,5 @@ returns-clause-source g c = record {
   live = search rules;
   honest = search rules;
   comes = g.met.S.Source.comes_on c.args.src.now c.low.new.src c.select_and_mark_high.new.src c.low.ensures.source.comes c.select_and_mark_high.ensures.source.comes;
-  cause = record { later = later_on (g.S.Source.faults c.args.src.now) (g.S.Source.faults c.low.new.src) (g.S.Source.faults c.select_and_mark_high.new.src) c.low.ensures.source.cause.later c.select_and_mark_high.ensures.source.cause.later; cause = λ is. rose_behind (g.S.Source.faults c.args.src.now) (g.S.Source.faults c.low.new.src) (g.S.Source.faults c.select_and_mark_high.new.src) c.low.ensures.source.cause.later (c.select_and_mark_high.ensures.source.cause.cause is) };
+  cause = record { later = later_on (g.S.Source.faults c.args.src.now) (g.S.Source.faults c.low.new.src) (g.S.Source.faults c.select_and_mark_high.new.src) c.low.ensures.source.cause.later c.select_and_mark_high.ensures.source.cause.later; cause = λ is. rose_after (g.S.Source.faults c.args.src.now) (g.S.Source.faults c.low.new.src) (g.S.Source.faults c.select_and_mark_high.new.src) c.low.ensures.source.cause.later (c.select_and_mark_high.ensures.source.cause.cause is) };
 }

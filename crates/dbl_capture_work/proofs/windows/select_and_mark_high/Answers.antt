@@ -9,7 +9,7 @@ use Rattle.dbl_window.specs.Plans.{Chunk, Plan, high_text}
 use Rattle.dbl_capture_work.specs.Causes.{IsHonestFault, IsOfRows}
 use Rattle.dbl_capture_work.specs.Windowed.{MayHaveMarks, WasLooked}
 use Rattle.dbl_capture_work.specs.Works.{IsChunkOf}
-use Rattle.dbl_capture_work.proofs.Exits.{both_ok, rose_behind, taken_on, later_on}
+use Rattle.dbl_capture_work.proofs.Exits.{both_ok, rose_after, taken_on, later_on}
 use Rattle.dbl_capture_work.proofs.Looking.{mark_left, moved_left, others_left, read_order, was_looked}
 use Rattle.dbl_capture_work.proofs.WindowFaults.{mark_fault, mark_honest, rows_fault, select_honest}
 use Rattle.dbl_capture_work.proofs.windows.select_and_mark_high.Goals as goal
@@ -88,5 +88,5 @@ returns-clause-source g c = record {
   live = search rules;
   honest = search rules;
   comes = g.met.S.Source.comes_on c.args.src.now c.select.new.src c.high.new.src c.select.ensures.source.comes c.high.ensures.source.comes;
-  cause = record { later = later_on (g.S.Source.faults c.args.src.now) (g.S.Source.faults c.select.new.src) (g.S.Source.faults c.high.new.src) c.select.ensures.source.cause.later c.high.ensures.source.cause.later; cause = λ is. rose_behind (g.S.Source.faults c.args.src.now) (g.S.Source.faults c.select.new.src) (g.S.Source.faults c.high.new.src) c.select.ensures.source.cause.later (c.high.ensures.source.cause.cause is) };
+  cause = record { later = later_on (g.S.Source.faults c.args.src.now) (g.S.Source.faults c.select.new.src) (g.S.Source.faults c.high.new.src) c.select.ensures.source.cause.later c.high.ensures.source.cause.later; cause = λ is. rose_after (g.S.Source.faults c.args.src.now) (g.S.Source.faults c.select.new.src) (g.S.Source.faults c.high.new.src) c.select.ensures.source.cause.later (c.high.ensures.source.cause.cause is) };
 }

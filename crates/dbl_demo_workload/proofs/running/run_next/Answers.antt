@@ -1,4 +1,4 @@
-use Rattle.dbl_demo_workload.proofs.WorkloadLemmas.{all_behind, all_fit, all_ran, get_there, runnable_at}
+use Rattle.dbl_demo_workload.proofs.WorkloadLemmas.{all_fit, all_ran, all_since, get_there, runnable_at}
 use Rattle.dbl_demo_workload.proofs.running.run_next.Goals as goal
 
 pub run_step-requires : goal.run_step-requires
@@ -21,4 +21,4 @@ pub returns-clause-has_run : goal.returns-clause-has_run
 returns-clause-has_run c =
     let step = c.index-steps-done in
     let has_run = c.requires.has_run in
-    all_behind c.args.steps.now c.args.done step.result c.run_step.new.store (get_there c.args.steps.now c.args.done step.result c.requires.left step.is) c.args.store.now has_run c.requires.left c.run_step.result (c.run_step.ensures.ran has_run.w.tables _ has_run.stands)
+    all_since c.args.steps.now c.args.done step.result c.run_step.new.store (get_there c.args.steps.now c.args.done step.result c.requires.left step.is) c.args.store.now has_run c.requires.left c.run_step.result (c.run_step.ensures.ran has_run.w.tables _ has_run.stands)

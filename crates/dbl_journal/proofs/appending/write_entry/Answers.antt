@@ -3,7 +3,7 @@ use Rattle.std.proofs.lemmas.Result.{on_ok_weaker}
 use Rattle.dbl_disk.specs.Disks.{written}
 use Rattle.dbl_journal.specs.Steps.{IsStaged}
 use Rattle.dbl_journal.proofs.Appends.{staged}
-use Rattle.dbl_journal.proofs.Crashes.{behind_crash, longest_done, longest_torn, on_ok, reaches}
+use Rattle.dbl_journal.proofs.Crashes.{after_crash, longest_done, longest_torn, on_ok, reaches}
 use Rattle.dbl_journal.proofs.Called.{called_twice}
 use Rattle.dbl_journal.proofs.appending.write_entry.Goals as goal
 
@@ -12,11 +12,11 @@ write_at-requires g c old told beyond = omega (arith, c.requires.there old told)
 
 pub returns-in_err-write_at-clause-kept : goal.returns-in_err-write_at-clause-kept
 returns-in_err-write_at-clause-kept g c old entries only journal gate_is =
-    behind_crash entries c.args.gate (length c.args.bytes.now) old _ _ gate_is journal only c.write_at.ensures.crash
+    after_crash entries c.args.gate (length c.args.bytes.now) old _ _ gate_is journal only c.write_at.ensures.crash
 
 pub returns-clause-kept : goal.returns-clause-kept
 returns-clause-kept g c old entries only journal gate_is crashed left =
-    behind_crash entries c.args.gate (length c.args.bytes.now) old _ _ gate_is journal only c.write_at.ensures.crash crashed (c.sync.ensures.crash crashed left)
+    after_crash entries c.args.gate (length c.args.bytes.now) old _ _ gate_is journal only c.write_at.ensures.crash crashed (c.sync.ensures.crash crashed left)
 
 pub returns-clause-staged : goal.returns-clause-staged
 returns-clause-staged g c old entries entry told only journal gate_is bytes_are =

@@ -7,7 +7,7 @@ use Rattle.dblog_connect.specs.declared.error.ConnectError.{ConnectError}
 use Rattle.dblog_connect.specs.Ends.{CountsFaults, IsRefused}
 use Rattle.dblog_connect.specs.Errors.{IsAfterOpening, IsConnectError, IsExternalConnectError}
 use Rattle.dblog_connect.specs.Steps.{AnswersConnect, disks_of}
-use Rattle.dblog_connect.proofs.ErrorKinds.{behind_topics, counts_by, counts_same, counts_on, err_as, moved_crash, moved_to, offset_ends, offset_fails}
+use Rattle.dblog_connect.proofs.ErrorKinds.{after_topics, counts_by, counts_same, counts_on, err_as, moved_crash, moved_to, offset_ends, offset_fails}
 use Rattle.dblog_connect.proofs.ErrorKinds.{offset_kind, only_same, read_on, read_stayed, store_bounded_on}
 use Rattle.dblog_connect.proofs.Opened.{bounded_same, store_bounded_same}
 use Rattle.dblog_connect.proofs.Stays.{IsUnhalted, answers_before, answers_moved, answers_stay}
@@ -69,7 +69,7 @@ returns-in-Ok-clause-answers g c =
     (subst (λ (n : ℤ). AnswersConnect g.W.Disk g.T.Disk g.F.Disk c.args.asked n (disks_of c.args.source.journal.disk c.args.log.disk (disk_of c.in-Ok.store)) (disks_of c.run_session-end.new.source.journal.disk c.run_session-end.new.log.disk (disk_of c.run_session-end.new.store)) c.run_session-end.result) (to_z-of_z c.ranges.now_ms) c.run_session-end.ensures.answers))
 
 pub returns-in-Ok-clause-after_opening : goal.returns-in-Ok-clause-after_opening
-returns-in-Ok-clause-after_opening g c = err_as c.run_session-end.result (IsAfterOpening store.Offsets) (IsAfterOpening store.Topics) behind_topics c.run_session-end.ensures.after_opening
+returns-in-Ok-clause-after_opening g c = err_as c.run_session-end.result (IsAfterOpening store.Offsets) (IsAfterOpening store.Topics) after_topics c.run_session-end.ensures.after_opening
 
 pub returns-in-Ok-clause-wal_read : goal.returns-in-Ok-clause-wal_read
 returns-in-Ok-clause-wal_read g c = read_stayed g.W.Disk (λ s. s.journal.disk) c.run_session-end.result c.args.source c.run_session-end.new.source c.into_disk.result c.into_disk.ensures c.run_session-end.ensures.source_stays

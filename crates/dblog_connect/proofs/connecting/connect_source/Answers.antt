@@ -5,7 +5,7 @@ use Rattle.dblog_connect.specs.declared.error.ConnectError.{ConnectError}
 use Rattle.dblog_connect.specs.Ends.{IsRefused}
 use Rattle.dblog_connect.specs.Errors.{IsBeforeStore, IsAfterOpening, IsConnectError, IsExternalConnectError}
 use Rattle.dblog_connect.specs.Steps.{AnswersConnect, disks_of}
-use Rattle.dblog_connect.proofs.ErrorKinds.{behind_wal, bounded_on, counts_by, counts_on, counts_same, err_as, moved_crash, not_before_offsets, only_same, read_on, topic_ends, topic_fails, topic_kind}
+use Rattle.dblog_connect.proofs.ErrorKinds.{after_wal, bounded_on, counts_by, counts_on, counts_same, err_as, moved_crash, not_before_offsets, only_same, read_on, topic_ends, topic_fails, topic_kind}
 use Rattle.dblog_connect.proofs.Opened.{bounded_same, store_bounded_same}
 use Rattle.dblog_connect.proofs.Stays.{IsUnhalted, answers_before, answers_stay}
 use Rattle.dblog_connect.proofs.connecting.connect_source.Goals as goal
@@ -67,7 +67,7 @@ returns-in-Ok-clause-answers g c =
     (subst (λ (n : ℤ). AnswersConnect g.W.Disk g.T.Disk g.F.Disk c.args.asked n (disks_of c.args.source.journal.disk c.in-Ok.log.disk c.args.offsets) c.connect_log.result.disks c.connect_log.result.end) (to_z-of_z c.ranges.now_ms) c.connect_log.ensures.answers)
 
 pub returns-in-Ok-clause-after_opening : goal.returns-in-Ok-clause-after_opening
-returns-in-Ok-clause-after_opening g c = err_as c.connect_log.result.end (IsAfterOpening store.Topics) (IsAfterOpening store.Wal) behind_wal c.connect_log.ensures.after_opening
+returns-in-Ok-clause-after_opening g c = err_as c.connect_log.result.end (IsAfterOpening store.Topics) (IsAfterOpening store.Wal) after_wal c.connect_log.ensures.after_opening
 
 pub returns-in-Ok-clause-offsets_stay : goal.returns-in-Ok-clause-offsets_stay
 returns-in-Ok-clause-offsets_stay g c =

@@ -11,7 +11,7 @@ use Rattle.dblog_connect.specs.Ends.{CountsFaults, ConnectEnd, IsSpent}
 use Rattle.dblog_connect.specs.Errors.{IsAfterOpening, IsConnectError, IsConnectRefusal}
 use Rattle.dblog_connect.specs.Steps.{AnswersConnect, disks_of}
 use Rattle.dblog_connect.proofs.Configs.{asks_budget}
-use Rattle.dblog_connect.proofs.Exits.{asked_of, asks_same, halt_fails, halt_kind, log_bounded, refused_behind, refused_ends, refused_kind, refused_unfailed, refused_unhalted, residual, source_bounded, spent_of, store_bounded}
+use Rattle.dblog_connect.proofs.Exits.{asked_of, asks_same, halt_fails, halt_kind, log_bounded, refused_after, refused_ends, refused_kind, refused_unfailed, refused_unhalted, residual, source_bounded, spent_of, store_bounded}
 use Rattle.dblog_connect.proofs.ErrorKinds.{counts_same}
 use Rattle.dblog_connect.proofs.Opened.{bounded_same, store_bounded_same}
 use Rattle.dblog_connect.proofs.Ran.{done_by, renow}
@@ -45,7 +45,7 @@ pub returns-in_err-config-clause-kinds : goal.returns-in_err-config-clause-kinds
 returns-in_err-config-clause-kinds g c = residual c.from_residual.result _ (λ (r : ConnectEnd). IfErr r IsConnectError) c.from_residual.ensures.1 (refused_kind c.args.asked _ _ c.in_err-config.ensures.refused)
 
 pub returns-in_err-config-clause-after_opening : goal.returns-in_err-config-clause-after_opening
-returns-in_err-config-clause-after_opening g c = residual c.from_residual.result _ (λ (r : ConnectEnd). IfErr r (IsAfterOpening store.Offsets)) c.from_residual.ensures.1 (refused_behind c.args.asked _ _ c.in_err-config.ensures.refused)
+returns-in_err-config-clause-after_opening g c = residual c.from_residual.result _ (λ (r : ConnectEnd). IfErr r (IsAfterOpening store.Offsets)) c.from_residual.ensures.1 (refused_after c.args.asked _ _ c.in_err-config.ensures.refused)
 
 pub returns-in_err-config-clause-source_stays : goal.returns-in_err-config-clause-source_stays
 returns-in_err-config-clause-source_stays g c = residual c.from_residual.result _ (λ (r : ConnectEnd). IfErr r (λ e. IsConnectRefusal e → c.args.source.now ≡ c.args.source.now)) c.from_residual.ensures.1 (λ refusal. refl)

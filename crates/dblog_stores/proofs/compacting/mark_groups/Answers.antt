@@ -9,7 +9,7 @@ use Rattle.dblog_stores.proofs.CrashState.{nothing_left}
 use Rattle.dblog_stores.proofs.Consumed.{wanting_kind, wanting_outside, wanting_running}
 use Rattle.dblog_stores.proofs.Kept.{err_one, keeps_itself, keeps_never, keeps_ok, keeps_retold, keeps_then}
 use Rattle.dblog_stores.proofs.Marked.{group_before}
-use Rattle.dblog_stores.proofs.Opened.{memory_behind}
+use Rattle.dblog_stores.proofs.Opened.{memory_after}
 use Rattle.dblog_stores.proofs.compacting.mark_groups.Goals as goal
 
 pub each-init : goal.each-init
@@ -56,7 +56,7 @@ pub returns-in-Err-mark_group-clause-kinds : goal.returns-in-Err-mark_group-clau
 returns-in-Err-mark_group-clause-kinds g c = wanting_kind c.in-Err-mark_group.error c.in-Err-mark_group.ensures.memory
 
 pub returns-in-Err-mark_group-clause-a_store : goal.returns-in-Err-mark_group-clause-a_store
-returns-in-Err-mark_group-clause-a_store g c = memory_behind c.in-Err-mark_group.error c.in-Err-mark_group.ensures.memory
+returns-in-Err-mark_group-clause-a_store g c = memory_after c.in-Err-mark_group.error c.in-Err-mark_group.ensures.memory
 
 pub returns-clause-told : goal.returns-clause-told
 returns-clause-told g c groups held =

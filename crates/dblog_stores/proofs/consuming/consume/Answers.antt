@@ -2,7 +2,7 @@ use Rattle.std.proofs.Common.{subst, inl, refl}
 use Rattle.dblog_stores.specs.Consuming.{HasTakenRecords}
 use Rattle.dblog_stores.proofs.Kept.{err_one, keeps_itself, keeps_never, keeps_ok}
 use Rattle.dblog_stores.proofs.Consumed.{wanting_kind, wanting_outside, wanting_running}
-use Rattle.dblog_stores.proofs.Opened.{memory_behind}
+use Rattle.dblog_stores.proofs.Opened.{memory_after}
 use Rattle.dblog_stores.proofs.consuming.consume.Goals as goal
 
 pub returns-in-Err-clause-told : goal.returns-in-Err-clause-told
@@ -30,7 +30,7 @@ returns-in-Ok-take_groups-clause-keeps g c =
     keeps_never g.D.Disk _ _ _ (λ e. cc) (keeps_ok g.D.Disk _ _ _ (λ e. cc) c.in-Ok-take_groups.ensures.keeps)
 
 pub returns-in-Err-clause-a_store : goal.returns-in-Err-clause-a_store
-returns-in-Err-clause-a_store g c = memory_behind _ refl
+returns-in-Err-clause-a_store g c = memory_after _ refl
 
 pub returns-in-Err-empty_consumer-clause-a_store : goal.returns-in-Err-empty_consumer-clause-a_store
-returns-in-Err-empty_consumer-clause-a_store g c = memory_behind c.in-Err-empty_consumer.error c.in-Err-empty_consumer.ensures.memory
+returns-in-Err-empty_consumer-clause-a_store g c = memory_after c.in-Err-empty_consumer.error c.in-Err-empty_consumer.ensures.memory

@@ -6,7 +6,7 @@ use Rattle.dblog_stores.specs.declared.error.CommandError.TheVariants.{Failed}
 use Rattle.dblog_stores.specs.declared.error.Store.TheVariants.{Topics}
 use Rattle.dblog_stores.proofs.Consumed.{consumed_all, consuming_begins, one_consumed, refused_kind, refused_running, refuses}
 use Rattle.dblog_stores.proofs.Kept.{err_one, keeps_itself, keeps_never, keeps_ok, keeps_retold, keeps_then}
-use Rattle.dblog_stores.proofs.Opened.{refused_behind}
+use Rattle.dblog_stores.proofs.Opened.{refused_after}
 use Rattle.dblog_stores.proofs.consuming.take_groups.Goals as goal
 
 pub each-init : goal.each-init
@@ -58,4 +58,4 @@ pub returns-clause-keeps : goal.returns-clause-keeps
 returns-clause-keeps g c = keeps_never g.D.Disk _ _ _ (λ e. cc) c.each.invariant.keeps
 
 pub returns-in-Err-take_group-clause-a_store : goal.returns-in-Err-take_group-clause-a_store
-returns-in-Err-take_group-clause-a_store g c = refused_behind c.each.number _ c.in-Err-take_group.error c.in-Err-take_group.ensures.refused
+returns-in-Err-take_group-clause-a_store g c = refused_after c.each.number _ c.in-Err-take_group.error c.in-Err-take_group.ensures.refused

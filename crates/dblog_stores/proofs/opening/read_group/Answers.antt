@@ -4,7 +4,7 @@ use Rattle.dblog_stores.specs.declared.error.CommandError.TheVariants.{Failed}
 use Rattle.dblog_stores.specs.declared.error.Store.TheVariants.{Topics}
 use Rattle.dblog_stores.proofs.ErrorLaws.{group_cut, topic_failed, topic_kind, topic_tells}
 use Rattle.dblog_stores.proofs.Kept.{err_one, failed_with, keeps_failed, keeps_never, keeps_read, keeps_told}
-use Rattle.dblog_stores.proofs.Opened.{group_behind}
+use Rattle.dblog_stores.proofs.Opened.{group_after}
 use Rattle.dblog_stores.proofs.opening.read_group.Goals as goal
 
 pub returns-in-Err-clause-cut : goal.returns-in-Err-clause-cut
@@ -27,4 +27,4 @@ returns-in-Err-clause-keeps g c =
     (λ n. c.in-Err.ensures.steady (λ e. n (topic_tells c.in-Err.error c.from.result c.from.ensures (err_one c.in-Err.error _ e)))))
 
 pub returns-in-Err-clause-a_store : goal.returns-in-Err-clause-a_store
-returns-in-Err-clause-a_store g c = group_behind c.in-Err.error c.from.result c.args.number c.from.ensures c.in-Err.ensures.errors
+returns-in-Err-clause-a_store g c = group_after c.in-Err.error c.from.result c.args.number c.from.ensures c.in-Err.ensures.errors

@@ -1,13 +1,13 @@
 use Rattle.std.proofs.Common.{◌≡◌, ◌∙◌, ◌+◌, ◌<◌, ◌≤◌, length, sym, arith, inl, inr}
 use Rattle.std.proofs.lemmas.Result.{err_from_is_err_and}
-use Rattle.dbl_demo_workload.proofs.CheckLemmas.{alone_left, alone_on, behind_at, behind_here, goes_left, goes_on, left_here, none_when, run_bad, run_begins, run_goes, run_last, run_none, run_out, runs_next, some_when, within_here}
+use Rattle.dbl_demo_workload.proofs.CheckLemmas.{after_at, after_here, alone_left, alone_on, goes_left, goes_on, left_here, none_when, run_bad, run_begins, run_goes, run_last, run_none, run_out, runs_next, some_when, within_here}
 use Rattle.dbl_demo_workload.proofs.checking.Checked.run_to.Goals as goal
 
 pub loop-number-init : goal.loop-number-init
 loop-number-init c = run_begins c.args.self.now c.requires
 
 pub run_next-requires-clause-has_run : goal.run_next-requires-clause-has_run
-run_next-requires-clause-has_run c = behind_here c.args.self.now c.loop-number.self c.loop-number.number c.loop-number.invariant c.as_slice-steps.result.now c.as_slice-steps.ensures.value
+run_next-requires-clause-has_run c = after_here c.args.self.now c.loop-number.self c.loop-number.number c.loop-number.invariant c.as_slice-steps.result.now c.as_slice-steps.ensures.value
 
 pub run_next-requires-clause-left : goal.run_next-requires-clause-left
 run_next-requires-clause-left c =
@@ -23,7 +23,7 @@ loop-number-preserved c =
     let are = c.as_slice-steps.ensures.value in
     let store = c.run_next.new.store in
     let committed = c.in_ok-committed.committed in
-    let has_run = behind_at old now number run steps are (number + 1) store c.in_ok-committed.ensures.has_run in
+    let has_run = after_at old now number run steps are (number + 1) store c.in_ok-committed.ensures.has_run in
     let next = runs_next old now number run steps are committed store c.in_ok-committed.ensures.ran in
     run_goes old now number run committed store has_run next (none_when committed (sym c.is_some.ensures ∙ c.if-is_some.false))
 
@@ -51,7 +51,7 @@ returns-in_err-committed-clause-goes c =
     let run = c.loop-number.invariant in
     let steps = c.as_slice-steps.result.now in
     let are = c.as_slice-steps.ensures.value in
-    goes_left old now number run c.run_next.new.store (behind_at old now number run steps are number c.run_next.new.store c.in_err-committed.ensures.kept)
+    goes_left old now number run c.run_next.new.store (after_at old now number run steps are number c.run_next.new.store c.in_err-committed.ensures.kept)
 
 -- the last step
 pub returns-then-is_last-clause-runs : goal.returns-then-is_last-clause-runs
@@ -64,7 +64,7 @@ returns-then-is_last-clause-runs c =
     let are = c.as_slice-steps.ensures.value in
     let store = c.run_next.new.store in
     let committed = c.in_ok-committed.committed in
-    let has_run = behind_at old now number run steps are (number + 1) store c.in_ok-committed.ensures.has_run in
+    let has_run = after_at old now number run steps are (number + 1) store c.in_ok-committed.ensures.has_run in
     let next = runs_next old now number run steps are committed store c.in_ok-committed.ensures.ran in
     let whole : c.args.steps ≤ length old.prepared.steps.items = omega arith in
     run_last old now number run committed store has_run next c.args.steps (sym c.if-is_last.true) (within_here old now number run steps are c.args.steps whole)
@@ -82,7 +82,7 @@ returns-then-is_last-clause-same c =
     let are = c.as_slice-steps.ensures.value in
     let store = c.run_next.new.store in
     let committed = c.in_ok-committed.committed in
-    let has_run = behind_at old now number run steps are (number + 1) store c.in_ok-committed.ensures.has_run in
+    let has_run = after_at old now number run steps are (number + 1) store c.in_ok-committed.ensures.has_run in
     let next = runs_next old now number run steps are committed store c.in_ok-committed.ensures.ran in
     alone_on old now number run committed store has_run next
 
@@ -96,7 +96,7 @@ returns-then-is_last-clause-goes c =
     let are = c.as_slice-steps.ensures.value in
     let store = c.run_next.new.store in
     let committed = c.in_ok-committed.committed in
-    let has_run = behind_at old now number run steps are (number + 1) store c.in_ok-committed.ensures.has_run in
+    let has_run = after_at old now number run steps are (number + 1) store c.in_ok-committed.ensures.has_run in
     let next = runs_next old now number run steps are committed store c.in_ok-committed.ensures.ran in
     goes_on old now number run committed store has_run next
 
@@ -111,7 +111,7 @@ returns-then-is_some-clause-runs c =
     let are = c.as_slice-steps.ensures.value in
     let store = c.run_next.new.store in
     let committed = c.in_ok-committed.committed in
-    let has_run = behind_at old now number run steps are (number + 1) store c.in_ok-committed.ensures.has_run in
+    let has_run = after_at old now number run steps are (number + 1) store c.in_ok-committed.ensures.has_run in
     let next = runs_next old now number run steps are committed store c.in_ok-committed.ensures.ran in
     let some = some_when committed (sym c.is_some.ensures ∙ c.if-is_some.true) in
     let earlier : number + 1 < c.args.steps = omega arith in
@@ -127,7 +127,7 @@ returns-then-is_some-clause-same c =
     let are = c.as_slice-steps.ensures.value in
     let store = c.run_next.new.store in
     let committed = c.in_ok-committed.committed in
-    let has_run = behind_at old now number run steps are (number + 1) store c.in_ok-committed.ensures.has_run in
+    let has_run = after_at old now number run steps are (number + 1) store c.in_ok-committed.ensures.has_run in
     let next = runs_next old now number run steps are committed store c.in_ok-committed.ensures.ran in
     alone_on old now number run committed store has_run next
 
@@ -141,7 +141,7 @@ returns-then-is_some-clause-goes c =
     let are = c.as_slice-steps.ensures.value in
     let store = c.run_next.new.store in
     let committed = c.in_ok-committed.committed in
-    let has_run = behind_at old now number run steps are (number + 1) store c.in_ok-committed.ensures.has_run in
+    let has_run = after_at old now number run steps are (number + 1) store c.in_ok-committed.ensures.has_run in
     let next = runs_next old now number run steps are committed store c.in_ok-committed.ensures.ran in
     goes_on old now number run committed store has_run next
 

@@ -12,7 +12,7 @@ use Rattle.dbl_tables_rows.specs.Views.{Slots, base_of}
 use Rattle.dbl_tables.specs.Shown.{comes_after, rows_after_key}
 use Rattle.dbl_tables.proofs.CutLemmas.{at_name}
 use Rattle.dbl_tables.proofs.StoreLemmas.{got, got_none}
-use Rattle.dbl_tables.proofs.SelectStands.{select_unknown, select_fails, select_none, select_rows, behind_is_above, above_is_behind}
+use Rattle.dbl_tables.proofs.SelectStands.{select_unknown, select_fails, select_none, select_rows, after_is_above, above_is_after}
 use Rattle.dbl_tables.proofs.tables.Tables.select.Goals as goal
 
 -- a table that isn't there
@@ -50,4 +50,4 @@ returns c tables past st =
     let shown : c.make-2.result ≡ rows_after_key (base_of rows.cleared rows.slots) above c.args.limit = c.make-2.ensures ∙ (c.in_ok-rows_after_key.ensures.rows ∙ ap (λ (s : Slots). rows_after_key s above c.args.limit) c.base.ensures) in
     let sorted : IsOrdered key_cmp (base_of rows.cleared rows.slots) = subst (IsOrdered key_cmp) c.base.ensures c.rows_after_key.ensures.ordered in
     subst (λ (l : List RawRow). SelectsCommitted tables past c.args.table.now above c.args.limit (Ok l)) (sym shown)
-    (select_rows tables past [] c.args.self.now st c.args.table.now c.in-Some.place (sym c.in-Some.ensures) above c.args.limit rows there (comes_after above) own sorted (behind_is_above above) (above_is_behind above))
+    (select_rows tables past [] c.args.self.now st c.args.table.now c.in-Some.place (sym c.in-Some.ensures) above c.args.limit rows there (comes_after above) own sorted (after_is_above above) (above_is_after above))

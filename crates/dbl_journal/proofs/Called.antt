@@ -1,7 +1,6 @@
 -- Calls of a disk, counted.
 use Rattle.std.proofs.Common.{◌≡◌, ◌∙◌, ◌+◌, ◌-◌, ◌^◌, ℕ, Some, ap, arith}
 use Rattle.std.specs.Prelude.{min}
-use Rattle.dbl_base.specs.Streams.{incremented}
 use Rattle.dbl_disk.specs.Disks.{IsCalled}
 use Rattle.dbl_disk.specs.Model.{DiskModel}
 use Rattle.dbl_journal.specs.Calls.{WasCalled}

@@ -21,4 +21,4 @@ returns-clause-found g c entries lists =
     ∙ ap (λ (l : List ℕ). Some l) (sym (c.make.ensures ∙ with_items_is c.in_ok-bytes.bytes c.read_at.new.buffer (c.read_at.auto.buffer ∙ c.deref_mut.ensures.len) ∙ whole))
 
 pub returns-clause-calls : goal.returns-clause-calls
-returns-clause-calls g c = subst (λ (j : OnDisk _). WasCalled g.D.Disk 1 j.disk c.read_at.new.self) c.self.view_is (called_once g.D.Disk _ _ _ c.read_at.ensures.called)
+returns-clause-calls g c = subst (λ (j : OnDisk _). WasCalled g.D.Disk 1 j.disk c.read_at.new.self) c.self.view_is (called_once g.D.Disk _ c.read_at.new.self c.read_at.new.self c.read_at.ensures.called)

@@ -2,6 +2,7 @@ ghost use Rattle.std.specs.Prelude.{◌≡◌, ◌≤◌, ℕ, List, [], ◌∷�
 ghost use Rattle.std.specs.Prelude.{is_some, is_none, IsTrue, Option, None, Some};
 ghost use Rattle.std.specs.Prelude.{option_copied, IfSome, IfOk, OnOk, OnErr, MatchOption};
 ghost use Rattle.dbl_base.specs.Streams.{FailsOnlyIfCounted};
+ghost use Rattle.dbl_base.specs.declared.lsn.Lsn.{Lsn};
 ghost use Rattle.dbl_pgmsg.specs.declared.messages.Message.{Message};
 ghost use Rattle.dbl_pgmsg.specs.Grammar.{Spells};
 ghost use Rattle.dbl_source_model.specs.ModelHistory.History.{IsRising};

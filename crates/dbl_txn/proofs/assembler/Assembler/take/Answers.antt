@@ -19,19 +19,19 @@ pub returns-in-Nothing : goal.returns-in-Nothing
 returns-in-Nothing c = λ infos after ms s. (
     let now : Assembler = record { reader = c.read.new.self; buffered = c.args.self.now.buffered } in
     whole_taken infos after c.args.message ms c.args.self.now now Nothing None s
-    (subst (λ (p : Piece). ReadPiece infos after c.args.message ms c.read.new.self p) (sym c.in-Nothing.is) (c.in_ok-piece.ensures infos after ms s.reads))
+    (subst (λ (p : Piece). ReadPiece infos after c.args.message ms c.read.new.self p) c.in-Nothing.is (c.in_ok-piece.ensures infos after ms s.reads))
     refl refl)
 
 pub returns-in_ok-buffer-in-Changed : goal.returns-in_ok-buffer-in-Changed
 returns-in_ok-buffer-in-Changed c = λ infos after ms s. (
     let now : Assembler = record { reader = c.read.new.self; buffered = c.buffer.new.buffered } in
     whole_taken infos after c.args.message ms c.args.self.now now (Changed c.in-Changed.changes) None s
-    (subst (λ (p : Piece). ReadPiece infos after c.args.message ms c.read.new.self p) (sym c.in-Changed.is) (c.in_ok-piece.ensures infos after ms s.reads))
+    (subst (λ (p : Piece). ReadPiece infos after c.args.message ms c.read.new.self p) c.in-Changed.is (c.in_ok-piece.ensures infos after ms s.reads))
     c.in_ok-buffer-in-Changed.ensures refl)
 
-pub returns : goal.returns
-returns c = λ infos after ms s. (
+pub returns-in-Ended : goal.returns-in-Ended
+returns-in-Ended c = λ infos after ms s. (
     whole_taken infos after c.args.message ms c.args.self.now c.end.new.self (Ended c.in-Ended.ended) (Some c.end.result) s
     (subst (λ (r : PieceReader). ReadPiece infos after c.args.message ms r (Ended c.in-Ended.ended)) (sym c.end.ensures.reader)
-    (subst (λ (p : Piece). ReadPiece infos after c.args.message ms c.read.new.self p) (sym c.in-Ended.is) (c.in_ok-piece.ensures infos after ms s.reads)))
+    (subst (λ (p : Piece). ReadPiece infos after c.args.message ms c.read.new.self p) c.in-Ended.is (c.in_ok-piece.ensures infos after ms s.reads)))
     c.end.ensures.none (ap (λ (x : Commit). Some x) c.end.ensures.commit))

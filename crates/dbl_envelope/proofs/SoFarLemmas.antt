@@ -81,7 +81,7 @@ none_made captured head now records count commit time made long tails = record {
   now_is = time;
   made_is = made;
   tails = record {
-    long = ap length tails ∙ (length-replicate count ∙ long);
+    long = ap length tails ∙ (length-replicate count None ∙ long);
     tails = no_tails captured records.commit records.now_ms records.tails.items count tails;
   };
 }

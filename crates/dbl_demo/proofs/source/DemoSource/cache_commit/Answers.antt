@@ -44,7 +44,7 @@ returns-clause-held g c = λ wal place running at numbered.
     )
 
 pub returns-then-is_some-clause-steady : goal.returns-then-is_some-clause-steady
-returns-then-is_some-clause-steady g c = known_from g.D.Disk c.self.view_is _ (known_self g.D.Disk _)
+returns-then-is_some-clause-steady g c = known_self g.D.Disk c.args.self.now.journal.disk
 
 pub returns-in_default-clause-steady : goal.returns-in_default-clause-steady
 returns-in_default-clause-steady g c = known_from g.D.Disk c.self.view_is c.entry.new.journal.disk c.in_ok-bytes.ensures.steady

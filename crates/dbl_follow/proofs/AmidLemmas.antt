@@ -286,12 +286,9 @@ rest_clashes start old ended changes now released e a none clashes =
 
 -- the commit that a watermark's end makes
 pub marked_commit : (ended : Ended) (text value : List ℕ) → text ≡ value → ended.mark ≡ Some value
-    → (let c : Commit = record { lsn = ended.head.lsn; end_lsn = ended.end_lsn; time = ended.head.time; xid = ended.head.xid; body = Mark text } in c)
-    ≡ commit_by ended []
+    → commit_by (record ended { mark = Some text }) [] ≡ commit_by ended []
 marked_commit ended text value same marked =
-    ap (λ (l : List ℕ). let c : Commit =
-    record { lsn = ended.head.lsn; end_lsn = ended.end_lsn; time = ended.head.time; xid = ended.head.xid; body = Mark l } in c) same
-    ∙ sym (ap (λ (o : Option (List ℕ)). commit_by (record { head = ended.head; end_lsn = ended.end_lsn; mark = o }) []) marked)
+    ap (λ (o : Option (List ℕ)). commit_by (record ended { mark = o }) []) (ap (λ (l : List ℕ). Some l) same ∙ sym marked)
 
 -- what handling a watermark promises, as one record
 pub marks_end : {V : Type 0} (r : Result V FollowError) (items : V → List Record) (old new : Following) (commit : Commit) (value : List ℕ) (now : ℤ)

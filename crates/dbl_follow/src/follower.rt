@@ -82,6 +82,19 @@ fn seen_window(armed: Armed, value: &Text) -> Window
     }
 }
 
+// The commit of a transaction that wrote this watermark.
+fn commit_of_mark(ended: &Ended, value: Text) -> Commit
+    ensures { result ≡ commit_by (record ended.now { mark = Some value }) [] }
+{
+    Commit {
+        lsn: ended.head.lsn,
+        end_lsn: ended.end_lsn,
+        time: ended.head.time,
+        xid: ended.head.xid,
+        body: Body::Mark(value),
+    }
+}
+
 impl Follower {
     /// A follower without a window, of at most 64 captured tables, each with its progress. Later
     /// calls use the allocator.
@@ -310,13 +323,7 @@ impl Follower {
             EndsWithCommit self.old (commit_by ended.now []) now_ms records.items self.new) }
         ensures err { IfErr result (IsClashOf (clash_by self.old (commit_by ended.now []))) }
     {
-        let commit = Commit {
-            lsn: ended.head.lsn,
-            end_lsn: ended.end_lsn,
-            time: ended.head.time,
-            xid: ended.head.xid,
-            body: Body::Mark(value.copy(self.alloc)?),
-        };
+        let commit = commit_of_mark(ended, value.copy(self.alloc)?);
         self.see_mark(value, &commit, now_ms)
     }
 

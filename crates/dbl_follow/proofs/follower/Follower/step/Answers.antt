@@ -17,7 +17,7 @@ pub returns-in-Changes-clause-records : goal.returns-in-Changes-clause-records
 returns-in-Changes-clause-records c =
     let old = c.args.self.now in
     let commit = c.args.commit.now in
-    let body : commit.body ≡ Changes c.items.result.now.items = sym c.in-Changes.is ∙ ap (λ (l : List Change). Changes l) (sym c.items.ensures) in
+    let body : commit.body ≡ Changes c.items.result.now.items = c.in-Changes.is ∙ ap (λ (l : List Change). Changes l) (sym c.items.ensures) in
     IfOk-weaker c.follow_changes.result _ _
     (λ records ends. (changes_end old c.follow_changes.new.self commit c.head.result c.items.result.now.items c.args.now_ms records.items c.head.ensures body
     ends).records_are)
@@ -29,7 +29,7 @@ pub returns-in-Changes-clause-steps : goal.returns-in-Changes-clause-steps
 returns-in-Changes-clause-steps c =
     let old = c.args.self.now in
     let commit = c.args.commit.now in
-    let body : commit.body ≡ Changes c.items.result.now.items = sym c.in-Changes.is ∙ ap (λ (l : List Change). Changes l) (sym c.items.ensures) in
+    let body : commit.body ≡ Changes c.items.result.now.items = c.in-Changes.is ∙ ap (λ (l : List Change). Changes l) (sym c.items.ensures) in
     IfOk-weaker c.follow_changes.result _ _
     (λ records ends. (changes_end old c.follow_changes.new.self commit c.head.result c.items.result.now.items c.args.now_ms records.items c.head.ensures body
     ends).steps)
@@ -41,7 +41,7 @@ pub returns-in-Changes-clause-no_clash : goal.returns-in-Changes-clause-no_clash
 returns-in-Changes-clause-no_clash c =
     let old = c.args.self.now in
     let commit = c.args.commit.now in
-    let body : commit.body ≡ Changes c.items.result.now.items = sym c.in-Changes.is ∙ ap (λ (l : List Change). Changes l) (sym c.items.ensures) in
+    let body : commit.body ≡ Changes c.items.result.now.items = c.in-Changes.is ∙ ap (λ (l : List Change). Changes l) (sym c.items.ensures) in
     IfOk-weaker c.follow_changes.result _ _
     (λ records ends. (changes_end old c.follow_changes.new.self commit c.head.result c.items.result.now.items c.args.now_ms records.items c.head.ensures body
     ends).no_clash)
@@ -53,7 +53,7 @@ pub returns-in-Changes-clause-snapshot : goal.returns-in-Changes-clause-snapshot
 returns-in-Changes-clause-snapshot c chunk told =
     let old = c.args.self.now in
     let commit = c.args.commit.now in
-    let body : commit.body ≡ Changes c.items.result.now.items = sym c.in-Changes.is ∙ ap (λ (l : List Change). Changes l) (sym c.items.ensures) in
+    let body : commit.body ≡ Changes c.items.result.now.items = c.in-Changes.is ∙ ap (λ (l : List Change). Changes l) (sym c.items.ensures) in
     IfOk-weaker c.follow_changes.result _ _
     (λ records ends. (changes_end old c.follow_changes.new.self commit c.head.result c.items.result.now.items c.args.now_ms records.items c.head.ensures body
     ends).snapshot chunk told)
@@ -65,7 +65,7 @@ pub returns-in-Changes-clause-err : goal.returns-in-Changes-clause-err
 returns-in-Changes-clause-err c =
     let old = c.args.self.now in
     let commit = c.args.commit.now in
-    let body : commit.body ≡ Changes c.items.result.now.items = sym c.in-Changes.is ∙ ap (λ (l : List Change). Changes l) (sym c.items.ensures) in
+    let body : commit.body ≡ Changes c.items.result.now.items = c.in-Changes.is ∙ ap (λ (l : List Change). Changes l) (sym c.items.ensures) in
     IfErr-weaker c.follow_changes.result _ _
     (λ e clashes. changes_clash old commit c.head.result c.items.result.now.items e c.head.ensures body clashes) c.follow_changes.ensures.err
 
@@ -75,7 +75,7 @@ returns-in_ok-copy-in-Mark-clause-records c =
     let commit = c.args.commit.now in
     let ended : Ended = record { head = c.head.result; end_lsn = commit.end_lsn; mark = Some c.in_ok-copy-in-Mark.field-0 } in
     let whole : commit_by ended [] ≡ commit =
-    mark_commit commit c.head.result c.in-Mark.value.now c.in_ok-copy-in-Mark.field-0 c.head.ensures (sym c.in-Mark.is) c.in_ok-copy-in-Mark.ensures in
+    mark_commit commit c.head.result c.in-Mark.value.now c.in_ok-copy-in-Mark.field-0 c.head.ensures c.in-Mark.is c.in_ok-copy-in-Mark.ensures in
     IfOk-weaker c.end.result _ _
     (λ records ends. (subst (λ (x : Commit). EndsWithCommit old x c.args.now_ms records.items c.end.new.self) whole
     (ends old [] c.args.now_ms [] (amid_begins old c.head.result c.args.now_ms c.requires.none) (λ none. sym (to_z-of_z c.ranges.now_ms)))).records_are)
@@ -87,7 +87,7 @@ returns-in_ok-copy-in-Mark-clause-steps c =
     let commit = c.args.commit.now in
     let ended : Ended = record { head = c.head.result; end_lsn = commit.end_lsn; mark = Some c.in_ok-copy-in-Mark.field-0 } in
     let whole : commit_by ended [] ≡ commit =
-    mark_commit commit c.head.result c.in-Mark.value.now c.in_ok-copy-in-Mark.field-0 c.head.ensures (sym c.in-Mark.is) c.in_ok-copy-in-Mark.ensures in
+    mark_commit commit c.head.result c.in-Mark.value.now c.in_ok-copy-in-Mark.field-0 c.head.ensures c.in-Mark.is c.in_ok-copy-in-Mark.ensures in
     IfOk-weaker c.end.result _ _
     (λ records ends. (subst (λ (x : Commit). EndsWithCommit old x c.args.now_ms records.items c.end.new.self) whole
     (ends old [] c.args.now_ms [] (amid_begins old c.head.result c.args.now_ms c.requires.none) (λ none. sym (to_z-of_z c.ranges.now_ms)))).steps)
@@ -99,7 +99,7 @@ returns-in_ok-copy-in-Mark-clause-no_clash c =
     let commit = c.args.commit.now in
     let ended : Ended = record { head = c.head.result; end_lsn = commit.end_lsn; mark = Some c.in_ok-copy-in-Mark.field-0 } in
     let whole : commit_by ended [] ≡ commit =
-    mark_commit commit c.head.result c.in-Mark.value.now c.in_ok-copy-in-Mark.field-0 c.head.ensures (sym c.in-Mark.is) c.in_ok-copy-in-Mark.ensures in
+    mark_commit commit c.head.result c.in-Mark.value.now c.in_ok-copy-in-Mark.field-0 c.head.ensures c.in-Mark.is c.in_ok-copy-in-Mark.ensures in
     IfOk-weaker c.end.result _ _
     (λ records ends. (subst (λ (x : Commit). EndsWithCommit old x c.args.now_ms records.items c.end.new.self) whole
     (ends old [] c.args.now_ms [] (amid_begins old c.head.result c.args.now_ms c.requires.none) (λ none. sym (to_z-of_z c.ranges.now_ms)))).no_clash)
@@ -111,7 +111,7 @@ returns-in_ok-copy-in-Mark-clause-snapshot c chunk told =
     let commit = c.args.commit.now in
     let ended : Ended = record { head = c.head.result; end_lsn = commit.end_lsn; mark = Some c.in_ok-copy-in-Mark.field-0 } in
     let whole : commit_by ended [] ≡ commit =
-    mark_commit commit c.head.result c.in-Mark.value.now c.in_ok-copy-in-Mark.field-0 c.head.ensures (sym c.in-Mark.is) c.in_ok-copy-in-Mark.ensures in
+    mark_commit commit c.head.result c.in-Mark.value.now c.in_ok-copy-in-Mark.field-0 c.head.ensures c.in-Mark.is c.in_ok-copy-in-Mark.ensures in
     IfOk-weaker c.end.result _ _
     (λ records ends. (subst (λ (x : Commit). EndsWithCommit old x c.args.now_ms records.items c.end.new.self) whole
     (ends old [] c.args.now_ms [] (amid_begins old c.head.result c.args.now_ms c.requires.none) (λ none. sym (to_z-of_z c.ranges.now_ms)))).snapshot chunk told)
@@ -123,7 +123,7 @@ returns-in_ok-copy-in-Mark-clause-err c =
     let commit = c.args.commit.now in
     let ended : Ended = record { head = c.head.result; end_lsn = commit.end_lsn; mark = Some c.in_ok-copy-in-Mark.field-0 } in
     let whole : commit_by ended [] ≡ commit =
-    mark_commit commit c.head.result c.in-Mark.value.now c.in_ok-copy-in-Mark.field-0 c.head.ensures (sym c.in-Mark.is) c.in_ok-copy-in-Mark.ensures in
+    mark_commit commit c.head.result c.in-Mark.value.now c.in_ok-copy-in-Mark.field-0 c.head.ensures c.in-Mark.is c.in_ok-copy-in-Mark.ensures in
     IfErr-weaker c.end.result _ _
     (λ e refuses. subst (λ (x : Commit). IsClashOf (clash_by old x) e) whole
     (refuses old [] c.args.now_ms [] (amid_begins old c.head.result c.args.now_ms c.requires.none))) c.end.ensures.err

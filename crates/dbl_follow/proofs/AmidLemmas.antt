@@ -352,6 +352,17 @@ pub no_part : (o : Option OpenPart) (mark : Option (List ℕ)) (value : List ℕ
 no_part None mark value unmarked_if is = refl
 no_part (Some part) mark value unmarked_if is = let none = unmarked_if refl in absurd (cc (none, is))
 
+-- the same changes and records, written otherwise
+pub amid_same : {start f : Following} {head : Head} {a b : List Change} {now : ℤ} {released others : List Record} → a ≡ b → released ≡ others
+    → IsAmid start head a now released f → IsAmid start head b now others f
+amid_same {start = start} {f = f} {head = head} {a = a} {now = now} {others = others} same are amid =
+    subst (λ (l : List Change). IsAmid start head l now others f) same (subst (λ (l : List Record). IsAmid start head a now l f) are amid)
+
+pub ends_same : {start new : Following} {commit : Commit} {now then : ℤ} {records others : List Record} → now ≡ then → records ≡ others
+    → EndsWithCommit start commit now records new → EndsWithCommit start commit then others new
+ends_same {start = start} {new = new} {commit = commit} {now = now} {others = others} times are ends =
+    subst (λ (m : ℤ). EndsWithCommit start commit m others new) times (subst (λ (l : List Record). EndsWithCommit start commit now l new) are ends)
+
 -- an open transaction's head, as a condition
 pub heads_fit : (start f : Following) (head : Head) (changes : List Change) (now : ℤ) (released : List Record) → IsAmid start head changes now released f
     → IfSome f.part (λ part. part.head ≡ head)

@@ -1,26 +1,24 @@
-use Rattle.std.proofs.Common.{◌≡◌, ◌∙◌, ◌+◌, ◌<◌, List, [], ◌∷◌, ◌++◌, length, take, drop, get_or, sym, ap, subst, arith}
+use Rattle.std.proofs.Common.{◌≡◌, ◌∙◌, ◌+◌, ◌<◌, List, [], ◌∷◌, ◌++◌, length, take, drop, get_or, refl, sym, ap, subst, arith}
 use Rattle.std.proofs.Math.Facts.{to_z-of_z}
 use Rattle.std.proofs.lemmas.List.{take_more, take_all, take-append-drop}
 use Rattle.std.proofs.lemmas.Result.{err_from_is_err_and}
-use Rattle.dbl_record.specs.declared.record.Record.{Record}
 use Rattle.dbl_model_table.specs.declared.change.Change.{Change}
 use Rattle.dbl_model_table.specs.declared.table.TableInfo.{TableInfo}
 use Rattle.dbl_model_table.specs.Heads.{commit_by, ended_at}
 use Rattle.dbl_model_history.specs.FitsInfos.{FitsInfos}
-use Rattle.dbl_follow.specs.Amid.{EndsWithCommit, IsAmid}
 use Rattle.dbl_follow.specs.Faults.{IsClashOf}
 use Rattle.dbl_follow.specs.Followed.{Following}
 use Rattle.dbl_follow.specs.Steps.{clash_by}
-use Rattle.dbl_follow.proofs.AmidLemmas.{amid_begins, clash_longer, heads_fit}
+use Rattle.dbl_follow.proofs.AmidLemmas.{amid_begins, amid_same, clash_longer, ends_same, heads_fit}
 use Rattle.dbl_follow.proofs.follower.Follower.follow_changes.Goals as goal
 
 pub loop-change-init : goal.loop-change-init
-loop-change-init c = amid_begins c.args.self.now c.args.head.now c.args.now_ms c.requires.none
+loop-change-init c = amid_same refl (sym c.new-records.ensures.items) (amid_begins c.args.self.now c.args.head.now _ c.requires.none)
 
 pub change-requires-clause-head : goal.change-requires-clause-head
 change-requires-clause-head c =
     heads_fit c.args.self.now c.loop-change.self c.args.head.now
-    (take c.loop-change.change-index c.args.changes.now.items) c.args.now_ms c.loop-change.records.items c.loop-change.invariant
+    (take c.loop-change.change-index c.args.changes.now.items) _ c.loop-change.records.items c.loop-change.invariant
 
 pub change-requires-clause-fits : goal.change-requires-clause-fits
 change-requires-clause-fits c =
@@ -42,11 +40,8 @@ loop-change-preserved c =
     let lt : i < length changes = subst (λ (l : List Change). i < length l) items c.loop-change-test.true in
     let is : item ≡ get_or changes i item = c.change-item.is ∙ ap (λ (l : List Change). get_or l i item) items in
     let taken : take (i + 1) changes ≡ take i changes ++ item ∷ [] = take_more changes i item lt ∙ ap (λ (x : Change). take i changes ++ x ∷ []) (sym is) in
-    subst (λ (l : List Change). IsAmid c.args.self.now c.args.head.now l c.args.now_ms c.append.new.self.items c.change.new.self) (sym taken)
-    (subst (λ (l : List Record). IsAmid c.args.self.now c.args.head.now (take i changes ++ item ∷ []) c.args.now_ms l c.change.new.self)
-    (sym c.in_ok-append.ensures.items)
-    (c.in_ok-more.ensures.follows c.args.self.now (take i changes) c.args.now_ms c.loop-change.records.items c.loop-change.invariant
-    (λ none. sym (to_z-of_z c.ranges.now_ms))))
+    amid_same (sym taken) (sym c.in_ok-append.ensures.items)
+    (c.in_ok-more.ensures.follows c.args.self.now (take i changes) _ c.loop-change.records.items c.loop-change.invariant (λ none. refl))
 
 pub returns-in_err-more-clause-err : goal.returns-in_err-more-clause-err
 returns-in_err-more-clause-err c =
@@ -63,11 +58,11 @@ returns-in_err-more-clause-err c =
     rw (p.1, p.2) (subst (λ (l : List Change). IsClashOf
     (clash_by c.args.self.now (commit_by (ended_at c.args.head.now c.args.end_lsn) l)) c.in_err-more.field-0.0) whole
     (clash_longer c.args.self.now c.args.head.now c.args.end_lsn (take i changes ++ item ∷ []) (drop (i + 1) changes) c.in_err-more.field-0.0
-    (c.in_err-more.ensures.err c.args.self.now (take i changes) c.args.now_ms c.loop-change.records.items c.loop-change.invariant)))
+    (c.in_err-more.ensures.err c.args.self.now (take i changes) _ c.loop-change.records.items c.loop-change.invariant)))
 
 pub end-requires-clause-head : goal.end-requires-clause-head
 end-requires-clause-head c =
-    heads_fit c.args.self.now c.loop-change.self c.args.head.now (take c.loop-change.change-index c.args.changes.now.items) c.args.now_ms
+    heads_fit c.args.self.now c.loop-change.self c.args.head.now (take c.loop-change.change-index c.args.changes.now.items) _
     c.loop-change.records.items c.loop-change.invariant
 
 pub returns-clause-ends : goal.returns-clause-ends
@@ -77,11 +72,8 @@ returns-clause-ends c =
     let items : c.deref-change-items.result.now ≡ changes = c.deref-change-items.ensures.value in
     let all : take c.loop-change.change-index changes ≡ changes =
     take_all c.loop-change.change-index changes (omega (arith, c.loop-change-test.false, ap length items)) in
-    let amid = subst (λ (l : List Change). IsAmid old c.args.head.now l c.args.now_ms c.loop-change.records.items c.loop-change.self) all
-    c.loop-change.invariant in
-    subst (λ (l : List Record). EndsWithCommit old (commit_by (ended_at c.args.head.now c.args.end_lsn) changes) c.args.now_ms l c.end.new.self)
-    (sym c.in_ok-append-2.ensures.items)
-    (c.in_ok-last.ensures.ends old changes c.args.now_ms c.loop-change.records.items amid (λ none. sym (to_z-of_z c.ranges.now_ms)))
+    ends_same (to_z-of_z c.ranges.now_ms) (sym c.in_ok-append-2.ensures.items)
+    (c.in_ok-last.ensures.ends old changes _ c.loop-change.records.items (amid_same all refl c.loop-change.invariant) (λ none. refl))
 
 pub returns-in_err-last-clause-err : goal.returns-in_err-last-clause-err
 returns-in_err-last-clause-err c =
@@ -90,7 +82,5 @@ returns-in_err-last-clause-err c =
     let items : c.deref-change-items.result.now ≡ changes = c.deref-change-items.ensures.value in
     let all : take c.loop-change.change-index changes ≡ changes =
     take_all c.loop-change.change-index changes (omega (arith, c.loop-change-test.false, ap length items)) in
-    let amid = subst (λ (l : List Change). IsAmid old c.args.head.now l c.args.now_ms c.loop-change.records.items c.loop-change.self) all
-    c.loop-change.invariant in
     let p = err_from_is_err_and c.from_residual-in_err-last.result c.from_residual-in_err-last.ensures.1 in
-    rw (p.1, p.2) (c.in_err-last.ensures.err old changes c.args.now_ms c.loop-change.records.items amid)
+    rw (p.1, p.2) (c.in_err-last.ensures.err old changes _ c.loop-change.records.items (amid_same all refl c.loop-change.invariant))

@@ -85,7 +85,7 @@ module _ (identity : Identity) (infos : List TableInfo) (head : Head) (now : ℤ
 
 -- ---- what is released
 
-abbrev captured_by : Following → Captured
+abbrev pub captured_by : Following → Captured
 captured_by f = record { identity = f.identity; infos = f.infos }
 
 first_released : (start : Following) (head : Head) (change : Change) (now : ℤ) (more : List Record) (new : Option OpenPart)

@@ -1,6 +1,5 @@
 -- The open transaction after one more change.
 use Rattle.std.proofs.Common.{◌≡◌, ◌∙◌, ◌+◌, ℕ, ℤ, Option, Some, None, List, [], ◌∷◌, ◌++◌, length, refl, sym, ap, arith}
-use Rattle.std.specs.Prelude.{option_to_list}
 use Rattle.dbl_record.specs.declared.record.Record.{Record}
 use Rattle.dbl_model_table.specs.declared.change.Change.{Change}
 use Rattle.dbl_model_table.specs.declared.change.Head.{Head}
@@ -13,17 +12,14 @@ use Rattle.dbl_follow.specs.declared.part.Part.{Part}
 use Rattle.dbl_follow.specs.Amid.{ExtendsPart, HoldsLast}
 use Rattle.dbl_follow.specs.Followed.{IsOpenPartOf, OpenPart, part_of}
 
--- what a list was before its last item was taken
-pub all_but_last : {A : Type 0} (all new : List A) (o : Option A) (last : A) → all ≡ new ++ option_to_list o → Some last ≡ o → all ≡ new ++ last ∷ []
-all_but_last {A = A} all new o last is some = is ∙ ap (λ (x : Option A). new ++ option_to_list x) (sym some)
-
 -- all records of the change but the last one are appended
-pub holds_last : (captured : Captured) (head : Head) (now : ℤ) (made : ℕ) (change : Change) (old all new : List Record) (records : OpenRecords) (held : Record)
-    → AppendsRecords captured head now made change old all records → all ≡ new ++ held ∷ []
-    → HoldsLast captured head now made change old new (record { head = head; now_ms = now; records = records; held = held })
-holds_last captured head now made change old all new records held a popped = record {
+pub holds_last : (captured : Captured) (head : Head) (now kept : ℤ) (made : ℕ) (change : Change) (old all new : List Record) (records : OpenRecords)
+    (held : Record)
+    → kept ≡ now → AppendsRecords captured head now made change old all records → all ≡ new ++ held ∷ []
+    → HoldsLast captured head now made change old new (record { head = head; now_ms = kept; records = records; held = held })
+holds_last captured head now kept made change old all new records held same a popped = record {
   head_is = refl;
-  now_is = refl;
+  now_is = same;
   appended = sym popped ∙ a.appended;
   makes = a.makes;
 }

@@ -31,7 +31,7 @@ invariant_of-self c = record {
 }
 
 pub returns-in_err-released-clause-err : goal.returns-in_err-released-clause-err
-returns-in_err-released-clause-err c = λ start changes now released amid. (
+returns-in_err-released-clause-err c =
     let inside = c.self.inside in
     let view : Following = record {
       identity = inside.writer.identity;
@@ -41,7 +41,8 @@ returns-in_err-released-clause-err c = λ start changes now released amid. (
       part = option_map part_of inside.part;
     } in
     let p = err_from_is_err_and c.from_residual.result c.from_residual.ensures.1 in
-    rw (p.1, p.2) (subst (λ (o : Option Clash). IsClashOf o c.in_err-released.field-0.0)
+    rw (p.1, p.2) (λ start changes now released amid. (
+    subst (λ (o : Option Clash). IsClashOf o c.in_err-released.field-0.0)
     (sym (clash_more start view c.args.head.now changes c.args.change.now now released
     (subst (IsAmid start c.args.head.now changes now released) (sym c.self.view_is) amid))) c.in_err-released.ensures.err))
 

@@ -70,6 +70,7 @@ pub mod Confirming
 pub mod Reporting
 pub mod Due
 pub mod StepCauses
+pub mod Excluding
 pub mod Telling
 pub mod StepHalting
 pub mod Marking

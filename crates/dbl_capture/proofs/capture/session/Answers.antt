@@ -1,4 +1,4 @@
-use Rattle.std.proofs.Common.{◌≡◌, ◌∙◌, arith, inl, inr, ℤ, true, false, Some, None, [], Ok, Err, refl, sym, ap, subst, le_refl, rules}
+use Rattle.std.proofs.Common.{◌≡◌, ◌∙◌, arith, inl, inr, ℤ, true, false, Some, None, [], Ok, Err, refl, sym, ap, subst, le_refl}
 use Rattle.std.specs.Prelude.{OnOk}
 use Rattle.std.proofs.Math.Facts.{to_z-of_z}
 use Rattle.dbl_model_history.specs.Ranges.{IsMomentInRange}
@@ -52,20 +52,21 @@ use Rattle.dbl_capture_laws.specs.HasState.{IsGoneBelow, IsHaltStanding}
 use Rattle.dbl_capture_laws.proofs.Going.{free_below}
 use Rattle.dbl_capture_laws.proofs.Advancing.{advances_by, advances_or_first, brought_rest, longer_left}
 use Rattle.dbl_capture_laws.proofs.Confirming.{confirmed_first, confirmed_or_first}
+use Rattle.dbl_capture_laws.proofs.Excluding.{no_answer, no_ok, not_ok}
 use Rattle.dbl_capture.proofs.capture.session.Goals as goal
 
 -- it didn't begin
 pub returns-in_err-work-clause-faithful : goal.returns-in_err-work-clause-faithful
 returns-in_err-work-clause-faithful g c = record {
   faithful = λ entry asked f honest had. going_left (c.in_err-work.ensures.session.left true entry asked.config_is (told_found f) honest had);
-  complete = search rules;
+  complete = λ entry x x1 x2 x3 x4. absurd (not_ok c.from_residual.result _ _ c.from_residual.ensures.1 x4);
 }
 
 pub returns-in_err-work-clause-marks : goal.returns-in_err-work-clause-marks
 returns-in_err-work-clause-marks g c = record {
   marks = λ s is honest had left may.
       (c.in_err-work.ensures.session.left false (session_start_at c.args.config.now c.args.now_ms s c.args.offsets.now.offset) refl (source_found _ _ _ c.args.config.now c.args.now_ms s _ _ c.args.offsets.now is) honest had).few left may;
-  exactly = search rules;
+  exactly = λ s x x1 x2. no_answer c.from_residual.result _ _ c.from_residual.ensures.1;
   most = λ s was honest had left may. none_most c.open_session.new.store.offset c.open_session.new.report.chunks s.history left.history (c.open_session.ensures.by_state.unmarked s left was may);
   advances = λ s was honest had left may.
       advances_or_first c.args.config.now c.args.offsets.now.offset c.open_session.new.store.offset c.open_session.new.report.chunks left.history c.in_err-work.ensures.state.first;
@@ -93,10 +94,10 @@ returns-in_err-work-clause-counts g c = record {
 -- it ran
 pub process_messages-requires : goal.process_messages-requires
 process_messages-requires g c = record {
-  source_live = search rules;
-  reading = search rules;
-  sink_live = search rules;
-  store_live = search rules;
+  source_live = c.in_ok-work.ensures.source.live;
+  reading = c.in_ok-work.ensures.state.reading;
+  sink_live = c.requires.sink_live;
+  store_live = c.in_ok-work.ensures.store.live;
   ready = record { after = c.in_ok-work.ensures.state.begun.0.lsn; messages = []; is = c.in_ok-work.ensures.state.begun.2.is };
   since = omega (arith, c.in_ok-work.ensures.state.begun.2.none, c.in_ok-work.ensures.state.begun.2.every_is, c.requires.config.every.0);
   time = subst IsMomentInRange (sym (c.in_ok-work.ensures.state.begun.2.now_is ∙ to_z-of_z c.ranges.now_ms)) c.ranges.now_ms;
@@ -178,8 +179,8 @@ returns-clause-stores g c = record {
 
 pub returns-clause-counts : goal.returns-clause-counts
 returns-clause-counts g c = record {
-  commits = search rules;
-  bounded = search rules;
+  commits = c.process_messages.ensures.state.commits;
+  bounded = c.process_messages.ensures.state.bounded;
   position =
       let b = c.in_ok-work.ensures.state.begun in
       position_is c.args.config.now c.args.offsets.now.offset c.process_messages.new.store.offset c.process_messages.new.report
@@ -191,22 +192,22 @@ returns-clause-counts g c = record {
 pub returns-clause-ends : goal.returns-clause-ends
 returns-clause-ends g c = record {
   done = λ is. let done = c.process_messages.ensures.state.done is in (next_offset_of c.process_messages.new.work, done.1, done.0, done.2);
-  ended = search rules;
-  spent = search rules;
+  ended = c.process_messages.ensures.state.ended;
+  spent = c.process_messages.ensures.state.spent;
 }
 
 -- ---- counts, and what no call undoes
 
 pub returns-in_err-work-clause-sink : goal.returns-in_err-work-clause-sink
 returns-in_err-work-clause-sink g c = record {
-  live = search rules;
+  live = no_ok c.from_residual.result _ _ c.from_residual.ensures.1;
   comes = g.met.K.Sink.comes_self _;
   cause = record { later = le_refl _; cause = λ is. absurd (c.open_session.ensures.stops.sink (residual_is c.from_residual.result c.open_session.result _ _ c.in_err-work.was c.from_residual.ensures.1 is)) };
 }
 
 pub returns-clause-source : goal.returns-clause-source
 returns-clause-source g c = record {
-  live = search rules;
+  live = c.process_messages.ensures.source.live;
   honest = λ honest. c.open_session.ensures.source.honest (c.process_messages.ensures.source.honest honest);
   comes = g.met.S.Source.comes_on c.args.src.now c.open_session.new.src c.process_messages.new.src c.open_session.ensures.source.comes c.process_messages.ensures.source.comes;
   cause = record { later = later_on (g.S.Source.faults c.args.src.now) (g.S.Source.faults c.open_session.new.src) (g.S.Source.faults c.process_messages.new.src) c.open_session.ensures.source.cause.later c.process_messages.ensures.source.cause.later; cause = λ is. rose_after (g.S.Source.faults c.args.src.now) (g.S.Source.faults c.open_session.new.src) (g.S.Source.faults c.process_messages.new.src) c.open_session.ensures.source.cause.later (c.process_messages.ensures.source.cause.cause is) };
@@ -254,7 +255,7 @@ returns-clause-halt g c = record {
 
 pub returns-clause-store : goal.returns-clause-store
 returns-clause-store g c = record {
-  live = search rules;
+  live = c.process_messages.ensures.store.live;
   comes = λ most known. c.process_messages.ensures.store.comes most (c.open_session.ensures.store.comes most known);
   cause = record { later = later_on (g.D.Disk.faults (disk_of c.args.offsets.now)) (g.D.Disk.faults (disk_of c.open_session.new.store)) (g.D.Disk.faults (disk_of c.process_messages.new.store)) c.open_session.ensures.store.cause.later c.process_messages.ensures.store.cause.later; cause = λ is. rose_after _ _ _ c.open_session.ensures.store.cause.later (c.process_messages.ensures.store.cause.cause is) };
 }
@@ -486,22 +487,22 @@ returns-clause-unclosed g c entry asked f honest faithful t now =
 
 pub returns-in_err-work-clause-source : goal.returns-in_err-work-clause-source
 returns-in_err-work-clause-source g c = record {
-  live = search rules;
-  honest = search rules;
-  comes = search rules;
+  live = no_ok c.from_residual.result _ _ c.from_residual.ensures.1;
+  honest = c.open_session.ensures.source.honest;
+  comes = c.open_session.ensures.source.comes;
   cause = record { later = c.open_session.ensures.source.cause.later; cause = λ is. c.open_session.ensures.source.cause.cause (residual_is c.from_residual.result c.open_session.result _ _ c.in_err-work.was c.from_residual.ensures.1 is) };
 }
 
 pub returns-in_err-work-clause-store : goal.returns-in_err-work-clause-store
 returns-in_err-work-clause-store g c = record {
-  live = search rules;
-  comes = search rules;
+  live = no_ok c.from_residual.result _ _ c.from_residual.ensures.1;
+  comes = c.open_session.ensures.store.comes;
   cause = record { later = c.open_session.ensures.store.cause.later; cause = λ is. c.open_session.ensures.store.cause.cause (residual_is c.from_residual.result c.open_session.result _ _ c.in_err-work.was c.from_residual.ensures.1 is) };
 }
 
 pub returns-clause-sink : goal.returns-clause-sink
 returns-clause-sink g c = record {
-  live = search rules;
-  comes = search rules;
+  live = c.process_messages.ensures.sink.live;
+  comes = c.process_messages.ensures.sink.comes;
   cause = c.process_messages.ensures.sink.cause;
 }

@@ -18,7 +18,7 @@ use Rattle.dbl_capture_work.proofs.Exits.{dead_source}
 use Rattle.dbl_capture_laws.specs.Caused.{Halts, IsNotGone}
 use Rattle.dbl_capture_laws.proofs.Sources.{at_rest, follows_at_rest, follows_on, halts_at, halts_between, rests_on, takes_on}
 use Rattle.dbl_capture_laws.proofs.Due.{due_so, none_closed}
-use Rattle.dbl_capture_laws.proofs.Telling.{follow_cause, goes_due, source_left, taken_cause, torn_counts}
+use Rattle.dbl_capture_laws.proofs.Telling.{follow_cause, goes_due, source_left, taken_cause, torn_counts, not_both}
 use Rattle.dbl_capture_laws.proofs.StepHalting.{follow_caused, source_caused, taken_caused}
 use Rattle.dbl_source.specs.SourceModel.Trace.{Read, LastAnswerIs}
 use Rattle.dbl_record.specs.Cuts.{cut}
@@ -43,13 +43,14 @@ use Rattle.dbl_capture_laws.proofs.Awaited.{awaits_commit, awaits_message, await
 use Rattle.dbl_capture_laws.proofs.Unclosed.{closed_at_halt}
 use Rattle.dbl_source.specs.SourceModel.Standings.{SourceState, left_of}
 use Rattle.dbl_capture_laws.proofs.Advancing.{longer_grows}
+use Rattle.dbl_capture_laws.proofs.Excluding.{no_answer, no_ok, not_ok, ok_some}
 use Rattle.dbl_capture.proofs.messages.read_and_deliver.Goals as goal
 
 pub returns-in_err-bytes-clause-session : goal.returns-in_err-bytes-clause-session
 returns-in_err-bytes-clause-session g c = record {
-  next = search rules;
+  next = λ tell entry x x1. no_ok c.from_residual.result _ _ c.from_residual.ensures.1;
   left = λ tell entry s honest. on_err _ _ (follow_fails s c.read.new.self (λ left is. c.read.ensures.left (state_at_stage s.stage) left s.source_is is) (λ left is. g.met.S.Source.fit _ left is honest) (λ t groups is. g.met.K.Sink.only _ s.stage.groups groups (s.sink_is t) is) (c.read.ensures.some (state_at_stage s.stage) s.source_is) (λ t. (s.stage.groups, g.met.K.Sink.may _ s.stage.groups (s.sink_is t))));
-  whole = search rules;
+  whole = λ tell entry x x1 x2. absurd (not_ok c.from_residual.result _ _ c.from_residual.ensures.1 x2);
   own = λ tell entry at found b s u first is honest.
       residual_of c.from_residual.result _ (IsHonestHalt entry (g.S.Source.stands c.read.new.self)) c.from_residual.ensures.1 (source_honest entry (g.S.Source.stands c.read.new.self) c.in_err-bytes.field-0.0);
   most = λ tell entry s closed.
@@ -63,9 +64,9 @@ returns-in_err-bytes-clause-session g c = record {
 
 pub returns-in_err-commit-in-Some-clause-session : goal.returns-in_err-commit-in-Some-clause-session
 returns-in_err-commit-in-Some-clause-session g c = record {
-  next = search rules;
+  next = λ tell entry x x1. no_ok c.from_residual-in_err-commit-in-Some.result _ _ c.from_residual-in_err-commit-in-Some.ensures.1;
   left = λ tell entry s honest. on_err _ _ (follow_fails s c.read.new.self (λ left is. c.read.ensures.left (state_at_stage s.stage) left s.source_is is) (λ left is. g.met.S.Source.fit _ left is honest) (λ t groups is. g.met.K.Sink.only _ s.stage.groups groups (s.sink_is t) is) (c.read.ensures.some (state_at_stage s.stage) s.source_is) (λ t. (s.stage.groups, g.met.K.Sink.may _ s.stage.groups (s.sink_is t))));
-  whole = search rules;
+  whole = λ tell entry x x1 x2. absurd (not_ok c.from_residual-in_err-commit-in-Some.result _ _ c.from_residual-in_err-commit-in-Some.ensures.1 x2);
   own = λ tell entry at found b s u first is honest.
       let T = some_read _ _ _ _ c.in-Some.is (c.in_ok-bytes.ensures.took (state_at_stage s.stage) s.source_is) in
       let reading = took_at (state_at_stage s.stage) T.2.standing T.0 s.stage.first.lsn s.stage.messages T.2.holds refl in
@@ -95,26 +96,26 @@ returns-clause-session g c = record {
   next = λ tell entry s honest.
       let T = none_read _ _ _ c.in-None.is (c.in_ok-bytes.ensures.took (state_at_stage s.stage) s.source_is) in
       moved_on s c.read.new.self T.standing T.is T.holds.0 (g.met.S.Source.fit _ _ (g.met.S.Source.may _ T.standing T.is) honest);
-  left = search rules;
+  left = λ tell entry x x1. tt;
   whole = λ tell entry s honest is.
       let T = none_read _ _ _ c.in-None.is (c.in_ok-bytes.ensures.took (state_at_stage s.stage) s.source_is) in
       read_whole s T.standing T.holds.0 (T.holds.1 honest) (λ r at. g.met.S.Source.right _ T.standing r T.is honest at) (g.met.S.Source.fit _ _ (g.met.S.Source.may _ T.standing T.is) honest) c.read.new.self T.is;
-  own = search rules;
-  most = search rules;
-  content = search rules;
-  unclosed = search rules;
+  own = λ tell entry at found b x x1 s x2 x3. tt;
+  most = λ tell entry x x1. tt;
+  content = λ entry at found b x x1 x2 x3. tt;
+  unclosed = λ entry first found b x x1 x2 x3 t x4. tt;
 }
 
 pub returns-in_err-closed-in-Some-2-clause-session : goal.returns-in_err-closed-in-Some-2-clause-session
 returns-in_err-closed-in-Some-2-clause-session g c = record {
-  next = search rules;
+  next = λ tell entry x x1. no_ok c.from_residual-in_err-closed-in-Some-2.result _ _ c.from_residual-in_err-closed-in-Some-2.ensures.1;
   left = λ tell entry s honest.
       let T = some_read _ _ _ _ c.in-Some.is (c.in_ok-bytes.ensures.took (state_at_stage s.stage) s.source_is) in
       on_err _ _
       (step_fails s T.0 T.2.standing T.2.holds (g.met.S.Source.fit _ _ (g.met.S.Source.may _ T.2.standing T.2.is) honest) (λ r at. g.met.S.Source.right _ T.2.standing r T.2.is honest at) c.in-Some.bytes T.1 c.take_message.new.work (Some c.in-Some-2.commit) (subst (WasTaken s.stage.first.lsn s.stage.messages c.in-Some.bytes c.args.work.now c.take_message.new.work) c.in-Some-2.is (c.in_ok-commit-in-Some.ensures.taken s.stage.first.lsn s.stage.messages s.work_is.is)) c.in-Some-2.commit refl c.requires.time c.requires.since c.read.new.self c.deliver_commit.new.sink
       (λ left is. g.met.S.Source.only _ T.2.standing left T.2.is is) (λ left is. c.read.ensures.left (state_at_stage s.stage) left s.source_is is) (λ left is. g.met.S.Source.fit _ left is honest)
       (λ t groups is. c.deliver_commit.ensures.left s.stage.groups groups (s.sink_is t) is) (c.read.ensures.some (state_at_stage s.stage) s.source_is) (λ t. c.deliver_commit.ensures.some s.stage.groups (s.sink_is t)));
-  whole = search rules;
+  whole = λ tell entry x x1 x2. absurd (not_ok c.from_residual-in_err-closed-in-Some-2.result _ _ c.from_residual-in_err-closed-in-Some-2.ensures.1 x2);
   own = λ tell entry at found b s u first is honest.
       residual_of c.from_residual-in_err-closed-in-Some-2.result _ (IsHonestHalt entry (g.S.Source.stands c.read.new.self)) c.from_residual-in_err-closed-in-Some-2.ensures.1
       (follow_honest entry (g.S.Source.stands c.read.new.self) _ _ _ c.in_err-closed-in-Some-2.ensures.halt);
@@ -144,12 +145,12 @@ returns-in-Some-2-clause-session g c = record {
       let T = some_read _ _ _ _ c.in-Some.is (c.in_ok-bytes.ensures.took (state_at_stage s.stage) s.source_is) in
       stepped_on s T.0 T.2.standing T.2.holds (g.met.S.Source.fit _ _ (g.met.S.Source.may _ T.2.standing T.2.is) honest) (λ r at. g.met.S.Source.right _ T.2.standing r T.2.is honest at) c.in-Some.bytes T.1 c.take_message.new.work (Some c.in-Some-2.commit) (subst (WasTaken s.stage.first.lsn s.stage.messages c.in-Some.bytes c.args.work.now c.take_message.new.work) c.in-Some-2.is (c.in_ok-commit-in-Some.ensures.taken s.stage.first.lsn s.stage.messages s.work_is.is)) c.in-Some-2.commit refl c.requires.time c.requires.since c.deliver_commit.new.work c.in_ok-closed-in-Some-2.ensures.stepped c.in_ok-closed-in-Some-2.ensures.long c.read.new.self c.deliver_commit.new.sink T.2.is
       (λ t. c.in_ok-closed-in-Some-2.ensures.put s.stage.groups (s.sink_is t));
-  left = search rules;
-  whole = search rules;
-  own = search rules;
-  most = search rules;
-  content = search rules;
-  unclosed = search rules;
+  left = λ tell entry x x1. tt;
+  whole = λ tell entry s honest is. absurd (ok_some _ _ refl is);
+  own = λ tell entry at found b x x1 s x2 x3. tt;
+  most = λ tell entry x x1. tt;
+  content = λ entry at found b x x1 x2 x3. tt;
+  unclosed = λ entry first found b x x1 x2 x3 t x4. tt;
 }
 
 pub returns-in-Some-clause-session : goal.returns-in-Some-clause-session
@@ -157,12 +158,12 @@ returns-in-Some-clause-session g c = record {
   next = λ tell entry s honest.
       let T = some_read _ _ _ _ c.in-Some.is (c.in_ok-bytes.ensures.took (state_at_stage s.stage) s.source_is) in
       taken_on s T.0 T.2.standing T.2.holds (g.met.S.Source.fit _ _ (g.met.S.Source.may _ T.2.standing T.2.is) honest) (λ r at. g.met.S.Source.right _ T.2.standing r T.2.is honest at) c.in-Some.bytes T.1 c.take_message.new.work None (subst (WasTaken s.stage.first.lsn s.stage.messages c.in-Some.bytes c.args.work.now c.take_message.new.work) c.in-None-2.is (c.in_ok-commit-in-Some.ensures.taken s.stage.first.lsn s.stage.messages s.work_is.is)) refl c.read.new.self T.2.is;
-  left = search rules;
-  whole = search rules;
-  own = search rules;
-  most = search rules;
-  content = search rules;
-  unclosed = search rules;
+  left = λ tell entry x x1. tt;
+  whole = λ tell entry s honest is. absurd (ok_some _ _ refl is);
+  own = λ tell entry at found b x x1 s x2 x3. tt;
+  most = λ tell entry x x1. tt;
+  content = λ entry at found b x x1 x2 x3. tt;
+  unclosed = λ entry first found b x x1 x2 x3 t x4. tt;
 }
 
 pub returns-in-Some-2-clause-state : goal.returns-in-Some-2-clause-state
@@ -176,9 +177,9 @@ returns-in-Some-2-clause-state g c = record {
   counts =
       let st = step_counts c.in-Some-2.commit c.take_message.new.work (record c.args.report.now { messages = c.args.report.now.messages + 1 }) c.deliver_commit.new.report true c.in_ok-closed-in-Some-2.ensures.noted in
       (st.messages, omega (arith, st.commits), st.position);
-  ended = search rules;
-  nothing = search rules;
-  reading = search rules;
+  ended = λ is. absurd (ok_some _ _ refl is);
+  nothing = λ is. absurd (ok_some _ _ refl is);
+  reading = c.read.ensures.reading;
   quiet = read_quiet (g.S.Source.told c.read.new.self) (Some c.in-Some.bytes) (subst (λ (o : Option (List ℕ)). LastAnswerIs (g.S.Source.told c.read.new.self) (Read o)) c.in-Some.is c.in_ok-bytes.ensures.told);
   windows = λ closed. step_more c.in-Some-2.commit c.args.work.now c.take_message.new.work c.args.report.now c.deliver_commit.new.report closed c.requires.number c.in_ok-closed-in-Some-2.ensures.noted;
 }
@@ -189,22 +190,22 @@ returns-in-Some-clause-state g c = record {
   is_next = taken_next c.args.work.now c.take_message.new.work c.take_message.ensures.same;
   due = inl (refl, subst (λ (w : SessionState). w.since < w.every) (sym c.take_message.ensures.same) c.requires.since, none_closed c.args.work.now c.take_message.new.work c.take_message.ensures.same);
   counts = search rules;
-  ended = search rules;
-  nothing = search rules;
-  reading = search rules;
+  ended = λ is. absurd (ok_some _ _ refl is);
+  nothing = λ is. absurd (ok_some _ _ refl is);
+  reading = c.read.ensures.reading;
   quiet = read_quiet (g.S.Source.told c.read.new.self) (Some c.in-Some.bytes) (subst (λ (o : Option (List ℕ)). LastAnswerIs (g.S.Source.told c.read.new.self) (Read o)) c.in-Some.is c.in_ok-bytes.ensures.told);
   windows = λ closed. le_refl _;
 }
 
 pub returns-clause-state : goal.returns-clause-state
 returns-clause-state g c = record {
-  ready = search rules;
+  ready = c.requires.ready;
   is_next = record { offset_is = refl; number_is = refl; every_is = refl; now_is = refl };
   due = search rules;
   counts = search rules;
   ended = λ is. c.in_ok-bytes.ensures.ended ∙ ap is_none c.in-None.is;
   nothing = λ is. subst (λ (o : Option (List ℕ)). LastAnswerIs (g.S.Source.told c.read.new.self) (Read o)) c.in-None.is c.in_ok-bytes.ensures.told;
-  reading = search rules;
+  reading = c.read.ensures.reading;
   quiet = read_quiet (g.S.Source.told c.read.new.self) None (subst (λ (o : Option (List ℕ)). LastAnswerIs (g.S.Source.told c.read.new.self) (Read o)) c.in-None.is c.in_ok-bytes.ensures.told);
   windows = λ closed. le_refl _;
 }
@@ -246,96 +247,96 @@ returns-in_err-closed-in-Some-2-clause-stops g c = record {
 
 pub returns-in_err-bytes-clause-sink : goal.returns-in_err-bytes-clause-sink
 returns-in_err-bytes-clause-sink g c = record {
-  live = search rules;
+  live = no_ok c.from_residual.result _ _ c.from_residual.ensures.1;
   comes = g.met.K.Sink.comes_self _;
   cause = record { later = le_refl _; cause = λ is. absurd (err_at c.from_residual.result _ OfSource (residual_of c.from_residual.result _ OfSource c.from_residual.ensures.1 (source_of c.in_err-bytes.field-0.0)) is) };
 }
 
 pub returns-clause-sink : goal.returns-clause-sink
 returns-clause-sink g c = record {
-  live = search rules;
+  live = c.requires.sink_live;
   comes = g.met.K.Sink.comes_self _;
-  cause = record { later = le_refl _; cause = λ is. absurd (let i = is in cc) };
+  cause = record { later = le_refl _; cause = λ is. absurd (not_both _ _ _ is refl) };
 }
 
 pub returns-in_err-commit-in-Some-clause-sink : goal.returns-in_err-commit-in-Some-clause-sink
 returns-in_err-commit-in-Some-clause-sink g c = record {
-  live = search rules;
+  live = no_ok c.from_residual-in_err-commit-in-Some.result _ _ c.from_residual-in_err-commit-in-Some.ensures.1;
   comes = g.met.K.Sink.comes_self _;
   cause = record { later = le_refl _; cause = λ is. absurd (err_at c.from_residual-in_err-commit-in-Some.result _ OfNone (residual_of c.from_residual-in_err-commit-in-Some.result _ OfNone c.from_residual-in_err-commit-in-Some.ensures.1 (taken_of _ c.requires.ready.after c.requires.ready.messages c.in-Some.bytes c.args.work.now _ (c.in_err-commit-in-Some.ensures.halt c.requires.ready.after c.requires.ready.messages c.requires.ready.is))) is) };
 }
 
 pub returns-in-Some-clause-sink : goal.returns-in-Some-clause-sink
 returns-in-Some-clause-sink g c = record {
-  live = search rules;
+  live = c.requires.sink_live;
   comes = g.met.K.Sink.comes_self _;
-  cause = record { later = le_refl _; cause = λ is. absurd (let i = is in cc) };
+  cause = record { later = le_refl _; cause = λ is. absurd (not_both _ _ _ is refl) };
 }
 
 pub returns-in_err-bytes-clause-state : goal.returns-in_err-bytes-clause-state
 returns-in_err-bytes-clause-state g c = record {
-  ready = search rules;
-  is_next = search rules;
-  due = search rules;
+  ready = no_ok c.from_residual.result _ _ c.from_residual.ensures.1;
+  is_next = no_ok c.from_residual.result _ _ c.from_residual.ensures.1;
+  due = no_answer c.from_residual.result _ _ c.from_residual.ensures.1;
   counts =
       let p = err_from_is_err_and c.from_residual.result c.from_residual.ensures.1 in
       counted_none c.from_residual.result p.0 c.args.report.now p.1;
-  ended = search rules;
-  nothing = search rules;
-  reading = search rules;
-  quiet = search rules;
+  ended = λ x. absurd (not_ok c.from_residual.result _ _ c.from_residual.ensures.1 x);
+  nothing = λ x. absurd (not_ok c.from_residual.result _ _ c.from_residual.ensures.1 x);
+  reading = c.read.ensures.reading;
+  quiet = no_ok c.from_residual.result _ _ c.from_residual.ensures.1;
   windows = λ closed. le_refl _;
 }
 
 pub returns-in_err-commit-in-Some-clause-state : goal.returns-in_err-commit-in-Some-clause-state
 returns-in_err-commit-in-Some-clause-state g c = record {
-  ready = search rules;
-  is_next = search rules;
-  due = search rules;
+  ready = no_ok c.from_residual-in_err-commit-in-Some.result _ _ c.from_residual-in_err-commit-in-Some.ensures.1;
+  is_next = no_ok c.from_residual-in_err-commit-in-Some.result _ _ c.from_residual-in_err-commit-in-Some.ensures.1;
+  due = no_answer c.from_residual-in_err-commit-in-Some.result _ _ c.from_residual-in_err-commit-in-Some.ensures.1;
   counts =
       let p = err_from_is_err_and c.from_residual-in_err-commit-in-Some.result c.from_residual-in_err-commit-in-Some.ensures.1 in
       counted_fault c.from_residual-in_err-commit-in-Some.result p.0 c.args.report.now p.1;
-  ended = search rules;
-  nothing = search rules;
-  reading = search rules;
-  quiet = search rules;
+  ended = λ x. absurd (not_ok c.from_residual-in_err-commit-in-Some.result _ _ c.from_residual-in_err-commit-in-Some.ensures.1 x);
+  nothing = λ x. absurd (not_ok c.from_residual-in_err-commit-in-Some.result _ _ c.from_residual-in_err-commit-in-Some.ensures.1 x);
+  reading = c.read.ensures.reading;
+  quiet = no_ok c.from_residual-in_err-commit-in-Some.result _ _ c.from_residual-in_err-commit-in-Some.ensures.1;
   windows = λ closed. le_refl _;
 }
 
 pub returns-in_err-closed-in-Some-2-clause-state : goal.returns-in_err-closed-in-Some-2-clause-state
 returns-in_err-closed-in-Some-2-clause-state g c = record {
-  ready = search rules;
-  is_next = search rules;
-  due = search rules;
+  ready = no_ok c.from_residual-in_err-closed-in-Some-2.result _ _ c.from_residual-in_err-closed-in-Some-2.ensures.1;
+  is_next = no_ok c.from_residual-in_err-closed-in-Some-2.result _ _ c.from_residual-in_err-closed-in-Some-2.ensures.1;
+  due = no_answer c.from_residual-in_err-closed-in-Some-2.result _ _ c.from_residual-in_err-closed-in-Some-2.ensures.1;
   counts =
       let p = err_from_is_err_and c.from_residual-in_err-closed-in-Some-2.result c.from_residual-in_err-closed-in-Some-2.ensures.1 in
       counted_torn c.from_residual-in_err-closed-in-Some-2.result p.0 c.in-Some-2.commit c.take_message.new.work c.args.report.now c.deliver_commit.new.report p.1 c.in_err-closed-in-Some-2.ensures.noted;
-  ended = search rules;
-  nothing = search rules;
-  reading = search rules;
-  quiet = search rules;
+  ended = λ x. absurd (not_ok c.from_residual-in_err-closed-in-Some-2.result _ _ c.from_residual-in_err-closed-in-Some-2.ensures.1 x);
+  nothing = λ x. absurd (not_ok c.from_residual-in_err-closed-in-Some-2.result _ _ c.from_residual-in_err-closed-in-Some-2.ensures.1 x);
+  reading = c.read.ensures.reading;
+  quiet = no_ok c.from_residual-in_err-closed-in-Some-2.result _ _ c.from_residual-in_err-closed-in-Some-2.ensures.1;
   windows = λ closed. torn_more c.in-Some-2.commit c.args.work.now c.take_message.new.work c.args.report.now c.deliver_commit.new.report closed c.requires.number c.in_err-closed-in-Some-2.ensures.noted;
 }
 
 pub returns-in-Some-2-clause-stops : goal.returns-in-Some-2-clause-stops
 returns-in-Some-2-clause-stops g c = record {
-  offsets = search rules;
-  never = λ value at is. cc;
-  reads = search rules;
+  offsets = λ is. absurd (not_both _ _ _ is refl);
+  never = λ value at is. absurd (not_both _ _ _ is refl);
+  reads = tt;
 }
 
 pub returns-in-Some-clause-stops : goal.returns-in-Some-clause-stops
 returns-in-Some-clause-stops g c = record {
-  offsets = search rules;
-  never = λ value at is. cc;
-  reads = search rules;
+  offsets = λ is. absurd (not_both _ _ _ is refl);
+  never = λ value at is. absurd (not_both _ _ _ is refl);
+  reads = tt;
 }
 
 pub returns-clause-stops : goal.returns-clause-stops
 returns-clause-stops g c = record {
-  offsets = search rules;
-  never = λ value at is. cc;
-  reads = search rules;
+  offsets = λ is. absurd (not_both _ _ _ is refl);
+  never = λ value at is. absurd (not_both _ _ _ is refl);
+  reads = tt;
 }
 
 pub deliver_commit-requires-clause-commits : goal.deliver_commit-requires-clause-commits
@@ -343,7 +344,7 @@ deliver_commit-requires-clause-commits g c = omega (arith, c.requires.commits, c
 
 pub returns-in_err-bytes-clause-report : goal.returns-in_err-bytes-clause-report
 returns-in_err-bytes-clause-report g c = record {
-  under_way = search rules;
+  under_way = λ at found b x. no_answer c.from_residual.result _ _ c.from_residual.ensures.1;
   halted = λ at found b u.
       residual_of c.from_residual.result _ (Halts g.S.Source at found b.config b.now b.held c.args.store.now.offset c.args.report.now c.read.new.self) c.from_residual.ensures.1
       (record {
@@ -353,15 +354,15 @@ returns-in_err-bytes-clause-report g c = record {
         cause = source_caused b.config b.now b.held c.args.store.now.offset c.args.report.now (g.S.Source.told c.read.new.self) c.in_err-bytes.field-0.0;
         must = failure_asks b u.messages c.args.store.now.offset c.args.work.now c.args.report.now c.args.report.now found (g.S.Source.told c.args.src.now) (g.S.Source.told c.read.new.self) c.args.store.now.offset _ u.is.is u.tells c.in_err-bytes.ensures.untaken (source_fails c.in_err-bytes.field-0.0) (inl refl);
       });
-  awaits = search rules;
-  waits = search rules;
+  awaits = λ at found b x s x1 x2 x3. no_ok c.from_residual.result _ _ c.from_residual.ensures.1;
+  waits = λ at found b x s x1 x2 x3 x4. absurd (not_ok c.from_residual.result _ _ c.from_residual.ensures.1 x4);
   grows = λ s left is may. longer_grows s.history left.history (c.read.ensures.left s left is may).grows;
   confirmed = λ s t was now. (c.read.ensures.left s (left_of t) was (g.met.S.Source.may c.read.new.self t now)).confirmed;
 }
 
 pub returns-in_err-commit-in-Some-clause-report : goal.returns-in_err-commit-in-Some-clause-report
 returns-in_err-commit-in-Some-clause-report g c = record {
-  under_way = search rules;
+  under_way = λ at found b x. no_answer c.from_residual-in_err-commit-in-Some.result _ _ c.from_residual-in_err-commit-in-Some.ensures.1;
   halted = λ at found b u.
       residual_of c.from_residual-in_err-commit-in-Some.result _ (Halts g.S.Source at found b.config b.now b.held c.args.store.now.offset (record c.args.report.now { messages = c.args.report.now.messages + 1 }) c.read.new.self) c.from_residual-in_err-commit-in-Some.ensures.1
       (record {
@@ -372,15 +373,15 @@ returns-in_err-commit-in-Some-clause-report g c = record {
         must = newest_asks b u.messages c.args.store.now.offset c.args.work.now c.args.report.now (record c.args.report.now { messages = c.args.report.now.messages + 1 }) (g.S.Source.told c.args.src.now) (g.S.Source.told c.read.new.self) c.in-Some.bytes _ u.is.is (some_read _ _ _ _ c.in-Some.is c.in_ok-bytes.ensures.taken) (subst (λ (o : Option (List ℕ)). LastAnswerIs (g.S.Source.told c.read.new.self) (Read o)) c.in-Some.is c.in_ok-bytes.ensures.told)
             (taken_cause (c.args.report.now.messages + 1) b.first.lsn u.messages c.in-Some.bytes c.args.work.now _ (c.in_err-commit-in-Some.ensures.halt b.first.lsn u.messages u.is.is.is));
       });
-  awaits = search rules;
-  waits = search rules;
+  awaits = λ at found b x s x1 x2 x3. no_ok c.from_residual-in_err-commit-in-Some.result _ _ c.from_residual-in_err-commit-in-Some.ensures.1;
+  waits = λ at found b x s x1 x2 x3 x4. absurd (not_ok c.from_residual-in_err-commit-in-Some.result _ _ c.from_residual-in_err-commit-in-Some.ensures.1 x4);
   grows = λ s left is may. longer_grows s.history left.history (c.read.ensures.left s left is may).grows;
   confirmed = λ s t was now. (c.read.ensures.left s (left_of t) was (g.met.S.Source.may c.read.new.self t now)).confirmed;
 }
 
 pub returns-in_err-closed-in-Some-2-clause-report : goal.returns-in_err-closed-in-Some-2-clause-report
 returns-in_err-closed-in-Some-2-clause-report g c = record {
-  under_way = search rules;
+  under_way = λ at found b x. no_answer c.from_residual-in_err-closed-in-Some-2.result _ _ c.from_residual-in_err-closed-in-Some-2.ensures.1;
   halted = λ at found b u.
       let counts = torn_counts c.in-Some-2.commit c.take_message.new.work c.args.report.now c.deliver_commit.new.report c.in_err-closed-in-Some-2.ensures.noted in
       residual_of c.from_residual-in_err-closed-in-Some-2.result _ (Halts g.S.Source at found b.config b.now b.held c.args.store.now.offset c.deliver_commit.new.report c.read.new.self) c.from_residual-in_err-closed-in-Some-2.ensures.1
@@ -392,8 +393,8 @@ returns-in_err-closed-in-Some-2-clause-report g c = record {
         must = newest_asks b u.messages c.args.store.now.offset c.args.work.now c.args.report.now c.deliver_commit.new.report (g.S.Source.told c.args.src.now) (g.S.Source.told c.read.new.self) c.in-Some.bytes _ u.is.is (some_read _ _ _ _ c.in-Some.is c.in_ok-bytes.ensures.taken) (subst (λ (o : Option (List ℕ)). LastAnswerIs (g.S.Source.told c.read.new.self) (Read o)) c.in-Some.is c.in_ok-bytes.ensures.told)
             (follow_cause c.deliver_commit.new.report.messages b.first.lsn u.messages c.in-Some.bytes c.args.work.now c.take_message.new.work c.in-Some-2.commit _ (subst (WasTaken b.first.lsn u.messages c.in-Some.bytes c.args.work.now c.take_message.new.work) c.in-Some-2.is (c.in_ok-commit-in-Some.ensures.taken b.first.lsn u.messages u.is.is.is)) (λ is. c.in_err-closed-in-Some-2.ensures.sink (ap (λ (k : Halt). Err k) is)) c.in_err-closed-in-Some-2.ensures.halt);
       });
-  awaits = search rules;
-  waits = search rules;
+  awaits = λ at found b x s x1 x2 x3. no_ok c.from_residual-in_err-closed-in-Some-2.result _ _ c.from_residual-in_err-closed-in-Some-2.ensures.1;
+  waits = λ at found b x s x1 x2 x3 x4. absurd (not_ok c.from_residual-in_err-closed-in-Some-2.result _ _ c.from_residual-in_err-closed-in-Some-2.ensures.1 x4);
   grows = λ s left is may. longer_grows s.history left.history (c.read.ensures.left s left is may).grows;
   confirmed = λ s t was now. (c.read.ensures.left s (left_of t) was (g.met.S.Source.may c.read.new.self t now)).confirmed;
 }
@@ -404,14 +405,14 @@ returns-in-Some-2-clause-report g c = record {
       goes_due g.S.Source at found b c.args.store.now.offset c.deliver_commit.new.work c.deliver_commit.new.report c.read.new.self c.is_due.result
       (λ due. follows_on g.S.Source at found b c.args.store.now.offset c.args.src.now c.read.new.self c.args.work.now c.take_message.new.work c.deliver_commit.new.work c.args.report.now c.deliver_commit.new.report u c.in-Some.bytes c.in-Some-2.commit (subst (WasTaken b.first.lsn u.messages c.in-Some.bytes c.args.work.now c.take_message.new.work) c.in-Some-2.is (c.in_ok-commit-in-Some.ensures.taken b.first.lsn u.messages u.is.is.is)) c.in_ok-closed-in-Some-2.ensures.stepped c.in_ok-closed-in-Some-2.ensures.long c.requires.number c.in_ok-closed-in-Some-2.ensures.noted (some_read _ _ _ _ c.in-Some.is c.in_ok-bytes.ensures.taken) (λ s is. some_read _ _ _ _ c.in-Some.is (c.in_ok-bytes.ensures.took s is)))
       (λ due. follows_at_rest g.S.Source at found b c.args.store.now.offset c.args.src.now c.read.new.self c.args.work.now c.take_message.new.work c.deliver_commit.new.work c.args.report.now c.deliver_commit.new.report u c.in-Some.bytes c.in-Some-2.commit (subst (WasTaken b.first.lsn u.messages c.in-Some.bytes c.args.work.now c.take_message.new.work) c.in-Some-2.is (c.in_ok-commit-in-Some.ensures.taken b.first.lsn u.messages u.is.is.is)) c.in_ok-closed-in-Some-2.ensures.stepped c.in_ok-closed-in-Some-2.ensures.long c.requires.number c.in_ok-closed-in-Some-2.ensures.noted (some_read _ _ _ _ c.in-Some.is c.in_ok-bytes.ensures.taken) (λ s is. some_read _ _ _ _ c.in-Some.is (c.in_ok-bytes.ensures.took s is)) (sym c.in_ok-closed-in-Some-2.ensures.closes ∙ (c.is_due.ensures.open due).0));
-  halted = search rules;
+  halted = λ at found b x. tt;
   awaits = λ at found b u s first honest a.
       let own = (work_at g.S.Source at found b c.args.store.now.offset c.args.work.now c.args.report.now c.args.src.now u (g.met.S.Source.one c.args.src.now) s first a) in
       let read = some_read _ _ _ _ c.in-Some.is (c.in_ok-bytes.ensures.took a.standing a.is) in
       awaits_commit g.S.Source c.args.work.now c.args.src.now c.read.new.self a c.in-Some.bytes read.0 read.2.standing read.1 read.2.is read.2.holds c.take_message.new.work c.deliver_commit.new.work c.in-Some-2.commit
       (subst (WasTaken a.reading.after a.reading.messages c.in-Some.bytes c.args.work.now c.take_message.new.work) c.in-Some-2.is (c.in_ok-commit-in-Some.ensures.taken a.reading.after a.reading.messages own)) own.accepted
       c.in_ok-closed-in-Some-2.ensures.stepped (λ is. g.met.S.Source.right c.read.new.self read.2.standing _ read.2.is honest is);
-  waits = search rules;
+  waits = λ at found b x s x1 x2 x3 is. absurd (ok_some _ _ refl is);
   grows = λ s left is may. longer_grows s.history left.history (c.read.ensures.left s left is may).grows;
   confirmed = λ s t was now. (c.read.ensures.left s (left_of t) was (g.met.S.Source.may c.read.new.self t now)).confirmed;
 }
@@ -420,13 +421,13 @@ pub returns-in-Some-clause-report : goal.returns-in-Some-clause-report
 returns-in-Some-clause-report g c = record {
   under_way = λ at found b u.
       takes_on g.S.Source at found b c.args.store.now.offset c.args.src.now c.read.new.self c.args.work.now c.take_message.new.work c.args.report.now (record c.args.report.now { messages = c.args.report.now.messages + 1 }) u c.in-Some.bytes (subst (WasTaken b.first.lsn u.messages c.in-Some.bytes c.args.work.now c.take_message.new.work) c.in-None-2.is (c.in_ok-commit-in-Some.ensures.taken b.first.lsn u.messages u.is.is.is)) refl (some_read _ _ _ _ c.in-Some.is c.in_ok-bytes.ensures.taken) (λ s is. some_read _ _ _ _ c.in-Some.is (c.in_ok-bytes.ensures.took s is));
-  halted = search rules;
+  halted = λ at found b x. tt;
   awaits = λ at found b u s first honest a.
       let own = (work_at g.S.Source at found b c.args.store.now.offset c.args.work.now c.args.report.now c.args.src.now u (g.met.S.Source.one c.args.src.now) s first a) in
       let read = some_read _ _ _ _ c.in-Some.is (c.in_ok-bytes.ensures.took a.standing a.is) in
       awaits_message g.S.Source c.args.work.now c.args.src.now c.read.new.self a c.in-Some.bytes read.0 read.2.standing read.1 read.2.is read.2.holds c.take_message.new.work
       (subst (WasTaken a.reading.after a.reading.messages c.in-Some.bytes c.args.work.now c.take_message.new.work) c.in-None-2.is (c.in_ok-commit-in-Some.ensures.taken a.reading.after a.reading.messages own));
-  waits = search rules;
+  waits = λ at found b x s x1 x2 x3 is. absurd (ok_some _ _ refl is);
   grows = λ s left is may. longer_grows s.history left.history (c.read.ensures.left s left is may).grows;
   confirmed = λ s t was now. (c.read.ensures.left s (left_of t) was (g.met.S.Source.may c.read.new.self t now)).confirmed;
 }
@@ -436,7 +437,7 @@ returns-clause-report g c = record {
   under_way = λ at found b u.
       rests_on g.S.Source at found b c.args.store.now.offset c.args.src.now c.read.new.self c.args.work.now c.args.report.now u (none_read _ _ _ c.in-None.is c.in_ok-bytes.ensures.taken)
       (λ s is. let t = none_read _ _ _ c.in-None.is (c.in_ok-bytes.ensures.took s is) in record { standing = t.standing; is = t.is; holds = t.holds.0.reading });
-  halted = search rules;
+  halted = λ at found b x. tt;
   awaits = λ at found b u s first honest a.
       let t = none_read _ _ _ c.in-None.is (c.in_ok-bytes.ensures.took a.standing a.is) in
       awaits_still g.S.Source c.args.work.now c.args.work.now c.args.src.now c.read.new.self a t.standing t.is t.holds.0.grows t.holds.0.reading refl refl;
@@ -450,7 +451,7 @@ returns-clause-report g c = record {
 
 pub returns-in_err-bytes-clause-puts : goal.returns-in_err-bytes-clause-puts
 returns-in_err-bytes-clause-puts g c = record {
-  putting = search rules;
+  putting = λ groups at found b x. no_answer c.from_residual.result _ _ c.from_residual.ensures.1;
   put = λ groups at found b u.
       residual_of c.from_residual.result _ (HasHaltedPut g.S.Source g.K.Sink groups at b.config b.now b.held c.args.store.now.offset c.args.report.now c.read.new.self c.args.sink.now) c.from_residual.ensures.1
       (halts_put_nothing g.S.Source g.K.Sink groups at found b c.args.store.now.offset c.args.store.now.offset c.args.work.now c.args.report.now c.args.report.now c.args.src.now c.read.new.self c.args.sink.now _ (rests_put g.S.Source g.K.Sink groups at found b c.args.store.now.offset c.args.work.now c.args.report.now c.args.src.now c.args.sink.now u) (g.met.K.Sink.only c.args.sink.now) (source_other _ (source_of c.in_err-bytes.field-0.0)) refl refl refl (inl refl)
@@ -459,7 +460,7 @@ returns-in_err-bytes-clause-puts g c = record {
 
 pub returns-in_err-commit-in-Some-clause-puts : goal.returns-in_err-commit-in-Some-clause-puts
 returns-in_err-commit-in-Some-clause-puts g c = record {
-  putting = search rules;
+  putting = λ groups at found b x. no_answer c.from_residual-in_err-commit-in-Some.result _ _ c.from_residual-in_err-commit-in-Some.ensures.1;
   put = λ groups at found b u.
       residual_of c.from_residual-in_err-commit-in-Some.result _ (HasHaltedPut g.S.Source g.K.Sink groups at b.config b.now b.held c.args.store.now.offset (record c.args.report.now { messages = c.args.report.now.messages + 1 }) c.read.new.self c.args.sink.now) c.from_residual-in_err-commit-in-Some.ensures.1
       (halts_untaken g.S.Source g.K.Sink groups at found b c.args.store.now.offset c.args.work.now c.args.report.now (record c.args.report.now { messages = c.args.report.now.messages + 1 }) c.args.src.now c.read.new.self c.args.sink.now c.in-Some.bytes _ u (g.met.K.Sink.only c.args.sink.now) (none_other _ (taken_of _ c.requires.ready.after c.requires.ready.messages c.in-Some.bytes c.args.work.now _ (c.in_err-commit-in-Some.ensures.halt c.requires.ready.after c.requires.ready.messages c.requires.ready.is))) refl
@@ -468,7 +469,7 @@ returns-in_err-commit-in-Some-clause-puts g c = record {
 
 pub returns-in_err-closed-in-Some-2-clause-puts : goal.returns-in_err-closed-in-Some-2-clause-puts
 returns-in_err-closed-in-Some-2-clause-puts g c = record {
-  putting = search rules;
+  putting = λ groups at found b x. no_answer c.from_residual-in_err-closed-in-Some-2.result _ _ c.from_residual-in_err-closed-in-Some-2.ensures.1;
   put = λ groups at found b u.
       residual_of c.from_residual-in_err-closed-in-Some-2.result _ (HasHaltedPut g.S.Source g.K.Sink groups at b.config b.now b.held c.args.store.now.offset c.deliver_commit.new.report c.read.new.self c.deliver_commit.new.sink) c.from_residual-in_err-closed-in-Some-2.ensures.1
       (follow_puts g.S.Source g.K.Sink groups at found b c.args.store.now.offset c.args.src.now c.read.new.self c.args.sink.now c.deliver_commit.new.sink c.args.work.now c.take_message.new.work c.args.report.now c.deliver_commit.new.report u c.in-Some.bytes c.in-Some-2.commit (subst (WasTaken b.first.lsn u.way.messages c.in-Some.bytes c.args.work.now c.take_message.new.work) c.in-Some-2.is (c.in_ok-commit-in-Some.ensures.taken b.first.lsn u.way.messages u.way.is.is.is)) (few_taken (length u.way.messages) c.args.report.now.messages u.way.is.is.many c.requires.messages) c.requires.time c.in_err-closed-in-Some-2.field-0.0
@@ -484,14 +485,14 @@ returns-in-Some-2-clause-puts g c = record {
       puts_due g.S.Source g.K.Sink groups at found b c.args.store.now.offset c.deliver_commit.new.work c.deliver_commit.new.report c.read.new.self c.deliver_commit.new.sink c.is_due.result
       (λ due. commits_put g.S.Source g.K.Sink groups at found b c.args.store.now.offset c.args.src.now c.read.new.self c.args.sink.now c.deliver_commit.new.sink c.args.work.now c.take_message.new.work c.deliver_commit.new.work c.args.report.now c.deliver_commit.new.report u c.in-Some.bytes c.in-Some-2.commit (subst (WasTaken b.first.lsn u.way.messages c.in-Some.bytes c.args.work.now c.take_message.new.work) c.in-Some-2.is (c.in_ok-commit-in-Some.ensures.taken b.first.lsn u.way.messages u.way.is.is.is)) c.in_ok-closed-in-Some-2.ensures.stepped c.in_ok-closed-in-Some-2.ensures.long c.requires.number (few_taken (length u.way.messages) c.args.report.now.messages u.way.is.is.many c.requires.messages) c.requires.time c.in_ok-closed-in-Some-2.ensures.noted (c.in_ok-closed-in-Some-2.ensures.put (groups ++ cut u.put.records) u.put.held) (some_read _ _ _ _ c.in-Some.is c.in_ok-bytes.ensures.taken) (λ s is. some_read _ _ _ _ c.in-Some.is (c.in_ok-bytes.ensures.took s is)))
       (λ due. commits_put_at_rest g.S.Source g.K.Sink groups at found b c.args.store.now.offset c.args.src.now c.read.new.self c.args.sink.now c.deliver_commit.new.sink c.args.work.now c.take_message.new.work c.deliver_commit.new.work c.args.report.now c.deliver_commit.new.report u c.in-Some.bytes c.in-Some-2.commit (subst (WasTaken b.first.lsn u.way.messages c.in-Some.bytes c.args.work.now c.take_message.new.work) c.in-Some-2.is (c.in_ok-commit-in-Some.ensures.taken b.first.lsn u.way.messages u.way.is.is.is)) c.in_ok-closed-in-Some-2.ensures.stepped c.in_ok-closed-in-Some-2.ensures.long c.requires.number (few_taken (length u.way.messages) c.args.report.now.messages u.way.is.is.many c.requires.messages) c.requires.time c.in_ok-closed-in-Some-2.ensures.noted (c.in_ok-closed-in-Some-2.ensures.put (groups ++ cut u.put.records) u.put.held) (some_read _ _ _ _ c.in-Some.is c.in_ok-bytes.ensures.taken) (λ s is. some_read _ _ _ _ c.in-Some.is (c.in_ok-bytes.ensures.took s is)) (sym c.in_ok-closed-in-Some-2.ensures.closes ∙ (c.is_due.ensures.open due).0));
-  put = search rules;
+  put = λ groups at found b x. tt;
 }
 
 pub returns-in-Some-clause-puts : goal.returns-in-Some-clause-puts
 returns-in-Some-clause-puts g c = record {
   putting = λ groups at found b u.
       messages_put_nothing g.S.Source g.K.Sink groups at found b c.args.store.now.offset c.args.src.now c.read.new.self c.args.sink.now c.args.work.now c.take_message.new.work c.args.report.now (record c.args.report.now { messages = c.args.report.now.messages + 1 }) u c.in-Some.bytes (subst (WasTaken b.first.lsn u.way.messages c.in-Some.bytes c.args.work.now c.take_message.new.work) c.in-None-2.is (c.in_ok-commit-in-Some.ensures.taken b.first.lsn u.way.messages u.way.is.is.is)) refl (some_read _ _ _ _ c.in-Some.is c.in_ok-bytes.ensures.taken) (λ s is. some_read _ _ _ _ c.in-Some.is (c.in_ok-bytes.ensures.took s is));
-  put = search rules;
+  put = λ groups at found b x. tt;
 }
 
 pub returns-clause-puts : goal.returns-clause-puts
@@ -499,69 +500,69 @@ returns-clause-puts g c = record {
   putting = λ groups at found b u.
       rests_putting g.S.Source g.K.Sink groups at found b c.args.store.now.offset c.args.src.now c.read.new.self c.args.sink.now c.args.work.now c.args.report.now u (none_read _ _ _ c.in-None.is c.in_ok-bytes.ensures.taken)
       (λ s is. let t = none_read _ _ _ c.in-None.is (c.in_ok-bytes.ensures.took s is) in record { standing = t.standing; is = t.is; holds = t.holds.0.reading });
-  put = search rules;
+  put = λ groups at found b x. tt;
 }
 
 -- ---- whose fault it is
 
 pub returns-in_err-bytes-clause-source : goal.returns-in_err-bytes-clause-source
 returns-in_err-bytes-clause-source g c = record {
-  live = search rules;
-  honest = search rules;
-  comes = search rules;
+  live = no_ok c.from_residual.result _ _ c.from_residual.ensures.1;
+  honest = c.read.ensures.honest;
+  comes = c.read.ensures.comes;
   cause = record { later = c.read.ensures.cause.later; cause = λ is. c.read.ensures.cause.cause (residual_source c.from_residual.result c.read.result _ c.in_err-bytes.was c.from_residual.ensures.1 is) };
 }
 
 pub returns-in_err-commit-in-Some-clause-source : goal.returns-in_err-commit-in-Some-clause-source
 returns-in_err-commit-in-Some-clause-source g c = record {
-  live = search rules;
-  honest = search rules;
-  comes = search rules;
+  live = no_ok c.from_residual-in_err-commit-in-Some.result _ _ c.from_residual-in_err-commit-in-Some.ensures.1;
+  honest = c.read.ensures.honest;
+  comes = c.read.ensures.comes;
   cause = record { later = c.read.ensures.cause.later; cause = λ is. absurd (err_at c.from_residual-in_err-commit-in-Some.result _ OfNone (residual_of c.from_residual-in_err-commit-in-Some.result _ OfNone c.from_residual-in_err-commit-in-Some.ensures.1 (taken_of _ c.requires.ready.after c.requires.ready.messages c.in-Some.bytes c.args.work.now _ (c.in_err-commit-in-Some.ensures.halt c.requires.ready.after c.requires.ready.messages c.requires.ready.is))) is) };
 }
 
 pub returns-in_err-closed-in-Some-2-clause-source : goal.returns-in_err-closed-in-Some-2-clause-source
 returns-in_err-closed-in-Some-2-clause-source g c = record {
-  live = search rules;
-  honest = search rules;
-  comes = search rules;
+  live = no_ok c.from_residual-in_err-closed-in-Some-2.result _ _ c.from_residual-in_err-closed-in-Some-2.ensures.1;
+  honest = c.read.ensures.honest;
+  comes = c.read.ensures.comes;
   cause = record { later = c.read.ensures.cause.later; cause = λ is. absurd (err_at c.from_residual-in_err-closed-in-Some-2.result _ OfSink (residual_of c.from_residual-in_err-closed-in-Some-2.result _ OfSink c.from_residual-in_err-closed-in-Some-2.ensures.1 (follow_of _ _ _ c.in_err-closed-in-Some-2.ensures.halt)) is) };
 }
 
 pub returns-in_err-closed-in-Some-2-clause-sink : goal.returns-in_err-closed-in-Some-2-clause-sink
 returns-in_err-closed-in-Some-2-clause-sink g c = record {
-  live = search rules;
-  comes = search rules;
+  live = no_ok c.from_residual-in_err-closed-in-Some-2.result _ _ c.from_residual-in_err-closed-in-Some-2.ensures.1;
+  comes = c.deliver_commit.ensures.device.comes;
   cause = record { later = c.deliver_commit.ensures.device.cause.later; cause = λ is. c.deliver_commit.ensures.device.cause.cause (residual_is c.from_residual-in_err-closed-in-Some-2.result c.deliver_commit.result _ _ c.in_err-closed-in-Some-2.was c.from_residual-in_err-closed-in-Some-2.ensures.1 is) };
 }
 
 pub returns-in-Some-2-clause-source : goal.returns-in-Some-2-clause-source
 returns-in-Some-2-clause-source g c = record {
-  live = search rules;
-  honest = search rules;
-  comes = search rules;
-  cause = record { later = c.read.ensures.cause.later; cause = λ is. absurd (let i = is in cc) };
+  live = c.in_ok-bytes.ensures.live;
+  honest = c.read.ensures.honest;
+  comes = c.read.ensures.comes;
+  cause = record { later = c.read.ensures.cause.later; cause = λ is. absurd (not_both _ _ _ is refl) };
 }
 
 pub returns-in-Some-2-clause-sink : goal.returns-in-Some-2-clause-sink
 returns-in-Some-2-clause-sink g c = record {
-  live = search rules;
-  comes = search rules;
-  cause = record { later = c.deliver_commit.ensures.device.cause.later; cause = λ is. absurd (let i = is in cc) };
+  live = c.in_ok-closed-in-Some-2.ensures.device.live;
+  comes = c.deliver_commit.ensures.device.comes;
+  cause = record { later = c.deliver_commit.ensures.device.cause.later; cause = λ is. absurd (not_both _ _ _ is refl) };
 }
 
 pub returns-in-Some-clause-source : goal.returns-in-Some-clause-source
 returns-in-Some-clause-source g c = record {
-  live = search rules;
-  honest = search rules;
-  comes = search rules;
-  cause = record { later = c.read.ensures.cause.later; cause = λ is. absurd (let i = is in cc) };
+  live = c.in_ok-bytes.ensures.live;
+  honest = c.read.ensures.honest;
+  comes = c.read.ensures.comes;
+  cause = record { later = c.read.ensures.cause.later; cause = λ is. absurd (not_both _ _ _ is refl) };
 }
 
 pub returns-clause-source : goal.returns-clause-source
 returns-clause-source g c = record {
-  live = search rules;
-  honest = search rules;
-  comes = search rules;
-  cause = record { later = c.read.ensures.cause.later; cause = λ is. absurd (let i = is in cc) };
+  live = c.in_ok-bytes.ensures.live;
+  honest = c.read.ensures.honest;
+  comes = c.read.ensures.comes;
+  cause = record { later = c.read.ensures.cause.later; cause = λ is. absurd (not_both _ _ _ is refl) };
 }

@@ -26,12 +26,13 @@ use Rattle.dbl_capture_laws.specs.Captured.{CapturesOrHalts}
 use Rattle.dbl_capture_laws.proofs.Telling.{residual_as}
 use Rattle.dbl_capture_laws.proofs.Captured.{captures_by, captures_same}
 use Rattle.dbl_capture_laws.specs.HasState.{IsShortOr}
+use Rattle.dbl_capture_laws.proofs.Excluding.{no_answer, no_ok}
 use Rattle.dbl_capture.proofs.opening.begin_session.Goals as goal
 
 -- before the store
 pub returns-in_err-offset-clause-session : goal.returns-in_err-offset-clause-session
 returns-in_err-offset-clause-session g c = record {
-  begun = search rules;
+  begun = λ tell entry x x1 x2 x3. no_answer c.from_residual.result _ _ c.from_residual.ensures.1;
   left = λ tell entry asked f honest had.
       on_err _ _
       (rest_left f (g.met.K.Sink.only _) (g.met.K.Sink.may _)
@@ -45,7 +46,7 @@ returns-in_err-offset-clause-session g c = record {
 
 pub returns-in_err-stored-clause-session : goal.returns-in_err-stored-clause-session
 returns-in_err-stored-clause-session g c = record {
-  begun = search rules;
+  begun = λ tell entry x x1 x2 x3. no_answer c.from_residual-in_err-stored.result _ _ c.from_residual-in_err-stored.ensures.1;
   left = λ tell entry asked f honest had.
       on_err _ _
       (rest_left f (g.met.K.Sink.only _) (g.met.K.Sink.may _)
@@ -59,7 +60,7 @@ returns-in_err-stored-clause-session g c = record {
 -- in it
 pub returns-in_err-put_offset-clause-session : goal.returns-in_err-put_offset-clause-session
 returns-in_err-put_offset-clause-session g c = record {
-  begun = search rules;
+  begun = λ tell entry x x1 x2 x3. no_answer c.from_residual-in_err-put_offset.result _ _ c.from_residual-in_err-put_offset.ensures.1;
   left = λ tell entry asked f honest had.
       let stood = c.in_ok-offset.ensures.found.begins entry asked f.offset_is had f.standing f.source_is f.history in
       on_err _ _
@@ -84,8 +85,8 @@ returns-clause-session g c = record {
       let stood = c.in_ok-offset.ensures.found.begins entry asked f.offset_is had f.standing f.source_is f.history in
       began_at f c.offset_of.new.src c.put_offset.new.store stood.standing c.in_ok-offset.offset stood.is stood.holds
       (λ t. subst (λ (o : Offset). HoldsOffset g.D.Disk c.put_offset.new.store (Some o)) c.in_ok-stored.ensures (c.in_ok-put_offset.ensures.stored entry.offset (f.store_is t)));
-  left = search rules;
-  content = search rules;
+  left = λ tell entry x x1 x2 x3. tt;
+  content = λ entry stored report x x1 x2 x3. tt;
 }
 
 -- ---- counts, and what no call undoes
@@ -124,39 +125,39 @@ returns-in_err-put_offset-clause-stops g c = record {
 
 pub returns-clause-stops : goal.returns-clause-stops
 returns-clause-stops g c = record {
-  never = λ value at is. cc;
+  never = λ value at is. absurd (not_both _ _ _ is refl);
   exhausted = λ h is. absurd (not_both c.offset_of.result _ h (c.offset_of.ensures.stops.exhausted h is) c.in_ok-offset.was);
-  ask = search rules;
-  sink = search rules;
-  halt = search rules;
+  ask = tt;
+  sink = λ is. absurd (not_both _ _ _ is refl);
+  halt = tt;
 }
 
 pub returns-in_err-offset-clause-state : goal.returns-in_err-offset-clause-state
 returns-in_err-offset-clause-state g c = record {
-  loads = search rules;
+  loads = no_answer c.from_residual.result _ _ c.from_residual.ensures.1;
   held = λ held other. held;
-  offset = search rules;
-  of = search rules;
+  offset = no_answer c.from_residual.result _ _ c.from_residual.ensures.1;
+  of = no_answer c.from_residual.result _ _ c.from_residual.ensures.1;
   keeps = on_err _ _ refl;
 }
 
 pub returns-in_err-stored-clause-state : goal.returns-in_err-stored-clause-state
 returns-in_err-stored-clause-state g c = record {
-  loads = search rules;
+  loads = no_answer c.from_residual-in_err-stored.result _ _ c.from_residual-in_err-stored.ensures.1;
   held = λ held other. held;
-  offset = search rules;
-  of = search rules;
+  offset = no_answer c.from_residual-in_err-stored.result _ _ c.from_residual-in_err-stored.ensures.1;
+  of = no_answer c.from_residual-in_err-stored.result _ _ c.from_residual-in_err-stored.ensures.1;
   keeps = on_err _ _ refl;
 }
 
 pub returns-in_err-put_offset-clause-state : goal.returns-in_err-put_offset-clause-state
 returns-in_err-put_offset-clause-state g c = record {
-  loads = search rules;
+  loads = no_answer c.from_residual-in_err-put_offset.result _ _ c.from_residual-in_err-put_offset.ensures.1;
   held = λ held other.
       held_same g.D.Disk c.args.store.now c.put_offset.new.store
       (c.in_err-put_offset.ensures.kept (λ is. other (residual_on c.put_offset.result c.from_residual-in_err-put_offset.result _ halt.Offsets (c.in_err-put_offset.was ∙ is) c.in_err-put_offset.was c.from_residual-in_err-put_offset.ensures.1))) held;
-  offset = search rules;
-  of = search rules;
+  offset = no_answer c.from_residual-in_err-put_offset.result _ _ c.from_residual-in_err-put_offset.ensures.1;
+  of = no_answer c.from_residual-in_err-put_offset.result _ _ c.from_residual-in_err-put_offset.ensures.1;
   keeps = on_err _ _ c.in_err-put_offset.ensures.keeps;
 }
 
@@ -166,15 +167,15 @@ returns-clause-by_state g c = record {
       let mid = c.in_ok-offset.ensures.by_state.stood s was in
       moved_rest s mid.standing left mid.holds (g.met.S.Source.only c.offset_of.new.src mid.standing left mid.is may);
   stood = λ s is. c.in_ok-offset.ensures.by_state.stood s is;
-  absent = search rules;
+  absent = λ s x. tt;
   captures = λ s is none. c.in_ok-offset.ensures.by_state.captures s is none;
   captured = λ s is. captures_by c.args.config.now s.history c.args.store.now.offset c.put_offset.new.store.offset (λ none. c.in_ok-offset.ensures.by_state.captures s is none);
   first = λ s is none. (c.in_ok-offset.ensures.by_state.first s is none).1;
-  standing = search rules;
+  standing = λ s x. tt;
   within = λ s is log. c.in_ok-offset.ensures.by_state.within s is log;
-  still = search rules;
-  taken = search rules;
-  long = search rules;
+  still = c.offset_of.ensures.rests.still;
+  taken = c.offset_of.ensures.rests.taken;
+  long = λ s x x1. tt;
 }
 
 pub returns-in_err-offset-clause-by_state : goal.returns-in_err-offset-clause-by_state
@@ -184,11 +185,11 @@ returns-in_err-offset-clause-by_state g c = record {
   absent = λ s is. residual_of c.from_residual.result _ (IsAbsentHalt c.args.config.now.tables s.history) c.from_residual.ensures.1 (c.in_err-offset.ensures.by_state.absent s is);
   captures = λ s is none. residual_as c.from_residual.result _ (CapturesOrHalts c.args.config.now s.history) c.from_residual.ensures.1 (c.in_err-offset.ensures.by_state.captures s is none);
   captured = λ s is. captures_same c.args.config.now s.history c.args.store.now.offset c.args.store.now.offset refl;
-  first = search rules;
+  first = λ s x x1. no_answer c.from_residual.result _ _ c.from_residual.ensures.1;
   standing = λ s is. residual_of c.from_residual.result _ (IsShortOr (g.S.Source.stands c.offset_of.new.src)) c.from_residual.ensures.1 (inl c.in_err-offset.ensures.stops.short);
-  within = search rules;
-  still = search rules;
-  taken = search rules;
+  within = λ s x x1. no_answer c.from_residual.result _ _ c.from_residual.ensures.1;
+  still = c.offset_of.ensures.rests.still;
+  taken = c.offset_of.ensures.rests.taken;
   long = λ s was none. residual_of c.from_residual.result _ (IsLongBy c.args.config.now s.history) c.from_residual.ensures.1 (free_long c.args.config.now s.history _ c.in_err-offset.ensures.stops.free);
 }
 
@@ -201,11 +202,11 @@ returns-in_err-stored-clause-by_state g c = record {
   absent = λ s is. residual_of c.from_residual-in_err-stored.result halt.Memory (IsAbsentHalt c.args.config.now.tables s.history) c.from_residual-in_err-stored.ensures.1 (memory_absent c.args.config.now.tables s.history halt.Memory refl);
   captures = λ s is none. residual_as c.from_residual-in_err-stored.result halt.Memory (CapturesOrHalts c.args.config.now s.history) c.from_residual-in_err-stored.ensures.1 (inr tt);
   captured = λ s is. captures_same c.args.config.now s.history c.args.store.now.offset c.args.store.now.offset refl;
-  first = search rules;
+  first = λ s x x1. no_answer c.from_residual-in_err-stored.result _ _ c.from_residual-in_err-stored.ensures.1;
   standing = λ s is. residual_of c.from_residual-in_err-stored.result halt.Memory (IsShortOr (g.S.Source.stands c.offset_of.new.src)) c.from_residual-in_err-stored.ensures.1 (inl tt);
-  within = search rules;
-  still = search rules;
-  taken = search rules;
+  within = λ s x x1. no_answer c.from_residual-in_err-stored.result _ _ c.from_residual-in_err-stored.ensures.1;
+  still = c.offset_of.ensures.rests.still;
+  taken = c.offset_of.ensures.rests.taken;
   long = λ s was none. residual_of c.from_residual-in_err-stored.result halt.Memory (IsLongBy c.args.config.now s.history) c.from_residual-in_err-stored.ensures.1 tt;
 }
 
@@ -219,13 +220,13 @@ returns-in_err-put_offset-clause-by_state g c = record {
   captures = λ s is none.
       residual_as c.from_residual-in_err-put_offset.result _ (CapturesOrHalts c.args.config.now s.history) c.from_residual-in_err-put_offset.ensures.1 (inl (c.in_ok-offset.ensures.by_state.captures s is none));
   captured = λ s is. captures_by c.args.config.now s.history c.args.store.now.offset c.put_offset.new.store.offset (λ none. c.in_ok-offset.ensures.by_state.captures s is none);
-  first = search rules;
+  first = λ s x x1. no_answer c.from_residual-in_err-put_offset.result _ _ c.from_residual-in_err-put_offset.ensures.1;
   standing = λ s is.
       let mid = c.in_ok-offset.ensures.by_state.stood s is in
       residual_of c.from_residual-in_err-put_offset.result _ (IsShortOr (g.S.Source.stands c.offset_of.new.src)) c.from_residual-in_err-put_offset.ensures.1 (inr (mid.standing, mid.is));
-  within = search rules;
-  still = search rules;
-  taken = search rules;
+  within = λ s x x1. no_answer c.from_residual-in_err-put_offset.result _ _ c.from_residual-in_err-put_offset.ensures.1;
+  still = c.offset_of.ensures.rests.still;
+  taken = c.offset_of.ensures.rests.taken;
   long = λ s was none.
       residual_of c.from_residual-in_err-put_offset.result _ (IsLongBy c.args.config.now s.history) c.from_residual-in_err-put_offset.ensures.1
       (first_long c.args.config.now s.history c.in_ok-stored.stored _ (subst (IsFirstByCatalogue c.args.config.now s.history) (sym c.in_ok-stored.ensures) (c.in_ok-offset.ensures.by_state.first s was none).0) c.in_err-put_offset.ensures.halt);
@@ -237,69 +238,69 @@ pub returns-clause-state : goal.returns-clause-state
 returns-clause-state g c = record {
   loads = search rules;
   held = λ held other. held_stored g.D.Disk c.put_offset.new.store c.in_ok-stored.stored c.in_ok-put_offset.ensures.loads (c.in_ok-put_offset.ensures.stored c.args.store.now.offset held);
-  offset = search rules;
-  of = search rules;
-  keeps = search rules;
+  offset = c.in_ok-offset.ensures.found.offset;
+  of = c.in_ok-offset.ensures.found.of;
+  keeps = tt;
 }
 
 -- ---- whose fault it is
 
 pub returns-in_err-offset-clause-source : goal.returns-in_err-offset-clause-source
 returns-in_err-offset-clause-source g c = record {
-  live = search rules;
-  honest = search rules;
-  comes = search rules;
+  live = no_ok c.from_residual.result _ _ c.from_residual.ensures.1;
+  honest = c.offset_of.ensures.source.honest;
+  comes = c.offset_of.ensures.source.comes;
   cause = record { later = c.offset_of.ensures.source.cause.later; cause = λ is. c.offset_of.ensures.source.cause.cause (residual_is c.from_residual.result c.offset_of.result _ _ c.in_err-offset.was c.from_residual.ensures.1 is) };
 }
 
 pub returns-in_err-offset-clause-store : goal.returns-in_err-offset-clause-store
 returns-in_err-offset-clause-store g c = record {
-  live = search rules;
-  comes = search rules;
+  live = no_ok c.from_residual.result _ _ c.from_residual.ensures.1;
+  comes = λ most known. known;
   cause = record { later = le_refl _; cause = λ is. absurd (c.offset_of.ensures.stops.others.1 (residual_is c.from_residual.result c.offset_of.result _ _ c.in_err-offset.was c.from_residual.ensures.1 is)) };
 }
 
 pub returns-in_err-stored-clause-source : goal.returns-in_err-stored-clause-source
 returns-in_err-stored-clause-source g c = record {
-  live = search rules;
-  honest = search rules;
-  comes = search rules;
+  live = no_ok c.from_residual-in_err-stored.result _ _ c.from_residual-in_err-stored.ensures.1;
+  honest = c.offset_of.ensures.source.honest;
+  comes = c.offset_of.ensures.source.comes;
   cause = record { later = c.offset_of.ensures.source.cause.later; cause = λ is. absurd (err_at c.from_residual-in_err-stored.result _ OfNone (residual_of c.from_residual-in_err-stored.result halt.Memory OfNone c.from_residual-in_err-stored.ensures.1 tt) is) };
 }
 
 pub returns-in_err-stored-clause-store : goal.returns-in_err-stored-clause-store
 returns-in_err-stored-clause-store g c = record {
-  live = search rules;
-  comes = search rules;
+  live = no_ok c.from_residual-in_err-stored.result _ _ c.from_residual-in_err-stored.ensures.1;
+  comes = λ most known. known;
   cause = record { later = le_refl _; cause = λ is. absurd (err_at c.from_residual-in_err-stored.result _ OfNone (residual_of c.from_residual-in_err-stored.result halt.Memory OfNone c.from_residual-in_err-stored.ensures.1 tt) is) };
 }
 
 pub returns-in_err-put_offset-clause-source : goal.returns-in_err-put_offset-clause-source
 returns-in_err-put_offset-clause-source g c = record {
-  live = search rules;
-  honest = search rules;
-  comes = search rules;
+  live = no_ok c.from_residual-in_err-put_offset.result _ _ c.from_residual-in_err-put_offset.ensures.1;
+  honest = c.offset_of.ensures.source.honest;
+  comes = c.offset_of.ensures.source.comes;
   cause = record { later = c.offset_of.ensures.source.cause.later; cause = λ is. absurd (err_at c.from_residual-in_err-put_offset.result _ OfStore (residual_of c.from_residual-in_err-put_offset.result _ OfStore c.from_residual-in_err-put_offset.ensures.1 (store_of _ _ c.in_err-put_offset.ensures.halt)) is) };
 }
 
 pub returns-in_err-put_offset-clause-store : goal.returns-in_err-put_offset-clause-store
 returns-in_err-put_offset-clause-store g c = record {
-  live = search rules;
-  comes = search rules;
+  live = no_ok c.from_residual-in_err-put_offset.result _ _ c.from_residual-in_err-put_offset.ensures.1;
+  comes = c.put_offset.ensures.store.comes;
   cause = record { later = c.put_offset.ensures.store.cause.later; cause = λ is. c.put_offset.ensures.store.cause.cause (residual_is c.from_residual-in_err-put_offset.result c.put_offset.result _ _ c.in_err-put_offset.was c.from_residual-in_err-put_offset.ensures.1 is) };
 }
 
 pub returns-clause-source : goal.returns-clause-source
 returns-clause-source g c = record {
-  live = search rules;
-  honest = search rules;
-  comes = search rules;
-  cause = record { later = c.offset_of.ensures.source.cause.later; cause = λ is. absurd (let i = is in cc) };
+  live = c.in_ok-offset.ensures.source.live;
+  honest = c.offset_of.ensures.source.honest;
+  comes = c.offset_of.ensures.source.comes;
+  cause = record { later = c.offset_of.ensures.source.cause.later; cause = λ is. absurd (not_both _ _ _ is refl) };
 }
 
 pub returns-clause-store : goal.returns-clause-store
 returns-clause-store g c = record {
-  live = search rules;
-  comes = search rules;
-  cause = record { later = c.put_offset.ensures.store.cause.later; cause = λ is. absurd (let i = is in cc) };
+  live = c.in_ok-put_offset.ensures.store.live;
+  comes = c.put_offset.ensures.store.comes;
+  cause = record { later = c.put_offset.ensures.store.cause.later; cause = λ is. absurd (not_both _ _ _ is refl) };
 }

@@ -9,7 +9,7 @@ use Rattle.dbl_capture_laws.proofs.StepCauses.{OfNone, OfSource, again_of, err_a
 use Rattle.dbl_capture_laws.proofs.Keeping.{answer_both, answer_then}
 use Rattle.dbl_capture_work.proofs.Exits.{none_taken}
 use Rattle.dbl_capture_laws.specs.Underway.{IsBeginHalt}
-use Rattle.dbl_capture_laws.proofs.Telling.{again_begins, first_begins}
+use Rattle.dbl_capture_laws.proofs.Telling.{again_begins, first_begins, not_both}
 use Rattle.dbl_capture_laws.proofs.Telling.{again_exhausted, not_exhausted}
 use Rattle.dbl_capture_work.specs.Begins.{IsAbsentHalt}
 use Rattle.dbl_capture_laws.proofs.Telling.{again_absent}
@@ -25,6 +25,7 @@ use Rattle.dbl_capture_laws.proofs.Captured.{again_table, captures_ok, first_tab
 use Rattle.dbl_capture_laws.proofs.Awaited.{again_within, first_within}
 use Rattle.dbl_capture_laws.specs.HasState.{IsNotOffsetTooLong}
 use Rattle.dbl_capture_laws.proofs.HasState.{again_short, first_short}
+use Rattle.dbl_capture_laws.proofs.Excluding.{no_answer, no_ok}
 use Rattle.dbl_capture.proofs.opening.offset_of.Goals as goal
 
 -- nothing was asked of the source yet
@@ -38,8 +39,8 @@ returns-in_err-offset-clause-rests g c = record {
 
 pub returns-in_err-offset-clause-source : goal.returns-in_err-offset-clause-source
 returns-in_err-offset-clause-source g c = record {
-  live = search rules;
-  honest = search rules;
+  live = no_ok c.from_residual.result _ _ c.from_residual.ensures.1;
+  honest = λ honest. honest;
   comes = g.met.S.Source.comes_self _;
   cause = record { later = omega arith; cause = λ is. absurd (err_at c.from_residual.result _ OfNone (residual_of c.from_residual.result _ OfNone c.from_residual.ensures.1 (again_of c.args.store.now.offset _ c.in_err-offset.ensures.halt)) is) };
 }
@@ -92,7 +93,7 @@ returns-in-None-clause-found g c = record {
         is = stood.is;
         holds = begins_first entry c.args.config.now offset s stood.standing asked (same ∙ none_again c.args.store.now.offset (subst (IsAgain c.args.store.now.offset) c.in-None.is c.in_ok-offset.ensures.again)) history (g.met.S.Source.rising _ stood.standing stood.is) stood.holds.0 stood.holds.1.0 stood.holds.1.1 stood.holds.1.2 stood.holds.1.3 stood.holds.1.4 stood.holds.1.5;
       });
-  offset = search rules;
+  offset = c.first_offset.ensures.asked;
   of = subst (λ (o : Option Offset). IfOk c.first_offset.result (IsOffsetFor c.args.config.now o)) (sym (none_again c.args.store.now.offset (subst (IsAgain c.args.store.now.offset) c.in-None.is c.in_ok-offset.ensures.again))) c.first_offset.ensures.of;
   headed = λ none. answer_then c.first_offset.result _ _ c.first_offset.ensures.headed (λ offset head. (offset.start, head));
 }
@@ -120,21 +121,21 @@ returns-in-None-clause-stops g c = record {
 
 pub returns-in-Some-clause-source : goal.returns-in-Some-clause-source
 returns-in-Some-clause-source g c = record {
-  live = search rules;
-  honest = search rules;
+  live = c.requires.source_live;
+  honest = λ honest. honest;
   comes = g.met.S.Source.comes_self _;
   cause = search rules;
 }
 
 pub returns-in-Some-clause-stops : goal.returns-in-Some-clause-stops
 returns-in-Some-clause-stops g c = record {
-  others = search rules;
-  never = λ value at is. cc;
+  others = (λ is. absurd (not_both _ _ _ is refl), λ is. absurd (not_both _ _ _ is refl));
+  never = λ value at is. absurd (not_both _ _ _ is refl);
   exhausted = λ h is. absurd (not_exhausted c.next_incarnation.result _ c.args.store.now.offset h c.next_incarnation.ensures.exhausted c.in_ok-offset.was is);
-  short = search rules;
-  ask = search rules;
-  free = search rules;
-  halt = search rules;
+  short = tt;
+  ask = tt;
+  free = tt;
+  halt = tt;
 }
 
 pub returns-in-Some-clause-by_state : goal.returns-in-Some-clause-by_state
@@ -144,7 +145,7 @@ returns-in-Some-clause-by_state g c = record {
     is = is;
     holds = record { grows = grows_none s.history (g.met.S.Source.rising _ s is); confirmed = refl; reading = refl };
   };
-  absent = search rules;
+  absent = λ s x. tt;
   captures = λ s is none.
       absurd (subst (λ (o : Option Offset). IsAgain o (Some c.in-Some.offset)) none (subst (IsAgain c.args.store.now.offset) c.in-Some.is c.in_ok-offset.ensures.again));
   within = λ s is log. record {
@@ -192,6 +193,6 @@ returns-in_err-offset-clause-by_state g c = record {
   absent = λ s is. residual_of c.from_residual.result _ (IsAbsentHalt c.args.config.now.tables s.history) c.from_residual.ensures.1 (again_absent c.args.config.now.tables s.history c.args.store.now.offset _ c.in_err-offset.ensures.halt);
   captures = λ s is none.
       residual_as c.from_residual.result _ (CapturesOrHalts c.args.config.now s.history) c.from_residual.ensures.1 (inr (again_table c.args.store.now.offset _ none c.in_err-offset.ensures.halt));
-  within = search rules;
-  first = search rules;
+  within = λ s x x1. no_answer c.from_residual.result _ _ c.from_residual.ensures.1;
+  first = λ s x x1. no_answer c.from_residual.result _ _ c.from_residual.ensures.1;
 }

@@ -1,4 +1,4 @@
-use Rattle.std.proofs.Common.{◌∙◌, ◌≤◌, ◌<◌, ◌^◌, inl, inr, ℕ, ℤ, Option, Err, refl, sym, ap, subst, arith, rules}
+use Rattle.std.proofs.Common.{◌∙◌, ◌≤◌, ◌<◌, ◌^◌, inl, inr, ℕ, ℤ, Option, Err, refl, sym, ap, subst, arith}
 use Rattle.std.proofs.Math.Facts.{to_z-of_z}
 use Rattle.dbl_model_table.specs.declared.config.Config.{Config}
 use Rattle.dbl_model_history.specs.Fit.{IsFitHistory}
@@ -42,11 +42,12 @@ use Rattle.dbl_capture_laws.proofs.Telling.{residual_as}
 use Rattle.dbl_capture_laws.proofs.Captured.{captures_all}
 use Rattle.dbl_capture_work.specs.Follow.Followed.{Following}
 use Rattle.dbl_capture_laws.proofs.Awaited.{awaits_first}
+use Rattle.dbl_capture_laws.proofs.Excluding.{no_answer, no_ok}
 use Rattle.dbl_capture.proofs.opening.open_session.Goals as goal
 
 pub returns-in_err-offset-clause-session : goal.returns-in_err-offset-clause-session
 returns-in_err-offset-clause-session g c = record {
-  next = search rules;
+  next = λ tell entry x x1 x2 x3 x4. no_answer c.from_residual.result _ _ c.from_residual.ensures.1;
   left = λ tell entry asked f honest had. on_err _ _ (c.in_err-offset.ensures.session.left tell entry asked f honest had);
   content = λ entry asked f honest faithful.
       residual_of c.from_residual.result _ (IsFaithfulHalt entry c.begin_session.new.store.offset c.args.report.now (g.S.Source.stands c.begin_session.new.src) (g.K.Sink.holds c.args.sink.now)) c.from_residual.ensures.1
@@ -55,13 +56,13 @@ returns-in_err-offset-clause-session g c = record {
 
 pub returns-in_err-offset-clause-state : goal.returns-in_err-offset-clause-state
 returns-in_err-offset-clause-state g c = record {
-  begun = search rules;
-  at = search rules;
+  begun = no_answer c.from_residual.result _ _ c.from_residual.ensures.1;
+  at = no_ok c.from_residual.result _ _ c.from_residual.ensures.1;
   held = λ held other. c.begin_session.ensures.state.held held (λ is. other (residual_on c.begin_session.result c.from_residual.result _ halt.Offsets is c.in_err-offset.was c.from_residual.ensures.1));
   stored = on_err _ _ (inl c.in_err-offset.ensures.state.keeps);
   position = λ none. on_err _ _ (position_none c.args.store.now.offset c.begin_session.new.store.offset c.args.report.now c.in_err-offset.ensures.state.keeps none);
   counts = (refl, refl, refl);
-  reading = search rules;
+  reading = no_ok c.from_residual.result _ _ c.from_residual.ensures.1;
   uncounted = (refl, refl);
   first = on_err _ _ (inl c.in_err-offset.ensures.state.keeps);
 }
@@ -69,7 +70,7 @@ returns-in_err-offset-clause-state g c = record {
 -- reading doesn't begin
 pub returns-in_err-start_reading-clause-session : goal.returns-in_err-start_reading-clause-session
 returns-in_err-start_reading-clause-session g c = record {
-  next = search rules;
+  next = λ tell entry x x1 x2 x3 x4. no_answer c.from_residual-in_err-start_reading.result _ _ c.from_residual-in_err-start_reading.ensures.1;
   left = λ tell entry asked f honest had.
       let before = c.start_reading.ensures.source.honest honest in
       let b = c.in_ok-offset.ensures.session.begun tell entry asked f before had in
@@ -85,8 +86,8 @@ returns-in_err-start_reading-clause-session g c = record {
 
 pub returns-in_err-start_reading-clause-state : goal.returns-in_err-start_reading-clause-state
 returns-in_err-start_reading-clause-state g c = record {
-  begun = search rules;
-  at = search rules;
+  begun = no_answer c.from_residual-in_err-start_reading.result _ _ c.from_residual-in_err-start_reading.ensures.1;
+  at = no_ok c.from_residual-in_err-start_reading.result _ _ c.from_residual-in_err-start_reading.ensures.1;
   held = λ held other. c.begin_session.ensures.state.held held (λ is. not_both c.begin_session.result _ halt.Offsets is c.in_ok-offset.was);
   stored =
       on_err _ _ (inr (has_stored c.args.config.now c.args.store.now.offset c.begin_session.new.store.offset c.in_ok-offset.offset c.in_ok-offset.ensures.state.of (own_first c.in_ok-offset.offset c.begin_session.new.store.offset c.in_ok-offset.ensures.state.loads)));
@@ -96,7 +97,7 @@ returns-in_err-start_reading-clause-state g c = record {
       (has_stored c.args.config.now c.args.store.now.offset c.begin_session.new.store.offset c.in_ok-offset.offset c.in_ok-offset.ensures.state.of (own_first c.in_ok-offset.offset c.begin_session.new.store.offset c.in_ok-offset.ensures.state.loads))
       (subst (λ (o : Option Offset). IsAtPosition o (record c.args.report.now { position = c.in_ok-offset.offset.lsn.0 })) (sym c.in_ok-offset.ensures.state.loads) refl));
   counts = (refl, refl, refl);
-  reading = search rules;
+  reading = no_ok c.from_residual-in_err-start_reading.result _ _ c.from_residual-in_err-start_reading.ensures.1;
   uncounted = (refl, refl);
   first = on_err _ _ (inr (c.in_ok-offset.offset, c.in_ok-offset.ensures.state.loads, c.in_ok-offset.ensures.state.of));
 }
@@ -144,7 +145,7 @@ returns-clause-state g c = record {
       (has_stored c.args.config.now c.args.store.now.offset c.begin_session.new.store.offset c.in_ok-offset.offset c.in_ok-offset.ensures.state.of (own_first c.in_ok-offset.offset c.begin_session.new.store.offset c.in_ok-offset.ensures.state.loads))
       (subst (λ (o : Option Offset). IsAtPosition o (record c.args.report.now { position = c.in_ok-offset.offset.lsn.0 })) (sym c.in_ok-offset.ensures.state.loads) refl));
   counts = (refl, refl, refl);
-  reading = search rules;
+  reading = on_ok _ _ c.in_ok-start_reading.ensures.reading;
   uncounted = (refl, refl);
   first = on_err _ _ (inr (c.in_ok-offset.offset, c.in_ok-offset.ensures.state.loads, c.in_ok-offset.ensures.state.of));
 }
@@ -171,7 +172,7 @@ returns-in_err-start_reading-clause-stops g c = record {
 
 pub returns-in_err-start_reading-clause-source : goal.returns-in_err-start_reading-clause-source
 returns-in_err-start_reading-clause-source g c = record {
-  live = search rules;
+  live = no_ok c.from_residual-in_err-start_reading.result _ _ c.from_residual-in_err-start_reading.ensures.1;
   honest = λ honest. c.begin_session.ensures.source.honest (c.start_reading.ensures.source.honest honest);
   comes = g.met.S.Source.comes_on c.args.src.now c.begin_session.new.src c.start_reading.new.src c.begin_session.ensures.source.comes c.start_reading.ensures.source.comes;
   cause = record { later = later_on (g.S.Source.faults c.args.src.now) (g.S.Source.faults c.begin_session.new.src) (g.S.Source.faults c.start_reading.new.src) c.begin_session.ensures.source.cause.later c.start_reading.ensures.source.cause.later; cause = λ is. rose_after (g.S.Source.faults c.args.src.now) (g.S.Source.faults c.begin_session.new.src) (g.S.Source.faults c.start_reading.new.src) c.begin_session.ensures.source.cause.later (c.start_reading.ensures.source.cause.cause (residual_is c.from_residual-in_err-start_reading.result c.start_reading.result _ _ c.in_err-start_reading.was c.from_residual-in_err-start_reading.ensures.1 is)) };
@@ -179,7 +180,7 @@ returns-in_err-start_reading-clause-source g c = record {
 
 pub returns-clause-source : goal.returns-clause-source
 returns-clause-source g c = record {
-  live = search rules;
+  live = on_ok _ _ c.in_ok-start_reading.ensures.source.live;
   honest = λ honest. c.begin_session.ensures.source.honest (c.start_reading.ensures.source.honest honest);
   comes = g.met.S.Source.comes_on c.args.src.now c.begin_session.new.src c.start_reading.new.src c.begin_session.ensures.source.comes c.start_reading.ensures.source.comes;
   cause = record { later = later_on (g.S.Source.faults c.args.src.now) (g.S.Source.faults c.begin_session.new.src) (g.S.Source.faults c.start_reading.new.src) c.begin_session.ensures.source.cause.later c.start_reading.ensures.source.cause.later; cause = λ is. absurd (err_at c.make.result _ OfNone (err_then c.make.result _ OfNone c.make.ensures.memory (λ h is. subst OfNone (sym is) tt)) is) };
@@ -195,16 +196,16 @@ returns-clause-stops g c = record {
 
 pub returns-in_err-offset-clause-report : goal.returns-in_err-offset-clause-report
 returns-in_err-offset-clause-report g c = record {
-  under_way = search rules;
+  under_way = λ at x x1. no_answer c.from_residual.result _ _ c.from_residual.ensures.1;
   halted = λ at stood none.
       residual_of c.from_residual.result _ (Halts g.S.Source at (g.S.Source.told c.args.src.now) c.args.config.now c.args.now_ms c.args.store.now.offset c.begin_session.new.store.offset c.args.report.now c.begin_session.new.src) c.from_residual.ensures.1
       (record { halted = halts_unread g.S.Source at (g.S.Source.told c.args.src.now) c.args.config.now c.args.now_ms c.args.store.now.offset c.begin_session.new.store.offset c.args.report.now c.args.src.now c.begin_session.new.src _ stood (inl (c.in_err-offset.ensures.stops.halt, c.in_err-offset.ensures.state.keeps)) none.0 none.1 (inl c.begin_session.ensures.by_state.taken) (λ s t was now. inl (c.begin_session.ensures.by_state.still s t was now)); stood = λ s first. begin_stood c.args.config.now c.args.now_ms c.args.store.now.offset c.begin_session.new.store.offset c.args.report.now (g.S.Source.stands c.begin_session.new.src) (g.S.Source.told c.begin_session.new.src) _ c.in_err-offset.ensures.state.keeps c.in_err-offset.ensures.stops.halt (c.in_err-offset.ensures.by_state.standing s (stood s first)); cause = open_caused c.args.config.now c.args.now_ms c.args.store.now.offset c.begin_session.new.store.offset c.args.report.now (g.S.Source.told c.begin_session.new.src) _ (inl (c.in_err-offset.ensures.stops.halt, c.in_err-offset.ensures.state.keeps)); must = λ t. c.in_err-offset.ensures.stops.ask c.args.report.now t none.0 });
-  putting = search rules;
+  putting = λ groups x at x1 x2. no_answer c.from_residual.result _ _ c.from_residual.ensures.1;
 }
 
 pub returns-in_err-start_reading-clause-report : goal.returns-in_err-start_reading-clause-report
 returns-in_err-start_reading-clause-report g c = record {
-  under_way = search rules;
+  under_way = λ at x x1. no_answer c.from_residual-in_err-start_reading.result _ _ c.from_residual-in_err-start_reading.ensures.1;
   halted = λ at stood none.
       let stored = has_stored c.args.config.now c.args.store.now.offset c.begin_session.new.store.offset c.in_ok-offset.offset c.in_ok-offset.ensures.state.of (own_first c.in_ok-offset.offset c.begin_session.new.store.offset c.in_ok-offset.ensures.state.loads) in
       residual_of c.from_residual-in_err-start_reading.result _ (Halts g.S.Source at (g.S.Source.told c.args.src.now) c.args.config.now c.args.now_ms c.args.store.now.offset c.begin_session.new.store.offset (record c.args.report.now { position = c.in_ok-offset.offset.lsn.0 }) c.start_reading.new.src) c.from_residual-in_err-start_reading.ensures.1
@@ -216,7 +217,7 @@ returns-in_err-start_reading-clause-report g c = record {
         cause = open_caused c.args.config.now c.args.now_ms c.args.store.now.offset c.begin_session.new.store.offset (record c.args.report.now { position = c.in_ok-offset.offset.lsn.0 }) (g.S.Source.told c.start_reading.new.src) _ (start_opens c.args.config.now c.args.store.now.offset c.begin_session.new.store.offset (g.S.Source.told c.start_reading.new.src) c.in_ok-offset.offset.lsn _ stored (ap (λ (o : Offset). o.lsn) (first_some c.in_ok-offset.offset stored.offset (sym c.in_ok-offset.ensures.state.loads ∙ stored.is))) (λ asked first is. c.in_err-start_reading.ensures.gone asked first (ap (λ (h : Halt). Err h) is)) c.in_err-start_reading.ensures.halt);
         must = λ t. start_asks c.args.config.now c.args.store.now.offset c.begin_session.new.store.offset (g.S.Source.told c.start_reading.new.src) c.in_ok-offset.offset.lsn c.in_err-start_reading.field-0.0 stored (ap (λ (o : Offset). o.lsn) (first_some c.in_ok-offset.offset stored.offset (sym c.in_ok-offset.ensures.state.loads ∙ stored.is))) (λ asked first is. c.in_err-start_reading.ensures.gone asked first (ap (λ (h : Halt). Err h) is)) c.requires.good.some_tables c.in_err-start_reading.ensures.halt (record c.args.report.now { position = c.in_ok-offset.offset.lsn.0 }) t none.0;
       });
-  putting = search rules;
+  putting = λ groups x at x1 x2. no_answer c.from_residual-in_err-start_reading.result _ _ c.from_residual-in_err-start_reading.ensures.1;
 }
 
 pub returns-clause-report : goal.returns-clause-report
@@ -261,7 +262,7 @@ returns-in_err-offset-clause-by_state g c = record {
   gone = λ s is kept. residual_of c.from_residual.result _ IsNotGone c.from_residual.ensures.1 (begin_reads c.args.config.now c.args.store.now.offset (g.S.Source.told c.begin_session.new.src) _ c.in_err-offset.ensures.stops.halt);
   gone_stood = λ s is.
       residual_of c.from_residual.result _ (IsGoneBelow s.confirmed) c.from_residual.ensures.1 (free_below s.confirmed _ (begin_reads c.args.config.now c.args.store.now.offset (g.S.Source.told c.begin_session.new.src) _ c.in_err-offset.ensures.stops.halt));
-  awaits = search rules;
+  awaits = λ s x x1. no_answer c.from_residual.result _ _ c.from_residual.ensures.1;
   unmarked = λ s left was may. rest_unmarked s left (c.begin_session.ensures.by_state.rests s left was may);
   long = λ s was none. residual_of c.from_residual.result _ (IsLongBy c.args.config.now s.history) c.from_residual.ensures.1 (c.in_err-offset.ensures.by_state.long s was none);
 }
@@ -282,7 +283,7 @@ returns-in_err-start_reading-clause-by_state g c = record {
       let mid = c.in_ok-offset.ensures.by_state.stood s is in
       residual_of c.from_residual-in_err-start_reading.result _ (IsGoneBelow s.confirmed) c.from_residual-in_err-start_reading.ensures.1
       (start_below c.in_ok-offset.offset.lsn mid.standing.confirmed s.confirmed c.in_err-start_reading.field-0.0 mid.holds.confirmed c.in_err-start_reading.ensures.halt (λ asked first gone. c.in_err-start_reading.ensures.gone_stood mid.standing mid.is asked first (ap (λ (h : Halt). Err h) gone)));
-  awaits = search rules;
+  awaits = λ s x x1. no_answer c.from_residual-in_err-start_reading.result _ _ c.from_residual-in_err-start_reading.ensures.1;
   unmarked = λ s left was may.
       let mid = c.in_ok-offset.ensures.by_state.stood s was in
       others_add_no_marks mid.standing.history left.history (c.start_reading.ensures.left mid.standing left mid.is may).grows ∙ others_add_no_marks s.history mid.standing.history mid.holds.grows;
@@ -314,29 +315,29 @@ returns-clause-by_state g c = record {
 
 pub returns-in_err-offset-clause-source : goal.returns-in_err-offset-clause-source
 returns-in_err-offset-clause-source g c = record {
-  live = search rules;
-  honest = search rules;
-  comes = search rules;
+  live = no_ok c.from_residual.result _ _ c.from_residual.ensures.1;
+  honest = c.begin_session.ensures.source.honest;
+  comes = c.begin_session.ensures.source.comes;
   cause = record { later = c.begin_session.ensures.source.cause.later; cause = λ is. c.begin_session.ensures.source.cause.cause (residual_is c.from_residual.result c.begin_session.result _ _ c.in_err-offset.was c.from_residual.ensures.1 is) };
 }
 
 pub returns-in_err-offset-clause-store : goal.returns-in_err-offset-clause-store
 returns-in_err-offset-clause-store g c = record {
-  live = search rules;
-  comes = search rules;
+  live = no_ok c.from_residual.result _ _ c.from_residual.ensures.1;
+  comes = c.begin_session.ensures.store.comes;
   cause = record { later = c.begin_session.ensures.store.cause.later; cause = λ is. c.begin_session.ensures.store.cause.cause (residual_is c.from_residual.result c.begin_session.result _ _ c.in_err-offset.was c.from_residual.ensures.1 is) };
 }
 
 pub returns-in_err-start_reading-clause-store : goal.returns-in_err-start_reading-clause-store
 returns-in_err-start_reading-clause-store g c = record {
-  live = search rules;
-  comes = search rules;
+  live = no_ok c.from_residual-in_err-start_reading.result _ _ c.from_residual-in_err-start_reading.ensures.1;
+  comes = c.begin_session.ensures.store.comes;
   cause = record { later = c.begin_session.ensures.store.cause.later; cause = λ is. absurd (err_at c.from_residual-in_err-start_reading.result _ OfSource (residual_of c.from_residual-in_err-start_reading.result _ OfSource c.from_residual-in_err-start_reading.ensures.1 (start_of _ _ c.in_err-start_reading.ensures.halt)) is) };
 }
 
 pub returns-clause-store : goal.returns-clause-store
 returns-clause-store g c = record {
-  live = search rules;
-  comes = search rules;
+  live = on_ok _ _ c.in_ok-offset.ensures.store.live;
+  comes = c.begin_session.ensures.store.comes;
   cause = record { later = c.begin_session.ensures.store.cause.later; cause = λ is. absurd (err_at c.make.result _ OfNone (err_then c.make.result _ OfNone c.make.ensures.memory (λ h is. subst OfNone (sym is) tt)) is) };
 }

@@ -25,11 +25,12 @@ use Rattle.dbl_capture_laws.proofs.HasState.{marks_stood, memory_stood}
 use Rattle.dbl_capture_laws.proofs.Unclosed.{closed_at_halt}
 use Rattle.dbl_capture_laws.proofs.Advancing.{longer_left}
 use Rattle.dbl_capture_laws.proofs.Confirming.{confirmed_on}
+use Rattle.dbl_capture_laws.proofs.Excluding.{no_ok}
 use Rattle.dbl_capture.proofs.settle.finish_complete.Goals as goal
 
 pub returns-in_err-copy-in-Some-clause-session : goal.returns-in_err-copy-in-Some-clause-session
 returns-in_err-copy-in-Some-clause-session g c = record {
-  next = search rules;
+  next = λ tell entry x x1. no_ok c.from_residual.result _ _ c.from_residual.ensures.1;
   left = λ tell entry s honest. on_err _ _ (rests s _ (g.met.S.Source.only _) (g.met.S.Source.may _) (g.met.K.Sink.only _) (g.met.K.Sink.may _) honest (λ h l is. g.met.S.Source.fit _ l is h) (some_chunk s));
   own = λ entry. residual_of c.from_residual.result halt.Memory (IsHonestHalt entry (g.S.Source.stands c.args.src.now)) c.from_residual.ensures.1 tt;
   most = λ tell entry s closed.
@@ -42,7 +43,7 @@ returns-in_err-copy-in-Some-clause-session g c = record {
 
 pub returns-in_ok-copy-in-Some-clause-session : goal.returns-in_ok-copy-in-Some-clause-session
 returns-in_ok-copy-in-Some-clause-session g c = record {
-  next = search rules;
+  next = λ tell entry x x1. tt;
   left = λ tell entry s honest. rests s _ (g.met.S.Source.only _) (g.met.S.Source.may _) (g.met.K.Sink.only _) (g.met.K.Sink.may _) honest (λ h l is. g.met.S.Source.fit _ l is h) (some_chunk s);
   own = λ entry. tt;
   most = λ tell entry s closed left may.
@@ -55,24 +56,24 @@ returns-in_ok-copy-in-Some-clause-session g c = record {
 
 pub returns-in_ok-copy-in-Some-clause-state : goal.returns-in_ok-copy-in-Some-clause-state
 returns-in_ok-copy-in-Some-clause-state g c = record {
-  waited = search rules;
-  same = search rules;
+  waited = tt;
+  same = tt;
   held = λ held other. held;
-  still = search rules;
-  reading = search rules;
-  quiet = search rules;
+  still = refl;
+  reading = refl;
+  quiet = tt;
   reported = inl (refl, refl);
 }
 
 pub returns-in-None-clause-state : goal.returns-in-None-clause-state
 returns-in-None-clause-state g c = record {
   waited = on_ok _ _ (not_awaited c.args.work.now.follower.window c.in-None.ensures.text);
-  same = search rules;
+  same = c.store_and_confirm.ensures.state.same;
   held = c.store_and_confirm.ensures.state.held;
-  still = search rules;
-  reading = search rules;
+  still = c.store_and_confirm.ensures.state.still;
+  reading = c.store_and_confirm.ensures.state.reading;
   quiet = c.store_and_confirm.ensures.state.quiet;
-  reported = search rules;
+  reported = c.store_and_confirm.ensures.state.reported;
 }
 
 pub returns-in-None-clause-session : goal.returns-in-None-clause-session
@@ -89,16 +90,16 @@ returns-in-None-clause-session g c = record {
 
 pub returns-in_err-copy-in-Some-clause-source : goal.returns-in_err-copy-in-Some-clause-source
 returns-in_err-copy-in-Some-clause-source g c = record {
-  live = search rules;
-  honest = search rules;
+  live = no_ok c.from_residual.result _ _ c.from_residual.ensures.1;
+  honest = λ honest. honest;
   comes = g.met.S.Source.comes_self _;
   cause = record { later = le_refl _; cause = λ is. absurd (err_at c.from_residual.result _ OfNone (residual_of c.from_residual.result halt.Memory OfNone c.from_residual.ensures.1 tt) is) };
 }
 
 pub returns-in_ok-copy-in-Some-clause-source : goal.returns-in_ok-copy-in-Some-clause-source
 returns-in_ok-copy-in-Some-clause-source g c = record {
-  live = search rules;
-  honest = search rules;
+  live = tt;
+  honest = λ honest. honest;
   comes = g.met.S.Source.comes_self _;
   cause = record { later = le_refl _; cause = λ is. absurd (let i = is in cc) };
 }
@@ -112,12 +113,12 @@ returns-in_err-copy-in-Some-clause-stops g c = record {
 
 pub returns-in_err-copy-in-Some-clause-state : goal.returns-in_err-copy-in-Some-clause-state
 returns-in_err-copy-in-Some-clause-state g c = record {
-  waited = search rules;
-  same = search rules;
+  waited = no_ok c.from_residual.result _ _ c.from_residual.ensures.1;
+  same = no_ok c.from_residual.result _ _ c.from_residual.ensures.1;
   held = λ held other. held;
-  still = search rules;
-  reading = search rules;
-  quiet = search rules;
+  still = refl;
+  reading = refl;
+  quiet = no_ok c.from_residual.result _ _ c.from_residual.ensures.1;
   reported =
       let p = err_from_is_err_and c.from_residual.result c.from_residual.ensures.1 in
       report_err c.from_residual.result p.0 c.args.store.now.offset c.args.store.now.offset c.args.work.now c.args.report.now c.args.report.now p.1 (inl (refl, refl));
@@ -125,7 +126,7 @@ returns-in_err-copy-in-Some-clause-state g c = record {
 
 pub returns-in_err-copy-in-Some-clause-report : goal.returns-in_err-copy-in-Some-clause-report
 returns-in_err-copy-in-Some-clause-report g c = record {
-  all = search rules;
+  all = λ at found b x. no_ok c.from_residual.result _ _ c.from_residual.ensures.1;
   halted = λ at found b u answer.
       residual_of c.from_residual.result halt.Memory (Halts g.S.Source at found b.config b.now b.held c.args.store.now.offset c.args.report.now c.args.src.now) c.from_residual.ensures.1
       (record { halted = halts_between g.S.Source at found b c.args.store.now.offset c.args.store.now.offset c.args.work.now c.args.report.now c.args.report.now c.args.src.now c.args.src.now halt.Memory (at_rest g.S.Source at found b c.args.store.now.offset c.args.work.now c.args.report.now c.args.src.now u) (none_taken (g.S.Source.told c.args.src.now)) (λ s t was now. ap (λ (x : SourceState). x.reading) (g.met.S.Source.one c.args.src.now t s now was)) memory_left refl refl (inl refl); stood = λ s first. memory_stood b.config b.now b.held c.args.store.now.offset c.args.report.now (g.S.Source.stands c.args.src.now) halt.Memory refl; cause = memory_caused b.config b.now b.held c.args.store.now.offset c.args.report.now (g.S.Source.told c.args.src.now) halt.Memory refl; must = quiet_asks b u.messages c.args.store.now.offset c.args.work.now c.args.report.now c.args.report.now found (g.S.Source.told c.args.src.now) c.args.store.now.offset (Err halt.Memory) u.is.is u.tells (read_quiet (g.S.Source.told c.args.src.now) None answer) (inl refl) });
@@ -136,7 +137,7 @@ returns-in_err-copy-in-Some-clause-report g c = record {
 
 pub returns-in_ok-copy-in-Some-clause-report : goal.returns-in_ok-copy-in-Some-clause-report
 returns-in_ok-copy-in-Some-clause-report g c = record {
-  all = search rules;
+  all = λ at found b x. tt;
   halted = λ at found b u answer.
       record { halted = halts_between g.S.Source at found b c.args.store.now.offset c.args.store.now.offset c.args.work.now c.args.report.now c.args.report.now c.args.src.now c.args.src.now _ (at_rest g.S.Source at found b c.args.store.now.offset c.args.work.now c.args.report.now c.args.src.now u) (none_taken (g.S.Source.told c.args.src.now)) (λ s t was now. ap (λ (x : SourceState). x.reading) (g.met.S.Source.one c.args.src.now t s now was)) refl refl refl (inl refl); stood = λ s first. marks_stood g.S.Source at found b c.args.store.now.offset c.args.work.now c.args.src.now c.args.src.now c.args.report.now _ u (sym c.in-Some.ensures.text ∙ ap (λ (v : List ℕ). Some v) (sym c.in_ok-copy-in-Some.ensures)) s first; cause = missed_caused b u.messages c.args.store.now.offset c.args.work.now c.args.report.now found (g.S.Source.told c.args.src.now) _ u.is u.tells (sym c.in-Some.ensures.text ∙ ap (λ (v : List ℕ). Some v) (sym c.in_ok-copy-in-Some.ensures)) answer; must = quiet_asks b u.messages c.args.store.now.offset c.args.work.now c.args.report.now c.args.report.now found (g.S.Source.told c.args.src.now) c.args.store.now.offset _ u.is.is u.tells (read_quiet (g.S.Source.told c.args.src.now) None answer) (inl refl) };
   grows = λ s left is may. longer_left s left (g.met.S.Source.only c.args.src.now s left is may);
@@ -154,7 +155,7 @@ returns-in-None-clause-report g c = record {
 
 pub returns-in_err-copy-in-Some-clause-puts : goal.returns-in_err-copy-in-Some-clause-puts
 returns-in_err-copy-in-Some-clause-puts g c = record {
-  putting = search rules;
+  putting = λ groups at found b x. no_ok c.from_residual.result _ _ c.from_residual.ensures.1;
   put = λ groups at found b u.
       residual_of c.from_residual.result halt.Memory (HasHaltedPut g.S.Source g.K.Sink groups at b.config b.now b.held c.args.store.now.offset c.args.report.now c.args.src.now c.args.sink.now) c.from_residual.ensures.1
       (halts_put_nothing g.S.Source g.K.Sink groups at found b c.args.store.now.offset c.args.store.now.offset c.args.work.now c.args.report.now c.args.report.now c.args.src.now c.args.src.now c.args.sink.now halt.Memory (rests_put g.S.Source g.K.Sink groups at found b c.args.store.now.offset c.args.work.now c.args.report.now c.args.src.now c.args.sink.now u) (g.met.K.Sink.only c.args.sink.now) (none_other halt.Memory tt) refl refl refl (inl refl)
@@ -163,7 +164,7 @@ returns-in_err-copy-in-Some-clause-puts g c = record {
 
 pub returns-in_ok-copy-in-Some-clause-puts : goal.returns-in_ok-copy-in-Some-clause-puts
 returns-in_ok-copy-in-Some-clause-puts g c = record {
-  putting = search rules;
+  putting = λ groups at found b x. tt;
   put = λ groups at found b u.
       halts_put_nothing g.S.Source g.K.Sink groups at found b c.args.store.now.offset c.args.store.now.offset c.args.work.now c.args.report.now c.args.report.now c.args.src.now c.args.src.now c.args.sink.now _ (rests_put g.S.Source g.K.Sink groups at found b c.args.store.now.offset c.args.work.now c.args.report.now c.args.src.now c.args.sink.now u) (g.met.K.Sink.only c.args.sink.now) (λ is. cc) refl refl refl (inl refl)
       refl refl refl (none_taken (g.S.Source.told c.args.src.now)) (λ s t was now. ap (λ (x : SourceState). x.reading) (g.met.S.Source.one c.args.src.now t s now was));
@@ -187,36 +188,27 @@ pub returns-in-None-clause-stops : goal.returns-in-None-clause-stops
 returns-in-None-clause-stops g c = record {
   unmissed = λ absent. c.store_and_confirm.ensures.stops.never;
   reads = c.store_and_confirm.ensures.stops.reads;
-  sink = search rules;
+  sink = c.store_and_confirm.ensures.stops.sink;
 }
 
 -- ---- whose fault it is
 
 pub returns-in_err-copy-in-Some-clause-store : goal.returns-in_err-copy-in-Some-clause-store
 returns-in_err-copy-in-Some-clause-store g c = record {
-  live = search rules;
-  comes = search rules;
+  live = no_ok c.from_residual.result _ _ c.from_residual.ensures.1;
+  comes = λ most known. known;
   cause = record { later = le_refl _; cause = λ is. absurd (err_at c.from_residual.result _ OfNone (residual_of c.from_residual.result halt.Memory OfNone c.from_residual.ensures.1 tt) is) };
 }
 
 pub returns-in_ok-copy-in-Some-clause-store : goal.returns-in_ok-copy-in-Some-clause-store
 returns-in_ok-copy-in-Some-clause-store g c = record {
-  live = search rules;
-  comes = search rules;
+  live = tt;
+  comes = λ most known. known;
   cause = record { later = le_refl _; cause = λ is. absurd (let i = is in cc) };
 }
 
 pub returns-in-None-clause-source : goal.returns-in-None-clause-source
-returns-in-None-clause-source g c = record {
-  live = search rules;
-  honest = search rules;
-  comes = search rules;
-  cause = c.store_and_confirm.ensures.source.cause;
-}
+returns-in-None-clause-source g c = c.store_and_confirm.ensures.source
 
 pub returns-in-None-clause-store : goal.returns-in-None-clause-store
-returns-in-None-clause-store g c = record {
-  live = search rules;
-  comes = search rules;
-  cause = c.store_and_confirm.ensures.store.cause;
-}
+returns-in-None-clause-store g c = c.store_and_confirm.ensures.store

@@ -2,7 +2,7 @@ use Rattle.dbl_capture_laws.specs.Sessions.{state_at_stage}
 use Rattle.dbl_capture_laws.proofs.Arms.{arm_left, plan_captured, plan_here, plan_parts, window_on}
 use Rattle.dbl_capture_laws.proofs.StepCauses.{OfSource, chunk_of, err_at, err_then}
 use Rattle.dbl_capture_laws.proofs.Keeping.{capturing, ok_then, on_err}
-use Rattle.std.proofs.Common.{inl, refl, rules}
+use Rattle.std.proofs.Common.{inl, refl}
 use Rattle.dbl_capture_laws.specs.Caused.{Halts, IsNotGone}
 use Rattle.dbl_capture_laws.proofs.Sources.{arms_on, at_rest, halts_between}
 use Rattle.dbl_capture_laws.proofs.Telling.{chunk_left, ok_both}
@@ -102,7 +102,7 @@ returns-clause-puts g c = record {
 
 pub returns-clause-state : goal.returns-clause-state
 returns-clause-state g c = record {
-  same = search rules;
-  reading = search rules;
+  same = c.read_window.ensures.same;
+  reading = c.read_window.ensures.answered.reading;
   quiet = ok_done c.read_window.result (g.S.Source.told c.read_window.new.src) c.read_window.ensures.answered.done;
 }

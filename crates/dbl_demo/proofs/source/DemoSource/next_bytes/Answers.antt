@@ -56,10 +56,10 @@ returns-clause-comes g c = λ gate most come.
     subst (λ (j : OnDisk _). HasCome g.D.Disk gate most j) (sym (ap (λ (d : Demo _). d.journal) c.step_on.ensures.same)) (c.cache_commit.ensures.comes gate most come)
 
 pub returns-in_default-clause-steady : goal.returns-in_default-clause-steady
-returns-in_default-clause-steady g c = known_from g.D.Disk c.self.view_is _ (known_self g.D.Disk _)
+returns-in_default-clause-steady g c = known_self g.D.Disk c.args.self.now.journal.disk
 
 pub returns-in_default-copied-clause-steady : goal.returns-in_default-copied-clause-steady
-returns-in_default-copied-clause-steady g c = known_from g.D.Disk c.self.view_is _ (known_self g.D.Disk _)
+returns-in_default-copied-clause-steady g c = known_self g.D.Disk c.args.self.now.journal.disk
 
 pub returns-in-Some-2-clause-steady : goal.returns-in-Some-2-clause-steady
 returns-in-Some-2-clause-steady g c = c.in_ok-other.ensures.steady

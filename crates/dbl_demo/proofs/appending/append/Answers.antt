@@ -1,7 +1,6 @@
 use Rattle.std.proofs.Common.{◌≡◌, ap}
 use Rattle.std.specs.Prelude.{Err}
 use Rattle.dbl_journal.specs.declared.error.JournalError.{JournalError}
-use Rattle.dbl_journal.specs.declared.error.JournalError.TheVariants as journal
 use Rattle.dbl_source_log.specs.declared.error.SourceError.TheVariants as source
 use Rattle.dbl_demo.specs.Errors.{source_error}
 use Rattle.dbl_demo_laws.proofs.KnownLemmas.{known_written}

@@ -10,7 +10,7 @@ use Rattle.dbl_demo_laws.specs.Demo.{Demo}
 use Rattle.dbl_demo_laws.specs.Reading.{ReadsNext}
 use Rattle.dbl_demo.proofs.HeldLemmas.{number_none, number_some, read_nothing}
 use Rattle.dbl_demo_laws.specs.Running.{StaysKnown}
-use Rattle.dbl_demo_laws.proofs.KnownLemmas.{known_from, known_self}
+use Rattle.dbl_demo_laws.proofs.KnownLemmas.{known_self}
 use Rattle.dbl_demo_laws.proofs.PromiseLemmas.{on_ok}
 use Rattle.dbl_demo.proofs.source.DemoSource.next_bytes.Goals as goal
 

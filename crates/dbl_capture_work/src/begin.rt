@@ -233,6 +233,9 @@ pub fn start_reading<S: Source>(src: &mut S, after: Lsn) -> Result<(), Halt>
         (asked first : _) → result ≢ Err (Halt.Gone asked first) }
     ensures gone_stood { (s : SourceState) → S.stands src.old s → (asked first : _) →
         result ≡ Err (Halt.Gone asked first) → (after.0 < first.0) × (first.0 ≤ s.confirmed.0) }
+    ensures kept { (s : SourceState) → S.stands src.old s → OnOk result (S.keeps_from s after) }
+    ensures dropped { (s : SourceState) → S.stands src.old s → (asked first : _) →
+        result ≡ Err (Halt.Gone asked first) → (¬ S.keeps_from s asked) × S.begins_at s first }
     ensures halt { IfErr result (λ h. (h ≡ Halt.Memory) ⊎ ((h ≡ Halt.Source)
         ⊎ IsGoneFrom after h)) }
     ensures reading { OnOk result (IsTrue (S.is_reading src.new)) }

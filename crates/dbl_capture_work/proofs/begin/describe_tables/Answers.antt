@@ -1,9 +1,9 @@
-use Rattle.std.proofs.Common.{◌≡◌, ◌∙◌, inl, inr, ◌≤◌, ◌<◌, ◌^◌, ℕ, List, [], ◌∷◌, ◌++◌, length, map, get_or, sym, ap, subst, le_refl, rules}
+use Rattle.std.proofs.Common.{◌≡◌, ◌∙◌, inl, inr, ◌≤◌, ◌<◌, ◌^◌, ℕ, List, [], ◌∷◌, ◌++◌, length, map, get_or, sym, ap, subst, le_refl}
 use Rattle.std.specs.Prelude.{Err}
 use Rattle.std.proofs.lemmas.Result.{err_from_is_err_and}
 use Rattle.dbl_model_table.specs.declared.table.TableInfo.{TableInfo}
 use Rattle.dbl_model_table.specs.declared.table.TableName.{TableName}
-use Rattle.dbl_source_model.specs.Standings.{left_of}
+use Rattle.dbl_source_model.specs.Standings.{SourceState, left_of}
 use Rattle.dbl_capture_work.specs.declared.halt.Halt.{Halt}
 use Rattle.dbl_capture_work.specs.declared.halt.Halt.TheVariants as halt
 use Rattle.dbl_capture_work.specs.Begins.{AreInfosAt, IsVersionAt}
@@ -13,17 +13,17 @@ use Rattle.dbl_capture_work.proofs.begin.describe_tables.Goals as goal
 
 pub returns-in_err-infos-clause-rests : goal.returns-in_err-infos-clause-rests
 returns-in_err-infos-clause-rests g c = record {
-  left = search rules;
-  some = search rules;
-  still = search rules;
+  left = λ s l stands may. inl (g.met.S.Source.only c.args.src.now s l stands may);
+  some = λ s stands. (left_of s, g.met.S.Source.may c.args.src.now s stands);
+  still = λ s t old new. ap (λ (x : SourceState). x.reading) (g.met.S.Source.one c.args.src.now t s new old);
   taken = none_taken (g.S.Source.told c.args.src.now);
 }
 
 pub returns-in_err-versions-clause-rests : goal.returns-in_err-versions-clause-rests
 returns-in_err-versions-clause-rests g c = record {
-  left = search rules;
-  some = search rules;
-  still = search rules;
+  left = λ s l stands may. inl (g.met.S.Source.only c.args.src.now s l stands may);
+  some = λ s stands. (left_of s, g.met.S.Source.may c.args.src.now s stands);
+  still = λ s t old new. ap (λ (x : SourceState). x.reading) (g.met.S.Source.one c.args.src.now t s new old);
   taken = none_taken (g.S.Source.told c.args.src.now);
 }
 
@@ -74,17 +74,21 @@ returns-in_err-table-clause-rests g c = record {
   left = λ s l stands may.
       let stood = c.tables.invariant.described s stands in
       rest_on s stood.standing l stood.holds.0 (c.describe_table.ensures.rests.left stood.standing l stood.is may);
-  some = search rules;
-  still = search rules;
+  some = λ s stands. (
+      let stood = c.tables.invariant.described s stands in
+      c.describe_table.ensures.rests.some stood.standing stood.is);
+  still = λ s t old new. (
+      let stood = c.tables.invariant.described s old in
+      c.describe_table.ensures.rests.still stood.standing t stood.is new ∙ stood.holds.0.reading);
   taken =
       taken_on (g.S.Source.told c.args.src.now) (g.S.Source.told c.tables.src) (g.S.Source.told c.describe_table.new.src) c.tables.invariant.taken c.describe_table.ensures.rests.taken;
 }
 
 pub returns-in_err-table-clause-source : goal.returns-in_err-table-clause-source
 returns-in_err-table-clause-source g c = record {
-  live = search rules;
-  honest = search rules;
-  comes = search rules;
+  live = (let p = err_from_is_err_and c.from_residual-in_err-table.result c.from_residual-in_err-table.ensures.1 in rw p.1 tt);
+  honest = λ honest. c.tables.invariant.was_honest (c.describe_table.ensures.source.honest honest);
+  comes = g.met.S.Source.comes_on c.args.src.now c.tables.src c.describe_table.new.src c.tables.invariant.comes c.describe_table.ensures.source.comes;
   cause = record { later = later_on (g.S.Source.faults c.args.src.now) (g.S.Source.faults c.tables.src) (g.S.Source.faults c.describe_table.new.src) c.tables.invariant.later c.describe_table.ensures.source.cause.later; cause = λ is. let p = err_from_is_err_and c.from_residual-in_err-table.result c.from_residual-in_err-table.ensures.1 in let both : Err p.0 ≡ Err halt.Source = sym p.1 ∙ is in let halted : p.0 ≡ halt.Source = cc in rose_after (g.S.Source.faults c.args.src.now) (g.S.Source.faults c.tables.src) (g.S.Source.faults c.describe_table.new.src) c.tables.invariant.later (c.in_err-table.ensures.source.cause.cause (ap (λ (h : Halt). Err h) (sym p.2 ∙ halted))) };
 }
 
@@ -93,15 +97,19 @@ returns-in_err-push-clause-rests g c = record {
   left = λ s l stands may.
       let stood = c.tables.invariant.described s stands in
       rest_on s stood.standing l stood.holds.0 (c.describe_table.ensures.rests.left stood.standing l stood.is may);
-  some = search rules;
-  still = search rules;
+  some = λ s stands. (
+      let stood = c.tables.invariant.described s stands in
+      c.describe_table.ensures.rests.some stood.standing stood.is);
+  still = λ s t old new. (
+      let stood = c.tables.invariant.described s old in
+      c.describe_table.ensures.rests.still stood.standing t stood.is new ∙ stood.holds.0.reading);
   taken =
       taken_on (g.S.Source.told c.args.src.now) (g.S.Source.told c.tables.src) (g.S.Source.told c.describe_table.new.src) c.tables.invariant.taken c.describe_table.ensures.rests.taken;
 }
 
 pub returns-in_err-push-clause-source : goal.returns-in_err-push-clause-source
 returns-in_err-push-clause-source g c = record {
-  live = search rules;
+  live = (let p = err_from_is_err_and c.from_residual-in_err-push.result c.from_residual-in_err-push.ensures.1 in rw p.1 tt);
   honest = λ honest. c.tables.invariant.was_honest (c.describe_table.ensures.source.honest honest);
   comes = g.met.S.Source.comes_on c.args.src.now c.tables.src c.describe_table.new.src c.tables.invariant.comes c.describe_table.ensures.source.comes;
   cause = record { later = later_on (g.S.Source.faults c.args.src.now) (g.S.Source.faults c.tables.src) (g.S.Source.faults c.describe_table.new.src) c.tables.invariant.later c.describe_table.ensures.source.cause.later; cause = λ is. let p = err_from_is_err_and c.from_residual-in_err-push.result c.from_residual-in_err-push.ensures.1 in let both : Err p.0 ≡ Err halt.Source = sym p.1 ∙ is in let halted : p.0 ≡ halt.Source = cc in let wrong : halt.Memory ≡ halt.Source = sym p.2 ∙ halted in cc };
@@ -112,15 +120,19 @@ returns-in_err-push-2-clause-rests g c = record {
   left = λ s l stands may.
       let stood = c.tables.invariant.described s stands in
       rest_on s stood.standing l stood.holds.0 (c.describe_table.ensures.rests.left stood.standing l stood.is may);
-  some = search rules;
-  still = search rules;
+  some = λ s stands. (
+      let stood = c.tables.invariant.described s stands in
+      c.describe_table.ensures.rests.some stood.standing stood.is);
+  still = λ s t old new. (
+      let stood = c.tables.invariant.described s old in
+      c.describe_table.ensures.rests.still stood.standing t stood.is new ∙ stood.holds.0.reading);
   taken =
       taken_on (g.S.Source.told c.args.src.now) (g.S.Source.told c.tables.src) (g.S.Source.told c.describe_table.new.src) c.tables.invariant.taken c.describe_table.ensures.rests.taken;
 }
 
 pub returns-in_err-push-2-clause-source : goal.returns-in_err-push-2-clause-source
 returns-in_err-push-2-clause-source g c = record {
-  live = search rules;
+  live = (let p = err_from_is_err_and c.from_residual-in_err-push-2.result c.from_residual-in_err-push-2.ensures.1 in rw p.1 tt);
   honest = λ honest. c.tables.invariant.was_honest (c.describe_table.ensures.source.honest honest);
   comes = g.met.S.Source.comes_on c.args.src.now c.tables.src c.describe_table.new.src c.tables.invariant.comes c.describe_table.ensures.source.comes;
   cause = record { later = later_on (g.S.Source.faults c.args.src.now) (g.S.Source.faults c.tables.src) (g.S.Source.faults c.describe_table.new.src) c.tables.invariant.later c.describe_table.ensures.source.cause.later; cause = λ is. let p = err_from_is_err_and c.from_residual-in_err-push-2.result c.from_residual-in_err-push-2.ensures.1 in let both : Err p.0 ≡ Err halt.Source = sym p.1 ∙ is in let halted : p.0 ≡ halt.Source = cc in let wrong : halt.Memory ≡ halt.Source = sym p.2 ∙ halted in cc };

@@ -38,7 +38,9 @@ returns-in_err-head-clause-rests g c = record {
   left = λ s l stands may.
       let stood = c.in_ok-tables.ensures.described s stands in
       rest_on s stood.standing l stood.holds.0 (c.head.ensures.left stood.standing l stood.is may);
-  some = search rules;
+  some = λ s stands. (
+      let stood = c.in_ok-tables.ensures.described s stands in
+      c.head.ensures.some stood.standing stood.is);
   still = search rules;
   taken =
       taken_on (g.S.Source.told c.args.src.now) (g.S.Source.told c.describe_tables.new.src) (g.S.Source.told c.head.new.self) c.describe_tables.ensures.rests.taken c.head.ensures.taken;
@@ -46,9 +48,9 @@ returns-in_err-head-clause-rests g c = record {
 
 pub returns-in_err-head-clause-source : goal.returns-in_err-head-clause-source
 returns-in_err-head-clause-source g c = record {
-  live = search rules;
-  honest = search rules;
-  comes = search rules;
+  live = (let p = err_from_is_err_and c.from_residual-in_err-head.result c.from_residual-in_err-head.ensures.1 in rw p.1 tt);
+  honest = λ honest. c.describe_tables.ensures.source.honest (c.head.ensures.honest honest);
+  comes = g.met.S.Source.comes_on c.args.src.now c.describe_tables.new.src c.head.new.self c.describe_tables.ensures.source.comes c.head.ensures.comes;
   cause = record { later = later_on (g.S.Source.faults c.args.src.now) (g.S.Source.faults c.describe_tables.new.src) (g.S.Source.faults c.head.new.self) c.describe_tables.ensures.source.cause.later c.head.ensures.cause.later; cause = λ is. let p = err_from_is_err_and c.from_residual-in_err-head.result c.from_residual-in_err-head.ensures.1 in let both : Err p.0 ≡ Err halt.Source = sym p.1 ∙ is in let halted : p.0 ≡ halt.Source = cc in let failed = source_failed c.in_err-head.field-0.0 (sym p.2 ∙ halted) in rose_after (g.S.Source.faults c.args.src.now) (g.S.Source.faults c.describe_tables.new.src) (g.S.Source.faults c.head.new.self) c.describe_tables.ensures.source.cause.later (c.head.ensures.cause.cause (c.in_err-head.was ∙ ap (λ (e : SourceError). Err e) failed)) };
 }
 
@@ -57,7 +59,9 @@ returns-in_err-offset_at-clause-rests g c = record {
   left = λ s l stands may.
       let stood = c.in_ok-tables.ensures.described s stands in
       rest_on s stood.standing l stood.holds.0 (c.head.ensures.left stood.standing l stood.is may);
-  some = search rules;
+  some = λ s stands. (
+      let stood = c.in_ok-tables.ensures.described s stands in
+      c.head.ensures.some stood.standing stood.is);
   still = λ s t old new.
       let stood = c.in_ok-tables.ensures.described s old in
       let headed = c.in_ok-head.ensures.headed stood.standing stood.is in
@@ -116,7 +120,9 @@ returns-clause-rests g c = record {
   left = λ s l stands may.
       let stood = c.in_ok-tables.ensures.described s stands in
       rest_on s stood.standing l stood.holds.0 (c.head.ensures.left stood.standing l stood.is may);
-  some = search rules;
+  some = λ s stands. (
+      let stood = c.in_ok-tables.ensures.described s stands in
+      c.head.ensures.some stood.standing stood.is);
   still = λ s t old new.
       let stood = c.in_ok-tables.ensures.described s old in
       let headed = c.in_ok-head.ensures.headed stood.standing stood.is in

@@ -96,7 +96,7 @@ returns-in_err-put_group-clause-halt g c =
 
 pub returns-in_err-put_group-clause-sink : goal.returns-in_err-put_group-clause-sink
 returns-in_err-put_group-clause-sink g c = record {
-  live = search rules;
+  live = (let p = err_from_is_err_and c.from_residual-in_err-put_group.result c.from_residual-in_err-put_group.ensures.1 in rw p.1 tt);
   comes = g.met.K.Sink.comes_on c.args.sink.now c.records.sink c.put_group.new.sink c.records.invariant.comes c.put_group.ensures.sink.comes;
   cause = record { later = later_on (g.K.Sink.faults c.args.sink.now) (g.K.Sink.faults c.records.sink) (g.K.Sink.faults c.put_group.new.sink) c.records.invariant.later c.put_group.ensures.sink.cause.later; cause = λ is. let p = err_from_is_err_and c.from_residual-in_err-put_group.result c.from_residual-in_err-put_group.ensures.1 in rose_after (g.K.Sink.faults c.args.sink.now) (g.K.Sink.faults c.records.sink) (g.K.Sink.faults c.put_group.new.sink) c.records.invariant.later (c.in_err-put_group.ensures.sink.cause.cause (ap (λ (x : Halt). Err x) (sym p.2 ∙ same_error _ _ _ p.1 is))) };
 }
@@ -242,8 +242,8 @@ returns-in_err-put_group-2-clause-halt g c =
 
 pub returns-in_err-put_group-2-clause-sink : goal.returns-in_err-put_group-2-clause-sink
 returns-in_err-put_group-2-clause-sink g c = record {
-  live = search rules;
-  comes = search rules;
+  live = (let p = err_from_is_err_and c.from_residual-in_err-put_group-2.result c.from_residual-in_err-put_group-2.ensures.1 in rw p.1 tt);
+  comes = g.met.K.Sink.comes_on c.args.sink.now c.records.sink c.put_group-2.new.sink c.records.invariant.comes c.put_group-2.ensures.sink.comes;
   cause = record { later = later_on (g.K.Sink.faults c.args.sink.now) (g.K.Sink.faults c.records.sink) (g.K.Sink.faults c.put_group-2.new.sink) c.records.invariant.later c.put_group-2.ensures.sink.cause.later; cause = λ is. let p = err_from_is_err_and c.from_residual-in_err-put_group-2.result c.from_residual-in_err-put_group-2.ensures.1 in rose_after (g.K.Sink.faults c.args.sink.now) (g.K.Sink.faults c.records.sink) (g.K.Sink.faults c.put_group-2.new.sink) c.records.invariant.later (c.in_err-put_group-2.ensures.sink.cause.cause (ap (λ (x : Halt). Err x) (sym p.2 ∙ same_error _ _ _ p.1 is))) };
 }
 
@@ -289,7 +289,7 @@ returns-clause-long g c place item at long =
 
 pub returns-in_err-gathered-2-clause-sink : goal.returns-in_err-gathered-2-clause-sink
 returns-in_err-gathered-2-clause-sink g c = record {
-  live = search rules;
+  live = (let p = err_from_is_err_and c.from_residual-in_err-gathered-2.result c.from_residual-in_err-gathered-2.ensures.1 in rw p.1 tt);
   comes = g.met.K.Sink.comes_on c.args.sink.now c.records.sink c.put_group.new.sink c.records.invariant.comes c.put_group.ensures.sink.comes;
   cause = search rules;
 }

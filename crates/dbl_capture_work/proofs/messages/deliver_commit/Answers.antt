@@ -52,8 +52,8 @@ returns-in_err-records-clause-sink g c is =
 
 pub returns-in_err-records-clause-device : goal.returns-in_err-records-clause-device
 returns-in_err-records-clause-device g c = record {
-  live = search rules;
-  comes = search rules;
+  live = (let p = err_from_is_err_and c.from_residual.result c.from_residual.ensures.1 in rw p.1 tt);
+  comes = g.met.K.Sink.comes_self _;
   cause = record { later = omega arith; cause = λ is. let p = err_from_is_err_and c.from_residual.result c.from_residual.ensures.1 in absurd (follow_not_sink c.in_err-records.field-0.0 (sym p.2 ∙ same_error _ _ _ p.1 is)) };
 }
 

@@ -1,4 +1,4 @@
-use Rattle.std.proofs.Common.{◌≡◌, ◌⊎◌, [], ◌∷◌, sym, subst, rules}
+use Rattle.std.proofs.Common.{◌≡◌, ◌∙◌, ◌⊎◌, [], ◌∷◌, sym, subst}
 use Rattle.std.proofs.lemmas.Result.{IfErr-weaker, IfOk-weaker, err_from_is_err_and}
 use Rattle.dbl_source_model.specs.Standings.{HasState}
 use Rattle.dbl_window.specs.declared.error.WindowError.{WindowError}
@@ -27,9 +27,9 @@ pub returns-in_err-marked-clause-rests : goal.returns-in_err-marked-clause-rests
 returns-in_err-marked-clause-rests g c = record {
   left = λ s l stands may.
       mark_left (low_text c.args.idle) (high_text c.args.idle ∷ []) s l (c.low.ensures.rests.left s l stands may);
-  some = search rules;
-  still = search rules;
-  taken = search rules;
+  some = c.low.ensures.rests.some;
+  still = c.low.ensures.rests.still;
+  taken = c.low.ensures.rests.taken;
 }
 
 pub returns-clause-windowed : goal.returns-clause-windowed
@@ -74,15 +74,19 @@ returns-clause-rests g c = record {
       let idle = c.args.idle in
       marked_left (low_text idle) (high_text idle ∷ []) s low.standing l low.holds
       (subst (λ (p : Plan). MayHaveMarks (high_text p ∷ []) low.standing l) c.in_ok-marked.ensures.same (c.select_and_mark_high.ensures.rests.left low.standing l low.is may));
-  some = search rules;
-  still = search rules;
+  some = λ s stands. (
+      let low = c.in_ok-marked.ensures.marks s stands in
+      c.select_and_mark_high.ensures.rests.some low.standing low.is);
+  still = λ s t old new. (
+      let low = c.in_ok-marked.ensures.marks s old in
+      c.select_and_mark_high.ensures.rests.still low.standing t low.is new ∙ c.low.ensures.rests.still s low.standing old low.is);
   taken = taken_on (g.S.Source.told c.args.src.now) (g.S.Source.told c.low.new.src) (g.S.Source.told c.select_and_mark_high.new.src) c.low.ensures.rests.taken c.select_and_mark_high.ensures.rests.taken;
 }
 
 pub returns-clause-source : goal.returns-clause-source
 returns-clause-source g c = record {
-  live = search rules;
-  honest = search rules;
+  live = c.select_and_mark_high.ensures.source.live;
+  honest = λ honest. c.low.ensures.source.honest (c.select_and_mark_high.ensures.source.honest honest);
   comes = g.met.S.Source.comes_on c.args.src.now c.low.new.src c.select_and_mark_high.new.src c.low.ensures.source.comes c.select_and_mark_high.ensures.source.comes;
   cause = record { later = later_on (g.S.Source.faults c.args.src.now) (g.S.Source.faults c.low.new.src) (g.S.Source.faults c.select_and_mark_high.new.src) c.low.ensures.source.cause.later c.select_and_mark_high.ensures.source.cause.later; cause = λ is. rose_after (g.S.Source.faults c.args.src.now) (g.S.Source.faults c.low.new.src) (g.S.Source.faults c.select_and_mark_high.new.src) c.low.ensures.source.cause.later (c.select_and_mark_high.ensures.source.cause.cause is) };
 }

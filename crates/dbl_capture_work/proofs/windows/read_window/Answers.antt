@@ -1,4 +1,4 @@
-use Rattle.std.proofs.Common.{◌≡◌, ◌∙◌, ◌+◌, ◌<◌, inl, Some, List, length, refl, sym, ap, subst, rules}
+use Rattle.std.proofs.Common.{◌≡◌, ◌∙◌, ◌+◌, ◌<◌, inl, Some, List, length, refl, sym, ap, subst}
 use Rattle.std.specs.Prelude.{Err, slice_get}
 use Rattle.std.proofs.lemmas.Option.{slice_get_read}
 use Rattle.std.proofs.lemmas.Result.{err_from_is_err_and}
@@ -108,9 +108,9 @@ returns-in-Err-clause-never g c s infos plan stands honest planned captured =
 
 pub returns-in-Err-clause-source : goal.returns-in-Err-clause-source
 returns-in-Err-clause-source g c = record {
-  live = search rules;
-  honest = search rules;
-  comes = search rules;
+  live = tt;
+  honest = c.read_between_watermarks.ensures.source.honest;
+  comes = c.read_between_watermarks.ensures.source.comes;
   cause = record { later = c.read_between_watermarks.ensures.source.cause.later; cause = λ is. let halted : c.halt_of.result ≡ halt.Source = cc in let failed = halt_failed c.index-info.result.now.name c.halt_of.result c.in-Err.error c.halt_of.ensures halted in c.read_between_watermarks.ensures.source.cause.cause (c.in-Err.is ∙ ap (λ (e : WindowError). Err e) failed) };
 }
 

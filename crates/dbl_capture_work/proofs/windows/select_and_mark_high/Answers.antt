@@ -1,4 +1,4 @@
-use Rattle.std.proofs.Common.{◌≡◌, ◌⊎◌, [], ◌∷◌, inr, sym, ap, subst, rules}
+use Rattle.std.proofs.Common.{◌≡◌, ◌∙◌, ◌⊎◌, [], ◌∷◌, inr, sym, ap, subst, rules}
 use Rattle.std.specs.Prelude.{Err}
 use Rattle.std.proofs.lemmas.Result.{IfErr-weaker, IfOk-weaker, err_from_is_err_and}
 use Rattle.dbl_source_model.specs.Calls.{IsMarked}
@@ -29,9 +29,9 @@ returns-in_err-held-clause-never g c s infos stands honest captured =
 pub returns-in_err-held-clause-rests : goal.returns-in_err-held-clause-rests
 returns-in_err-held-clause-rests g c = record {
   left = λ s l stands may. others_left (high_text c.args.marked ∷ []) s l (c.select.ensures.rests.left s l stands may);
-  some = search rules;
-  still = search rules;
-  taken = search rules;
+  some = c.select.ensures.rests.some;
+  still = c.select.ensures.rests.still;
+  taken = c.select.ensures.rests.taken;
 }
 
 pub returns-clause-looked : goal.returns-clause-looked
@@ -72,8 +72,12 @@ returns-clause-rests g c = record {
       let values = high_text c.args.marked ∷ [] in
       moved_left values s stood.standing l stood.holds.0
       (subst (λ (p : Plan). MayHaveMarks (high_text p ∷ []) stood.standing l) c.in_ok-held.ensures.same (mark_left (high_text held.plan) [] stood.standing l (inr (c.high.ensures.rests.left stood.standing l stood.is may))));
-  some = search rules;
-  still = search rules;
+  some = λ s stands. (
+      let stood = c.in_ok-held.ensures.held s stands in
+      c.high.ensures.rests.some stood.standing stood.is);
+  still = λ s t old new. (
+      let stood = c.in_ok-held.ensures.held s old in
+      c.high.ensures.rests.still stood.standing t stood.is new ∙ c.select.ensures.rests.still s stood.standing old stood.is);
   taken = taken_on (g.S.Source.told c.args.src.now) (g.S.Source.told c.select.new.src) (g.S.Source.told c.high.new.src) c.select.ensures.rests.taken c.high.ensures.rests.taken;
 }
 
@@ -85,8 +89,8 @@ returns-clause-answered g c = record {
 
 pub returns-clause-source : goal.returns-clause-source
 returns-clause-source g c = record {
-  live = search rules;
-  honest = search rules;
+  live = c.high.ensures.source.live;
+  honest = λ honest. c.select.ensures.source.honest (c.high.ensures.source.honest honest);
   comes = g.met.S.Source.comes_on c.args.src.now c.select.new.src c.high.new.src c.select.ensures.source.comes c.high.ensures.source.comes;
   cause = record { later = later_on (g.S.Source.faults c.args.src.now) (g.S.Source.faults c.select.new.src) (g.S.Source.faults c.high.new.src) c.select.ensures.source.cause.later c.high.ensures.source.cause.later; cause = λ is. rose_after (g.S.Source.faults c.args.src.now) (g.S.Source.faults c.select.new.src) (g.S.Source.faults c.high.new.src) c.select.ensures.source.cause.later (c.high.ensures.source.cause.cause is) };
 }

@@ -8,6 +8,7 @@ ghost use Rattle.dbl_capture_work.specs.CaptureModel.Entries.{SessionStart, WasF
 ghost use Rattle.dbl_capture_laws.specs.Closed.{HasClosedRead};
 ghost use Rattle.dbl_capture_laws.specs.Found.{Found, IsOfConfig, IsEntryOf};
 ghost use Rattle.dbl_capture_laws.specs.Nevers.{IsFaithfulHalt};
+ghost use Rattle.dbl_capture.specs.Gone.{TellsIfGone};
 ghost use Rattle.dbl_capture.specs.SessionEnds.{LeavesStores, MayStoreOffset, AddsMarks};
 ghost use Rattle.dbl_capture.specs.SessionEnds.{AddsRecords, ReportsByTrace, ReportsByState};
 ghost use Rattle.dbl_capture.specs.SessionEnds.{CountsWithin, TalliesRecords, EndsNormally};
@@ -80,6 +81,7 @@ pub fn session<S: Source, K: Sink, D: Disk>(
         report.new result }
     ensures halt_by_state { HaltsByState S.Source config.now now_ms src.old src.new offsets.old
         offsets.new report.new result }
+    ensures gone { TellsIfGone S.Source src.old offsets.old result }
     ensures own { NeverHalts S.Source config.now now_ms src.old src.new offsets.old result }
     // Over a conforming source and faithful stores the cause of an error is in the source's
     // history.

@@ -1,6 +1,7 @@
 //! How a session opens: with the first offset of its connector, or with the stored one.
 
 ghost use Rattle.dbl_capture_work.specs.Begins.{MayRest};
+ghost use Rattle.dbl_capture.specs.Gone.{TellsIfGone};
 ghost use Rattle.dbl_capture.specs.OpenSteps.{IsReadyToBegin, FindsOffset, FindsByState};
 ghost use Rattle.dbl_capture.specs.OpenSteps.{StopsFinding, KeepsBegun, StoresFirst};
 ghost use Rattle.dbl_capture.specs.OpenSteps.{BeginsByState, StopsBeginning, KeepsOpened};
@@ -83,6 +84,7 @@ pub(crate) fn open_session<S: Source, K: Sink, D: Disk>(
     ensures report { ReportsOpened S.Source K.Sink config.now now_ms src.old src.new sink.now
         store.old store.new report.old report.new result }
     ensures stops { StopsOpening S.Source src.new store.old result }
+    ensures gone { TellsIfGone S.Source src.old store.old result }
     ensures source { KeepsSource S.Source src.old src.new result Halt.Source }
     ensures store { KeepsStore D.Disk store.old store.new result Halt.Offsets }
 {

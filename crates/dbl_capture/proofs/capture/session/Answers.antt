@@ -11,7 +11,7 @@ use Rattle.dbl_capture_laws.proofs.StepCauses.{err_at, err_then, residual_is, re
 use Rattle.dbl_capture_laws.specs.Ends.{HasOwnStored}
 use Rattle.dbl_capture_laws.specs.Found.{session_start_at}
 use Rattle.dbl_capture_laws.proofs.Endings.{complete_left, first_of_stored, first_stored, has_stored, own_first, position_is, stored_anew}
-use Rattle.dbl_capture_laws.proofs.Keeping.{either_answer, ok_then, rests, some_chunk}
+use Rattle.dbl_capture_laws.proofs.Keeping.{either_answer, ok_then, on_ok, rests, some_chunk}
 use Rattle.dbl_capture_laws.proofs.Openings.{going_left, source_found, told_found}
 use Rattle.dbl_capture_laws.specs.Closed.{HasClosedRead}
 use Rattle.dbl_capture_laws.proofs.Unclosed.{closed_either, closed_read, closed_unread}
@@ -482,6 +482,20 @@ returns-clause-unclosed g c entry asked f honest faithful t now =
     (ok_then c.process_messages.result _ _ (ok_pair c.process_messages.result _ _ (c.process_messages.ensures.session.next true entry in_session honest) (c.process_messages.ensures.report.all (Some f.standing) (g.S.Source.told c.args.src.now) b u))
     (λ x. closed_read x.0 faithful c.process_messages.new.store.offset c.process_messages.new.report t x.1.stored_is (g.met.S.Source.one c.process_messages.new.src t (state_at_stage x.0.stage) now x.0.source_is) x.1.is.is.windows))
     (c.process_messages.ensures.session.unclosed entry f.standing (g.S.Source.told c.args.src.now) b in_session u faithful honest t now)
+
+-- ---- whether the log is gone
+
+pub returns-in_err-work-clause-gone : goal.returns-in_err-work-clause-gone
+returns-in_err-work-clause-gone g c = record {
+  kept = λ s was stored had. no_ok c.from_residual.result _ _ c.from_residual.ensures.1;
+  dropped = λ s was asked first gone. c.open_session.ensures.gone.dropped s was asked first (residual_is c.from_residual.result c.open_session.result _ _ c.in_err-work.was c.from_residual.ensures.1 gone);
+}
+
+pub returns-clause-gone : goal.returns-clause-gone
+returns-clause-gone g c = record {
+  kept = λ s was stored had. on_ok c.process_messages.result _ (c.in_ok-work.ensures.gone.kept s was stored had);
+  dropped = λ s was asked first gone. absurd (err_at c.process_messages.result _ IsNotGone c.process_messages.ensures.state.reads gone);
+}
 
 -- ---- whose fault it is
 

@@ -1,7 +1,8 @@
-use Rattle.std.proofs.Common.{◌∙◌, ◌≤◌, ◌<◌, ◌^◌, inl, inr, ℕ, ℤ, Option, Err, refl, sym, ap, subst, arith}
+use Rattle.std.proofs.Common.{◌≡◌, ◌∙◌, ◌≤◌, ◌<◌, ◌^◌, inl, inr, ℕ, ℤ, Option, None, Some, Err, refl, sym, ap, subst, arith}
 use Rattle.std.proofs.Math.Facts.{to_z-of_z}
 use Rattle.dbl_model_table.specs.declared.config.Config.{Config}
 use Rattle.dbl_model_history.specs.Fit.{IsFitHistory}
+use Rattle.dbl_base.specs.declared.lsn.Lsn.{Lsn}
 use Rattle.dbl_source.specs.SourceModel.Standings.{left_of}
 use Rattle.dbl_capture_work.proofs.FaithfulItems.{first_some}
 use Rattle.dbl_offset_content.specs.declared.offset.Offset.{Offset}
@@ -24,7 +25,7 @@ use Rattle.dbl_capture_laws.proofs.StepHalting.{open_caused}
 use Rattle.dbl_capture_laws.proofs.Telling.{not_both, residual_on}
 use Rattle.dbl_capture_laws.specs.Sinks.{IsPutting}
 use Rattle.dbl_capture_laws.proofs.Sinks.{puts_begin}
-use Rattle.dbl_capture_work.specs.Begins.{IsAbsentHalt}
+use Rattle.dbl_capture_work.specs.Begins.{IsAbsentHalt, IsOffsetFor}
 use Rattle.dbl_capture_laws.proofs.Telling.{memory_absent, start_absent}
 use Rattle.dbl_capture_laws.specs.HasState.{IsGoneBelow}
 use Rattle.dbl_capture_laws.proofs.Going.{begin_reads, free_below, kept_low, memory_reads, not_gone, start_below}
@@ -309,6 +310,37 @@ returns-clause-by_state g c = record {
       let mid = c.in_ok-offset.ensures.by_state.stood s was in
       others_add_no_marks mid.standing.history left.history (c.start_reading.ensures.left mid.standing left mid.is may).grows ∙ others_add_no_marks s.history mid.standing.history mid.holds.grows;
   long = λ s was none. err_then c.make.result _ (IsLongBy c.args.config.now s.history) c.make.ensures.memory (λ h is. free_long c.args.config.now s.history h (memory_free h is));
+}
+
+-- ---- whether the log is gone
+
+-- a session of a stored offset begins after its LSN
+stored_lsn : (config : Config) (old : Option Offset) (first stored : Offset) → IsOffsetFor config old first → old ≡ Some stored → first.lsn ≡ stored.lsn
+stored_lsn config None first stored for is = let wrong : None ≡ Some stored = is in cc
+stored_lsn config (Some found) first stored for is = ap (λ (o : Offset). o.lsn) for ∙ ap (λ (o : Offset). o.lsn) (first_some found stored is)
+
+pub returns-in_err-offset-clause-gone : goal.returns-in_err-offset-clause-gone
+returns-in_err-offset-clause-gone g c = record {
+  kept = λ s is stored had. no_ok c.from_residual.result _ _ c.from_residual.ensures.1;
+  dropped = λ s is asked first gone. absurd (err_at c.from_residual.result _ IsNotGone (residual_of c.from_residual.result _ IsNotGone c.from_residual.ensures.1 (begin_reads c.args.config.now c.args.store.now.offset (g.S.Source.told c.begin_session.new.src) _ c.in_err-offset.ensures.stops.halt)) gone);
+}
+
+pub returns-in_err-start_reading-clause-gone : goal.returns-in_err-start_reading-clause-gone
+returns-in_err-start_reading-clause-gone g c = record {
+  kept = λ s is stored had. no_ok c.from_residual-in_err-start_reading.result _ _ c.from_residual-in_err-start_reading.ensures.1;
+  dropped = λ s is asked first gone.
+      let mid = c.in_ok-offset.ensures.by_state.stood s is in
+      let said = c.start_reading.ensures.dropped mid.standing mid.is asked first (residual_is c.from_residual-in_err-start_reading.result c.start_reading.result _ _ c.in_err-start_reading.was c.from_residual-in_err-start_reading.ensures.1 gone) in
+      (mid.standing, mid.holds, said.0, said.1);
+}
+
+pub returns-clause-gone : goal.returns-clause-gone
+returns-clause-gone g c = record {
+  kept = λ s is stored had.
+      let mid = c.in_ok-offset.ensures.by_state.stood s is in
+      let same : c.in_ok-offset.offset.lsn ≡ stored.lsn = stored_lsn c.args.config.now c.args.store.now.offset c.in_ok-offset.offset stored c.in_ok-offset.ensures.state.of had in
+      on_ok c.make.result _ (mid.standing, mid.holds, subst (λ (l : Lsn). g.S.Source.keeps_from mid.standing l) same (c.in_ok-start_reading.ensures.kept mid.standing mid.is));
+  dropped = λ s is asked first gone. absurd (err_at c.make.result _ IsNotGone (err_then c.make.result _ IsNotGone c.make.ensures.memory (λ h memory. memory_reads h memory)) gone);
 }
 
 -- ---- whose fault it is

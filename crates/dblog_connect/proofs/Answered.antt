@@ -1,6 +1,6 @@
 -- What a session amounts to over opened stores, where they are kept and where not.
 use Rattle.std.proofs.Common.{◌≤◌, ◌≡◌, ◌∙◌, ◌⊎◌, inl, inr, ℕ, ℤ, ◌+◌, ◌==◌, Bool, false, if◌then◌else◌, arith, ◌++◌, Option, Some, None, List, length, Result, Ok, Err, refl, sym, ap, subst}
-use Rattle.std.specs.Prelude.{is_some}
+use Rattle.std.specs.Prelude.{IfSome, is_some}
 use Rattle.std.specs.List.{AllByRecursion}
 use Rattle.dbl_base.specs.declared.lsn.Lsn.{Lsn}
 use Rattle.dbl_record.specs.declared.record.Record.{Record}
@@ -11,6 +11,7 @@ use Rattle.dbl_model_history.specs.History.{IsRising}
 use Rattle.dbl_demo.specs.SourceLog.declared.reader_position.ReaderPosition.{ReaderPosition}
 use Rattle.dbl_demo.proofs.SourceLogLogLemmas.{is_rising}
 use Rattle.dbl_model_commit.specs.Past.{last_lsn}
+use Rattle.dbl_demo.specs.SourceModel.Calls.{IsConfirmedUpTo, Moved}
 use Rattle.dbl_demo.specs.SourceModel.Standings.{CrashState, Reading, SourceState}
 use Rattle.dbl_demo.specs.SourceModel.Stated.{commits_after}
 use Rattle.dbl_topic.specs.Held.{HoldsGroups}
@@ -138,6 +139,14 @@ at_begun asked w t f P begun old config read asks p =
 few_of : (config : Config) (now : ℤ) (old left : Contents) → AddsFewBy (found.session_start_at config now (standing_in old.wal None) old.offset) (left_in left.wal) → GrowsByFewMarks config old left
 few_of config now old left (inl none) = inl none
 few_of config now old left (inr added) = inr (added.infos, added.captured, added.few)
+
+-- the log after the offset was there
+log_kept : (confirmed : Lsn) (offset : Offset) (s : SourceState) → s.confirmed ≡ confirmed → ((t : SourceState) × Moved s t × IsConfirmedUpTo t offset.lsn) → confirmed.0 ≤ offset.lsn.0
+log_kept confirmed offset s is had = subst (λ (l : Lsn). l.0 ≤ offset.lsn.0) (had.1.confirmed ∙ is) had.2
+
+each_stored : {P : Offset → Type 0} (stored : Option Offset) → ((offset : Offset) → stored ≡ Some offset → P offset) → IfSome stored P
+each_stored None all = tt
+each_stored (Some offset) all = all offset refl
 
 -- ---- the session
 
@@ -280,6 +289,7 @@ module _ {W T F : Type 0} (wal_model : DiskModel W) (topics_model : DiskModel T)
         gained = gained_by (counted_ok ending is);
         raised = λ h exhausted. (let wrong : Ok ending ≡ Err h = sym is ∙ ran.exhausted h exhausted in cc);
         captured = λ none. ran.captures first first_stands none (settled_at ending is stands.0 stands.1).stored;
+        kept = each_stored {P = λ offset. (confirmed_of src.wal).0 ≤ offset.lsn.0} fo.offset (λ offset stored. log_kept (confirmed_of src.wal) offset first refl (ok_is result ending (λ e. (t : SourceState) × Moved first t × IsConfirmedUpTo t offset.lsn) (ran.kept first first_stands offset stored) is));
         stored = fn.offset;
         store = left_store wal_model topics_model offsets_model is_w is_t is_f w t f so lo fo src lg st config now sn ln fn report result ran (λ failed. (let wrong : Ok ending ≡ Err halt.Offsets = sym is ∙ failed in cc));
         first = ran.firsts first first_stands;
@@ -378,6 +388,7 @@ module _ {W T F : Type 0} (wal_model : DiskModel W) (topics_model : DiskModel T)
     absent = err_is result h _ (ran.absent first first_stands) is;
     own = λ own. err_is result h _ (ran.own first first_stands own) is;
     below = err_is result h _ (ran.gone_stood first first_stands) is;
+    from = λ asked far same. (let gone = ran.dropped first first_stands asked far (is ∙ ap (λ (x : Halt). Err x) same) in gone.3 ∙ gone.1.confirmed);
     gone = λ asked far same subsequent. ran.gone first first_stands subsequent asked far (is ∙ ap (λ (x : Halt). Err x) same);
     missing = λ value at same within. ran.missing first first_stands within value at (is ∙ ap (λ (x : Halt). Err x) same);
     long = λ none still. err_is result h _ (ran.long first first_stands none still) is;

@@ -119,6 +119,7 @@ pub record IsHaltOver (config : Config) (now : ℤ) (old : Contents) (new : Opti
   pub own : HasOwnTables old → IsHonestHalt (found.session_start_at config now (standing_in old.wal None) old.offset) stands h
   pub gone : (asked first : Lsn) → h ≡ halt.Gone asked first → IsKeptAfter (confirmed_at old) old.offset → ⊥
   pub below : IsGoneBelow (confirmed_at old) h
+  pub from : (asked first : Lsn) → h ≡ halt.Gone asked first → first ≡ confirmed_at old
   pub missing : (value : List ℕ) (at : Lsn) → h ≡ halt.WatermarkMissing value at → IsWithinLog (history_at old) old.offset → ⊥
   pub long : old.offset ≡ None → new ≡ None → IsLongBy config (history_at old) h
 
@@ -181,7 +182,7 @@ module _ (config : Config) (now : ℤ) (old : Contents) (new : Option Offset) (r
     by = over.is.0;
     asked_is = over.is.1;
     above = over.below.0;
-    dropped = over.below.1;
+    first_is = over.from asked first refl;
   }
   cause_of (halt.WatermarkMissing value at) over =
       (beyond_log old old.offset refl (is_rising (tables_of old.wal) (logged_in old.wal.entries)) (over.missing value at refl), at_halt (halt.WatermarkMissing value at) over.stood)

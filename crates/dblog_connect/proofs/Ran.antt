@@ -6,6 +6,7 @@ use Rattle.dbl_record.specs.declared.record.Record.{Record}
 use Rattle.dbl_disk.specs.Model.{DiskModel}
 use Rattle.dbl_model_table.specs.declared.config.Config.{Config}
 use Rattle.dbl_journal.specs.Stored.{OnDisk}
+use Rattle.dbl_demo.specs.SourceModel.Calls.{IsConfirmedAt, IsConfirmedUpTo, Moved}
 use Rattle.dbl_demo.specs.SourceModel.Standings.{CrashState, SourceState, HasState}
 use Rattle.dbl_topic.specs.Held.{ExtendsTopics as LogComesOf, HoldsGroups, MayLeaveGroups}
 use Rattle.dbl_offset_content.specs.declared.offset.Offset.{Offset}
@@ -76,6 +77,10 @@ pub record Ran {W T F : Type 0} (wal_model : DiskModel W) (topics_model : DiskMo
   pub absent : (s : SourceState) → HasDemoState wal_model so s → IfErr result (IsAbsentHalt config.tables s.history)
   pub gone : (s : SourceState) → HasDemoState wal_model so s → IsKeptAfter s.confirmed fo.offset → (asked first : Lsn) → result ≡ Err (halt.Gone asked first) → ⊥
   pub gone_stood : (s : SourceState) → HasDemoState wal_model so s → IfErr result (IsGoneBelow s.confirmed)
+  pub kept : (s : SourceState) → HasDemoState wal_model so s → (stored : Offset) → fo.offset ≡ Some stored
+      → OnOk result ((t : SourceState) × Moved s t × IsConfirmedUpTo t stored.lsn)
+  pub dropped : (s : SourceState) → HasDemoState wal_model so s → (asked first : Lsn) → result ≡ Err (halt.Gone asked first)
+      → (t : SourceState) × Moved s t × (¬ IsConfirmedUpTo t asked) × IsConfirmedAt t first
   pub missing : (s : SourceState) → HasDemoState wal_model so s → IsWithinLog s.history fo.offset
       → (value : List ℕ) (at : Lsn) → result ≡ Err (halt.WatermarkMissing value at) → ⊥
   pub own : (s : SourceState) → HasDemoState wal_model so s → HadOwnTables (session_start_at config now s fo.offset)

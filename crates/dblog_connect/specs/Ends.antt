@@ -34,7 +34,7 @@ use Rattle.dblog_init.specs.declared.error.Store.TheVariants.{Wal as WalStore, T
 use Rattle.dbl_capture.specs.CaptureLaws.Captured.{IsTableHalt}
 use Rattle.dblog_promise.specs.Bounds.{GrowsByFewMarks, AddsReportedMarks}
 use Rattle.dblog_promise.specs.Causes.{HasGained, HasRead, IsCauseOf, IsKeptHalt}
-use Rattle.dblog_promise.specs.Contents.{Contents, HasOwnTables, ReadAs, history_at}
+use Rattle.dblog_promise.specs.Contents.{Contents, HasOwnTables, ReadAs, confirmed_at, history_at}
 use Rattle.dblog_promise.specs.PromiseLaws.{AreCountedWhole}
 use Rattle.dblog_promise.specs.Reports.{IsReportOf, IsWatermark}
 use Rattle.dblog_connect.specs.declared.asked.Asked.{Asked}
@@ -136,6 +136,8 @@ pub record HasRun (asked : Asked) (now : ℤ) (wals logs stores : List ℕ → T
   pub gained : AreGained logs begun.held summary.report
   pub raised : (h : Halt) → IsExhausted begun.held.offset h → ⊥
   pub captured : begun.held.offset ≡ None → AllByRecursion (CanBeCaptured (history_at begun.held)) begun.config.tables
+  -- The source still had the log after the stored LSN: none above it was confirmed.
+  pub kept : IfSome begun.held.offset (λ offset. (confirmed_at begun.held).0 ≤ offset.lsn.0)
   pub stored : Option Offset
   pub store : AreStores stores stored
   pub first : IsFirstStored begun.config (history_at begun.held) begun.held.offset stored

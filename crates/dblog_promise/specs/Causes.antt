@@ -80,14 +80,13 @@ abbrev pub IsConfirmedBeyond : Lsn → Option Offset → Type 0
 IsConfirmedBeyond confirmed None = 0 < confirmed.0
 IsConfirmedBeyond confirmed (Some offset) = offset.lsn.0 < confirmed.0
 
--- The source has the log only from above the session's stored LSN, though no further than was confirmed, since the confirmed LSN was too
--- high when the session began.
+-- The source's log begins at the LSN that was confirmed when the session began, which was above the session's stored LSN.
 pub record IsGoneAfter (config : Config) (old : Contents) (stored : Option Offset) (asked first : Lsn) : Type 0 where
   pub beyond : IsConfirmedBeyond (confirmed_at old) old.offset
   pub by : HasStored config old.offset stored
   pub asked_is : asked ≡ by.offset.lsn
   pub above : asked.0 < first.0
-  pub dropped : first.0 ≤ (confirmed_at old).0
+  pub first_is : first ≡ confirmed_at old
 
 -- The stored LSN lies beyond the log: above each of its commits.
 pub record IsBeyondLog (held : Contents) : Type 0 where

@@ -214,6 +214,31 @@ fn put_messages<O: Output>(
     Ok(unfinished_fault(replayer.inside()))
 }
 
+// Reads the byte strings as a log of either protocol version, and appends the lines of all commits
+// of their messages, up to the first error, which it returns, for a new replayer.
+fn put_strings<O: Output>(
+    alloc: Global,
+    replayer: &mut MaskingReplayer,
+    stream: bool,
+    strings: Vec<Bytes>,
+    now_ms: &i64,
+    output: &mut O,
+    lines: &mut LineWriter,
+) -> Result<Option<LogFault>, PrintError>
+    requires { (options : LogOptions) × FollowsMasked options [] replayer.old }
+    ensures puts { (options : LogOptions) (pieces : List Piece) →
+        FollowsMasked options [] replayer.old → ReadsPieces stream strings.items pieces
+        → PutsLog options now_ms.now (masked_pieces options.mask [] pieces) lines.old lines.new
+        result (O.written output.old) (O.written output.new) }
+    ensures cause { FailsOnlyIfCounted (result ≡ Err PrintError.OutputFailed)
+        (O.faults output.old) (O.faults output.new) }
+{
+    if stream {
+        return put_streamed(alloc, replayer, strings, now_ms, output, lines);
+    }
+    put_messages(alloc, replayer, strings, now_ms, output, lines)
+}
+
 // Reads the byte strings, and appends the lines of all commits of their messages, up to the first
 // error, which it returns.
 fn put_log<O: Output>(
@@ -235,10 +260,9 @@ fn put_log<O: Output>(
         Ok(replayer) => replayer,
         Err(_) => return Err(PrintError::Memory),
     };
-    if stream {
-        return put_streamed(alloc, &mut replayer, strings, now_ms, output, lines);
-    }
-    put_messages(alloc, &mut replayer, strings, now_ms, output, lines)
+    let result = put_strings(alloc, &mut replayer, stream, strings, now_ms, output, lines);
+    drop(replayer);
+    result
 }
 
 fn line_of_fault(alloc: Global, fault: &LogFault) -> Result<Text, AllocError>
@@ -335,7 +359,11 @@ pub fn print_log<O: Output>(
         Err(_) => return Err(PrintError::Memory),
     };
     match put_log(alloc, options, stream, strings, now_ms, output, &mut lines) {
-        Ok(fault) => finish_log(alloc, &fault, output, lines),
+        Ok(fault) => {
+            let result = finish_log(alloc, &fault, output, lines);
+            drop(fault);
+            result
+        }
         Err(error) => Err(error),
     }
 }

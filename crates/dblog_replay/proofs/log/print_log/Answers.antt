@@ -15,4 +15,4 @@ returns-in-Err-put_log-clause-prints g c =
 pub returns-in-Ok-put_log-clause-prints : goal.returns-in-Ok-put_log-clause-prints
 returns-in-Ok-put_log-clause-prints g c =
     λ pieces read. ended_log c.args.options c.args.now_ms.now (masked_pieces c.args.options.mask [] pieces) c.in-Ok.lines _ _ _ _ _ _ c.in-Ok.ensures
-    (c.in-Ok-put_log.ensures.puts pieces read) c.finish_log.ensures.ends
+    (c.in-Ok-put_log.ensures.puts pieces read) c.finish_log-result.ensures.ends

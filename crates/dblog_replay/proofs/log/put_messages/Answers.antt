@@ -1,4 +1,4 @@
-use Rattle.std.proofs.Common.{◌≡◌, ℕ, ◌+◌, Option, Some, None, List, [], ◌∷◌, length, sym, ap, subst, arith, rules}
+use Rattle.std.proofs.Common.{◌≡◌, ℕ, ◌+◌, Option, Some, None, List, [], ◌∷◌, length, sym, ap, subst, arith}
 use Rattle.dblog_replay.proofs.FollowLemmas.{IsLogging, reading_same, read_on, stepped_replays, logging_begins, logging_more, logging_stops, logging_ends}
 use Rattle.dblog_replay.proofs.FollowLemmas.{logging_fails, empty_is}
 use Rattle.dblog_replay.proofs.log.put_messages.Goals as goal
@@ -18,7 +18,7 @@ messages-init g c =
 
 pub messages-preserved : goal.messages-preserved
 messages-preserved g c =
-    let split : c.messages.bytes-iterator.rest.items ≡ c.in-Some.bytes ∷ c.next.new.self.rest.items = search rules in
+    let split : c.messages.bytes-iterator.rest.items ≡ c.in-Some.bytes ∷ c.next.new.self.rest.items = c.in-Some.ensures.steps.0 in
     let f = c.messages.invariant.1 in
     let is = reading_same f.options c.args.now_ms.now f.ms _ c.in-Some.bytes _ _ c.put_bytes.new.replayer c.in-Ok-None.field-0 None _ _
     (c.in-Ok-None.ensures.steps f.options f.ms f.follows) c.in-Ok-None.field-0-is in
@@ -36,7 +36,7 @@ messages-preserved g c =
 pub returns-in-Ok-Some-clause-puts : goal.returns-in-Ok-Some-clause-puts
 returns-in-Ok-Some-clause-puts g c = λ options pieces follows read.
     let so_far = c.messages.invariant.0 options pieces follows read in
-    let split : c.messages.bytes-iterator.rest.items ≡ c.in-Some.bytes ∷ c.next.new.self.rest.items = search rules in
+    let split : c.messages.bytes-iterator.rest.items ≡ c.in-Some.bytes ∷ c.next.new.self.rest.items = c.in-Some.ensures.steps.0 in
     let is = reading_same options c.args.now_ms.now so_far.ms _ c.in-Some.bytes _ _ c.put_bytes.new.replayer c.in-Ok-Some.field-0 (Some c.in-Ok-Some.fault) _ _
     (c.in-Ok-Some.ensures.steps options so_far.ms so_far.follows) c.in-Ok-Some.field-0-is in
     logging_stops _ _ _ _ _ _ _ _ _ _ _ _ _ _ c.put_bytes.new.replayer c.in-Ok-Some.fault so_far split is
@@ -44,7 +44,7 @@ returns-in-Ok-Some-clause-puts g c = λ options pieces follows read.
 pub returns-in-Err-clause-puts : goal.returns-in-Err-clause-puts
 returns-in-Err-clause-puts g c = λ options pieces follows read.
     let so_far = c.messages.invariant.0 options pieces follows read in
-    let split : c.messages.bytes-iterator.rest.items ≡ c.in-Some.bytes ∷ c.next.new.self.rest.items = search rules in
+    let split : c.messages.bytes-iterator.rest.items ≡ c.in-Some.bytes ∷ c.next.new.self.rest.items = c.in-Some.ensures.steps.0 in
     logging_fails _ _ _ _ _ _ _ _ c.put_bytes.new.lines _ _ _ _ _ c.put_bytes.new.replayer _ so_far split (c.in-Err.ensures.steps options so_far.ms so_far.follows)
 
 pub returns-clause-puts : goal.returns-clause-puts

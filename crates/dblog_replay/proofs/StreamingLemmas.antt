@@ -1,6 +1,6 @@
 -- A log of protocol version 2, whose pieces are put one after another.
-use Rattle.std.proofs.Common.{◌≡◌, ◌≢◌, ◌⊎◌, ℕ, ℤ, ◌+◌, Bool, true, false, List, [], ◌∷◌, ◌++◌, length}
-use Rattle.std.proofs.Common.{map, refl, sym, ap, subst, ◌∙◌, append_assoc, append-nil, arith, inl, inr}
+use Rattle.std.proofs.Common.{◌≡◌, ◌≢◌, ◌⊎◌, ℕ, ℤ, ◌+◌, Bool, true, false, List, [], ◌∷◌, ◌++◌}
+use Rattle.std.proofs.Common.{refl, sym, ap, subst, ◌∙◌, append_assoc, append-nil, inl, inr}
 use Rattle.std.specs.Prelude.{Option, Some, None, is_some, ◌||◌, Result, Ok, Err, OnOk, IfOk, IfErr}
 use Rattle.dbl_lines.specs.declared.error.PrintError.{PrintError}
 use Rattle.dbl_lines.specs.declared.error.PrintError.TheVariants.{Memory}
@@ -26,9 +26,9 @@ use Rattle.dblog_replay.specs.Masked.{all_masked, masked_pieces}
 use Rattle.dblog_replay.specs.Pieces.{Piece, Carries, Stops}
 use Rattle.dblog_replay.specs.Log.{end_fault}
 use Rattle.dblog_replay.specs.LogPrinting.{masked_lines, IsTakenMasked, IsHalted, IsStepped, step_starved, step_cut, StopsAt, StepsPrinting, IsLogPut}
-use Rattle.dblog_replay.specs.Streams.{refusal_fault, block_end, pieces_at, IsStringRefused, IsReceived, AreReceived}
+use Rattle.dblog_replay.specs.Streams.{refusal_fault, block_end, pieces_at, AreReceived}
 use Rattle.dblog_replay.specs.Streaming.{IsReceiving, IsStreaming, HasAdded, IsRefusedAs, PiecesWrite, ArePiecesPut}
-use Rattle.dblog_replay.specs.Streaming.{AreStoppedAt, PutsPieces, StepsStreaming, starved, refused, stepped}
+use Rattle.dblog_replay.specs.Streaming.{PutsPieces, StepsStreaming, starved, refused, stepped}
 use Rattle.dbl_stream2.proofs.ReadingLaws.{one_message}
 use Rattle.dbl_stream2.proofs.Refusals.{none_refused, one_refusal}
 use Rattle.dblog_replay.proofs.FollowLemmas.{MaskedWrite, goes_masked}

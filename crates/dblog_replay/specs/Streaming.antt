@@ -1,5 +1,5 @@
 -- For private clauses: a log of protocol version 2 in progress. Lists of stream messages have the newest first.
-use Rattle.std.specs.Prelude.{◌≡◌, ◌⊎◌, ℕ, ℤ, ◌++◌, Option, None, Some, Result, Ok, Err, List, [], ◌∷◌}
+use Rattle.std.specs.Prelude.{◌≡◌, ℕ, ℤ, ◌++◌, Option, None, Some, Result, Ok, Err, List, [], ◌∷◌}
 use Rattle.dbl_lines.specs.declared.error.PrintError.{PrintError}
 use Rattle.dbl_lines.specs.declared.error.PrintError.TheVariants.{Memory}
 use Rattle.dbl_lines.specs.Gathering.{Puts, PutFails}

@@ -1,4 +1,4 @@
-use Rattle.dblog_replay.specs.Streaming.{refused, stepped}
+use Rattle.dblog_replay.specs.Streaming.{stepped}
 use Rattle.dblog_replay.proofs.StreamingLemmas.{receive_stopped}
 use Rattle.dblog_replay.proofs.streaming.put_received.Goals as goal
 

@@ -157,7 +157,12 @@ impl Replayer {
         ensures { (options : LogOptions) (ms : List Message) → FollowsMessages options ms self.old →
             TakesMessage options ms number message self.new result }
     {
-        self.prepare(alloc, &message)?;
-        self.append(alloc, number, message)
+        match self.prepare(alloc, &message) {
+            Ok(()) => self.append(alloc, number, message),
+            Err(fault) => {
+                drop(message);
+                Err(fault)
+            }
+        }
     }
 }

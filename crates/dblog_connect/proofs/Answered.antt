@@ -32,7 +32,6 @@ use Rattle.dbl_capture.specs.CaptureWork.declared.report.Ending.{Ending}
 use Rattle.dbl_capture.specs.CaptureWork.declared.report.Ending.TheVariants.{Budget, Complete}
 use Rattle.dbl_capture.specs.CaptureWork.declared.report.Report.{Report}
 use Rattle.dbl_capture.specs.CaptureWork.Begins.{IsAbsentHalt}
-use Rattle.dbl_capture.specs.CaptureLaws.Closed.{HasClosedRead}
 use Rattle.dbl_capture.specs.CaptureLaws.Found as found
 use Rattle.dbl_capture.specs.CaptureLaws.Sessions.{AddsFewOrNoMarks as AddsFewBy}
 use Rattle.dbl_capture.specs.CaptureLaws.Gained.{Gains, HasCountedGroups, ReportsGroups as IsCounted}

@@ -2,6 +2,7 @@
 
 use dbl_disk::{Choice, Disk, MemDisk};
 use std::alloc::{AllocError, Global};
+use std::mem;
 
 /// One of the disks.
 #[derive(Clone, Copy)]
@@ -9,6 +10,18 @@ pub enum Place {
     Wal,
     Topics,
     Offsets,
+}
+
+impl Place {
+    /// The disk of this name.
+    pub fn named(name: &str) -> Option<Place> {
+        match name {
+            "wal" => Some(Place::Wal),
+            "topics" => Some(Place::Topics),
+            "offsets" => Some(Place::Offsets),
+            _ => None,
+        }
+    }
 }
 
 /// The disks that the runs of a case share.
@@ -25,10 +38,18 @@ fn holding(alloc: Global, bytes: &[u8]) -> Result<MemDisk, AllocError> {
         return Err(AllocError);
     }
     let mut disk = MemDisk::make(alloc, Vec::new(alloc));
-    match disk.write_at(0, bytes) {
+    let left = match disk.write_at(0, bytes) {
         Ok(()) => disk.crash(Choice::New),
         Err(_) => Err(AllocError),
-    }
+    };
+    drop(disk);
+    left
+}
+
+// Puts a disk in place of another, which is dropped by name: that is one call, whereas an
+// assignment drops it part by part.
+fn replace(disk: &mut MemDisk, by: MemDisk) {
+    drop(mem::replace(disk, by));
 }
 
 impl MemDisks {
@@ -50,22 +71,21 @@ impl MemDisks {
         }
     }
 
-    /// The disks as they are found after a crash.
-    pub fn crash(&self, choice: Choice) -> Result<MemDisks, AllocError> {
-        Ok(MemDisks {
-            wal: self.wal.crash(choice)?,
-            topics: self.topics.crash(choice)?,
-            offsets: self.offsets.crash(choice)?,
-        })
+    /// Makes these what is found of other disks after a crash.
+    pub fn find(&mut self, disks: &MemDisks, choice: Choice) -> Result<(), AllocError> {
+        replace(&mut self.wal, disks.wal.crash(choice)?);
+        replace(&mut self.topics, disks.topics.crash(choice)?);
+        replace(&mut self.offsets, disks.offsets.crash(choice)?);
+        Ok(())
     }
 
     /// Puts these bytes on the disk in place of its contents.
     pub fn put(&mut self, alloc: Global, place: Place, bytes: &[u8]) -> Result<(), AllocError> {
         let disk = holding(alloc, bytes)?;
         match place {
-            Place::Wal => self.wal = disk,
-            Place::Topics => self.topics = disk,
-            Place::Offsets => self.offsets = disk,
+            Place::Wal => replace(&mut self.wal, disk),
+            Place::Topics => replace(&mut self.topics, disk),
+            Place::Offsets => replace(&mut self.offsets, disk),
         }
         Ok(())
     }

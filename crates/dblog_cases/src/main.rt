@@ -1,5 +1,5 @@
-//! Runs the program `dblog` on the cases of standard input, over streams and disks in memory, and writes what each run answers.
-//! The file `stdin` beside this folder has the form of a case.
+//! Runs the program `dblog` on the cases of standard input, over streams and disks in memory, and
+//! writes what each run answers. The file `stdin` beside this folder has the form of a case.
 #![tactic(auto)]
 
 mod answer;
@@ -7,11 +7,11 @@ mod disks;
 mod fuses;
 mod run;
 mod statuses;
-mod step;
 mod stops;
 mod sweep;
 mod transcript;
 mod trials;
+mod words;
 
 use crate::transcript::Transcript;
 use std::alloc::Global;

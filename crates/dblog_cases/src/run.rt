@@ -1,11 +1,13 @@
-use crate::answer::Answer;
+use crate::answer;
 use crate::disks::{MemDisks, Place};
 use crate::fuses::Fuses;
 use crate::sweep::Sweep;
+use crate::words::{Reply, named_number, numbered, repeated};
 use dbl_base::{MemInput, MemOutput, Text};
 use dbl_disk::FuseDisk;
 use dblog_run::{Disks, Outcome, Status};
 use std::alloc::{AllocError, Global};
+use std::io::{self, Write};
 use std::mem;
 
 /// What a run of the program is made with.
@@ -17,15 +19,29 @@ pub struct Run {
     failing_reads: Vec<u64>,
     failing_writes: Vec<u64>,
     tail: Option<usize>,
-    fuses: Fuses,
-    sweep: Option<Sweep>,
+    /// How many calls the disks pass.
+    pub fuses: Fuses,
+    /// What is changed in turn, where the run is made more than once.
+    pub sweep: Option<Sweep>,
+}
+
+// The words of a text, with one space between two of them.
+fn words_of(alloc: Global, text: &str) -> Result<Vec<Text>, AllocError> {
+    let mut words = Vec::new(alloc);
+    if !text.is_empty() {
+        for word in text.split(' ') {
+            words.push(Text::of(alloc, word)?)?;
+        }
+    }
+    Ok(words)
 }
 
 impl Run {
-    /// A run with these arguments, with one space between two of them, and on this input. Nothing fails.
+    /// A run with these arguments, with one space between two of them, and on this input. Nothing
+    /// fails.
     pub fn make(alloc: Global, words: &str, input: Vec<u8>) -> Result<Run, AllocError> {
-        let mut run = Run {
-            words: Vec::new(alloc),
+        Ok(Run {
+            words: words_of(alloc, words)?,
             now_ms: 0,
             input,
             failing_reads: Vec::new(alloc),
@@ -33,80 +49,91 @@ impl Run {
             tail: None,
             fuses: Fuses::none(),
             sweep: None,
-        };
-        if !words.is_empty() {
-            for word in words.split(' ') {
-                run.add_word(alloc, word)?;
-            }
+        })
+    }
+
+    /// Adds what a line says of the run.
+    pub fn add(&mut self, alloc: Global, mark: &str, rest: &str) -> Result<Reply, AllocError> {
+        match mark {
+            "+" => self.add_word(alloc, rest),
+            ">" => self.add_lines(1, rest),
+            "*" => self.add_repeated(rest),
+            "n" => self.add_numbered(alloc, rest),
+            "x" => self.add_bytes(alloc, rest),
+            "!" => self.fail(rest),
+            _ => Ok(self.set(mark, rest).unwrap_or(Reply::Refusal)),
         }
-        Ok(run)
     }
 
-    pub fn add_word(&mut self, alloc: Global, word: &str) -> Result<(), AllocError> {
+    fn add_word(&mut self, alloc: Global, word: &str) -> Result<Reply, AllocError> {
         self.words.push(Text::of(alloc, word)?)?;
-        Ok(())
+        Ok(Reply::Line)
     }
 
-    pub fn set_moment(&mut self, now_ms: i64) {
-        self.now_ms = now_ms;
-    }
-
-    pub fn set_tail(&mut self, lines: usize) {
-        self.tail = Some(lines);
-    }
-
-    pub fn add_lines(&mut self, count: u32, text: &str) -> Result<(), AllocError> {
+    fn add_lines(&mut self, count: u32, text: &str) -> Result<Reply, AllocError> {
         for _ in 0..count {
             self.input.extend_from_slice(text.as_bytes())?;
             self.input.push(b'\n')?;
         }
-        Ok(())
+        Ok(Reply::Nothing)
     }
 
-    pub fn add_numbered(
-        &mut self,
-        alloc: Global,
-        from: u32,
-        to: u32,
-        text: &str,
-    ) -> Result<(), AllocError> {
+    fn add_repeated(&mut self, rest: &str) -> Result<Reply, AllocError> {
+        match repeated(rest) {
+            Some((count, text)) => self.add_lines(count, text),
+            None => Ok(Reply::Refusal),
+        }
+    }
+
+    // Adds a line for each number, with the number for each `#`.
+    fn add_numbered(&mut self, alloc: Global, rest: &str) -> Result<Reply, AllocError> {
+        let Some((from, to, text)) = numbered(rest) else {
+            return Ok(Reply::Refusal);
+        };
         for number in from..=to {
             let digits = format!(in alloc; "{number}")?;
-            add_numbered_line(&mut self.input, text, digits.as_str())?;
+            self.add_lines(1, text.replace(alloc, "#", digits.as_str())?.as_str())?;
         }
-        Ok(())
+        Ok(Reply::Nothing)
     }
 
-    pub fn add_bytes(&mut self, bytes: &[u8]) -> Result<(), AllocError> {
-        self.input.extend_from_slice(bytes)
+    fn add_bytes(&mut self, alloc: Global, digits: &str) -> Result<Reply, AllocError> {
+        match hex::decode(alloc, digits) {
+            Ok(bytes) => {
+                self.input.extend_from_slice(bytes.as_slice())?;
+                Ok(Reply::Nothing)
+            }
+            Err(_) => Ok(Reply::Refusal),
+        }
     }
 
-    pub fn fail_read(&mut self, call: u64) -> Result<(), AllocError> {
-        self.failing_reads.push(call)?;
-        Ok(())
+    // What fails, and the number of the call.
+    fn fail(&mut self, rest: &str) -> Result<Reply, AllocError> {
+        match named_number(rest) {
+            Some(("read", call)) => self.failing_reads.push(call)?,
+            Some(("write", call)) => self.failing_writes.push(call)?,
+            _ => return Ok(Reply::Refusal),
+        };
+        Ok(Reply::Nothing)
     }
 
-    pub fn fail_write(&mut self, call: u64) -> Result<(), AllocError> {
-        self.failing_writes.push(call)?;
-        Ok(())
-    }
-
-    pub fn set_fuse(&mut self, place: Place, calls: u64) {
-        self.fuses.set(place, calls);
-    }
-
-    pub fn set_sweep(&mut self, sweep: Sweep) {
-        self.sweep = Some(sweep);
-    }
-
-    /// What is changed in turn, where the run is made more than once.
-    pub fn sweep(&self) -> Option<Sweep> {
-        self.sweep
-    }
-
-    /// How many calls the disks pass.
-    pub fn fuses(&self) -> Fuses {
-        self.fuses
+    // Sets what a line says, if it has such a form.
+    fn set(&mut self, mark: &str, rest: &str) -> Option<Reply> {
+        match mark {
+            "@" => self.now_ms = rest.parse().ok()?,
+            "tail" => self.tail = Some(rest.parse().ok()?),
+            "fuse" => {
+                let (name, calls) = named_number(rest)?;
+                self.fuses.set(Place::named(name)?, calls);
+                return Some(Reply::Line);
+            }
+            "each" => {
+                self.sweep = Some(Sweep::read(rest)?);
+                return Some(Reply::Line);
+            }
+            _ => return None,
+        }
+        Some(Reply::Nothing)
     }
 
     /// The run makes the stores that it runs over, so that a second one of it would refuse them.
@@ -117,30 +144,36 @@ impl Run {
         }
     }
 
-    /// What the program answers if the disks pass so many calls. It leaves them changed.
+    /// Writes what the program answers if the disks pass so many calls, and returns its status. It
+    /// leaves the disks changed.
+    pub fn tell<W: Write>(
+        &self,
+        alloc: Global,
+        fuses: Fuses,
+        disks: &mut MemDisks,
+        writer: &mut W,
+    ) -> io::Result<Status> {
+        let mut text = Vec::new(alloc);
+        let status = self.perform(alloc, fuses, disks, &mut text)?;
+        answer::tell(status, text.as_slice(), self.tail, writer)?;
+        Ok(status)
+    }
+
+    /// Adds the text that the program writes if the disks pass so many calls, and returns its
+    /// status. It leaves the disks changed.
     pub fn perform(
         &self,
         alloc: Global,
         fuses: Fuses,
         disks: &mut MemDisks,
-    ) -> Result<Answer, AllocError> {
+        text: &mut Vec<u8>,
+    ) -> Result<Status, AllocError> {
         let input = self.input.clone()?;
         let mut input = MemInput::make(input, self.failing_reads.clone()?);
         let mut output = MemOutput::make(alloc, self.failing_writes.clone()?);
-        self.answer(alloc, fuses, disks, &mut input, &mut output)
-    }
-
-    fn answer(
-        &self,
-        alloc: Global,
-        fuses: Fuses,
-        disks: &mut MemDisks,
-        input: &mut MemInput,
-        output: &mut MemOutput,
-    ) -> Result<Answer, AllocError> {
-        let status = self.run_on(alloc, fuses, disks, input, output);
-        let text = output.bytes().as_slice().to_vec(alloc)?;
-        Ok(Answer::make(status, text, self.tail))
+        let status = self.run_on(alloc, fuses, disks, &mut input, &mut output);
+        text.extend_from_slice(output.bytes())?;
+        Ok(status)
     }
 
     // The status with which the program ends.
@@ -176,16 +209,4 @@ impl Run {
         };
         end
     }
-}
-
-// Adds the line with the digits for each `#`, and its newline.
-fn add_numbered_line(input: &mut Vec<u8>, text: &str, digits: &str) -> Result<(), AllocError> {
-    for (index, part) in text.split('#').enumerate() {
-        if index > 0 {
-            input.extend_from_slice(digits.as_bytes())?;
-        }
-        input.extend_from_slice(part.as_bytes())?;
-    }
-    input.push(b'\n')?;
-    Ok(())
 }

@@ -11,22 +11,6 @@ use dblog_run::Status;
 use std::alloc::{AllocError, Global};
 use std::io::{self, Write};
 
-fn cut(bytes: &Vec<u8>, length: u64) -> Result<Vec<u8>, AllocError> {
-    let mut kept = bytes.clone()?;
-    kept.truncate(length as usize);
-    Ok(kept)
-}
-
-fn turn_bit(bytes: &Vec<u8>, number: u64) -> Result<Vec<u8>, AllocError> {
-    let mut all = bytes.clone()?;
-    for (index, byte) in all.iter_mut().enumerate() {
-        if index as u64 == number {
-            *byte ^= 1;
-        }
-    }
-    Ok(all)
-}
-
 // How many runs there are.
 fn count(sweep: Sweep, disks: &MemDisks) -> u64 {
     match sweep {
@@ -38,62 +22,49 @@ fn count(sweep: Sweep, disks: &MemDisks) -> u64 {
     }
 }
 
-// Changes what the run with this number finds on its disks.
-fn change(
+// Leaves only the first bytes of a disk, or turns the lowest bit of one.
+fn change(bytes: &mut Vec<u8>, sweep: Sweep, number: u64) {
+    if let Sweep::Cut { .. } = sweep {
+        return bytes.truncate(number as usize);
+    }
+    for (index, byte) in bytes.iter_mut().enumerate() {
+        if index as u64 == number {
+            *byte ^= 1;
+        }
+    }
+}
+
+// Makes the disks those that the run with this number finds.
+fn find(
     alloc: Global,
     found: &mut MemDisks,
     disks: &MemDisks,
     sweep: Sweep,
     number: u64,
 ) -> Result<(), AllocError> {
+    found.find(disks, Choice::New)?;
     match sweep {
-        Sweep::Cut { place } => {
-            let bytes = cut(disks.bytes(place), number)?;
-            found.put(alloc, place, bytes.as_slice())
-        }
-        Sweep::Byte { place } | Sweep::Bit { place } => {
-            let bytes = turn_bit(disks.bytes(place), number)?;
+        Sweep::Cut { place } | Sweep::Byte { place } | Sweep::Bit { place } => {
+            let mut bytes = disks.bytes(place).clone()?;
+            change(&mut bytes, sweep, number);
             found.put(alloc, place, bytes.as_slice())
         }
         Sweep::Fuse { .. } | Sweep::Stop { .. } => Ok(()),
     }
 }
 
-// The disks that the run with this number finds.
-fn find(
-    alloc: Global,
-    disks: &MemDisks,
-    sweep: Sweep,
-    number: u64,
-) -> Result<MemDisks, AllocError> {
-    let mut found = disks.crash(Choice::New)?;
-    change(alloc, &mut found, disks, sweep, number)?;
-    Ok(found)
-}
-
 // How many calls of the run with this number they pass.
 fn fuses_of(run: &Run, sweep: Sweep, number: u64) -> Fuses {
-    let mut fuses = run.fuses();
+    let mut fuses = run.fuses;
     if let Sweep::Fuse { place, most: _ } = sweep {
         fuses.set(place, number);
     }
     fuses
 }
 
-fn status_of(
-    alloc: Global,
-    run: &Run,
-    disks: &MemDisks,
-    sweep: Sweep,
-    number: u64,
-) -> Result<Status, AllocError> {
-    let mut found = find(alloc, disks, sweep, number)?;
-    let answer = run.perform(alloc, fuses_of(run, sweep, number), &mut found)?;
-    Ok(answer.status())
-}
-
-/// Makes the runs, each on the disks as they are, and writes what they answer: of turned bits the statuses, each once; of stopped
-/// sessions how they end; and else each answer that isn't that of the run before.
+/// Makes the runs, each on the disks as they are, and writes what they answer: of turned bits the
+/// statuses, each once; of stopped sessions how they end; and else each answer that isn't that of
+/// the run before.
 pub fn tell_each<W: Write>(
     alloc: Global,
     run: &Run,
@@ -117,12 +88,14 @@ fn tell_statuses<W: Write>(
 ) -> io::Result<()> {
     let mut seen = Vec::new(alloc);
     for number in 0..count(sweep, disks) {
-        let status = status_of(alloc, run, disks, sweep, number)?;
+        let mut told = Vec::new(alloc);
+        let status = tell(alloc, run, disks, sweep, number, &mut told)?;
         statuses::add(&mut seen, status)?;
     }
     statuses::tell(&seen, writer)
 }
 
+// Doesn't write an answer that is the one that was written last.
 fn tell_answers<W: Write>(
     alloc: Global,
     run: &Run,
@@ -132,34 +105,18 @@ fn tell_answers<W: Write>(
 ) -> io::Result<()> {
     let mut last = Vec::new(alloc);
     for number in 0..count(sweep, disks) {
-        let told = tell_run(alloc, run, disks, sweep, number)?;
-        tell_other(told, &mut last, writer)?;
+        let mut told = Vec::new(alloc);
+        tell(alloc, run, disks, sweep, number, &mut told)?;
+        if told != last {
+            writer.write_all(told.as_slice())?;
+            last = told;
+        }
     }
     Ok(())
 }
 
-// Writes an answer that isn't the one that was written last.
-fn tell_other<W: Write>(told: Vec<u8>, last: &mut Vec<u8>, writer: &mut W) -> io::Result<()> {
-    if told != *last {
-        writer.write_all(told.as_slice())?;
-        *last = told;
-    }
-    Ok(())
-}
-
-fn tell_run(
-    alloc: Global,
-    run: &Run,
-    disks: &MemDisks,
-    sweep: Sweep,
-    number: u64,
-) -> io::Result<Vec<u8>> {
-    let mut told = Vec::new(alloc);
-    tell(alloc, run, disks, sweep, number, &mut told)?;
-    Ok(told)
-}
-
-// Writes what the run with this number answers.
+// Writes what the run with this number answers, and returns its status. The disks are dropped by
+// name: that is one call, whereas a drop at the end of a scope is proved part by part.
 fn tell(
     alloc: Global,
     run: &Run,
@@ -167,30 +124,29 @@ fn tell(
     sweep: Sweep,
     number: u64,
     told: &mut Vec<u8>,
-) -> io::Result<()> {
-    let mut found = find(alloc, disks, sweep, number)?;
-    tell_on(alloc, run, &mut found, sweep, number, told)
+) -> io::Result<Status> {
+    let mut found = MemDisks::empty(alloc);
+    let status = tell_on(alloc, run, disks, sweep, number, &mut found, told);
+    drop(found);
+    status
 }
 
-// Writes what it answers on the disks that it finds, and after a fuse what a run without one then does.
+// Writes what it answers on the disks that it finds, and after a fuse what a run without one then
+// does.
 fn tell_on(
     alloc: Global,
     run: &Run,
-    found: &mut MemDisks,
+    disks: &MemDisks,
     sweep: Sweep,
     number: u64,
+    found: &mut MemDisks,
     told: &mut Vec<u8>,
-) -> io::Result<()> {
-    let answer = run.perform(alloc, fuses_of(run, sweep, number), found)?;
-    answer.tell(told)?;
-    match sweep {
-        Sweep::Fuse { .. } => tell_again(alloc, run, found, told),
-        _ => Ok(()),
+) -> io::Result<Status> {
+    find(alloc, found, disks, sweep, number)?;
+    let status = run.tell(alloc, fuses_of(run, sweep, number), found, told)?;
+    if let Sweep::Fuse { .. } = sweep {
+        told.write_all(b"again\n")?;
+        run.tell(alloc, run.fuses, found, told)?;
     }
-}
-
-// Writes what the run answers on the disks that a run before it left.
-fn tell_again(alloc: Global, run: &Run, left: &mut MemDisks, told: &mut Vec<u8>) -> io::Result<()> {
-    told.write_all(b"again\n")?;
-    run.perform(alloc, run.fuses(), left)?.tell(told)
+    Ok(status)
 }

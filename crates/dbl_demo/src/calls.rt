@@ -82,10 +82,10 @@ impl<D: Disk> Source for DemoSource<D> {
 
     ghost right = { λ source s r a honest is. right_so _ source s r a is };
 
-    ghost comes_self = { λ source script gate most kept. kept };
+    ghost comes_self = { λ source script gate most faults kept. kept };
 
-    ghost comes_on = { λ first second third before after script gate most kept.
-        after script gate most (before script gate most kept) };
+    ghost comes_on = { λ first second third before after script gate most faults kept.
+        after script gate most faults (before script gate most faults kept) };
 
     // Each call has the contract of every source. It adds to the log the commits of the group that
     // it runs first, and its own entry: all if it succeeds, and in any case a crash leaves a first

@@ -10,6 +10,7 @@ use Rattle.dbl_demo_workload.specs.DemoWal.Wals.{Wal}
 use Rattle.dbl_demo_workload.specs.DemoWal.CrashState.{IsLeftOf, LeavesWal, added_by, with_entries}
 use Rattle.dbl_demo_laws.specs.Calls.{LeavesFirst, LeavesRead, ReadsOnTo, ReleasesSteps}
 use Rattle.dbl_demo_laws.specs.Demo.{ExtendsDemo, Demo, IsDemo}
+use Rattle.dbl_demo_laws.specs.Running.{StaysKnown}
 
 leaves_as : {D : Type 0} (model : DiskModel D) (disk : D) (P Q : Wal → Type 0) → ((wal : Wal) → P wal → Q wal) → LeavesWal model disk P → LeavesWal model disk Q
 leaves_as model disk P Q by leaves crashed may = let here = leaves crashed may in (here.0, here.1, by here.0 here.2)
@@ -21,14 +22,17 @@ HasScript script wal = wal.script ≡ script
 abbrev pub LeftByRead : Wal → ReaderPosition → ℕ → Wal → Type 0
 LeftByRead wal place done left = (upto : ℕ) × ReadsOn wal.workload wal.entries place done upto done × IsLeftOf wal (added_by wal done upto []) left
 
-module _ {D : Type 0} (model : DiskModel D) (old new : Demo D) (come : journals.ExtendsJournal model old.journal new.journal) (was : IsTrue old.live) where
+module _ {D : Type 0} (model : DiskModel D) (old new : Demo D) (come : journals.ExtendsJournal model old.journal new.journal) (was : IsTrue old.live)
+    (known : IsTrue new.live → StaysKnown model old.journal.disk new.journal.disk) where
   comes_by : ((wal : Wal) → IsDemo model wal old → LeavesWal model new.journal.disk (HasScript wal.script))
       → (IsTrue new.live → (wal : Wal) → IsDemo model wal old → (now : Wal) × IsDemo model now new × (now.script ≡ wal.script)) → ExtendsDemo model old new
-  comes_by crash stands script gate most kept =
+  comes_by crash stands script gate most faults kept =
       let here = kept.stands was in
+      let lists = here.1.running.lists in
       record {
         come = come gate most kept.come;
         stands = λ live. (let now = stands live here.0 here.1 in (now.0, now.1, now.2 ∙ here.2));
+        steady = λ live. (known live lists.bytes lists.told).1 ∙ kept.steady was;
         crash = leaves_as model new.journal.disk (HasScript here.0.script) (HasScript script) (λ wal is. is ∙ here.2) (crash here.0 here.1);
       }
 

@@ -23,6 +23,7 @@ use Rattle.dbl_demo_workload.proofs.DemoWalLeftLemmas.{some_left}
 use Rattle.dbl_demo_laws.specs.Answers.{IsReaderKept}
 use Rattle.dbl_demo_laws.specs.Calls.{LeavesFirst, Released, ReleasesSteps}
 use Rattle.dbl_demo_laws.specs.Demo.{ExtendsDemo, Demo, IsDemo, HasDemoState}
+use Rattle.dbl_demo_laws.specs.Running.{StaysKnown}
 use Rattle.dbl_demo_laws.proofs.CallLemmas.{left_moved}
 use Rattle.dbl_demo_laws.proofs.ComesLemmas.{comes_released}
 
@@ -128,5 +129,7 @@ module _ {D : Type 0} (model : DiskModel D) (old new : Demo D) where
   live_or P (Err e) holds dead live = absurd (let wrong : true ≡ false = sym live ∙ dead in cc)
 
   pub comes_held : {T : Type 0} (upto : ℕ) (own : List Entry) (result : Result T SourceError) → IsTrue old.live → journals.ExtendsJournal model old.journal new.journal → LeavesFirst model upto own old new
-      → OnOk result (ReleasesSteps model upto own old new) → OnErr result (new.live ≡ false) → ExtendsDemo model old new
-  comes_held upto own result was come first releases dead = comes_released model old new come was upto own first (λ live. live_or (ReleasesSteps model upto own old new) result releases dead live)
+      → OnOk result (ReleasesSteps model upto own old new) → OnErr result (new.live ≡ false) → OnOk result (StaysKnown model old.journal.disk new.journal.disk) → ExtendsDemo model old new
+  comes_held upto own result was come first releases dead known =
+      comes_released model old new come was (λ live. live_or (StaysKnown model old.journal.disk new.journal.disk) result known dead live) upto own first
+      (λ live. live_or (ReleasesSteps model upto own old new) result releases dead live)

@@ -30,6 +30,7 @@ use Rattle.dbl_demo_workload.proofs.DemoWalLeftLemmas.{follows_released, left_as
 use Rattle.dbl_demo_laws.specs.Answers.{AddsRead, ReadAfter}
 use Rattle.dbl_demo_laws.specs.Calls.{HasReadWhole, ReadOn, ReadsOnTo}
 use Rattle.dbl_demo_laws.specs.Demo.{ExtendsDemo, Demo, HasReachedEnd, IsDemo, IsMark, IsRunning, HasDemoState}
+use Rattle.dbl_demo_laws.specs.Running.{StaysKnown}
 use Rattle.dbl_demo_laws.specs.Reading.{ReadNone, ReadOne}
 use Rattle.dbl_demo_laws.specs.SourceLaws.{wal_of}
 use Rattle.dbl_demo_laws.proofs.CallLemmas.{leads, stood_for}
@@ -185,4 +186,6 @@ module _ {D : Type 0} (model : DiskModel D) (old new : Demo D) (result : Result 
   read_some may_be_left = leaves_some model old new may_be_left adds.come (λ wal. LeftByRead wal at.0 old.done) (λ wal is. adds.first wal at.0 is at.1)
 
   pub read_comes : IsTrue old.live → ExtendsDemo model old new
-  read_comes was = comes_read model old new adds.come was at.0 at.1 adds.first (λ live. live_or model old new (ReadsOnTo model old new) result read_released adds.dead live)
+  read_comes was =
+      comes_read model old new adds.come was (λ live. live_or model old new (StaysKnown model old.journal.disk new.journal.disk) result adds.known adds.dead live) at.0 at.1 adds.first
+      (λ live. live_or model old new (ReadsOnTo model old new) result read_released adds.dead live)

@@ -89,15 +89,19 @@ HasDemoState model demo s = (wal : Wal) × IsDemo model wal demo × (s ≡ stand
 
 -- ---- what no call undoes
 
--- The source's log is of this workload, a crash leaves only logs of it, and the journal has a limit.
-pub record HasKept {D : Type 0} (model : DiskModel D) (script : List ℕ) (gate most : ℕ) (demo : Demo D) : Type 0 where
+-- The source's log is of this workload, a crash leaves only logs of it, and the journal has a limit; if the source can be used, its disk
+-- has counted only these failures.
+pub record HasKept {D : Type 0} (model : DiskModel D) (script : List ℕ) (gate most faults : ℕ) (demo : Demo D) : Type 0 where
   pub come : HasCome model gate most demo.journal
   pub stands : IsTrue demo.live → (wal : Wal) × IsDemo model wal demo × (wal.script ≡ script)
+  pub steady : IsTrue demo.live → model.faults demo.journal.disk ≡ faults
   pub crash : LeavesWal model demo.journal.disk (λ wal. wal.script ≡ script)
 
--- The new source extends the old one: the same workload, a crash leaves only logs of it, and the disk stays bounded.
+-- The new source extends the old one: the same workload, a crash leaves only logs of it, the disk stays bounded, and none of its calls has
+-- failed if the new source can be used.
 abbrev pub ExtendsDemo : {D : Type 0} → DiskModel D → Demo D → Demo D → Type 0
-ExtendsDemo model old new = (script : List ℕ) (gate most : ℕ) → HasKept model script gate most old → HasKept model script gate most new
+ExtendsDemo model old new = (script : List ℕ) (gate most faults : ℕ) → HasKept model script gate most faults old
+    → HasKept model script gate most faults new
 
 -- ---- what is true of its parts for every disk
 

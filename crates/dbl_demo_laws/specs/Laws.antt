@@ -23,6 +23,7 @@ use Rattle.dbl_demo_workload.specs.DemoWal.Standings.{MayLeaveWal}
 use Rattle.dbl_demo_laws.specs.Answers.{AnswersEntry, AnswersHead, AnswersRows, AnswersStart, ReadAfter}
 use Rattle.dbl_demo_laws.specs.Calls.{LeavesFirst, Released, ReleasesSteps, confirm_of, mark_entries, second_end}
 use Rattle.dbl_demo_laws.specs.Demo.{ExtendsDemo, Demo, IsDemo, HasDemoState}
+use Rattle.dbl_demo_laws.specs.Running.{StaysKnown}
 
 -- ---- its state
 
@@ -105,9 +106,10 @@ pub record StopsWell {D : Type 0} (model : DiskModel D) (old new : Demo D) (upto
 abbrev pub CrashesLeaveWhatFollows : {D : Type 0} → DiskModel D → Type 0
 CrashesLeaveWhatFollows {D} model = (old new : Demo D) (upto : ℕ) → StopsWell model old new upto
 
--- A call that adds to the log extends the source.
+-- A call that adds to the log, and of which no disk call failed if the source can be used after it, extends the source.
 abbrev pub CallsUndoNothing : {D : Type 0} → DiskModel D → Type 0
 CallsUndoNothing {D} model =
     (old new : Demo D) (upto : ℕ) (own : List Entry) → IsTrue old.live → journals.ExtendsJournal model old.journal new.journal
     → LeavesFirst model upto own old new → (IsTrue new.live → ReleasesSteps model upto own old new)
+    → (IsTrue new.live → StaysKnown model old.journal.disk new.journal.disk)
     → ExtendsDemo model old new

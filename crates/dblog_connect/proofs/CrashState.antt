@@ -78,8 +78,8 @@ module _ {W T F : Type 0} (wal_model : DiskModel W) (topics_model : DiskModel T)
     abbrev entry : SessionStart
     entry = restart_at config now (found_in (held_by src.wal lg.groups fo.offset))
 
-    pub source_kept : HasKept wal_model src.wal.script 0 (length w) sn
-    source_kept = ran.source_comes src.wal.script 0 (length w) (kept_source wal_model w so src)
+    pub source_kept : HasKept wal_model src.wal.script 0 (length w) (wal_model.faults so.journal.disk) sn
+    source_kept = ran.source_comes src.wal.script 0 (length w) (wal_model.faults so.journal.disk) (kept_source wal_model w so src)
 
     pub log_kept : HasGroups topics_model ln
     log_kept = ran.sink_comes.groups (kept_log topics_model t lo lg)

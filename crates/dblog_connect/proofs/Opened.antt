@@ -82,10 +82,11 @@ module _ {W : Type 0} (model : DiskModel W) (w : List ℕ) (source : Demo W) (sr
   pub stood_first : HasDemoState model source (standing_in src.wal source.place)
   stood_first = (src.wal, src.demo, refl)
 
-  pub kept_source : HasKept model src.wal.script 0 (length w) source
+  pub kept_source : HasKept model src.wal.script 0 (length w) (model.faults source.journal.disk) source
   kept_source = record {
     come = come_of model source.journal _ w src.demo.running.lists src.told;
     stands = λ live. (src.wal, src.demo, refl);
+    steady = λ live. refl;
     crash = λ crashed leaves. (src.wal, subst (λ (b : List ℕ). IsWal b src.wal) (sym (wal_crashed crashed leaves)) src.is, refl);
   }
 

@@ -24,7 +24,7 @@ returns g c =
       live = adds.live;
       dead = adds.dead;
       honest = λ u. u;
-      comes = comes_held g.D.Disk c.args.self.now c.answer_describe.new.self _ _ c.answer_describe.result c.requires adds.come adds.first adds.released adds.dead;
+      comes = comes_held g.D.Disk c.args.self.now c.answer_describe.new.self _ _ c.answer_describe.result c.requires adds.come adds.first adds.released adds.dead adds.known;
       cause = record { later = adds.later; cause = adds.failed };
       steady = λ s stands. steady_from g.D.Disk c.args.self.now c.answer_describe.new.self c.answer_describe.result s stands adds.known;
       group = adds.group;

@@ -23,7 +23,7 @@ returns g c =
       live = adds.live;
       dead = adds.dead;
       honest = λ u. u;
-      comes = comes_held g.D.Disk c.args.self.now c.answer_head.new.self _ _ c.answer_head.result c.requires adds.come adds.first adds.released adds.dead;
+      comes = comes_held g.D.Disk c.args.self.now c.answer_head.new.self _ _ c.answer_head.result c.requires adds.come adds.first adds.released adds.dead adds.known;
       cause = record { later = adds.later; cause = adds.failed };
       steady = λ s stands. steady_from g.D.Disk c.args.self.now c.answer_head.new.self c.answer_head.result s stands adds.known;
       group = adds.group;

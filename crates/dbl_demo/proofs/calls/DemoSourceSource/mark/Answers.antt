@@ -22,7 +22,7 @@ returns g c =
       live = adds.live;
       dead = adds.dead;
       honest = λ u. u;
-      comes = comes_held g.D.Disk c.args.self.now c.answer_mark.new.self _ _ c.answer_mark.result c.requires.live adds.come adds.first adds.released adds.dead;
+      comes = comes_held g.D.Disk c.args.self.now c.answer_mark.new.self _ _ c.answer_mark.result c.requires.live adds.come adds.first adds.released adds.dead adds.known;
       cause = record { later = adds.later; cause = adds.failed };
       steady = λ s stands. steady_from g.D.Disk c.args.self.now c.answer_mark.new.self c.answer_mark.result s stands adds.known;
       group = adds.group;

@@ -1,8 +1,9 @@
 -- Of which kind the connector's errors are, by those of its parts.
 use Rattle.std.proofs.Common.{◌≡◌, ◌∙◌, ◌⊎◌, inl, inr, ℕ, ◌≤◌, Option, List, Result, Ok, Err, refl, sym, ap, subst, arith}
-use Rattle.std.specs.Prelude.{IfErr}
+use Rattle.std.specs.Prelude.{IfErr, OnOk}
 use Rattle.dbl_base.specs.Streams.{FaultCounted}
 use Rattle.dbl_record.specs.declared.record.Record.{Record}
+use Rattle.dbl_disk.specs.Calls.{IsSteady}
 use Rattle.dbl_disk.specs.Model.{DiskModel}
 use Rattle.dbl_journal.specs.Form.{IsFaultAt}
 use Rattle.dbl_journal.specs.declared.error.JournalError.TheVariants as journal
@@ -217,6 +218,11 @@ counts_on model s end old mid new later counts = record {
   later = omega (arith, later, counts.later);
   cause = λ is. rose_after (model.faults old) (model.faults mid) (model.faults new) later (counts.cause is);
 }
+
+-- no call of a disk failed, in opening it or later
+pub steady_on : {D : Type 0} (model : DiskModel D) (end : ConnectEnd) (old mid new : D) → model.seen mid ≡ model.seen old → IsSteady model old mid → OnOk end (IsSteady model mid new) → OnOk end (IsSteady model old new)
+steady_on model (Ok x) old mid new same first second = λ bytes told. second bytes (same ∙ told) ∙ first bytes told
+steady_on model (Err e) old mid new same first second = tt
 
 pub counts_same : {D : Type 0} (model : DiskModel D) (s : Store) (end : ConnectEnd) (old new : D) → new ≡ old → (end ≡ Err (error.Failed s) → ⊥) → CountsFaults model s end old new
 counts_same model s end old new same none =

@@ -1,6 +1,7 @@
 -- Where the session of a command isn't begun, and of which kind its errors are.
 use Rattle.std.proofs.Common.{◌≡◌, ◌∙◌, ◌⊎◌, inl, inr, ℕ, ◌<◌, ◌≤◌, Option, Some, None, List, length, Result, Ok, Err, refl, sym, ap, subst, arith}
-use Rattle.std.specs.Prelude.{IsErrAnd}
+use Rattle.std.specs.Prelude.{IsErrAnd, IsTrue}
+use Rattle.dbl_disk.specs.Calls.{IsSteady}
 use Rattle.dbl_disk.specs.Model.{DiskModel}
 use Rattle.dbl_model_table.specs.declared.config.Config.{Config}
 use Rattle.dbl_model_table.specs.declared.table.TableName.{TableName}
@@ -79,6 +80,9 @@ module _ {W T F : Type 0} (wal_model : DiskModel W) (topics_model : DiskModel T)
   pub source_bounded : (sn : Demo W) → ExtendsDemo wal_model so sn → IsBounded (wal_model.seen so.journal.disk) (wal_model.seen sn.journal.disk)
   source_bounded sn comes = bounded_by wal_model so.journal.disk sn.journal
       (λ bytes told. (let src = opened_w bytes told in (comes src.wal.script 0 (length bytes) (wal_model.faults so.journal.disk) (kept_source wal_model bytes so src)).come))
+
+  pub source_steady : (sn : Demo W) → ExtendsDemo wal_model so sn → IsTrue sn.live → IsSteady wal_model so.journal.disk sn.journal.disk
+  source_steady sn comes live bytes told = let src = opened_w bytes told in (comes src.wal.script 0 (length bytes) (wal_model.faults so.journal.disk) (kept_source wal_model bytes so src)).steady live
 
   pub log_bounded : (ln : OnDisk T) → LogComesOf topics_model lo ln → IsBounded (topics_model.seen lo.disk) (topics_model.seen ln.disk)
   log_bounded ln comes = bounded_by topics_model lo.disk ln (λ bytes told. comes.journal 0 (length bytes) (log_come topics_model bytes lo (opened_t bytes told)))

@@ -5,7 +5,7 @@ use Rattle.dblog_connect.specs.declared.error.ConnectError.{ConnectError}
 use Rattle.dblog_connect.specs.Ends.{IsRefused, IsWrongSource}
 use Rattle.dblog_connect.specs.Errors.{IsBeforeStore, IsAfterOpening, IsConnectError, IsExternalConnectError}
 use Rattle.dblog_connect.specs.Steps.{AnswersConnect, disks_of}
-use Rattle.dblog_connect.proofs.ErrorKinds.{bounded_on, counts_by, counts_on, counts_same, demo_ends, demo_fails, demo_kind, demo_wrong, err_as, not_before_topics, not_wrong, only_same, read_on}
+use Rattle.dblog_connect.proofs.ErrorKinds.{bounded_on, counts_by, counts_on, counts_same, demo_ends, demo_fails, demo_kind, demo_wrong, err_as, not_before_topics, not_wrong, only_same, read_on, steady_on}
 use Rattle.dblog_connect.proofs.Opened.{bounded_same, store_bounded_same}
 use Rattle.dblog_connect.proofs.Stays.{IsUnhalted, answers_before, answers_stay}
 use Rattle.dblog_connect.proofs.connecting.connect.Goals as goal
@@ -153,6 +153,9 @@ returns-in-Ok-clause-wal_read g c = read_on g.W.Disk c.connect_source.result.end
 
 pub returns-in-Ok-clause-wal_counts : goal.returns-in-Ok-clause-wal_counts
 returns-in-Ok-clause-wal_counts g c = counts_on g.W.Disk store.Wal c.connect_source.result.end c.args.disks.wal c.in-Ok.source.journal.disk c.connect_source.result.disks.wal c.in-Ok.ensures.later c.connect_source.ensures.wal_counts
+
+pub returns-in-Ok-clause-wal_steady : goal.returns-in-Ok-clause-wal_steady
+returns-in-Ok-clause-wal_steady g c = steady_on g.W.Disk c.connect_source.result.end c.args.disks.wal c.in-Ok.source.journal.disk c.connect_source.result.disks.wal c.in-Ok.ensures.seen c.in-Ok.ensures.steady c.connect_source.ensures.wal_steady
 
 pub returns-in-Ok-clause-wal_bounded : goal.returns-in-Ok-clause-wal_bounded
 returns-in-Ok-clause-wal_bounded g c = bounded_on g.W.Disk c.args.disks.wal c.in-Ok.source.journal.disk c.connect_source.result.disks.wal c.in-Ok.ensures.seen c.connect_source.ensures.wal_bounded

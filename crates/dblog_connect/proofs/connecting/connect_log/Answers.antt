@@ -1,5 +1,7 @@
 use Rattle.std.proofs.Common.{◌∙◌, ◌⊎◌, ℤ, refl, sym, ap, subst}
+use Rattle.std.specs.Prelude.{OnOk}
 use Rattle.std.proofs.Math.Facts.{to_z-of_z}
+use Rattle.dbl_disk.specs.Calls.{IsSteady}
 use Rattle.dbl_offset.specs.Stores.{disk_of}
 use Rattle.dblog_init.specs.declared.error.Store.TheVariants as store
 use Rattle.dblog_promise.specs.Bounds.{IsBounded, IsStoreBounded}
@@ -84,6 +86,9 @@ returns-in-Ok-clause-offsets_read g c =
 
 pub returns-in-Ok-clause-wal_counts : goal.returns-in-Ok-clause-wal_counts
 returns-in-Ok-clause-wal_counts g c = moved_to (CountsFaults g.W.Disk store.Wal c.run_session-end.result c.args.source.journal.disk) c.run_session-end.new.source.journal.disk c.into_disk.result c.into_disk.ensures c.run_session-end.ensures.source_counts
+
+pub returns-in-Ok-clause-wal_steady : goal.returns-in-Ok-clause-wal_steady
+returns-in-Ok-clause-wal_steady g c = moved_to (λ d. OnOk c.run_session-end.result (IsSteady g.W.Disk c.args.source.journal.disk d)) c.run_session-end.new.source.journal.disk c.into_disk.result c.into_disk.ensures c.run_session-end.ensures.source_steady
 
 pub returns-in-Ok-clause-topics_count : goal.returns-in-Ok-clause-topics_count
 returns-in-Ok-clause-topics_count g c = moved_to (CountsFaults g.T.Disk store.Topics c.run_session-end.result c.args.log.disk) c.run_session-end.new.log.disk c.into_disk-in-Ok.result c.into_disk-in-Ok.ensures c.run_session-end.ensures.log_counts

@@ -24,6 +24,7 @@ use Rattle.dblog_capture.specs.InitErrors.{SaysInit}
 use Rattle.dblog_capture.specs.Generated.{AnswersWorkload, HasMade, IsMadeShort, IsStoreShort, RunsGenerated, plainly}
 use Rattle.dblog_capture.proofs.Fresh.{fresh_promised, made_kept, promised_fresh}
 use Rattle.dblog_capture.proofs.Statuses.{stopped_failed, stopped_no_zero}
+use Rattle.dbl_disk.specs.Calls.{IsSteady}
 use Rattle.dbl_disk.specs.Model.{DiskModel}
 
 -- ---- counts
@@ -98,6 +99,13 @@ module _ {D : Type 0} (model : DiskModel D) (made : Store) (end : inits.InitEnd)
             let bytes : grown.0 ≡ now = cc in
             inr (grown_short before has.bytes now short (subst (StaysShort has.bytes) bytes grown.2)))
       ]
+
+-- no call of a disk failed while it was made, and later
+steady_made : {D : Type 0} (model : DiskModel D) (made : Store) (Is : List ℕ → Type 0) (old mid new : D) → LeavesDisk model made (Ok tt) old mid → ((bytes : List ℕ) → model.seen old ≡ Some bytes → bytes ≡ [])
+    → (model.seen old ≡ Some [] → HasStoredBytes model Is mid) → IsSteady model mid new → IsSteady model old new
+steady_made model made Is old mid new leaves empty stored steady bytes told =
+    let has = stored (told ∙ ap (λ (l : List ℕ). let o : Option (List ℕ) = Some l in o) (empty bytes told)) in
+    steady has.bytes has.told ∙ leaves.steady (λ is. let i = is in cc) bytes told
 
 -- ---- a run
 
@@ -205,6 +213,7 @@ module _ {W T F : Type 0} (wal_model : DiskModel W) (topics_model : DiskModel T)
         topics_made = record { empty = topics_empty; stored = topics_made };
         offsets_made = record { empty = offsets_empty; stored = offsets_made };
         runs = ran.runs;
+        wal_steady = λ normal. steady_made wal_model store.Wal (IsFreshWal workload) old.wal mid.wal new.wal wal_left wal_empty wal_made (ran.wal_steady normal);
         headline = went_promised;
       });
       headline = λ made. went_promised made.wal_empty.told made.topics_empty.told made.offsets_empty.told;

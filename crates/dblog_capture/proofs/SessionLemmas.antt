@@ -1,6 +1,6 @@
 -- What the status of a session tells of how it ended.
 use Rattle.std.proofs.Common.{◌≡◌, ◌≢◌, ◌⊎◌, inl, inr, ◌∙◌, ℕ, Option, Ok, Err, List, refl, sym, ap, subst}
-use Rattle.std.specs.Prelude.{IfErr}
+use Rattle.std.specs.Prelude.{IfErr, OnOk}
 use Rattle.dbl_base.specs.Streams.{FaultCounted}
 use Rattle.dbl_model_commit.specs.declared.txn_error.TxnError.{TxnError}
 use Rattle.dbl_model_commit.specs.declared.txn_error.TxnError.TheVariants as txn
@@ -27,7 +27,7 @@ use Rattle.dbl_lines.specs.declared.status.Status.TheVariants.{Done, BudgetSpent
 use Rattle.dbl_lines.specs.declared.status.Status.TheVariants.{OffsetsFailed, StdinFailed, StdoutFailed, OutOfMemory, InvalidStore, LogGone}
 use Rattle.dbl_lines.specs.Says.{IsCutShort}
 use Rattle.dblog_capture.specs.Runs.{WroteNothing}
-use Rattle.dblog_capture.specs.Ends.{IsSessionStatus, SaysSession, connect_status, session_status, store_status}
+use Rattle.dblog_capture.specs.Ends.{IsNormalStatus, IsSessionStatus, SaysSession, connect_status, session_status, store_status}
 use Rattle.dbl_lines.proofs.SayLemmas.{cut_other}
 use Rattle.dbl_disk.specs.Model.{DiskModel}
 
@@ -162,6 +162,29 @@ own_0 (Err e) kind status is zero = absurd (error_not_0 e kind status is zero)
 pub complete_end : (end : ConnectEnd) → IfErr end IsConnectError → (status : Status) (before after : Option (List ℕ)) → SaysSession end status before after → status ≡ Done → IsCompleteEnd end
 complete_end end kind status before after says zero =
     elim (says_status end status before after says) [ inl is ↦ own_0 end kind status is zero | inr cut ↦ absurd (cut_other Done status (λ e. cc, λ e. cc) cut zero) ]
+
+-- ---- where it is 0 or 3, the session ended normally
+
+error_not_3 : (e : ConnectError) → IsConnectError e → (status : Status) → status ≡ connect_status e → status ≡ BudgetSpent → ⊥
+error_not_3 (connect.Failed Wal) kind status is three = cc
+error_not_3 (connect.Failed Topics) kind status is three = cc
+error_not_3 (connect.Failed Offsets) kind status is three = cc
+error_not_3 (connect.NotAStore store at) kind status is three = cc
+error_not_3 (connect.BadEntry store index) kind status is three = cc
+error_not_3 connect.AlreadyStarted kind status is three = cc
+error_not_3 connect.NotStarted kind status is three = cc
+error_not_3 (connect.Halted h) kind status is three = halt_other BudgetSpent status (λ e. cc, λ e. cc, λ e. cc, λ e. cc, λ e. cc) (own_status h kind status is) three
+error_not_3 connect.Memory kind status is three = cc
+
+error_unnormal : (e : ConnectError) → IsConnectError e → (status : Status) → (status ≡ connect_status e) ⊎ IsCutShort status → IsNormalStatus status → ⊥
+error_unnormal e kind status (inl is) (inl zero) = error_not_0 e kind status is zero
+error_unnormal e kind status (inl is) (inr three) = error_not_3 e kind status is three
+error_unnormal e kind status (inr cut) (inl zero) = cut_other Done status (λ e. cc, λ e. cc) cut zero
+error_unnormal e kind status (inr cut) (inr three) = cut_other BudgetSpent status (λ e. cc, λ e. cc) cut three
+
+pub normal_end : {P : Type 0} (end : ConnectEnd) → IfErr end IsConnectError → (status : Status) (before after : Option (List ℕ)) → SaysSession end status before after → OnOk end P → IsNormalStatus status → P
+normal_end (Ok summary) kind status before after says holds normal = holds
+normal_end (Err e) kind status before after says none normal = absurd (error_unnormal e kind status (says_status (Err e) status before after says) normal)
 
 -- ---- where it is that of a failed disk, that disk failed
 

@@ -64,3 +64,7 @@ abbrev pub IsSessionStatus : Status → Type 0
 IsSessionStatus status = (status ≡ Done) ⊎ ((status ≡ BudgetSpent) ⊎ ((status ≡ StartMismatch) ⊎ ((status ≡ MalformedLog)
     ⊎ ((status ≡ Unsupported) ⊎ ((status ≡ InvalidStore) ⊎ ((status ≡ LogGone)
     ⊎ ((status ≡ SourceFailed) ⊎ (((status ≡ TopicsFailed) ⊎ (status ≡ OffsetsFailed)) ⊎ IsCutShort status))))))))
+
+-- The statuses of a session that ended normally.
+abbrev pub IsNormalStatus : Status → Type 0
+IsNormalStatus status = (status ≡ Done) ⊎ (status ≡ BudgetSpent)

@@ -3,6 +3,7 @@ use Rattle.std.specs.Prelude.{◌≡◌, ℕ, ℤ, IfOk, IfErr, MatchResult, Opt
 use Rattle.dbl_lines.specs.declared.status.Status.{Status}
 use Rattle.dbl_lines.specs.declared.status.Status.TheVariants.{Done, SourceFailed, TopicsFailed, OffsetsFailed}
 use Rattle.dbl_base.specs.Streams.{FaultCounted}
+use Rattle.dbl_disk.specs.Calls.{IsSteady}
 use Rattle.dbl_disk.specs.Model.{DiskModel}
 use Rattle.dblog_init.specs.declared.disks.Disks.{Disks}
 use Rattle.dblog_connect.specs.Promise.Bounds.{IsBounded, IsStoreBounded}
@@ -14,7 +15,7 @@ use Rattle.dblog_connect.specs.Disks.{AreKeptDisks, IsTrueAfterCrash}
 use Rattle.dblog_connect.specs.Ends.{AddsFew, ConnectEnd, EndsBefore, GainsRecords, HasBegun}
 use Rattle.dblog_connect.specs.Ends.{HasRun, IsKeptError, IsReported, IsSpent, IsWrongSource}
 use Rattle.dblog_connect.specs.Errors.{IsConnectError, IsConnectRefusal}
-use Rattle.dblog_capture.specs.Ends.{SaysSession}
+use Rattle.dblog_capture.specs.Ends.{IsNormalStatus, SaysSession}
 
 -- The answer for disks with these contents, by what a crash might leave before the run and may leave after it.
 pub record AnswersCapture (asked : Asked) (now : ℤ) (wals logs new_wals new_logs new_stores : List ℕ → Type 0) (w t f : List ℕ)
@@ -72,6 +73,7 @@ pub record RunsConnected {W T F : Type 0} (wal_model : DiskModel W) (topics_mode
   pub kept : AreKeptDisks wal_model topics_model offsets_model old → AreKeptDisks wal_model topics_model offsets_model new
   pub runs : RunsSessionOn wal_model topics_model offsets_model asked now old new status before after
   pub wal_failed : status ≡ SourceFailed → FaultCounted (wal_model.faults old.wal) (wal_model.faults new.wal)
+  pub wal_steady : IsNormalStatus status → IsSteady wal_model old.wal new.wal
   pub topics_failed : status ≡ TopicsFailed → FaultCounted (topics_model.faults old.topics) (topics_model.faults new.topics)
   pub offsets_failed : status ≡ OffsetsFailed → FaultCounted (offsets_model.faults old.offsets) (offsets_model.faults new.offsets)
   pub wal_bounded : IsBounded (wal_model.seen old.wal) (wal_model.seen new.wal)

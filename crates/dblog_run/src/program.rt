@@ -10,6 +10,7 @@ ghost use Rattle.dblog_run.specs.Means.{HasOpenedTopics, InputFails, Runs, RunsC
 ghost use Rattle.dblog_run.specs.Means.{SpellSome, Tell, WalFails, connects, makes, reads, writes};
 ghost use Rattle.dblog_run.specs.Means.{opens_offsets, opens_topics, uses_offsets, uses_topics};
 ghost use Rattle.dblog_run.specs.Means.{StandsAlone, ReportsInputStatus, IsStatusOf};
+ghost use Rattle.dbl_disk.specs.Calls.{IsSteady};
 ghost use Rattle.dblog_init.specs.DemoLaws.Made.{IsFreshWal};
 ghost use Rattle.dblog_init.specs.declared.error.Store.TheVariants.{Wal, Topics, Offsets};
 ghost use Rattle.dblog_init.specs.Disks.{HasStoredBytes, HoldSomeBytes};
@@ -19,6 +20,7 @@ ghost use Rattle.dblog_capture.specs.Connect.Promise.Bounds.{IsBounded, IsStoreB
 ghost use Rattle.dblog_capture.specs.Connect.Promise.Headline.{GuaranteesAfterCrash};
 ghost use Rattle.dblog_capture.specs.Connect.Disks.{AreKeptDisks, IsTrueAfterCrash};
 ghost use Rattle.dblog_run.specs.Inits.{AreUntouched, FailsSource, IsInitLeft};
+ghost use Rattle.dblog_capture.specs.Ends.{IsNormalStatus};
 ghost use Rattle.dblog_capture.specs.Runs.{RunsConnected, RunsSessionOn};
 ghost use Rattle.dblog_capture.specs.Connect.Asked.{asks_in};
 ghost use Rattle.dbl_gen.specs.Workload.{workload};
@@ -198,6 +200,11 @@ pub fn run<I: Input, O: Output, W: Disk, T: Disk, F: Disk>(
         asked_by command ≡ Some asked →
         RunsSessionOn W.Disk T.Disk F.Disk asked now_ms disks result.disks
         result.end (O.written output.old) (O.written output.new) }
+
+    // If a session ended normally, no call of a source's disk with known contents failed.
+    ensures wal_steady { (command : Command) (asked : SpecAsked) → Spells words.now.items command →
+        asked_by command ≡ Some asked → IsNormalStatus result.end →
+        IsSteady W.Disk disks.wal result.disks.wal }
 
     // After the `init` part of `gen --run` on empty disks, everything that a crash may leave
     // satisfies the connector's promise for a capture without arguments, and extends the stores of

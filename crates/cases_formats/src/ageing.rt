@@ -44,22 +44,11 @@ struct Held {
     said: Vec<Cursor>,
 }
 
-/// Adds what a case of this family answers.
-pub fn answer(alloc: Global, shown: &mut String, call: &str, arguments: &str) -> Result<()> {
-    match call {
-        "cells" => of_tables(alloc, shown, arguments, &items::tables(alloc, arguments)?),
-        _ => bail!("no such call"),
-    }
-}
-
-fn of_tables(
-    alloc: Global,
-    shown: &mut String,
-    arguments: &str,
-    infos: &Vec<TableInfo>,
-) -> Result<()> {
+/// Adds whether each cell that a case asks for is known, and whether it is stale within its bound.
+pub fn show_cells(alloc: Global, shown: &mut String, arguments: &str) -> Result<()> {
+    let infos = items::tables(alloc, arguments)?;
     let commits = items::commits(alloc, arguments)?;
-    of_commits(alloc, shown, arguments, infos, &commits)
+    of_commits(alloc, shown, arguments, &infos, &commits)
 }
 
 fn of_commits(
@@ -77,7 +66,16 @@ fn of_commits(
         commits,
         start,
     };
-    each(alloc, shown, source, &mut nothing_held(alloc)?, arguments)
+    let end = of_source(alloc, shown, source, arguments);
+    drop(identity);
+    end
+}
+
+fn of_source(alloc: Global, shown: &mut String, source: Source<'_>, arguments: &str) -> Result<()> {
+    let mut held = nothing_held(alloc)?;
+    let end = each(alloc, shown, source, &mut held, arguments);
+    drop(held);
+    end
 }
 
 fn nothing_held(alloc: Global) -> Result<Held> {
@@ -109,9 +107,9 @@ fn each(
 }
 
 fn deliver(alloc: Global, held: &mut Held, record: Record) -> Result<()> {
-    apply(alloc, &mut held.consumer, &record)?;
+    let applied = apply(alloc, &mut held.consumer, &record);
     held.records.push(record)?;
-    Ok(())
+    applied
 }
 
 // A record that is refused changes nothing, and is in the log as well.
@@ -241,6 +239,7 @@ fn show_cell(
         bail!("no such moment");
     }
     let aged = is_aged_cell(known, &life, from, to, cell);
+    drop(life);
     let known = if known { "known" } else { "not known" };
     let aged = if aged { "aged" } else { "not aged" };
     let text = shown_text(cell);

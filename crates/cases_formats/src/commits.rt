@@ -8,39 +8,36 @@ use dbl_txn::{Assembler, Ended, Head, Piece};
 use std::alloc::Global;
 use std::fmt::Write;
 
-/// Adds what a case of this family answers.
-pub fn answer(alloc: Global, shown: &mut String, call: &str, arguments: &str) -> Result<()> {
-    match call {
-        "commits" => show_commits(alloc, shown, &items::commits(alloc, arguments)?),
-        "steps" => steps(
-            alloc,
-            shown,
-            &mut Assembler::make(alloc, Vec::new(alloc), Lsn(0)),
-            arguments,
-        ),
-        "pieces" => pieces(
-            alloc,
-            shown,
-            &mut items::assembler(alloc, arguments)?,
-            arguments,
-        ),
-        _ => bail!("no such call"),
-    }
-}
-
-// Each commit on a line.
-fn show_commits(alloc: Global, shown: &mut String, commits: &Vec<Commit>) -> Result<()> {
+/// Adds each commit, on a line.
+pub fn show_commits(alloc: Global, shown: &mut String, arguments: &str) -> Result<()> {
+    let commits = items::commits(alloc, arguments)?;
     if commits.is_empty() {
         words::add(shown, "no commit")?;
     }
-    for commit in commits {
+    for commit in &commits {
         words::line(shown)?;
         shown::commit(alloc, shown, commit)?;
     }
     Ok(())
 }
 
-// What an assembler answers to each item, from the first on.
+/// Adds what an assembler answers to each item, from the first on. The assembler is dropped by
+/// name: that is one call, whereas a drop at the end of a scope is proved part by part.
+pub fn show_steps(alloc: Global, shown: &mut String, arguments: &str) -> Result<()> {
+    let mut assembler = Assembler::make(alloc, Vec::new(alloc), Lsn(0));
+    let end = steps(alloc, shown, &mut assembler, arguments);
+    drop(assembler);
+    end
+}
+
+/// Adds what an assembler answers to each message in pieces, and the Begin that it knows after it.
+pub fn show_pieces(alloc: Global, shown: &mut String, arguments: &str) -> Result<()> {
+    let mut assembler = items::assembler(alloc, arguments)?;
+    let end = pieces(alloc, shown, &mut assembler, arguments);
+    drop(assembler);
+    end
+}
+
 fn steps(
     alloc: Global,
     shown: &mut String,
@@ -67,7 +64,9 @@ fn step(alloc: Global, shown: &mut String, assembler: &mut Assembler, item: &str
 
 fn take(alloc: Global, shown: &mut String, assembler: &mut Assembler, item: &str) -> Result<()> {
     let commit = assembler.take(alloc, messages::message(alloc, item)?)?;
-    show_state(alloc, shown, assembler, commit.as_ref())
+    let end = show_state(alloc, shown, assembler, commit.as_ref());
+    drop(commit);
+    end
 }
 
 fn show_state(
@@ -85,7 +84,6 @@ fn show_state(
     }
 }
 
-// What an assembler answers to each message in pieces, and the Begin that it knows after it.
 fn pieces(
     alloc: Global,
     shown: &mut String,
@@ -94,9 +92,9 @@ fn pieces(
 ) -> Result<()> {
     for message in messages::all(alloc, arguments)? {
         let piece = assembler.piece(alloc, message)?;
-        words::line(shown)?;
-        show_head(shown, assembler.head())?;
-        show_piece(alloc, shown, &piece)?;
+        let end = show_piece(alloc, shown, assembler.head(), &piece);
+        drop(piece);
+        end?;
     }
     Ok(())
 }
@@ -112,7 +110,9 @@ fn show_head(shown: &mut String, head: Option<Head>) -> Result<()> {
     Ok(())
 }
 
-fn show_piece(alloc: Global, shown: &mut String, piece: &Piece) -> Result<()> {
+fn show_piece(alloc: Global, shown: &mut String, head: Option<Head>, piece: &Piece) -> Result<()> {
+    words::line(shown)?;
+    show_head(shown, head)?;
     match piece {
         Piece::Nothing => words::add(shown, "nothing"),
         Piece::Changed(changes) => {

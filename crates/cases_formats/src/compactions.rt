@@ -1,7 +1,7 @@
 //! Cases of topic compaction, on records as in the cases of records.
 
 use crate::{consumers, records};
-use anyhow::{Result, bail};
+use anyhow::Result;
 use cases_items::words;
 use dbl_base::Text;
 use dbl_compact::{compact, kept_records_are_kept, kept_records_make_the_same_consumer};
@@ -9,17 +9,6 @@ use dbl_consume::{Consumer, Kind, kind};
 use dbl_record::Record;
 use std::alloc::Global;
 use std::fmt::Write;
-
-/// Adds what a case of this family answers.
-pub fn answer(alloc: Global, shown: &mut String, call: &str, arguments: &str) -> Result<()> {
-    let records = records::records(alloc, arguments)?;
-    let null = Text::of(alloc, "null")?;
-    match call {
-        "kinds" => show_kinds(alloc, shown, &null, &records),
-        "keeps" => show_kept(alloc, shown, &null, &records),
-        _ => bail!("no such call"),
-    }
-}
 
 fn placeholder(alloc: Global) -> Result<Text> {
     Ok(Text::of(alloc, "__debezium_unavailable_value")?)
@@ -33,14 +22,16 @@ fn text_or<'a>(text: &'a Option<Text>, null: &'a Text) -> &'a Text {
     }
 }
 
-// The kind of each record's effect, or why it is refused.
-fn show_kinds(alloc: Global, shown: &mut String, null: &Text, records: &Vec<Record>) -> Result<()> {
+/// Adds the kind of each record's effect, or why it is refused.
+pub fn show_kinds(alloc: Global, shown: &mut String, arguments: &str) -> Result<()> {
+    let records = records::records(alloc, arguments)?;
+    let null = Text::of(alloc, "null")?;
     let placeholder = placeholder(alloc)?;
-    for record in records {
+    for record in &records {
         if !shown.is_empty() {
             words::add(shown, ", ")?;
         }
-        show_effect(alloc, shown, &placeholder, null, record)?;
+        show_effect(alloc, shown, &placeholder, &null, record)?;
     }
     Ok(())
 }
@@ -83,12 +74,14 @@ fn show_key(shown: &mut String, before: &str, key: &Text, after: &str) -> Result
     Ok(())
 }
 
-// The positions of the records that are kept, and whether a consumer of these has the same rows.
-fn show_kept(alloc: Global, shown: &mut String, null: &Text, records: &Vec<Record>) -> Result<()> {
+/// Adds the positions of the records that are kept, and whether a consumer of these has the same
+/// rows.
+pub fn show_kept(alloc: Global, shown: &mut String, arguments: &str) -> Result<()> {
+    let records = records::records(alloc, arguments)?;
     kept_records_make_the_same_consumer();
     kept_records_are_kept();
-    match compact(alloc, &placeholder(alloc)?, records) {
-        Ok(kept) => show_compacted(alloc, shown, null, records, &kept),
+    match compact(alloc, &placeholder(alloc)?, &records) {
+        Ok(kept) => show_compacted(alloc, shown, &records, &kept),
         Err(error) => words::said(shown, &error),
     }
 }
@@ -96,7 +89,6 @@ fn show_kept(alloc: Global, shown: &mut String, null: &Text, records: &Vec<Recor
 fn show_compacted(
     alloc: Global,
     shown: &mut String,
-    null: &Text,
     records: &Vec<Record>,
     kept: &Vec<Record>,
 ) -> Result<()> {
@@ -104,17 +96,17 @@ fn show_compacted(
     for record in kept {
         write!(shown, " {}/{}", record.position, record.ordinal)?;
     }
-    let all = rows(alloc, null, records)?;
-    let left = rows(alloc, null, kept)?;
+    let all = rows(alloc, records)?;
+    let left = rows(alloc, kept)?;
     write!(shown, ", the same rows: {}", all == left)?;
     Ok(())
 }
 
 // The rows of a consumer of the records, as they are printed.
-fn rows(alloc: Global, null: &Text, records: &Vec<Record>) -> Result<String> {
+fn rows(alloc: Global, records: &Vec<Record>) -> Result<String> {
     let mut rows = String::new(alloc);
     let mut consumer = consumers::consumer(alloc)?;
-    let end = put_rows(alloc, null, records, &mut consumer, &mut rows);
+    let end = put_rows(alloc, records, &mut consumer, &mut rows);
     drop(consumer);
     match end {
         Ok(()) => Ok(rows),
@@ -124,14 +116,14 @@ fn rows(alloc: Global, null: &Text, records: &Vec<Record>) -> Result<String> {
 
 fn put_rows(
     alloc: Global,
-    null: &Text,
     records: &Vec<Record>,
     consumer: &mut Consumer,
     rows: &mut String,
 ) -> Result<()> {
+    let null = Text::of(alloc, "null")?;
     for record in records {
-        let key = text_or(&record.key, null);
-        let value = text_or(&record.value, null);
+        let key = text_or(&record.key, &null);
+        let value = text_or(&record.value, &null);
         consumer.apply(&record.topic, key, value)?;
     }
     consumers::print(alloc, rows, consumer)

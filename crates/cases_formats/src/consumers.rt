@@ -1,17 +1,18 @@
 //! Cases of a consumer's rows after records, each `TOPIC KEY VALUE`.
 
-use anyhow::{Result, bail};
+use anyhow::Result;
 use cases_items::words;
 use dbl_base::{MemOutput, Text};
 use dbl_consume::Consumer;
 use std::alloc::Global;
 
-/// Adds what a case of this family answers.
-pub fn answer(alloc: Global, shown: &mut String, call: &str, arguments: &str) -> Result<()> {
-    match call {
-        "texts" => show_rows(alloc, shown, &mut consumer(alloc)?, arguments),
-        _ => bail!("no such call"),
-    }
+/// Adds what is answered to each record, and the rows at the end. The consumer is dropped by name:
+/// that is one call, whereas a drop at the end of a scope is proved part by part.
+pub fn show_rows(alloc: Global, shown: &mut String, records: &str) -> Result<()> {
+    let mut consumer = consumer(alloc)?;
+    let end = take_all(alloc, shown, &mut consumer, records);
+    drop(consumer);
+    end
 }
 
 /// A consumer that has taken nothing.
@@ -19,8 +20,7 @@ pub fn consumer(alloc: Global) -> Result<Consumer> {
     Ok(Consumer::make(alloc, Text::of(alloc, "__debezium_unavailable_value")?)?)
 }
 
-// What is answered to each record, and the rows at the end.
-fn show_rows(
+fn take_all(
     alloc: Global,
     shown: &mut String,
     consumer: &mut Consumer,

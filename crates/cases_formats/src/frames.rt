@@ -60,34 +60,16 @@ impl Feeding {
     }
 }
 
-/// Adds what a case of this family answers.
-pub fn answer(alloc: Global, shown: &mut String, call: &str, arguments: &str) -> Result<()> {
-    match call {
-        "status" => show_status(alloc, shown, arguments),
-        "prefixes" => show_prefixes(alloc, shown, &hex::decode(alloc, arguments)?),
-        _ => {
-            let mut feeding = Feeding::make(alloc);
-            let end = show_stream(alloc, shown, &mut feeding, call, arguments);
-            drop(feeding);
-            end
-        }
-    }
-}
-
-// What a new reader answers.
-fn show_stream(
-    alloc: Global,
-    shown: &mut String,
-    feeding: &mut Feeding,
-    call: &str,
-    arguments: &str,
-) -> Result<()> {
-    match call {
-        "pieces" => show_pieces(alloc, shown, feeding, &words::all(alloc, arguments)?),
-        "bytes" => show_bytes(alloc, shown, feeding, &hex::decode(alloc, arguments)?),
-        "zeros" => feeding.show(alloc, shown, &zeros(alloc, arguments)?),
-        _ => bail!("no such call"),
-    }
+/// Adds what a new reader answers.
+pub fn show_stream(alloc: Global, shown: &mut String, call: &str, arguments: &str) -> Result<()> {
+    let mut feeding = Feeding::make(alloc);
+    let end = match call {
+        "pieces" => show_pieces(alloc, shown, &mut feeding, arguments),
+        "bytes" => show_bytes(alloc, shown, &mut feeding, arguments),
+        _ => show_zeros(alloc, shown, &mut feeding, arguments),
+    };
+    drop(feeding);
+    end
 }
 
 // What a reader answers to each piece, a line each.
@@ -95,9 +77,9 @@ fn show_pieces(
     alloc: Global,
     shown: &mut String,
     feeding: &mut Feeding,
-    pieces: &Vec<Text>,
+    arguments: &str,
 ) -> Result<()> {
-    for piece in pieces {
+    for piece in &words::all::<Text>(alloc, arguments)? {
         words::line(shown)?;
         feeding.show(alloc, shown, &hex::decode(alloc, piece.as_str())?)?;
     }
@@ -109,8 +91,9 @@ fn show_bytes(
     alloc: Global,
     shown: &mut String,
     feeding: &mut Feeding,
-    bytes: &[u8],
+    arguments: &str,
 ) -> Result<()> {
+    let bytes = hex::decode(alloc, arguments)?;
     for (at, byte) in bytes.iter().enumerate() {
         if let Some(error) = feeding.feed(alloc, shown, &[*byte])? {
             write!(shown, "byte {at}: {error}")?;
@@ -120,13 +103,14 @@ fn show_bytes(
     feeding.show_rest(shown)
 }
 
-// What a new reader answers to each prefix of the bytes, from the empty one on.
-fn show_prefixes(alloc: Global, shown: &mut String, bytes: &[u8]) -> Result<()> {
+/// Adds what a new reader answers to each prefix of the bytes, from the empty one on.
+pub fn show_prefixes(alloc: Global, shown: &mut String, arguments: &str) -> Result<()> {
+    let bytes = hex::decode(alloc, arguments)?;
     for length in 0..bytes.len() {
         show_prefix(alloc, shown, &bytes[..length])?;
         words::add(shown, ", ")?;
     }
-    show_prefix(alloc, shown, bytes)
+    show_prefix(alloc, shown, &bytes)
 }
 
 fn show_prefix(alloc: Global, shown: &mut String, bytes: &[u8]) -> Result<()> {
@@ -171,8 +155,13 @@ fn show_payload(alloc: Global, shown: &mut String, bytes: &[u8]) -> Result<()> {
     words::add(shown, hex::encode(alloc, bytes)?.as_str())
 }
 
-// The bytes of a head and a number of zeros: HEAD/NUMBER.
-fn zeros(alloc: Global, arguments: &str) -> Result<Vec<u8>> {
+// What a reader answers to the bytes of a head and a number of zeros: HEAD/NUMBER.
+fn show_zeros(
+    alloc: Global,
+    shown: &mut String,
+    feeding: &mut Feeding,
+    arguments: &str,
+) -> Result<()> {
     let (head, number) = words::split(arguments, "/");
     let count: usize = number.parse()?;
     if count > LIMIT {
@@ -180,11 +169,11 @@ fn zeros(alloc: Global, arguments: &str) -> Result<Vec<u8>> {
     }
     let mut bytes = hex::decode(alloc, head)?;
     bytes.extend_from_slice(&vec![in alloc; 0u8; count]?)?;
-    Ok(bytes)
+    feeding.show(alloc, shown, &bytes)
 }
 
-// A status update: WRITTEN/FLUSHED/APPLIED/TIME/REPLY.
-fn show_status(alloc: Global, shown: &mut String, arguments: &str) -> Result<()> {
+/// Adds a status update: WRITTEN/FLUSHED/APPLIED/TIME/REPLY.
+pub fn show_status(alloc: Global, shown: &mut String, arguments: &str) -> Result<()> {
     let written = items::field(arguments, 0).parse()?;
     let flushed = items::field(arguments, 1).parse()?;
     let applied = items::field(arguments, 2).parse()?;

@@ -1,55 +1,40 @@
 //! Cases of captured tables, of the rows at a point in the history, and of the records of a commit,
 //! by the plain functions whose contracts are the definitions.
 
-use anyhow::{Result, bail};
+use anyhow::Result;
 use cases_ages::{image_text, plain_envelopes, row_at};
 use cases_items::{items, shown, words};
 use dbl_base::{Seq, Text};
-use dbl_model_table::{Commit, Identity, Key, RawTable, TableInfo};
+use dbl_model_table::{Commit, Identity, Key, TableInfo};
 use std::alloc::Global;
 use std::fmt::Write;
 
-/// Adds what a case of this family answers.
-pub fn answer(alloc: Global, shown: &mut String, call: &str, arguments: &str) -> Result<()> {
-    match call {
-        "table" => show_table(alloc, shown, &items::raw_table(alloc, arguments)?),
-        "rows" => of_tables(
-            alloc,
-            shown,
-            call,
-            arguments,
-            &items::tables(alloc, arguments)?,
-        ),
-        "records" => of_tables(
-            alloc,
-            shown,
-            call,
-            arguments,
-            &items::tables(alloc, arguments)?,
-        ),
-        _ => bail!("no such call"),
-    }
-}
-
-fn of_tables(
-    alloc: Global,
-    shown: &mut String,
-    call: &str,
-    arguments: &str,
-    infos: &Vec<TableInfo>,
-) -> Result<()> {
+/// Adds the rows at points in the history, or the records of each commit.
+pub fn show_history(alloc: Global, shown: &mut String, call: &str, arguments: &str) -> Result<()> {
+    let infos = items::tables(alloc, arguments)?;
     let commits = items::commits(alloc, arguments)?;
     match call {
-        "rows" => rows(alloc, shown, infos, &commits, arguments),
-        _ => envelopes(alloc, shown, infos, &commits, arguments),
+        "rows" => rows(alloc, shown, &infos, &commits, arguments),
+        _ => envelopes(alloc, shown, &infos, &commits, arguments),
     }
 }
 
-// The columns and the key of a table, or why it can't be captured.
-fn show_table(alloc: Global, shown: &mut String, raw: &RawTable) -> Result<()> {
-    match TableInfo::make(alloc, raw) {
-        Ok(info) => show_info(shown, &info),
-        Err(error) => words::said(shown, &error),
+/// Adds the columns and the key of a table, or why it can't be captured.
+pub fn show_table(alloc: Global, shown: &mut String, arguments: &str) -> Result<()> {
+    let raw = items::raw_table(alloc, arguments)?;
+    let made = TableInfo::make(alloc, &raw);
+    drop(raw);
+    match made {
+        Ok(info) => {
+            let end = show_info(shown, &info);
+            drop(info);
+            end
+        }
+        Err(error) => {
+            let end = words::said(shown, &error);
+            drop(error);
+            end
+        }
     }
 }
 
@@ -150,12 +135,22 @@ fn envelopes(
     let fields = items::first_of(arguments, "as/").unwrap_or("");
     let now_ms = items::field(fields, 3).parse()?;
     let identity = identity_of(alloc, fields)?;
+    let end = show_envelopes(alloc, shown, &identity, infos, commits, now_ms);
+    drop(identity);
+    end
+}
+
+fn show_envelopes(
+    alloc: Global,
+    shown: &mut String,
+    identity: &Identity,
+    infos: &Vec<TableInfo>,
+    commits: &Vec<Commit>,
+    now_ms: i64,
+) -> Result<()> {
     for commit in commits {
-        shown::records(
-            alloc,
-            shown,
-            &plain_envelopes(alloc, &identity, infos, commit, now_ms)?,
-        )?;
+        let records = plain_envelopes(alloc, identity, infos, commit, now_ms)?;
+        shown::records(alloc, shown, &records)?;
     }
     Ok(())
 }

@@ -26,21 +26,30 @@ use std::alloc::Global;
 fn answer(alloc: Global, shown: &mut String, name: &str, arguments: &str) -> Result<()> {
     let (family, rest) = words::split(name, " ");
     let (call, _) = words::split(rest, " ");
-    match family {
-        "ageing" => ageing::answer(alloc, shown, call, arguments),
-        "compact" => compactions::answer(alloc, shown, call, arguments),
-        "consume" => consumers::answer(alloc, shown, call, arguments),
-        "envelope" => histories::answer(alloc, shown, call, arguments),
-        "frames" => frames::answer(alloc, shown, call, arguments),
-        "masks" => masks::answer(alloc, shown, call, arguments),
-        "model" => histories::answer(alloc, shown, call, arguments),
-        "pgmsg" => messages::answer(alloc, shown, call, arguments),
-        "record" => records::answer(alloc, shown, call, arguments),
-        "script" => scripts::answer(alloc, shown, call, arguments),
-        "stream" => streams::answer(alloc, shown, call, arguments),
-        "txn" => commits::answer(alloc, shown, call, arguments),
-        "value" => values::answer(alloc, shown, call, arguments),
-        _ => bail!("no such family"),
+    match (family, call) {
+        ("ageing", "cells") => ageing::show_cells(alloc, shown, arguments),
+        ("compact", "kinds") => compactions::show_kinds(alloc, shown, arguments),
+        ("compact", "keeps") => compactions::show_kept(alloc, shown, arguments),
+        ("consume", "texts") => consumers::show_rows(alloc, shown, arguments),
+        ("envelope", "records") => histories::show_history(alloc, shown, call, arguments),
+        ("frames", "status") => frames::show_status(alloc, shown, arguments),
+        ("frames", "prefixes") => frames::show_prefixes(alloc, shown, arguments),
+        ("frames", _) => frames::show_stream(alloc, shown, call, arguments),
+        ("masks", "text") => masks::show_text(alloc, shown, arguments),
+        ("masks", "messages") => masks::show_messages(alloc, shown, arguments),
+        ("model", "table") => histories::show_table(alloc, shown, arguments),
+        ("model", "rows") => histories::show_history(alloc, shown, call, arguments),
+        ("pgmsg", _) => messages::show(alloc, shown, call, arguments),
+        ("record", "read") => records::show_read(alloc, shown, arguments),
+        ("record", "group") => records::show_group(alloc, shown, arguments),
+        ("record", _) => records::show_record(alloc, shown, call, arguments),
+        ("script", "text") => scripts::show(alloc, shown, arguments),
+        ("stream", "take") => streams::show(alloc, shown, arguments),
+        ("txn", "commits") => commits::show_commits(alloc, shown, arguments),
+        ("txn", "steps") => commits::show_steps(alloc, shown, arguments),
+        ("txn", "pieces") => commits::show_pieces(alloc, shown, arguments),
+        ("value", "read") => values::show_read(alloc, shown, arguments),
+        _ => bail!("no such call"),
     }
 }
 

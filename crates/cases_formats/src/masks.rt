@@ -7,15 +7,6 @@ use dbl_hooks_masks::{Hook, Mapper, Mask, mask_text, masked_messages_fit};
 use dbl_pgmsg::{Message, OldTuple, Tuple, TupleCell};
 use std::alloc::Global;
 
-/// Adds what a case of this family answers.
-pub fn answer(alloc: Global, shown: &mut String, call: &str, arguments: &str) -> Result<()> {
-    match call {
-        "text" => show_text(alloc, shown, arguments),
-        "messages" => show_messages(alloc, shown, arguments),
-        _ => bail!("no such call"),
-    }
-}
-
 fn mask_of(kind: &str, most: &str) -> Result<Mask> {
     match kind {
         "stars" => Ok(Mask::Stars(most.parse()?)),
@@ -24,24 +15,44 @@ fn mask_of(kind: &str, most: &str) -> Result<Mask> {
     }
 }
 
-// The mask of a text: MASK/TEXT.
-fn show_text(alloc: Global, shown: &mut String, arguments: &str) -> Result<()> {
+/// Adds the mask of a text: MASK/TEXT.
+pub fn show_text(alloc: Global, shown: &mut String, arguments: &str) -> Result<()> {
     let mask = mask_of(items::field(arguments, 0), items::field(arguments, 1))?;
     let text = Text::of(alloc, items::field(arguments, 2))?;
     words::said(shown, &mask_text(alloc, mask, &text)?)
 }
 
-// The rows of masked messages, a line each: `mask/TABLE/COLUMN/MASK`, and the messages.
-fn show_messages(alloc: Global, shown: &mut String, arguments: &str) -> Result<()> {
+/// Adds the rows of masked messages, a line each: `mask/TABLE/COLUMN/MASK`, and the messages.
+pub fn show_messages(alloc: Global, shown: &mut String, arguments: &str) -> Result<()> {
     masked_messages_fit();
     let fields = items::first_of(arguments, "mask/").context("no mask")?;
-    let table = items::table_name(alloc, items::field(fields, 0))?;
-    let column = Text::of(alloc, items::field(fields, 1))?;
     let mask = mask_of(items::field(fields, 2), items::field(fields, 3))?;
     let function = Box::new(alloc, move |text: &Text| mask_text(alloc, mask, text))?;
-    let mut mapper = Mapper::make(alloc, table, column, Hook::keep(mask, function));
+    let mut mapper = mapper_of(alloc, fields, Hook::keep(mask, function))?;
+    let end = show_masked(alloc, shown, &mut mapper, arguments);
+    drop(mapper);
+    end
+}
+
+fn mapper_of(alloc: Global, fields: &str, hook: Hook) -> Result<Mapper<Hook>> {
+    let table = items::table_name(alloc, items::field(fields, 0))?;
+    let column = Text::of(alloc, items::field(fields, 1))?;
+    Ok(Mapper::make(alloc, table, column, hook))
+}
+
+// Each message is dropped by name: that is one call, whereas a drop at the end of a scope is proved
+// variant by variant.
+fn show_masked(
+    alloc: Global,
+    shown: &mut String,
+    mapper: &mut Mapper<Hook>,
+    arguments: &str,
+) -> Result<()> {
     for message in messages::all(alloc, arguments)? {
-        show_rows(shown, &mapper.message(message)?)?;
+        let message = mapper.message(message)?;
+        let end = show_rows(shown, &message);
+        drop(message);
+        end?;
     }
     Ok(())
 }

@@ -5,36 +5,46 @@ use cases_items::words;
 use dbl_pgmsg::{Message, decode, encode};
 use std::alloc::Global;
 
-/// Adds what a case of this family answers.
-pub fn answer(alloc: Global, shown: &mut String, call: &str, arguments: &str) -> Result<()> {
+/// Adds the message that bytes encode, or its bytes again.
+pub fn show(alloc: Global, shown: &mut String, call: &str, arguments: &str) -> Result<()> {
+    let bytes = bytes_of(alloc, call, arguments)?;
     match call {
-        "zeros" => zeros(alloc, shown, arguments.parse()?),
-        _ => of_bytes(alloc, shown, call, &hex::decode(alloc, arguments)?),
+        "again" => show_again(alloc, shown, &bytes),
+        _ => show_decoded(alloc, shown, &bytes),
     }
 }
 
-// What a call answers to the bytes of a message.
-fn of_bytes(alloc: Global, shown: &mut String, call: &str, bytes: &[u8]) -> Result<()> {
-    match call {
-        "decode" => show_decoded(alloc, shown, bytes),
-        "again" => show_written(alloc, shown, &decode(alloc, bytes)?),
-        _ => bail!("no such call"),
+// The bytes of a message: so many zeros, or the digits of a case.
+fn bytes_of(alloc: Global, call: &str, arguments: &str) -> Result<Vec<u8>> {
+    if call != "zeros" {
+        return Ok(hex::decode(alloc, arguments)?);
     }
+    let count = arguments.parse()?;
+    if count > 20_000_000 {
+        bail!("too many");
+    }
+    Ok(vec![in alloc; 0u8; count]?)
 }
 
-// The message that the bytes encode, or their fault.
+// The message that the bytes encode, or their fault. A message is dropped by name: that is one
+// call, whereas a drop at the end of a scope is proved variant by variant.
 fn show_decoded(alloc: Global, shown: &mut String, bytes: &[u8]) -> Result<()> {
     match decode(alloc, bytes) {
-        Ok(message) => words::show_debug(shown, &message),
+        Ok(message) => {
+            let end = words::show_debug(shown, &message);
+            drop(message);
+            end
+        }
         Err(error) => words::said(shown, &error),
     }
 }
 
-fn zeros(alloc: Global, shown: &mut String, count: usize) -> Result<()> {
-    if count > 20_000_000 {
-        bail!("too many");
-    }
-    show_decoded(alloc, shown, &vec![in alloc; 0u8; count]?)
+// The bytes of the message that the bytes encode.
+fn show_again(alloc: Global, shown: &mut String, bytes: &[u8]) -> Result<()> {
+    let message = decode(alloc, bytes)?;
+    let end = show_written(alloc, shown, &message);
+    drop(message);
+    end
 }
 
 /// The bytes of a message, if it has an encoding.
@@ -42,9 +52,6 @@ pub fn show_written(alloc: Global, shown: &mut String, message: &Message) -> Res
     if !message.fits() {
         return words::add(shown, "doesn't fit");
     }
-    show_digits(alloc, shown, encode(alloc, message)?.items())
-}
-
-fn show_digits(alloc: Global, shown: &mut String, bytes: &[u8]) -> Result<()> {
-    words::add(shown, hex::encode(alloc, bytes)?.as_str())
+    let bytes = encode(alloc, message)?;
+    words::add(shown, hex::encode(alloc, bytes.items())?.as_str())
 }

@@ -5,25 +5,11 @@ use anyhow::{Result, bail};
 use cases_items::{items, words};
 use dbl_base::Text;
 use dbl_record::{
-    Line, ParsedLine, Record, append_line, group_length, line, parse_line, read_group, read_line,
+    ParsedLine, Record, append_line, group_length, line, parse_line, read_group, read_line,
     short_groups_have_a_form, write_group,
 };
 use std::alloc::Global;
 use std::fmt::Write;
-
-/// Adds what a case of this family answers.
-pub fn answer(alloc: Global, shown: &mut String, call: &str, arguments: &str) -> Result<()> {
-    match call {
-        "line" => words::add(
-            shown,
-            line(alloc, &read_record(alloc, arguments)?)?.as_str(),
-        ),
-        "append" => show_appended(alloc, shown, &read_record(alloc, arguments)?),
-        "read" => show_read(alloc, shown, &Text::of(alloc, arguments)?),
-        "group" => show_group(alloc, shown, &records(alloc, arguments)?),
-        _ => bail!("no such call"),
-    }
-}
 
 fn next(texts: &mut Vec<Option<Text>>) -> Option<Text> {
     match texts.pop() {
@@ -77,43 +63,60 @@ pub fn records(alloc: Global, arguments: &str) -> Result<Vec<Record>> {
     Ok(records)
 }
 
-// The line of a record's copy after another line.
+/// Adds the line of a record, or that of its copy after another line.
+pub fn show_record(alloc: Global, shown: &mut String, call: &str, arguments: &str) -> Result<()> {
+    let record = read_record(alloc, arguments)?;
+    let end = match call {
+        "line" => show_text(alloc, shown, &record),
+        _ => show_appended(alloc, shown, &record),
+    };
+    drop(record);
+    end
+}
+
+fn show_text(alloc: Global, shown: &mut String, record: &Record) -> Result<()> {
+    words::add(shown, line(alloc, record)?.as_str())
+}
+
 fn show_appended(alloc: Global, shown: &mut String, record: &Record) -> Result<()> {
-    let line = append_line(b"first, ".to_vec(alloc)?, &record.copy(alloc)?)?;
-    words::add(shown, str::from_utf8(&line)?)
+    let copy = record.copy(alloc)?;
+    let line = append_line(b"first, ".to_vec(alloc)?, &copy);
+    drop(copy);
+    words::add(shown, str::from_utf8(&line?)?)
 }
 
-// A line's topic, key and value, read and parsed.
-fn show_read(alloc: Global, shown: &mut String, text: &Text) -> Result<()> {
-    match read_line(alloc, text) {
-        Ok(read) => show_line(shown, &read)?,
-        Err(error) => return words::said(shown, &error),
+/// Adds a line's topic, key and value, read and parsed.
+pub fn show_read(alloc: Global, shown: &mut String, arguments: &str) -> Result<()> {
+    let text = Text::of(alloc, arguments)?;
+    match read_line(alloc, &text) {
+        Ok(line) => {
+            let end = write!(shown, "{} {} {} | ", line.topic, line.key, line.value);
+            drop(line);
+            end?;
+            show_parsed(shown, parse_line(alloc, text.as_str())?)
+        }
+        Err(error) => words::said(shown, &error),
     }
-    show_parsed(alloc, shown, &parse_line(alloc, text.as_str())?)
 }
 
-fn show_line(shown: &mut String, line: &Line) -> Result<()> {
-    write!(shown, "{} {} {} | ", line.topic, line.key, line.value)?;
+fn show_parsed(shown: &mut String, line: ParsedLine) -> Result<()> {
+    let (topic, key, value) = (line.topic(), line.key(), line.value());
+    let end = write!(shown, "{topic} {key} {value}");
+    drop(line);
+    end?;
     Ok(())
 }
 
-fn show_parsed(alloc: Global, shown: &mut String, line: &ParsedLine) -> Result<()> {
-    words::said(shown, line.topic())?;
-    words::add(shown, " ")?;
-    words::add(shown, line.key().to_string(alloc)?.as_str())?;
-    words::add(shown, " ")?;
-    words::add(shown, line.value().to_string(alloc)?.as_str())
-}
-
-// How many bytes a group has, which, and whether they are read as the same group.
-fn show_group(alloc: Global, shown: &mut String, group: &Vec<Record>) -> Result<()> {
-    let length = group_length(group);
+/// Adds how many bytes a group has, which, and whether they are read as the same group.
+pub fn show_group(alloc: Global, shown: &mut String, arguments: &str) -> Result<()> {
+    let group = records(alloc, arguments)?;
+    let length = group_length(&group);
     if length > 100_000 {
         bail!("too long");
     }
     short_groups_have_a_form();
     write!(shown, "{length} ")?;
-    show_bytes(alloc, shown, group, write_group(alloc, group)?.items())
+    show_bytes(alloc, shown, &group, write_group(alloc, &group)?.items())
 }
 
 fn show_bytes(alloc: Global, shown: &mut String, group: &Vec<Record>, bytes: &[u8]) -> Result<()> {

@@ -1,25 +1,19 @@
 //! Cases of workloads. A line's end is written `\n`.
 
-use anyhow::{Result, bail};
+use anyhow::Result;
 use cases_items::words;
 use dbl_script::parse;
 use std::alloc::Global;
 
-/// Adds what a case of this family answers.
-pub fn answer(alloc: Global, shown: &mut String, call: &str, arguments: &str) -> Result<()> {
-    match call {
-        "text" => show(
-            alloc,
-            shown,
-            arguments.replace(alloc, "\\n", "\n")?.as_str(),
-        ),
-        _ => bail!("no such call"),
-    }
-}
-
-fn show(alloc: Global, shown: &mut String, text: &str) -> Result<()> {
+/// Adds the workload of a text, or its fault.
+pub fn show(alloc: Global, shown: &mut String, arguments: &str) -> Result<()> {
+    let text = arguments.replace(alloc, "\\n", "\n")?;
     match parse(alloc, text.as_bytes()) {
-        Ok(script) => words::show_debug(shown, &script),
+        Ok(script) => {
+            let end = words::show_debug(shown, &script);
+            drop(script);
+            end
+        }
         Err(error) => words::said(shown, &error),
     }
 }

@@ -1,35 +1,53 @@
 //! Cases of streamed transactions. The bytes of a message are in hexadecimal.
 
 use crate::messages::show_written;
-use anyhow::{Result, bail};
+use anyhow::Result;
 use cases_items::words;
-use dbl_base::Text;
 use dbl_pgmsg::Message;
-use dbl_stream2::{StreamError, Unstream};
+use dbl_stream2::Unstream;
 use std::alloc::Global;
 use std::fmt::Write;
 
-/// Adds what a case of this family answers.
-pub fn answer(alloc: Global, shown: &mut String, call: &str, arguments: &str) -> Result<()> {
-    match call {
-        "take" => show_stream(alloc, shown, &words::all(alloc, arguments)?),
-        _ => bail!("no such call"),
-    }
+/// Adds what is returned for each message, and whether a block is open at the end, or the first
+/// refusal.
+pub fn show(alloc: Global, shown: &mut String, arguments: &str) -> Result<()> {
+    let mut unstream = Unstream::make(alloc);
+    let end = take_all(alloc, shown, &mut unstream, arguments);
+    drop(unstream);
+    end
 }
 
-// What is returned for each message, and whether a block is open at the end, or the first refusal.
-fn show_stream(alloc: Global, shown: &mut String, texts: &Vec<Text>) -> Result<()> {
-    let mut unstream = Unstream::make(alloc);
-    for (index, text) in texts.iter().enumerate() {
-        let bytes = hex::decode(alloc, text.as_str())?;
-        match unstream.take(alloc, &bytes) {
-            Ok(messages) => show_messages(alloc, shown, index, &messages)?,
-            Err(error) => return show_refusal(shown, index, &error),
+fn take_all(alloc: Global, shown: &mut String, unstream: &mut Unstream, words: &str) -> Result<()> {
+    for (index, word) in words.split_whitespace().enumerate() {
+        if !take(alloc, shown, unstream, index, word)? {
+            return Ok(());
         }
     }
     words::line(shown)?;
     write!(shown, "inside {}", unstream.inside())?;
     Ok(())
+}
+
+// Whether a message is accepted.
+fn take(
+    alloc: Global,
+    shown: &mut String,
+    unstream: &mut Unstream,
+    index: usize,
+    digits: &str,
+) -> Result<bool> {
+    let bytes = hex::decode(alloc, digits)?;
+    match unstream.take(alloc, &bytes) {
+        Ok(messages) => {
+            show_messages(alloc, shown, index, &messages)?;
+            Ok(true)
+        }
+        Err(error) => {
+            show_number(shown, index)?;
+            write!(shown, " {error}")?;
+            Ok(false)
+        }
+    }
 }
 
 // The messages that are returned for the message at this index, if any.
@@ -47,12 +65,6 @@ fn show_messages(
         words::add(shown, " ")?;
         show_written(alloc, shown, message)?;
     }
-    Ok(())
-}
-
-fn show_refusal(shown: &mut String, index: usize, error: &StreamError) -> Result<()> {
-    show_number(shown, index)?;
-    write!(shown, " {error}")?;
     Ok(())
 }
 

@@ -105,12 +105,13 @@ fn show_bytes(
 
 /// Adds what a new reader answers to each prefix of the bytes, from the empty one on.
 pub fn show_prefixes(alloc: Global, shown: &mut String, arguments: &str) -> Result<()> {
-    let bytes = hex::decode(alloc, arguments)?;
+    let decoded = hex::decode(alloc, arguments)?;
+    let bytes = decoded.as_slice();
     for length in 0..bytes.len() {
         show_prefix(alloc, shown, &bytes[..length])?;
         words::add(shown, ", ")?;
     }
-    show_prefix(alloc, shown, &bytes)
+    show_prefix(alloc, shown, bytes)
 }
 
 fn show_prefix(alloc: Global, shown: &mut String, bytes: &[u8]) -> Result<()> {

@@ -1,0 +1,3 @@
+pub mod SinceLemmas
+pub mod CourseLemmas
+pub mod AgeLemmas

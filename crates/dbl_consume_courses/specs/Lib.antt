@@ -1,0 +1,5 @@
+pub use Rattle.dbl_consume_laws.specs as ConsumeLaws
+pub mod Versions
+pub mod Courses
+pub mod Since
+pub mod AlteredTables

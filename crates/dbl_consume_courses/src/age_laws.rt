@@ -1,0 +1,30 @@
+//! What a log shows of a table since its last alteration.
+ghost use Rattle.dbl_consume_courses.specs.AlteredTables.{AgedCoursesAreOwn, NewCoursesAreAged};
+ghost use Rattle.dbl_consume_courses.specs.AlteredTables.{LateLogsAgeAsPlain};
+ghost use Rattle.dbl_consume_courses.specs.AlteredTables.{NothingIsKnownAtFirst};
+ghost use Rattle.dbl_consume_courses.specs.AlteredTables.{LateLogsHaveTheSameRows};
+
+/// A log that is aged in a course is aged there as far as the course's table goes.
+pub fn aged_courses_are_own()
+    ensures { AgedCoursesAreOwn }
+{}
+
+/// A log whose last record lies before a course is aged at the course's start.
+pub fn new_courses_are_aged()
+    ensures { NewCoursesAreAged }
+{}
+
+/// A log without a record before a course is aged as that of a table that isn't altered.
+pub fn late_logs_age_as_plain()
+    ensures { LateLogsAgeAsPlain }
+{}
+
+/// No key is known where a course begins.
+pub fn nothing_is_known_at_first()
+    ensures { NothingIsKnownAtFirst }
+{}
+
+/// A log without a record before a course has the rows of that since its start.
+pub fn late_logs_have_the_same_rows()
+    ensures { LateLogsHaveTheSameRows }
+{}

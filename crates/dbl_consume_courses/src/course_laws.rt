@@ -1,0 +1,23 @@
+//! The course of a table, in which it isn't altered.
+ghost use Rattle.dbl_consume_courses.specs.Courses.{CoursesGoOn, CoursesBeginAnew};
+ghost use Rattle.dbl_consume_courses.specs.Courses.{CoursesHaveInfos, CoursesShowRows};
+
+/// A course goes on by each commit that doesn't alter its table.
+pub fn courses_go_on()
+    ensures { CoursesGoOn }
+{}
+
+/// After an alteration a course has nothing of what was before it.
+pub fn courses_begin_anew()
+    ensures { CoursesBeginAnew }
+{}
+
+/// At the end of a course the captured tables are those of the history.
+pub fn courses_have_infos()
+    ensures { CoursesHaveInfos }
+{}
+
+/// A course shows the rows that its table has in the history.
+pub fn courses_show_rows()
+    ensures { CoursesShowRows }
+{}

@@ -25,7 +25,7 @@ new_aged identity c records item table early =
     (no_records_are_aged identity c.infos c.commits (course_start c)))
 
 no_item : (item : Record) → Contains [] item → ⊥
-no_item item h = omega (arith, h.1.0)
+no_item item h = omega (arith, h.1)
 
 pub none_known : NothingIsKnownAtFirst
 none_known identity c records item table key early (inl told) =

@@ -25,7 +25,7 @@ new_aged identity c records item table early =
     (no_records_are_aged identity c.infos c.commits (course_start c)))
 
 no_item : (item : Record) → Contains [] item → ⊥
-no_item item h = omega (arith, h.1)
+no_item item h = let none : h.0 < 0 = h.1 in omega (arith, none)
 
 pub none_known : NothingIsKnownAtFirst
 none_known identity c records item table key early (inl told) =

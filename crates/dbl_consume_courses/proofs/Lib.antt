@@ -1,3 +1,4 @@
 pub mod SinceLemmas
 pub mod CourseLemmas
 pub mod AgeLemmas
+pub mod Example

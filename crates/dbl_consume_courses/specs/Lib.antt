@@ -3,3 +3,4 @@ pub mod Versions
 pub mod Courses
 pub mod Since
 pub mod AlteredTables
+pub mod Example

@@ -1,6 +1,7 @@
 //! The course of a table, in which it isn't altered.
 ghost use Rattle.dbl_consume_courses.specs.Courses.{CoursesGoOn, CoursesBeginAnew};
 ghost use Rattle.dbl_consume_courses.specs.Courses.{CoursesHaveInfos, CoursesShowRows};
+ghost use Rattle.dbl_consume_courses.specs.Example.{AlteredTablesStand};
 
 /// A course goes on by each commit that doesn't alter its table.
 pub fn courses_go_on()
@@ -20,4 +21,9 @@ pub fn courses_have_infos()
 /// A course shows the rows that its table has in the history.
 pub fn courses_show_rows()
     ensures { CoursesShowRows }
+{}
+
+/// There is a history with an alteration that satisfies what these theorems require.
+pub fn altered_tables_stand()
+    ensures { AlteredTablesStand }
 {}

@@ -9,7 +9,9 @@ pub use age_laws::{
     aged_courses_are_own, late_logs_age_as_plain, late_logs_have_the_same_rows,
     new_courses_are_aged, nothing_is_known_at_first,
 };
-pub use course_laws::{courses_begin_anew, courses_go_on, courses_have_infos, courses_show_rows};
+pub use course_laws::{
+    altered_tables_stand, courses_begin_anew, courses_go_on, courses_have_infos, courses_show_rows,
+};
 pub use since_laws::{
     early_records_end_all, late_logs_are_whole, late_records_are_appended, later_starts_keep_less,
     since_is_one, since_is_since,

@@ -1,0 +1,94 @@
+-- A small history with an alteration: insert a into t, insert x into u, add a column to t, insert y into u; and its log.
+use Rattle.std.specs.Prelude.{◌≡◌, ℕ, pos, true, false, Option, Some, None, List, [], ◌∷◌, codes}
+use Rattle.dbl_value.specs.declared.column_type.PgType.TheVariants as type
+use Rattle.dbl_value.specs.declared.value.Val.TheVariants as val
+use Rattle.dbl_record.specs.declared.record.Record.{Record}
+use Rattle.dbl_model_table.specs.declared.table.RawRow.{RawRow}
+use Rattle.dbl_model_table.specs.declared.row.Row.{Row}
+use Rattle.dbl_model_table.specs.declared.table.TableInfo.{TableInfo}
+use Rattle.dbl_model_table.specs.declared.change.Body.{Body}
+use Rattle.dbl_model_table.specs.declared.change.Body.TheVariants.{Changes}
+use Rattle.dbl_model_table.specs.declared.change.Change.TheVariants.{Clear, Insert}
+use Rattle.dbl_model_table.specs.declared.change.Commit.{Commit}
+use Rattle.dbl_consume_courses.specs.Versions.{Alteration, Versioned, AreVersionsFrom}
+use Rattle.dbl_consume_courses.specs.Courses.{Course, course, opening}
+use Rattle.dbl_consume_courses.specs.Since.{since}
+
+-- The table t, which has its key only.
+abbrev pub old_table : TableInfo
+old_table = record {
+  name = record { schema = codes "public"; name = codes "t" };
+  columns = record { name = codes "k"; ty = type.Text } ∷ [];
+  key = 0 ∷ [];
+  -- The name is allowed, and the key is a column.
+  sound = λ i. true;
+}
+
+-- The table t with one column more.
+abbrev pub new_table : TableInfo
+new_table = record {
+  name = record { schema = codes "public"; name = codes "t" };
+  columns = record { name = codes "k"; ty = type.Text } ∷ record { name = codes "v"; ty = type.Text } ∷ [];
+  key = 0 ∷ [];
+  sound = λ i. true;
+}
+
+-- The table u.
+abbrev pub other_table : TableInfo
+other_table = record {
+  name = record { schema = codes "public"; name = codes "u" };
+  columns = record { name = codes "k"; ty = type.Text } ∷ [];
+  key = 0 ∷ [];
+  sound = λ i. true;
+}
+
+-- The captured tables before the alteration, and from it on.
+abbrev pub old_infos : List TableInfo
+old_infos = old_table ∷ other_table ∷ []
+
+abbrev pub new_infos : List TableInfo
+new_infos = new_table ∷ other_table ∷ []
+
+-- The row with this text.
+abbrev pub text_row : List ℕ → Row
+text_row text = record { cells = val.Text text ∷ [] }
+
+-- A commit with this LSN and these contents, which alters nothing.
+abbrev pub version_at : ℕ → List TableInfo → Body → Versioned
+version_at lsn infos body =
+    record { lsn = record { 0 = lsn }; end_lsn = record { 0 = lsn }; time = pos 0; xid = 1; body = body; infos = infos; altered = None }
+
+-- The rows that the alteration leaves.
+abbrev pub new_rows : List RawRow
+new_rows = record { cells = Some (codes "a") ∷ Some (codes "1") ∷ [] } ∷ []
+
+-- The commit that alters t.
+abbrev pub alteration : Versioned
+alteration = record (version_at 3 new_infos (Changes [])) { altered = Some (record { table = 0; rows = new_rows }) }
+
+-- The commits of the example.
+abbrev pub example_versions : List Versioned
+example_versions =
+    version_at 1 old_infos (Changes (Insert 0 (text_row (codes "a")) ∷ []))
+    ∷ version_at 2 old_infos (Changes (Insert 1 (text_row (codes "x")) ∷ []))
+    ∷ alteration
+    ∷ version_at 4 new_infos (Changes (Insert 1 (text_row (codes "y")) ∷ []))
+    ∷ []
+
+-- A record at this position.
+abbrev pub record_at : ℕ → Record
+record_at position =
+    record { topic = []; key = None; value = None; position = position; ordinal = 0; last = true; newkey = None; oldkey = None }
+
+-- The last commit in the course of t: one truncation of u, for its one event.
+abbrev pub last_tick : Commit
+last_tick =
+    record { lsn = record { 0 = 4 }; end_lsn = record { 0 = 4 }; time = pos 0; xid = 1; body = Changes (Clear 1 ∷ []) }
+
+-- The commits follow one another; the course of t begins at its alteration; and a log's records since then are those after its last record
+-- before it.
+abbrev pub AlteredTablesStand : Type 0
+AlteredTablesStand = AreVersionsFrom old_infos example_versions
+    × (course old_infos example_versions 0 0 4
+    ≡ record { infos = new_infos; commits = opening 0 alteration new_rows ∷ last_tick ∷ []; start = 3 })
+    × (since 3 (record_at 1 ∷ record_at 4 ∷ record_at 2 ∷ record_at 4 ∷ []) ≡ record_at 4 ∷ [])

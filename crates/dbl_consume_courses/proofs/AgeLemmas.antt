@@ -1,12 +1,10 @@
 -- The age of a log of an altered table.
-use Rattle.std.proofs.Common.{◌≡◌, ◌<◌, ◌≤◌, ℕ, inl, inr, List, [], ◌∷◌, ◌++◌, sym, ap, subst, arith}
+use Rattle.std.proofs.Common.{◌≡◌, ◌<◌, inl, inr, List, [], ◌∷◌, ◌++◌, sym, ap, subst, arith}
 use Rattle.std.specs.Prelude.{Contains}
 use Rattle.dbl_record.specs.declared.record.Record.{Record}
-use Rattle.dbl_model_table.specs.declared.identity.Identity.{Identity}
 use Rattle.dbl_consume_laws.specs.Ages.{held_row, IsAged}
-use Rattle.dbl_consume_courses.specs.Courses.{Course}
 use Rattle.dbl_consume_courses.specs.Since.{since}
-use Rattle.dbl_consume_courses.specs.AlteredTables.{course_changes, course_start, IsOwnAged, AgedCoursesAreOwn, NewCoursesAreAged, LateLogsAgeAsPlain, NothingIsKnownAtFirst, LateLogsHaveTheSameRows}
+use Rattle.dbl_consume_courses.specs.AlteredTables.{course_start, AgedCoursesAreOwn, NewCoursesAreAged, LateLogsAgeAsPlain, NothingIsKnownAtFirst, LateLogsHaveTheSameRows}
 use Rattle.dbl_consume_courses.proofs.SinceLemmas.{ended, whole}
 use Rattle.dbl_consume_laws.proofs.Spans.{no_records_are_aged}
 

@@ -1,10 +1,9 @@
 -- Courses, commit by commit, and their rows.
-use Rattle.std.proofs.Common.{◌≡◌, ◌≢◌, ◌∙◌, ℕ, Bool, true, false, Option, Some, None, List, [], ◌∷◌, ◌++◌, length, map, take, refl, sym, ap, subst, arith, append_assoc}
+use Rattle.std.proofs.Common.{◌≡◌, ◌≢◌, ◌∙◌, ℕ, Bool, true, false, Option, Some, None, List, [], ◌∷◌, ◌++◌, length, map, refl, sym, ap, subst, arith, append_assoc}
 use Rattle.std.proofs.lemmas.Bool.{eq-eqb, eqb-true}
 use Rattle.std.proofs.lemmas.List.{append-nil, take_all}
 use Rattle.std.proofs.lemmas.List.Sums.{fold-append}
 use Rattle.std.specs.Prelude.{◌==◌, if◌then◌else◌, fold, flat_map, max, option_map, unwrap_or, slice_get}
-use Rattle.std.specs.List.{AllByRecursion}
 use Rattle.dbl_value.specs.declared.value.Val.{Val}
 use Rattle.dbl_model_table.specs.declared.row.Key.{Key}
 use Rattle.dbl_model_table.specs.declared.table.RawRow.{RawRow}
@@ -17,13 +16,13 @@ use Rattle.dbl_model_table.specs.declared.change.Commit.{Commit}
 use Rattle.dbl_model_table.specs.Infos.{key_places}
 use Rattle.dbl_model_table.specs.Keys.{same_key, key_at, given_or_null}
 use Rattle.dbl_model_table.specs.Rows.{Effect, all_given, updated, at_key, at_keys, effect_of, row_after, Rows, no_rows, rows_from, rows, table_of, changes_of, all_changes}
-use Rattle.dbl_model_table.specs.Rows.Effect.{Stays, Whole, Ends}
+use Rattle.dbl_model_table.specs.Rows.Effect.{Whole}
 use Rattle.dbl_model_history.specs.PlainRows.{row_from}
 use Rattle.dbl_model_event.specs.Events.{Notice, notices}
 use Rattle.dbl_model_history.proofs.PlainLemmas.{rows_from-row_from}
-use Rattle.dbl_model_history.proofs.RowLemmas.{all_changes-append, effect_of-other_table, other_table}
-use Rattle.dbl_consume_courses.specs.Versions.{Alteration, Versioned, plain_commit, Alters, FollowsInfos, AreVersionsFrom, inserts, altered_rows, rows_through, version_rows}
-use Rattle.dbl_consume_courses.specs.Courses.{ticked, ticked_body, ticked_commit, opening, Course, alteration_of, course_by, course_after, course_from, first_course, AreUnaltered, infos_after, CoursesGoOn, CoursesBeginAnew, CoursesShowRows, CoursesHaveInfos}
+use Rattle.dbl_model_history.proofs.RowLemmas.{all_changes-append, effect_of-other_table}
+use Rattle.dbl_consume_courses.specs.Versions.{Alteration, Versioned, plain_commit, FollowsInfos, AreVersionsFrom, inserts, altered_rows, rows_through}
+use Rattle.dbl_consume_courses.specs.Courses.{ticked, ticked_commit, opening, Course, alteration_of, course_by, course_after, course_from, first_course, infos_after, CoursesGoOn, CoursesBeginAnew, CoursesShowRows, CoursesHaveInfos}
 
 -- ---- commits
 
@@ -39,11 +38,9 @@ goes_on table old (v ∷ versions) unaltered =
 pub begins_anew : CoursesBeginAnew
 begins_anew table old before v rows later altered unaltered =
     let mid = course_from table old before in
-    let next : Course = record { infos = v.infos; commits = opening table v rows ∷ []; start = max mid.start v.lsn.0 } in (
-      mid.start,
-      fold-append (course_after table) old before (v ∷ later)
-          ∙ (ap (λ (o : Option (List RawRow)). course_from table (course_by table mid v o) later) altered ∙ goes_on table next later unaltered),
-    )
+    let next : Course = record { infos = v.infos; commits = opening table v rows ∷ []; start = max mid.start v.lsn.0 } in
+    fold-append (course_after table) old before (v ∷ later)
+    ∙ (ap (λ (o : Option (List RawRow)). course_from table (course_by table mid v o) later) altered ∙ goes_on table next later unaltered)
 
 infos_by : (table : ℕ) (c : Course) (v : Versioned) (o : Option (List RawRow)) → (course_by table c v o).infos ≡ v.infos
 infos_by table c v None = refl

@@ -20,4 +20,4 @@ alters = record {
 }
 
 pub stands : AlteredTablesStand
-stands = ((refl, refl, alters, refl, tt), refl, refl)
+stands = ((refl, (refl, (alters, (refl, tt)))), refl, refl)

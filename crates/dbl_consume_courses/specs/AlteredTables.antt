@@ -28,7 +28,7 @@ abbrev pub course_start : Course → ℕ
 course_start c = moment_at c.commits c.start
 
 -- Whether a key of a table is known at a point of the table's course: by a change since the course's start, or by a progress record after
--- the last record that lies before that start.
+-- the last record that lies before that start. One at the start itself counts too.
 abbrev pub IsKnownIn : Identity → Course → List Record → ℕ → ℕ → Key → Type 0
 IsKnownIn identity c records moment table key =
     IsKnown identity c.infos (course_changes c) (course_start c) (since c.start records) moment table key
@@ -88,15 +88,25 @@ pub record IsOwnAged (identity : Identity) (c : Course) (records : List Record) 
 -- table's last alteration it is said in full, in the columns since then. The whole log has the same rows as the log since then at each key
 -- that is known where that span begins; and each of its rows was in the source at some point of the span of the whole log.
 pub record IsTableAged (identity : Identity) (c : Course) (versions : List Versioned) (records : List Record)
-    (from table : ℕ) : Type 0 where
-  pub own : IsOwnAged identity c records (moment_at c.commits (max from c.start)) table
+    (position table : ℕ) : Type 0 where
+  pub own : IsOwnAged identity c records (moment_at c.commits (max position c.start)) table
   pub same : (topic text : List ℕ) (key : Key) → Names identity c.infos topic text table key
-      → IsKnownIn identity c records (moment_at c.commits (max from c.start)) table key
+      → IsKnownIn identity c records (moment_at c.commits (max position c.start)) table key
       → held_row identity records topic text ≡ held_row identity (since c.start records) topic text
   pub there : (topic text : List ℕ) (key : Key) → Names identity c.infos topic text table key
       → IsSome (held_row identity records topic text)
-      → WasThereThrough versions (position_moment versions from)
-      (version_span_end versions records (position_moment versions from)) table key
+      → WasThereThrough versions (position_moment versions position)
+      (version_span_end versions records (position_moment versions position)) table key
+
+-- The greatest position of records, or the given one if that is greater.
+abbrev pub last_position : ℕ → List Record → ℕ
+last_position position records = fold (λ far item. max far item.position) position records
+
+-- The records of a log of a table are aged from a position on, for a log that starts at `start`: in the table's course at the end of the
+-- span.
+abbrev pub IsAgedFrom : Identity → List TableInfo → List Versioned → ℕ → List Record → ℕ → ℕ → Type 0
+IsAgedFrom identity infos versions start records position table =
+    IsTableAged identity (course infos versions start table (last_position position records)) versions records position table
 
 -- ---- theorems
 

@@ -1,6 +1,6 @@
 -- The course of one captured table: what is left of a history at the table's last alteration. For the table it is a history without
 -- alterations, which begins with the rows that the alteration left. Changes of other tables count in it by their events only.
-use Rattle.std.specs.Prelude.{◌≡◌, ℕ, max, ◌==◌, if◌then◌else◌, Option, Some, None, List, [], ◌∷◌, ◌++◌, map, flat_map, fold, slice_get}
+use Rattle.std.specs.Prelude.{◌≡◌, ℕ, max, ◌==◌, if◌then◌else◌, Option, Some, None, List, [], ◌∷◌, ◌++◌, map, flat_map, fold}
 use Rattle.std.specs.List.{AllByRecursion}
 use Rattle.dbl_model_table.specs.declared.row.Key.{Key}
 use Rattle.dbl_model_table.specs.declared.table.RawRow.{RawRow}
@@ -90,12 +90,12 @@ CoursesGoOn = (table : ℕ) (old : Course) (versions : List Versioned) → AreUn
 abbrev pub CoursesBeginAnew : Type 0
 CoursesBeginAnew = (table : ℕ) (old : Course) (before : List Versioned) (v : Versioned) (rows : List RawRow) (later : List Versioned)
     → alteration_of table v.altered ≡ Some rows → AreUnaltered table later
-    → (start : ℕ) × (course_from table old (before ++ v ∷ later)
+    → course_from table old (before ++ v ∷ later)
     ≡ record {
       infos = infos_after v.infos later;
       commits = opening table v rows ∷ map (ticked_commit table) later;
-      start = max start v.lsn.0;
-    })
+      start = max (course_from table old before).start v.lsn.0;
+    }
 
 -- A course shows the rows of its table: those of the history with its alterations.
 abbrev pub CoursesShowRows : Type 0

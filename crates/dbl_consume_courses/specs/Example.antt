@@ -1,5 +1,5 @@
 -- A small history with an alteration: insert a into t, insert x into u, add a column to t, insert y into u; and its log.
-use Rattle.std.specs.Prelude.{◌≡◌, ℕ, pos, true, false, Option, Some, None, List, [], ◌∷◌, codes}
+use Rattle.std.specs.Prelude.{◌≡◌, ℕ, pos, true, Some, None, List, [], ◌∷◌, codes}
 use Rattle.dbl_value.specs.declared.column_type.PgType.TheVariants as type
 use Rattle.dbl_value.specs.declared.value.Val.TheVariants as val
 use Rattle.dbl_record.specs.declared.record.Record.{Record}
@@ -10,8 +10,8 @@ use Rattle.dbl_model_table.specs.declared.change.Body.{Body}
 use Rattle.dbl_model_table.specs.declared.change.Body.TheVariants.{Changes}
 use Rattle.dbl_model_table.specs.declared.change.Change.TheVariants.{Clear, Insert}
 use Rattle.dbl_model_table.specs.declared.change.Commit.{Commit}
-use Rattle.dbl_consume_courses.specs.Versions.{Alteration, Versioned, AreVersionsFrom}
-use Rattle.dbl_consume_courses.specs.Courses.{Course, course, opening}
+use Rattle.dbl_consume_courses.specs.Versions.{Versioned, AreVersionsFrom}
+use Rattle.dbl_consume_courses.specs.Courses.{course, opening}
 use Rattle.dbl_consume_courses.specs.Since.{since}
 
 -- The table t, which has its key only.

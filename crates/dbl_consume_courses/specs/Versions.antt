@@ -1,8 +1,6 @@
 -- Commits of a history whose tables may be altered, each with the tables as they are captured from it on.
 use Rattle.std.specs.Prelude.{◌≡◌, ◌≢◌, ℕ, ℤ, ◌-◌, ◌==◌, nat_le, nat_lt, if◌then◌else◌, Option, Some, None, List, [], ◌∷◌, length, map, take, filter, fold, slice_get}
 use Rattle.dbl_base.specs.declared.lsn.Lsn.{Lsn}
-use Rattle.dbl_value.specs.declared.value.Val.{Val}
-use Rattle.dbl_model_table.specs.declared.row.Key.{Key}
 use Rattle.dbl_model_table.specs.declared.table.RawRow.{RawRow}
 use Rattle.dbl_model_table.specs.declared.table.TableInfo.{TableInfo}
 use Rattle.dbl_model_table.specs.declared.change.Change.{Change}

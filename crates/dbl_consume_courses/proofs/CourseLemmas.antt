@@ -27,7 +27,8 @@ use Rattle.dbl_consume_courses.specs.Courses.{ticked, ticked_commit, opening, Co
 -- ---- commits
 
 pub goes_on : CoursesGoOn
-goes_on table old [] unaltered = ap (λ (l : List Commit). let c : Course = record { infos = old.infos; commits = l; start = old.start } in c) (sym (append-nil old.commits))
+goes_on table old [] unaltered =
+    ap (λ (l : List Commit). let c : Course = record { infos = old.infos; commits = l; start = old.start } in c) (sym (append-nil old.commits))
 goes_on table old (v ∷ versions) unaltered =
     let next : Course = record { infos = v.infos; commits = old.commits ++ ticked_commit table v ∷ []; start = old.start } in
     ap (λ (o : Option (List RawRow)). course_from table (course_by table old v o) versions) unaltered.0
@@ -171,7 +172,8 @@ shows_at : (table : ℕ) (c : Course) (a b : Rows) → Shows table c a → ((key
 shows_at table c a b shows same = record { each = λ key. shows.each key ∙ same key }
 
 shows_next : (table : ℕ) (c : Course) (v : Versioned) (at : Rows) (o : Option Alteration) → v.altered ≡ o → Shows table c at
-    → FollowsInfos c.infos v o → Shows table (course_by table c v (alteration_of table o)) (altered_rows v.infos o (rows_from v.infos at (changes_of (plain_commit v))))
+    → FollowsInfos c.infos v o
+    → Shows table (course_by table c v (alteration_of table o)) (altered_rows v.infos o (rows_from v.infos at (changes_of (plain_commit v))))
 shows_next table c v at None is shows follows = shows_more table c v at shows (ap (λ (l : List TableInfo). slice_get l table) follows)
 shows_next table c v at (Some alteration) is shows alters = by (alteration.table == table) refl
   where

@@ -33,8 +33,9 @@ abbrev pub IsKnownIn : Identity → Course → List Record → ℕ → ℕ → K
 IsKnownIn identity c records moment table key =
     IsKnown identity c.infos (course_changes c) (course_start c) (since c.start records) moment table key
 
--- Agreement at first delivery, of tables that may be altered: at each fresh record that is the last of its commit, a consumer of the records
--- up to it has exactly the source's row, or none, at that commit's position and each key known there, in the columns in force there.
+-- Agreement at first delivery, of tables that may be altered: at each fresh record that is the last of its commit, a consumer of the
+-- records up to it has exactly the source's row, or none, at that commit's position and each key known there, in the columns in force
+-- there.
 pub record AgreesInCourse (identity : Identity) (infos : List TableInfo) (versions : List Versioned) (start : ℕ)
     (records : List Record) : Type 0 where
   pub each : (i : ℕ) (item : Record) → slice_get records i ≡ Some item → IsFresh records i → item.last ≡ true

@@ -140,22 +140,22 @@ module _ (entry : SessionStart) (stage : Stage) (left : CrashState) (faithful : 
   abbrev kept : KeepsStage entry stage (going.placed (stood_of entry faithful)).parts
   kept = going.kept (stood_of entry faithful) faithful
 
-  same : left.history ≡ longer stage.history may.more
+  pub same : left.history ≡ longer stage.history may.more
   same = is_longer stage.history left.history may.more may.grown
 
-  fit_longer : IsFitHistory (longer stage.history may.more)
+  pub fit_longer : IsFitHistory (longer stage.history may.more)
   fit_longer = subst IsFitHistory same may.fit
 
   -- the log is delivered up to the commits before the history that is left
-  up_left : HasDeliveredUpTo stage.first.identity stage.first.infos (typed stage.first.infos left.history) stage.first.start.0 (far_at entry stage) (placed.parts.old ++ read_at stage) (placed.parts.later ++ new entry stage may.more fit_longer) 0 (records_of_stage stage)
+  pub up_left : HasDeliveredUpTo stage.first.identity stage.first.infos (typed stage.first.infos left.history) stage.first.start.0 (far_at entry stage) (placed.parts.old ++ read_at stage) (placed.parts.later ++ new entry stage may.more fit_longer) 0 (records_of_stage stage)
   up_left =
       subst (λ (h : History). HasDeliveredUpTo stage.first.identity stage.first.infos (typed stage.first.infos h) stage.first.start.0 (far_at entry stage) (placed.parts.old ++ read_at stage) (placed.parts.later ++ new entry stage may.more fit_longer) 0 (records_of_stage stage)) (sym same)
       (up_longer entry stage may.more fit_longer placed.parts may.marks placed.position (captured_stays stage.history (longer stage.history may.more) stage.first.infos refl going.reading.infos) kept.next_is kept.stand kept.up)
 
-  over_later : AllByRecursion (λ c. stage.lsn.0 < c.lsn.0) (placed.parts.later ++ new entry stage may.more fit_longer)
+  pub over_later : AllByRecursion (λ c. stage.lsn.0 < c.lsn.0) (placed.parts.later ++ new entry stage may.more fit_longer)
   over_later = (parts_longer entry stage may.more fit_longer placed.position placed.parts).over
 
-  offset_left : (offset : Offset) → offset.incarnation ≡ stage.first.incarnation → left.confirmed.0 ≤ offset.lsn.0 → IsOffsetOf stage.history stage.confirmed (records_of_stage stage) offset → IsOffsetOf left.history left.confirmed (records_of_stage stage) offset
+  pub offset_left : (offset : Offset) → offset.incarnation ≡ stage.first.incarnation → left.confirmed.0 ≤ offset.lsn.0 → IsOffsetOf stage.history stage.confirmed (records_of_stage stage) offset → IsOffsetOf left.history left.confirmed (records_of_stage stage) offset
   offset_left offset is le of =
       confirmed_so left.history stage.confirmed left.confirmed (records_of_stage stage) offset le
       (subst (λ (h : History). IsOffsetOf h stage.confirmed (records_of_stage stage) offset) (sym same) (offset_longer entry stage may.more fit_longer placed.parts may.marks placed.position offset is of))
@@ -191,13 +191,13 @@ module _ (entry : SessionStart) (stage : Stage) (left : CrashState) (faithful : 
 
   -- ---- where the log reaches further than the session has come
 
-  grown_all : left.history.commits ≡ entry.history.commits ++ (going.reading.more ++ may.more)
+  pub grown_all : left.history.commits ≡ entry.history.commits ++ (going.reading.more ++ may.more)
   grown_all = may.grown.commits ∙ (ap (λ (l : List RawCommit). l ++ may.more) going.reading.grown.commits ∙ append_assoc entry.history.commits going.reading.more may.more)
 
   same_all : left.history ≡ longer entry.history (going.reading.more ++ may.more)
   same_all = is_longer entry.history left.history (going.reading.more ++ may.more) (record { tables = may.grown.tables ∙ going.reading.grown.tables; commits = grown_all })
 
-  rise_all : IsRising (longer entry.history (going.reading.more ++ may.more))
+  pub rise_all : IsRising (longer entry.history (going.reading.more ++ may.more))
   rise_all = subst IsRising same_all may.fit.rising
 
   zero_le : (a b c : ℕ) → a ≡ b → b ≡ 0 → a ≤ c

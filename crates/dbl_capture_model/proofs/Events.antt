@@ -41,11 +41,11 @@ cancel (x ∷ xs) ys zs e = cancel xs ys zs (ap tail_of e)
 
 -- ---- clear prints
 
-no_first : (a b : Option Clash) → option_or a b ≡ None → a ≡ None
+pub no_first : (a b : Option Clash) → option_or a b ≡ None → a ≡ None
 no_first None b is = refl
 no_first (Some x) b is = cc
 
-no_other : (a b : Option Clash) → option_or a b ≡ None → b ≡ None
+pub no_other : (a b : Option Clash) → option_or a b ≡ None → b ≡ None
 no_other None b is = is
 no_other (Some x) b is = cc
 

@@ -23,6 +23,7 @@ pub mod Sending
 pub mod Closing
 pub mod Following
 pub mod Sinks
+pub mod Parting
 pub mod Telling
 pub mod Counts
 pub mod Cursors

@@ -1,12 +1,19 @@
 -- What a session may leave if it ends at one of its steps.
-use Rattle.std.specs.Prelude.{◌≡◌, ℕ, ◌+◌, ◌<◌, ◌≤◌, true, Some, List, ◌++◌, length, take}
+use Rattle.std.specs.Prelude.{◌≡◌, ◌⊎◌, ℕ, ℤ, ◌+◌, ◌<◌, ◌≤◌, true, Some, None, List, ◌++◌, length, take}
 use Rattle.std.specs.List.{AllByRecursion}
 use Rattle.dbl_pgmsg.specs.declared.messages.Message.{Message}
+use Rattle.dbl_record.specs.declared.record.Record.{Record}
 use Rattle.dbl_record.specs.Cuts.{cut}
 use Rattle.dbl_model_table.specs.declared.change.Commit.{Commit}
+use Rattle.dbl_model_table.specs.declared.change.Head.{Head}
+use Rattle.dbl_model_table.specs.Heads.{commit_so_far}
 use Rattle.dbl_faithful.specs.ModelHistory.History.{RawCommit, History}
 use Rattle.dbl_faithful.specs.ModelHistory.Fit.{AreInfosOf, IsFitHistory}
 use Rattle.dbl_faithful.specs.ModelHistory.Ranges.{IsMomentInRange}
+use Rattle.dbl_faithful.specs.ModelEvent.Clashes.{clash_of}
+use Rattle.dbl_faithful.specs.ModelEvent.EventJson.{envelopes}
+use Rattle.dbl_follow.specs.ModelCommit.Past.{begin_of}
+use Rattle.dbl_follow.specs.ModelCommit.Stated.{open_changes}
 use Rattle.dbl_follow.specs.SourceModel.Growth.{Grows, marks_in}
 use Rattle.dbl_follow.specs.SourceModel.Standings.{CrashState}
 use Rattle.dbl_follow.specs.SourceModel.Stated.{to_state}
@@ -67,6 +74,32 @@ SinksMayEnd = (entry : SessionStart) (stage : Stage) (m : Message) (commit : Com
 abbrev pub StoresMayEnd : Type 0
 StoresMayEnd = (entry : SessionStart) (stage : Stage) (left : CrashState)
     → WasFaithful entry → MayBeLeft stage left → IsGoing entry stage → FollowsSession entry left stage.groups (Some (next_offset stage))
+
+-- ---- within a transaction
+
+-- The records are a prefix of those of the open transaction so far, none of which has a value equal to the placeholder: none of them, or not
+-- all. The last one isn't appended before the transaction's end, so that none of the prefix is marked as the last of its commit.
+pub record IsOpenPart (stage : Stage) (now : ℤ) (part : List Record) : Type 0 where
+  pub head : Head
+  pub begun : begin_of stage.messages ≡ Some head
+  pub no_clash : clash_of stage.first.identity stage.first.infos (commit_so_far head (open_changes stage.first.infos stage.messages)) ≡ None
+  pub count : ℕ
+  pub few : count
+      < length (envelopes stage.first.identity stage.first.infos (commit_so_far head (open_changes stage.first.infos stage.messages)) now)
+  pub is : part
+      ≡ take count (envelopes stage.first.identity stage.first.infos (commit_so_far head (open_changes stage.first.infos stage.messages)) now)
+
+-- A stop within a transaction, with a part of its records appended, and the stored offset or the next one, keeps the session's guarantees.
+abbrev pub PartsMayBeLeft : Type 0
+PartsMayBeLeft = (entry : SessionStart) (stage : Stage) (left : CrashState) (part : List Record) (offset : Offset)
+    → WasFaithful entry → IsMomentInRange entry.now → stage.since < entry.config.every → MayBeLeft stage left
+    → IsOpenPart stage entry.now part → (offset ≡ stage.stored) ⊎ (offset ≡ next_offset stage) → IsGoing entry stage
+    → FollowsSession entry left (stage.groups ++ cut part) (Some offset)
+
+-- No transaction is open once every commit of the history was read.
+abbrev pub ReadHistoriesAreClosed : Type 0
+ReadHistoriesAreClosed = (entry : SessionStart) (stage : Stage) → length (to_state stage.first.infos stage.first.lsn stage.history) ≤ length (read_at stage)
+    → IsGoing entry stage → begin_of stage.messages ≡ None
 
 -- ---- windows
 

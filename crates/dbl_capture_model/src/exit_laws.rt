@@ -2,6 +2,7 @@
 
 ghost use Rattle.dbl_capture_model.specs.Exits.{UnreadSessionsFollow, FirstOffsetsFollow};
 ghost use Rattle.dbl_capture_model.specs.Exits.{SourcesMayEnd, SinksMayEnd, StoresMayEnd};
+ghost use Rattle.dbl_capture_model.specs.Exits.{PartsMayBeLeft, ReadHistoriesAreClosed};
 ghost use Rattle.dbl_capture_model.specs.Exits.{FewMarksAreWritten, WindowsAreRead};
 ghost use Rattle.dbl_capture_model.specs.Exits.{ReadSessionsAreComplete};
 
@@ -28,6 +29,16 @@ pub fn sinks_may_end()
 /// A stop in a store, with the next offset stored, leaves faithful stores.
 pub fn stores_may_end()
     ensures { StoresMayEnd }
+{}
+
+/// A stop within a transaction, with a part of its records appended, leaves faithful stores.
+pub fn parts_may_be_left()
+    ensures { PartsMayBeLeft }
+{}
+
+/// No transaction is open once every commit of the history was read.
+pub fn read_histories_are_closed()
+    ensures { ReadHistoriesAreClosed }
 {}
 
 /// A session writes two watermarks for each window, and reads no more windows than its tables have

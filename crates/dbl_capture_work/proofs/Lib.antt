@@ -23,15 +23,18 @@ pub use Rattle.dbl_capture_model.proofs.FaithfulTrace
 pub use Rattle.dbl_capture_model.proofs.FaithfulWords
 pub use Rattle.dbl_capture_model.proofs.Growing as CaptureModelGrowing
 pub use Rattle.dbl_capture_model.proofs.Marking as CaptureModelMarking
+pub use Rattle.dbl_capture_model.proofs.Parting as CaptureModelParting
 pub use Rattle.dbl_capture_model.proofs.Sending as CaptureModelSending
 pub use Rattle.dbl_capture_model.proofs.Sinks as CaptureModelSinks
 pub use Rattle.dbl_capture_model.proofs.Starting as CaptureModelStarting
 pub use Rattle.dbl_capture_model.proofs.Stepping as CaptureModelStepping
 pub use Rattle.dbl_capture_model.proofs.Windowing as CaptureModelWindowing
+pub use Rattle.dbl_follow.proofs.AmidLemmas as FollowAmidLemmas
 pub use Rattle.dbl_follow.proofs.SnapshotSteps as FollowSnapshotSteps
 pub use Rattle.dbl_follow.proofs.StepLemmas as FollowStepLemmas
 pub use Rattle.dbl_model_commit.proofs.ChangeFits as ModelCommitChangeFits
 pub use Rattle.dbl_model_commit.proofs.MarkedLemmas as ModelCommitMarkedLemmas
+pub use Rattle.dbl_model_commit.proofs.PieceLemmas as ModelCommitPieceLemmas
 pub use Rattle.dbl_model_history.proofs.BoundLemmas as ModelHistoryBoundLemmas
 pub use Rattle.dbl_model_history.proofs.RangeLemmas as ModelHistoryRangeLemmas
 pub use Rattle.dbl_model_history.proofs.RowKeys as ModelHistoryRowKeys
@@ -55,11 +58,18 @@ pub use Rattle.dbl_window.proofs.LeftLemmas as WindowLeftLemmas
 pub use Rattle.dbl_window.proofs.OrderLemmas as WindowOrderLemmas
 pub use Rattle.dbl_window.proofs.PromiseLemmas as WindowPromiseLemmas
 pub mod Exits
+pub mod Ahead
 pub mod Planning
 pub mod WindowFaults
+pub mod Batches
+pub mod OpenLemmas
+pub mod Delivering
+pub mod OpenSteps
+pub mod CommitSteps
 pub mod Gathering
 pub mod Puts
 pub mod Putting
+pub mod Appending
 pub mod Describing
 pub mod Looking
 pub mod Taking

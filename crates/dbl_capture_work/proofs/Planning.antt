@@ -10,6 +10,7 @@ use Rattle.dbl_follow.specs.Followed.{IsPlanOfCaptured}
 use Rattle.dbl_window.specs.Plans.{Plan}
 use Rattle.dbl_capture_work.specs.declared.work.SessionState.{SessionState}
 use Rattle.dbl_capture_work.specs.Works.{IsOpenTable, HasReadyWork, plan_at, plan_with}
+use Rattle.dbl_capture_work.proofs.Ahead.{ready_cursors}
 
 -- a table with a cursor is captured
 info_at_cursor : (infos : List TableInfo) (cursors : List Cursor) (table : ℕ) (cursor : Cursor) → AreCursorsOf infos cursors → slice_get cursors table ≡ Some cursor
@@ -44,7 +45,7 @@ pub record IsPlannedAt (work : SessionState) (table : ℕ) : Type 0 where
 
 pub planned_at : (work : SessionState) (table : ℕ) → HasReadyWork work → IsOpenTable work table → IsPlannedAt work table
 planned_at work table ready unread =
-    let here = info_at_cursor work.offset.infos work.follower.cursors table unread.cursor ready.is.cursors unread.cursor_is in
+    let here = info_at_cursor work.offset.infos work.follower.cursors table unread.cursor (ready_cursors work ready) unread.cursor_is in
     record {
       info = here.0;
       info_is = here.1;

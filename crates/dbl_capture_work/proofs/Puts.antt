@@ -86,7 +86,7 @@ plus_none : (n : ℕ) → n + 0 ≡ n
 plus_none n = omega arith
 
 -- of a put that failed some first records of the commit are left, in the groups of their cut
-pub left_cut : (groups : List (List Record)) (records : List Record) (put : List (List Record)) (group : List Record) (left : List (List Record)) → IsNextGroup records put group → IsLeftByPut (groups ++ put) group left → IsLeftByCut groups records left
+pub left_cut : (groups : List (List Record)) (records : List Record) (put : List (List Record)) (group : List Record) (left : List (List Record)) → IsNextGroup records put group → IsLeftByPut (groups ++ put) group left → IsLeftByCut groups [] records left
 left_cut groups records put group left n (inl same) = (
   length (joined put) + 0,
   same

@@ -16,6 +16,7 @@ use Rattle.dbl_capture_work.specs.declared.halt.Halt.{Halt}
 use Rattle.dbl_capture_work.specs.declared.halt.Halt.TheVariants as halt
 use Rattle.dbl_capture_work.specs.Causes.{HasPutBefore, IsLongRecord}
 use Rattle.dbl_capture_work.specs.Groups.{chunks_of, counted, report_with, IsLeftByCut, HasLastsAtItsEnd, HoldsPut, WasTorn, WerePut}
+use Rattle.dbl_capture_work.proofs.Batches.{own_goes_on}
 use Rattle.dbl_capture_work.proofs.Puts.{IsNextGroup, front_cut, group_lasts, joined_push, left_cut, next_handful, next_more, none_last, report_none, report_twice, take_more, within}
 
 -- a sink takes a group of so many bytes
@@ -43,15 +44,15 @@ all_snoc [] group all last = (last, tt)
 all_snoc (first ∷ put) group all last = (all.0, all_snoc put group all.1 last)
 
 module _ {K : Type 0} (holds : K → List (List Record) → Type 0) (snapshot : Bool) where
-  pub put_begins : (records : List Record) (item : Record) (items : List Record) (sink : K) (report : Report) → records ≡ item ∷ items
+  pub put_begins : (records gathered rest : List Record) (sink : K) (report : Report) → gathered ++ rest ≡ records → cut gathered ≡ gathered ∷ []
       → report.records ≤ 2 ^ 64 - 1 → report.chunks ≤ 2 ^ 64 - 1 → report.snapshot_rows ≤ 2 ^ 64 - 1
-      → IsPut holds snapshot records (item ∷ []) items sink sink report report
-  put_begins records item items sink report is one two three = record {
+      → IsPut holds snapshot records gathered rest sink sink report report
+  put_begins records gathered rest sink report is own some many rows = record {
     put = [];
-    parted = ap cut is;
-    whole = is;
+    parted = ap cut (sym is) ∙ own_goes_on gathered rest own;
+    whole = sym is;
     held = λ groups h. subst (holds sink) (sym (append-nil groups)) h;
-    counted = λ lasts. sym (report_none snapshot report one two three);
+    counted = λ lasts. sym (report_none snapshot report some many rows);
     short = tt;
   }
 
@@ -64,7 +65,7 @@ module _ {K : Type 0} (holds : K → List (List Record) → Type 0) (snapshot : 
   none_put records report one two three = record { count = 0; within = none_below (length records); report = sym (report_none snapshot report one two three) }
 
   pub none_holds : (groups : List (List Record)) (records : List Record) (sink : K) (report : Report) → report.records ≤ 2 ^ 64 - 1 → report.chunks ≤ 2 ^ 64 - 1 → report.snapshot_rows ≤ 2 ^ 64 - 1
-      → holds sink groups → HoldsPut holds groups snapshot records report report sink
+      → holds sink groups → HoldsPut holds groups snapshot [] records report report sink
   none_holds groups records sink report one two three held = record { count = 0; few = inl refl; held = subst (holds sink) (sym (append-nil groups)) held; report = sym (report_none snapshot report one two three) }
 
   -- what the iterator has yet
@@ -175,7 +176,7 @@ module _ {K : Type 0} (holds : K → List (List Record) → Type 0) (snapshot : 
       parts a b c is = omega (arith, is)
 
   pub holds_put : (groups : List (List Record)) (records gathered rest : List Record) (old new : K) (before after : Report) → IsPut holds snapshot records gathered rest old new before after
-      → holds old groups → HasLastsAtItsEnd records → HoldsPut holds groups snapshot records before after new
+      → holds old groups → HasLastsAtItsEnd records → HoldsPut holds groups snapshot [] records before after new
   holds_put groups records gathered rest old new before after p held lasts =
       let some = some_next records gathered rest old new before after p in
       let same = taken_is records gathered rest old new before after p in
@@ -189,7 +190,7 @@ module _ {K : Type 0} (holds : K → List (List Record) → Type 0) (snapshot : 
   -- the put of the next group failed
   pub torn_put : (may_leave : K → List (List Record) → Type 0) (groups : List (List Record)) (records gathered rest group : List Record) (old mid new : K) (before after next : Report)
       → (p : IsPut holds snapshot records gathered rest old mid before after) → IsNextGroup records p.put group → HasLastsAtItsEnd records → next ≡ after
-      → ((found : List (List Record)) → may_leave new found → IsLeftByPut (groups ++ p.put) group found) → WasTorn may_leave groups snapshot records before next new
+      → ((found : List (List Record)) → may_leave new found → IsLeftByPut (groups ++ p.put) group found) → WasTorn may_leave groups snapshot [] records before next new
   torn_put may_leave groups records gathered rest group old mid new before after next p n lasts same left =
       let taken = taken_is records gathered rest old mid before after p in
       let front : p.put ≡ cut (take (length (joined p.put)) records) = sym (ap cut taken ∙ front_cut records p.put group n) in
@@ -204,7 +205,7 @@ module _ {K : Type 0} (holds : K → List (List Record) → Type 0) (snapshot : 
 
   -- a sink that tells what it holds leaves no less
   pub left_still : (groups left : List (List Record)) (records gathered rest : List Record) (old new : K) (before after : Report) → (p : IsPut holds snapshot records gathered rest old new before after)
-      → left ≡ groups ++ p.put → IsLeftByCut groups records left
+      → left ≡ groups ++ p.put → IsLeftByCut groups [] records left
   left_still groups left records gathered rest old new before after p is =
       let some = some_next records gathered rest old new before after p in
       left_cut groups records p.put some.0 left some.1 (inl is)
@@ -228,30 +229,6 @@ module _ {K : Type 0} (holds : K → List (List Record) → Type 0) (snapshot : 
     where
       no_more : (n m : ℕ) → (n < m → ⊥) → m ≤ n
       no_more n m lt = omega (arith, lt)
-
-  -- ---- all of it
-
-  pub all_held : (groups : List (List Record)) (records gathered : List Record) (old mid new : K) (before after next : Report) → IsPut holds snapshot records gathered [] old mid before after
-      → IsPutMore holds snapshot gathered mid new after next → holds old groups → holds new (groups ++ cut records)
-  all_held groups records gathered old mid new before after next p m held =
-      subst (λ (l : List (List Record)). holds new (groups ++ l)) (sym p.parted)
-      (subst (holds new) (append_assoc groups p.put (gathered ∷ [])) (m.held (groups ++ p.put) (p.held groups held)))
-
-  pub all_counted : (records gathered : List Record) (old mid new : K) (before after next : Report) → IsPut holds snapshot records gathered [] old mid before after
-      → IsPutMore holds snapshot gathered mid new after next → HasLastsAtItsEnd records → next ≡ report_with snapshot records before
-  all_counted records gathered old mid new before after next p m lasts =
-      m.counted (group_lasts records p.put gathered (last_group records gathered old mid before after p) lasts)
-      ∙ (ap (report_with snapshot gathered) (p.counted lasts)
-      ∙ (report_twice snapshot (joined p.put) gathered before
-      ∙ ap (λ (l : List Record). report_with snapshot l before) (sym (p.whole ∙ ap (λ (l : List Record). joined p.put ++ l) (append-nil gathered)))))
-
-  pub all_short : (records gathered : List Record) (old mid new : K) (before after next : Report) → IsPut holds snapshot records gathered [] old mid before after
-      → IsPutMore holds snapshot gathered mid new after next → AllByRecursion IsShortGroup (cut records)
-  all_short records gathered old mid new before after next p m =
-      subst (AllByRecursion IsShortGroup) (sym p.parted) (all_snoc p.put gathered p.short (record { short = m.short }))
-
-  pub all_put : (records : List Record) (before after : Report) → after ≡ report_with snapshot records before → WerePut snapshot records before after
-  all_put records before after is = record { count = length records; within = le_refl (length records); report = is ∙ ap (λ (l : List Record). report_with snapshot l before) (sym (take_whole records)) }
 
 -- ---- a record that is too long
 
@@ -281,7 +258,7 @@ rest_size x xs =
     no_less : (a b m n k : ℕ) → a ≡ 4 + n → b ≡ 4 + k → k ≡ m + n → a ≤ b
     no_less a b m n k one two three = omega (arith, one, two, three)
 
-le_both : (a b c : ℕ) → a ≤ b → b ≤ c → a ≤ c
+pub le_both : (a b c : ℕ) → a ≤ b → b ≤ c → a ≤ c
 le_both a b c one two = omega (arith, one, two)
 
 in_short : (groups : List (List Record)) → AllByRecursion IsShortGroup groups → (place : ℕ) (item : Record) → slice_get (joined groups) place ≡ Some item → length (group_form (item ∷ [])) ≤ 2 ^ 28
@@ -291,17 +268,38 @@ in_short (group ∷ groups) short place item at = elim (at_cases group (joined g
   | inr there ↦ in_short groups short.1 there.0 item there.1
 ]
 
-too_long : (n m : ℕ) → n ≤ m → m < n → ⊥
+pub too_long : (n m : ℕ) → n ≤ m → m < n → ⊥
 too_long n m le lt = omega (arith, le, lt)
 
--- where all groups were short, no record is too long
-pub none_long : (records : List Record) → AllByRecursion IsShortGroup (cut records) → (place : ℕ) (item : Record) → slice_get records place ≡ Some item → 2 ^ 28 < length (group_form (item ∷ [])) → ⊥
-none_long records short place item at long =
-    too_long (length (group_form (item ∷ []))) (2 ^ 28) (in_short (cut records) short place item (subst (λ (l : List Record). slice_get l place ≡ Some item) (sym (cuts_join records)) at)) long
+-- If all batches but the one that is gathered were short, no record is too long but the last one, which is alone in that.
+pub none_long : {K : Type 0} (holds : K → List (List Record) → Type 0) (snapshot : Bool) (records gathered : List Record) (old new : K) (before after : Report)
+    → IsPut holds snapshot records gathered [] old new before after → (place : ℕ) (item : Record) → slice_get records place ≡ Some item
+    → place + 1 < length records → 2 ^ 28 < length (group_form (item ∷ [])) → ⊥
+none_long holds snapshot records gathered old new before after p place item at before_last long =
+    elim (at_cases (joined p.put) (gathered ++ []) place item (subst (λ (l : List Record). slice_get l place ≡ Some item) p.whole at)) [
+      | inl here ↦ too_long (length (group_form (item ∷ []))) (2 ^ 28) (in_short p.put p.short place item here) long
+      | inr there ↦ in_last there.0 (subst (λ (l : List Record). slice_get l there.0 ≡ Some item) (append-nil gathered) there.1) there.2
+    ]
+  where
+    group : IsNextGroup records p.put gathered
+    group = record { later = []; parted = p.parted; rest = []; whole = p.whole }
+
+    size : length records ≡ length (joined p.put) + length gathered
+    size = ap length p.whole ∙ length-append (joined p.put) (gathered ++ []) ∙ ap (λ (l : List Record). length (joined p.put) + length l) (append-nil gathered)
+
+    in_last : (n : ℕ) → slice_get gathered n ≡ Some item → place ≡ length (joined p.put) + n → ⊥
+    in_last n in_it is = by (next_handful records p.put gathered group).small
+      where
+        by : (length (group_form gathered) ≤ 16777216) ⊎ (length gathered ≡ 1) → ⊥
+        by (inl small) =
+            too_long (length (group_form (item ∷ []))) (2 ^ 28)
+            (le_both (length (group_form (item ∷ []))) (length (group_form gathered)) (2 ^ 28) (member_size gathered n item in_it)
+            (le_both (length (group_form gathered)) 16777216 (2 ^ 28) small (omega arith))) long
+        by (inr one) = omega (arith, one, is, size, before_last)
 
 -- ---- a group that is too long
 
-first_at : (xs : List Record) → length xs ≡ 1 → (x : Record) × (xs ≡ x ∷ [])
+pub first_at : (xs : List Record) → length xs ≡ 1 → (x : Record) × (xs ≡ x ∷ [])
 first_at [] is = cc
 first_at (x ∷ []) is = (x, refl)
 first_at (x ∷ (y ∷ xs)) is = absurd (more (length xs) is)
@@ -320,7 +318,7 @@ all_join : (P : Record → Type 0) (xs ys : List Record) → AllByRecursion P xs
 all_join P [] ys one two = two
 all_join P (x ∷ xs) ys one two = (one.0, all_join P xs ys one.1 two)
 
-shorts_alone : (groups : List (List Record)) → AllByRecursion IsShortGroup groups → AllByRecursion (λ (other : Record). length (group_form (other ∷ [])) ≤ 2 ^ 28) (joined groups)
+pub shorts_alone : (groups : List (List Record)) → AllByRecursion IsShortGroup groups → AllByRecursion (λ (other : Record). length (group_form (other ∷ [])) ≤ 2 ^ 28) (joined groups)
 shorts_alone [] short = tt
 shorts_alone (group ∷ groups) short = all_join (λ (other : Record). length (group_form (other ∷ [])) ≤ 2 ^ 28) group (joined groups) (short_alone group short.0.short) (shorts_alone groups short.1)
 
@@ -360,7 +358,7 @@ IsGroupHalt group h = (h ≡ halt.Memory) ⊎ ((h ≡ halt.Sink) ⊎ ((2 ^ 28 < 
 
 pub long_put : {K : Type 0} (holds : K → List (List Record) → Type 0) (snapshot : Bool) (groups : List (List Record)) (records gathered rest group : List Record) (old mid new : K) (before after next : Report) (len : ℕ)
     → (p : IsPut holds snapshot records gathered rest old mid before after) → IsNextGroup records p.put group → HasLastsAtItsEnd records → next ≡ after → holds new (groups ++ p.put) → IsGroupHalt group (halt.RecordTooLong len)
-    → HasPutBefore holds groups snapshot records before next new (halt.RecordTooLong len)
+    → HasPutBefore holds groups snapshot [] records before next new (halt.RecordTooLong len)
 long_put holds snapshot groups records gathered rest group old mid new before after next len p n lasts same held (inl memory) = cc
 long_put holds snapshot groups records gathered rest group old mid new before after next len p n lasts same held (inr (inl failed)) = cc
 long_put holds snapshot groups records gathered rest group old mid new before after next len p n lasts same held (inr (inr long)) =
@@ -373,5 +371,5 @@ long_put holds snapshot groups records gathered rest group old mid new before af
     }
 
 -- where nothing was put, nothing is left of the records
-pub none_left_over : (groups left : List (List Record)) (records : List Record) → left ≡ groups → IsLeftByCut groups records left
+pub none_left_over : (groups left : List (List Record)) (records : List Record) → left ≡ groups → IsLeftByCut groups [] records left
 none_left_over groups left records is = (0, is ∙ sym (append-nil groups))

@@ -6,7 +6,7 @@ use Rattle.std.proofs.lemmas.Bool.Decides.{nat_tests}
 use Rattle.std.proofs.lemmas.List.Elements.{All-from_recursion}
 use Rattle.dbl_base.specs.declared.lsn.Lsn.{Lsn}
 use Rattle.dbl_pgmsg.specs.declared.messages.Message.{Message}
-use Rattle.dbl_pgmsg.specs.Grammar.{FitsFields, Spells}
+use Rattle.dbl_pgmsg.specs.Grammar.{FitsFields}
 use Rattle.dbl_record.specs.declared.record.Record.{Record}
 use Rattle.dbl_record.specs.Cuts.{cut}
 use Rattle.dbl_record.specs.Groups.{group_form}
@@ -29,15 +29,14 @@ use Rattle.dbl_envelope.specs.ModelEvent.SnapshotLists.{IsSnapshot}
 use Rattle.dbl_envelope.specs.ModelEvent.Snapshots.{chunk_records, progress_record, read_record, read_records, snapshot}
 use Rattle.dbl_envelope.proofs.ModelEventEventLemmas.{commits_are_numbered}
 use Rattle.dbl_capture_model.proofs.FaithfulItems.{at_cases, first_some}
-use Rattle.dbl_txn.specs.Stands.{Taken}
 use Rattle.dbl_window.specs.Plans.{Chunk}
 use Rattle.dbl_follow.specs.Followed.{Following}
 use Rattle.dbl_follow.specs.Steps.{Steps, clash_by, closed_of, closing, watermark_in, mark_of, records_by, records_of}
 use Rattle.dbl_capture_work.specs.declared.work.SessionState.{SessionState}
 use Rattle.dbl_capture_model.proofs.Events.{take_whole}
 use Rattle.dbl_capture_work.specs.declared.report.Report.{Report}
-use Rattle.dbl_capture_work.specs.Groups.{HasLastsAtItsEnd, IsLeftByCut, WerePut, report_with}
-use Rattle.dbl_capture_work.specs.Takes.{IsLeftByStep, HasSnapshotRecords, ReportsStep, WasTaken}
+use Rattle.dbl_capture_work.specs.Groups.{HasLastsAtItsEnd, WerePut, report_with}
+use Rattle.dbl_capture_work.specs.Takes.{HasSnapshotRecords, ReportsStep}
 use Rattle.dbl_capture_work.specs.Works.{AreShort, IsWork}
 use Rattle.dbl_capture_work.proofs.Puts.{report_none}
 use Rattle.dbl_follow.proofs.SnapshotSteps.{closing-None}
@@ -57,24 +56,12 @@ ended_fits infos m ms (Some commit) fields is =
     All-from_recursion (FitsInfos infos) (changes_of commit)
     (last_fits infos (commits_of infos ms) commit (subst (λ (o : Option Commit). FitCommits infos (commits_of infos ms ++ list_of o)) (sym is) fit))
 
-pub was_taken : (after : Lsn) (ms : List Message) (bytes : List ℕ) (old new : SessionState) (m : Message) (commit : Option Commit) → IsWork after ms old → Spells bytes m → new ≡ record old { assembler = new.assembler }
-    → Taken old.offset.infos after m ms new.assembler commit → WasTaken after ms bytes old new commit
-was_taken after ms bytes old new m commit is spells same taken = record {
-  message = m;
-  spells = spells;
-  clean = taken.clean;
-  commit_is = taken.commit;
-  stands = taken.stands;
-  same = same;
-  fits = ended_fits old.offset.infos m ms commit (spells.fits.fields, is.fields) taken.commit;
-}
-
 -- ---- the records of a commit
 
 equal_then : (a b : ℕ) → (a == b) ≡ true → a ≡ b
 equal_then a b is = grind (arith, nat_tests)
 
-lasts_of_commit : (identity : Identity) (infos : List TableInfo) (commit : Commit) (now : ℤ) → HasLastsAtItsEnd (envelopes identity infos commit now)
+pub lasts_of_commit : (identity : Identity) (infos : List TableInfo) (commit : Commit) (now : ℤ) → HasLastsAtItsEnd (envelopes identity infos commit now)
 lasts_of_commit identity infos commit now = record {
   each = λ place item at last. equal_then (place + 1) (length (envelopes identity infos commit now)) (sym (commits_are_numbered identity infos commit now place item at).2 ∙ last);
 }
@@ -201,55 +188,31 @@ none_more n = omega arith
 none_below : (n : ℕ) → 0 ≤ n
 none_below n = omega arith
 
-pub reports_none : (commit : Commit) (work : SessionState) (report : Report) → report.records ≤ 2 ^ 64 - 1 → report.chunks ≤ 2 ^ 64 - 1 → report.snapshot_rows ≤ 2 ^ 64 - 1 → ReportsStep commit work report report false
-reports_none commit work report one two three = record {
+pub reports_none : (snapshot : Bool) (records : List Record) (report : Report) → report.records ≤ 2 ^ 64 - 1 → report.chunks ≤ 2 ^ 64 - 1 → report.snapshot_rows ≤ 2 ^ 64 - 1 → ReportsStep snapshot records report report false
+reports_none snapshot records report one two three = record {
   put = report;
-  records_are = record {
-    count = 0;
-    within = none_below (length (records_by work.follower commit work.now_ms));
-    report = sym (report_none (is_some (mark_of commit)) report one two three);
-  };
+  records_are = record { count = 0; within = none_below (length records); report = sym (report_none snapshot report one two three) };
   all = λ is. (cc);
   is = λ i. record report { commits = none_more report.commits i };
 }
 
-pub reports_some : (commit : Commit) (work : SessionState) (snapshot : Bool) (records : List Record) (before after : Report) → snapshot ≡ is_some (mark_of commit) → records ≡ records_by work.follower commit work.now_ms
-    → WerePut snapshot records before after → ReportsStep commit work before after false
-reports_some commit work snapshot records before after mark are put = record {
+pub reports_some : (snapshot : Bool) (records : List Record) (before after : Report) → WerePut snapshot records before after → ReportsStep snapshot records before after false
+reports_some snapshot records before after put = record {
   put = after;
-  records_are = subst (λ (b : Bool). WerePut b (records_by work.follower commit work.now_ms) before after) mark (subst (λ (l : List Record). WerePut snapshot l before after) are put);
+  records_are = put;
   all = λ is. (cc);
   is = λ i. record after { commits = none_more after.commits i };
 }
 
-pub reports_all : (commit : Commit) (work : SessionState) (snapshot : Bool) (records : List Record) (before put after : Report) → snapshot ≡ is_some (mark_of commit) → records ≡ records_by work.follower commit work.now_ms
-    → put ≡ report_with snapshot records before → after ≡ record put { commits = put.commits + 1 } → ReportsStep commit work before after true
-reports_all commit work snapshot records before put after mark are whole is =
-    let listed = records_by work.follower commit work.now_ms in
-    let all : put ≡ report_with (is_some (mark_of commit)) listed before =
-    whole ∙ (ap (λ (b : Bool). report_with b records before) mark ∙ ap (λ (l : List Record). report_with (is_some (mark_of commit)) l before) are) in
-    record {
-      put = put;
-      records_are = record {
-        count = length listed;
-        within = le_refl (length listed);
-        report = all ∙ ap (λ (l : List Record). report_with (is_some (mark_of commit)) l before) (sym (take_whole listed));
-      };
-      all = λ done. all;
-      is = is;
-    }
+pub reports_all : (snapshot : Bool) (records : List Record) (before put after : Report) → put ≡ report_with snapshot records before → after ≡ record put { commits = put.commits + 1 } → ReportsStep snapshot records before after true
+reports_all snapshot records before put after whole is = record {
+  put = put;
+  records_are = record { count = length records; within = le_refl (length records); report = whole ∙ ap (λ (l : List Record). report_with snapshot l before) (sym (take_whole records)) };
+  all = λ done. whole;
+  is = is;
+}
 
--- ---- what a step leaves
-
-pub step_left : (commit : Commit) (work : SessionState) (following : Following) (records : List Record) (groups left : List (List Record)) → Steps work.follower commit following → clash_by work.follower commit ≡ None → HasSnapshotRecords commit work
-    → records ≡ records_by work.follower commit work.now_ms → IsLeftByCut groups records left → IsLeftByStep commit work groups left
-step_left commit work following records groups left steps clean listed are cut_left = inr (record {
-  following = following;
-  steps = steps;
-  no_clash = clean;
-  listed = listed;
-  cut_is = (cut_left.0, cut_left.1 ∙ ap (λ (l : List Record). groups ++ cut (take cut_left.0 l)) are);
-})
+-- ---- the records that a step returned
 
 -- the follower was given the time of the session
 pub step_are : (work : SessionState) (commit : Commit) (items : List Record) (m : ℤ) → m ≡ work.now_ms → items ≡ records_by work.follower commit m → items ≡ records_by work.follower commit work.now_ms

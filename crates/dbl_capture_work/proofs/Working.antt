@@ -1,10 +1,10 @@
 -- What a session has in hand when it begins, and the offset that it would store.
 use Rattle.std.proofs.Common.{◌≡◌, ◌∙◌, ◌≤◌, List, [], refl, sym, ap, subst}
+use Rattle.std.specs.Prelude.{None}
 use Rattle.dbl_model_table.specs.declared.change.Change.{Change}
 use Rattle.dbl_model_table.specs.declared.table.TableInfo.{TableInfo}
 use Rattle.dbl_model_history.specs.Cursors.{AreCursorsOf}
-use Rattle.dbl_model_commit.specs.Stated.{open_changes}
-use Rattle.dbl_txn.specs.Stands.{Stands, StandsWhole}
+use Rattle.dbl_txn.specs.Stands.{Stands, StandsInPieces}
 use Rattle.dbl_offset_content.specs.declared.offset.Offset.{Offset}
 use Rattle.dbl_offset.specs.Offsets.{IsOffset}
 use Rattle.dbl_follow.specs.Followed.{Following}
@@ -14,14 +14,15 @@ use Rattle.dbl_capture_work.specs.Works.{BeginsWithOffset, IsOwnWaiting}
 
 -- the assembler of copies of the tables is that of the tables
 stands_so : (offset : Offset) (copies : List TableInfo) (work : SessionState) → work.offset ≡ offset → copies ≡ offset.infos → ((held : List Change) → Stands copies offset.lsn [] held work.assembler)
-    → StandsWhole work.offset.infos offset.lsn [] work.assembler
+    → StandsInPieces work.offset.infos offset.lsn [] work.assembler
 stands_so offset copies work is same stands =
-    subst (λ (l : List TableInfo). Stands l offset.lsn [] (open_changes l []) work.assembler) (same ∙ ap (λ (o : Offset). o.infos) (sym is)) (stands (open_changes copies []))
+    subst (λ (l : List TableInfo). Stands l offset.lsn [] [] work.assembler) (same ∙ ap (λ (o : Offset). o.infos) (sym is)) (stands [])
 
 pub work_begins : (offset : Offset) (copies : List TableInfo) (work : SessionState) → IsOffset offset → work.offset ≡ offset → work.follower ≡ following_of offset → copies ≡ offset.infos
-    → ((held : List Change) → Stands copies offset.lsn [] held work.assembler) → 1 ≤ work.chunk → work.chunk ≤ 100000 → 1 ≤ work.every → work.since ≡ 0 → work.number ≡ 0
+    → ((held : List Change) → Stands copies offset.lsn [] held work.assembler) → 1 ≤ work.chunk → work.chunk ≤ 100000 → 1 ≤ work.every → work.since ≡ 0 → work.batch ≡ None
+    → work.number ≡ 0
     → BeginsWithOffset offset work.now_ms work.chunk work.every work
-work_begins offset copies work asked is follows same stands some_rows few_rows some since number = record {
+work_begins offset copies work asked is follows same stands some_rows few_rows some since no_batch number = record {
   is = record {
     asked = subst IsOffset (sym is) asked;
     identity = ap (λ (f : Following). f.identity) follows ∙ ap (λ (o : Offset). o.identity) (sym is);
@@ -46,5 +47,6 @@ work_begins offset copies work asked is follows same stands some_rows few_rows s
   chunk_is = refl;
   every_is = refl;
   none = since;
+  no_batch = no_batch;
   unread = number;
 }

@@ -1,24 +1,42 @@
 -- The batches of a commit's records, as they are gathered and appended, and what a report counts of them.
 use Rattle.std.specs.Prelude.{◌≡◌, ◌⊎◌, ℕ, ◌+◌, ◌-◌, ◌^◌, ◌≤◌, ◌<◌, min, Bool, true, false}
-use Rattle.std.specs.Prelude.{if◌then◌else◌, Some, List, [], ◌∷◌, ◌++◌, length, filter, take, slice_get}
-use Rattle.std.specs.Prelude.{◌≢◌, Result, Err, OnErr, OnOk}
+use Rattle.std.specs.Prelude.{if◌then◌else◌, List, [], ◌∷◌, ◌++◌, length, filter, take, slice_get}
+use Rattle.std.specs.Prelude.{◌≢◌, Option, Some, None, IfSome, Result, Err, OnErr, OnOk}
+use Rattle.std.specs.List.{AllByRecursion}
 use Rattle.dbl_record.specs.declared.record.Record.{Record}
 use Rattle.dbl_record.specs.Cuts.{cut}
 use Rattle.dbl_record.specs.Groups.{group_form}
 use Rattle.dbl_topic.specs.Model.{SinkModel}
-use Rattle.dbl_topic.specs.Sinks.{IsLeftByPut}
+use Rattle.dbl_topic.specs.Sinks.{IsLeftByPut, group_limit}
 use Rattle.dbl_capture_work.specs.declared.groups.Gathered.{Gathered}
 use Rattle.dbl_capture_work.specs.declared.halt.Halt.{Halt}
 use Rattle.dbl_capture_work.specs.declared.halt.Halt.TheVariants as halt
 use Rattle.dbl_capture_work.specs.declared.report.Report.{Report}
 
--- A batch that was begun has the length of its encoding, at most 2^64 - 1, and the position of its last record.
+-- None of the records is too long as a batch of its own.
+abbrev pub AreShort : List Record → Type 0
+AreShort records = AllByRecursion (λ item. length (group_form (item ∷ [])) ≤ group_limit) records
+
+-- A batch that was begun has the length of its encoding, at most 2^64 - 1, and the position of its last record. No other batch begins within
+-- it.
 pub record IsGathered (gathered : Gathered) : Type 0 where
   pub before : List Record
   pub last : Record
   pub items : gathered.items.items ≡ before ++ last ∷ []
   pub bytes : gathered.bytes ≡ min (length (group_form gathered.items.items)) (2 ^ 64 - 1)
   pub position : gathered.position ≡ last.position
+  pub own : cut gathered.items.items ≡ gathered.items.items ∷ []
+
+-- The records of a batch that is gathered, if there is one.
+abbrev pub records_in : Option Gathered → List Record
+records_in None = []
+records_in (Some gathered) = gathered.items.items
+
+-- Whether these records were appended in batches, up to the batch that is gathered after them: the batches of both are those of the appended
+-- ones, and that batch. Before the first batch is gathered nothing was appended.
+abbrev pub IsBatched : List Record → List Record → Type 0
+IsBatched put [] = put ≡ []
+IsBatched put (item ∷ items) = cut (put ++ item ∷ items) ≡ cut put ++ (item ∷ items) ∷ []
 
 -- ---- what a report counts
 
@@ -52,9 +70,9 @@ pub record WerePut (snapshot : Bool) (records : List Record) (before after : Rep
   pub within : count ≤ length records
   pub report : after ≡ report_with snapshot (take count records) before
 
--- The topic log gained a prefix of these records, in batches.
-abbrev pub IsLeftByCut : List (List Record) → List Record → List (List Record) → Type 0
-IsLeftByCut groups records left = (n : ℕ) × (left ≡ groups ++ cut (take n records))
+-- The topic log has the records `put` of a commit, and gained a prefix of the records after them, in batches.
+abbrev pub IsLeftByCut : List (List Record) → List Record → List Record → List (List Record) → Type 0
+IsLeftByCut groups put records left = (n : ℕ) × (left ≡ groups ++ cut (put ++ take n records))
 
 -- Whether the last of the records is the last of its commit.
 abbrev pub ends_commit : List Record → Bool
@@ -66,22 +84,23 @@ ends_commit (first ∷ (second ∷ more)) = ends_commit (second ∷ more)
 pub record HasLastsAtItsEnd (records : List Record) : Type 0 where
   pub each : (place : ℕ) (item : Record) → slice_get records place ≡ Some item → item.last ≡ true → place + 1 ≡ length records
 
--- The sink contains, and the report counts, a prefix of the records, which is empty or not all of them.
+-- The sink contains the records `put` of a commit and, as the report counts, a prefix of the records after them, which is empty or not all of
+-- these.
 pub record HoldsPut {K : Type 0} (holds : K → List (List Record) → Type 0) (groups : List (List Record)) (snapshot : Bool)
-    (records : List Record) (before after : Report) (sink : K) : Type 0 where
+    (put records : List Record) (before after : Report) (sink : K) : Type 0 where
   pub count : ℕ
   pub few : (count ≡ 0) ⊎ (count < length records)
-  pub held : holds sink (groups ++ cut (take count records))
+  pub held : holds sink (groups ++ cut (put ++ take count records))
   pub report : after ≡ report_with snapshot (take count records) before
 
--- After a failed append, a prefix of the records was appended and is counted, and the sink may have a prefix of the next batch.
+-- After a failed append, a prefix of the records after `put` was appended and is counted, and the sink may have a prefix of the next batch.
 pub record WasTorn {K : Type 0} (may_leave : K → List (List Record) → Type 0) (groups : List (List Record)) (snapshot : Bool)
-    (records : List Record) (before after : Report) (sink : K) : Type 0 where
+    (put records : List Record) (before after : Report) (sink : K) : Type 0 where
   pub count : ℕ
   pub group : List Record
   pub later : List (List Record)
-  pub parted : cut records ≡ cut (take count records) ++ group ∷ later
-  pub left : (found : List (List Record)) → may_leave sink found → IsLeftByPut (groups ++ cut (take count records)) group found
+  pub parted : cut (put ++ records) ≡ cut (put ++ take count records) ++ group ∷ later
+  pub left : (found : List (List Record)) → may_leave sink found → IsLeftByPut (groups ++ cut (put ++ take count records)) group found
   pub report : after ≡ report_with snapshot (take count records) before
 
 -- ---- one batch
@@ -101,3 +120,40 @@ pub record CountsGroup {T : Type 0} (snapshot : Bool) (group : List Record) (rep
     : Type 0 where
   pub noted : OnOk result (HasLastsAtItsEnd group → new_report ≡ report_with snapshot group report)
   pub unnoted : OnErr result (new_report ≡ report)
+
+-- The gathered batch is appended, if there is one; otherwise as `PutsGroup`.
+abbrev pub PutsRest : {K T : Type 0} → SinkModel K → K → K → List Record → Result T Halt → Type 0
+PutsRest sink_model sink new_sink [] result = new_sink ≡ sink
+PutsRest sink_model sink new_sink (item ∷ items) result = PutsGroup sink_model sink new_sink (item ∷ items) result
+
+-- ---- records that are gathered
+
+-- For private clauses: the batch to go on with and the records that come after it, of a batch that is gathered and the records after it; none
+-- if there is no record at all.
+abbrev pub BeginsBatch : List Record → List Record → Option Gathered → List Record → Type 0
+BeginsBatch before records None rest = (before ≡ []) × (records ≡ [])
+BeginsBatch before records (Some gathered) rest = IsGathered gathered × (gathered.items.items ++ rest ≡ before ++ records)
+
+-- All records but those of the batch that is gathered now are appended, in batches, and the report counts them.
+pub record AppendsMore {K : Type 0} (sink_model : SinkModel K) (records : List Record) (batch : Option Gathered) (snapshot : Bool)
+    (sink new_sink : K) (report new_report : Report) : Type 0 where
+  pub gathered : IfSome batch IsGathered
+  pub more : List Record
+  pub parted : records ≡ more ++ records_in batch
+  pub batched : IsBatched more (records_in batch)
+  pub short : AreShort more
+  pub held : (groups : List (List Record)) → sink_model.holds sink groups → sink_model.holds new_sink (groups ++ cut more)
+  pub counted : HasLastsAtItsEnd records → new_report ≡ report_with snapshot more report
+
+-- What the sink and the report have of these records after an error: a prefix, but not the last one, so that no window is counted.
+pub record LeavesRecords {K T : Type 0} (sink_model : SinkModel K) (records : List Record) (snapshot : Bool) (sink new_sink : K)
+    (report new_report : Report) (result : Result T Halt) : Type 0 where
+  pub left : (groups left : List (List Record)) → sink_model.holds sink groups → sink_model.may_leave new_sink left
+      → IsLeftByCut groups [] records left
+  pub some : (groups : List (List Record)) → sink_model.holds sink groups → (left : List (List Record)) × sink_model.may_leave new_sink left
+  pub noted : HasLastsAtItsEnd records → WerePut snapshot records report new_report
+  pub chunks : HasLastsAtItsEnd records → OnErr result (new_report.chunks ≡ report.chunks)
+  pub kept : (groups : List (List Record)) → sink_model.holds sink groups → HasLastsAtItsEnd records
+      → OnErr result (result ≢ Err halt.Sink → HoldsPut sink_model.holds groups snapshot [] records report new_report new_sink)
+  pub torn : (groups : List (List Record)) → sink_model.holds sink groups → HasLastsAtItsEnd records → result ≡ Err halt.Sink
+      → WasTorn sink_model.may_leave groups snapshot [] records report new_report new_sink

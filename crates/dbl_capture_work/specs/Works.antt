@@ -1,11 +1,10 @@
 -- The state of a session, for any source, sink and store.
-use Rattle.std.specs.Prelude.{◌≡◌, ℕ, ℤ, ◌+◌, ◌≤◌, false, not, nat_lt, position, Option, Some, None, List, [], ◌∷◌, length, slice_get}
+use Rattle.std.specs.Prelude.{◌≡◌, ◌⊎◌, ℕ, ℤ, ◌+◌, ◌<◌, ◌≤◌, false, not, nat_lt, position, Option, Some, None, List, [], ◌∷◌, ◌++◌, IfSome, pos, length, slice_get}
 use Rattle.std.specs.List.{AllByRecursion}
 use Rattle.dbl_base.specs.declared.lsn.Lsn.{Lsn}
 use Rattle.dbl_pgmsg.specs.declared.messages.Message.{Message}
 use Rattle.dbl_pgmsg.specs.Grammar.{FitsFields}
 use Rattle.dbl_record.specs.declared.record.Record.{Record}
-use Rattle.dbl_record.specs.Groups.{group_form}
 use Rattle.dbl_model_table.specs.declared.change.Body.{Body}
 use Rattle.dbl_model_table.specs.declared.change.Body.TheVariants.{Changes, Mark}
 use Rattle.dbl_model_table.specs.declared.change.Commit.{Commit}
@@ -14,33 +13,43 @@ use Rattle.dbl_model_table.specs.declared.table.TableInfo.{TableInfo}
 use Rattle.dbl_model_history.specs.declared.cursor.Cursor.{Cursor}
 use Rattle.dbl_model_history.specs.Cursors.{AreCursorsOf}
 use Rattle.dbl_model_history.specs.KeyedRows.{last_key}
-use Rattle.dbl_model_commit.specs.Past.{last_lsn}
+use Rattle.dbl_model_history.specs.Ranges.{IsMomentInRange}
+use Rattle.dbl_model_commit.specs.Past.{begin_of, last_lsn}
 use Rattle.dbl_model_commit.specs.Blocks.{AreWithoutFault}
 use Rattle.dbl_model_commit.specs.Stated.{commits_of}
 use Rattle.dbl_envelope.specs.ModelEvent.Clashes.{clash_of}
 use Rattle.dbl_envelope.specs.ModelEvent.EventJson.{envelopes}
 use Rattle.dbl_envelope.specs.ModelEvent.Snapshots.{AreInKeyOrder}
-use Rattle.dbl_txn.specs.Stands.{StandsWhole}
+use Rattle.dbl_txn.specs.Stands.{StandsInPieces}
 use Rattle.dbl_offset_content.specs.declared.offset.Offset.{Offset}
 use Rattle.dbl_offset.specs.Offsets.{IsOffset}
 use Rattle.dbl_window.specs.Plans.{Plan, Chunk}
 use Rattle.dbl_follow.specs.declared.window.Window.{Window}
 use Rattle.dbl_follow.specs.declared.window.Window.TheVariants.{Absent, Armed, Open}
 use Rattle.dbl_capture_model.specs.Steps.{following_of}
+use Rattle.dbl_follow.specs.Amid.{IsAmid}
+use Rattle.dbl_follow.specs.Followed.{Following}
+use Rattle.dbl_model_table.specs.declared.change.Head.{Head}
+use Rattle.dbl_model_table.specs.Heads.{commit_so_far}
+use Rattle.dbl_model_commit.specs.Pieces.{changes_so_far}
 use Rattle.dbl_capture_work.specs.declared.work.SessionState.{SessionState}
+pub use Rattle.dbl_capture_work.specs.Groups.{AreShort}
+use Rattle.dbl_record.specs.Groups.{group_form}
 use Rattle.dbl_topic.specs.Sinks.{group_limit}
+use Rattle.dbl_capture_work.specs.Groups.{IsBatched, IsGathered, records_in}
 
 -- The offset that the session would store now.
 abbrev pub next_offset_of : SessionState → Offset
 next_offset_of work = record work.offset { cursors = work.follower.cursors }
 
--- A window that waits is the session's last one, of the first unfinished table, and has no more rows than allowed.
+-- A window that waits is the session's last one, of the first unfinished table; its rows are in key order, and no more than allowed.
 pub record IsOwnChunk (incarnation number : ℕ) (infos : List TableInfo) (cursors : List Cursor) (most : ℕ) (chunk : Chunk) : Type 0 where
   pub incarnation_is : chunk.plan.incarnation ≡ incarnation
   pub number_is : chunk.plan.number ≡ number
   pub table : position (λ cursor. not cursor.done) cursors ≡ Some chunk.plan.table
   pub info : slice_get infos chunk.plan.table ≡ Some chunk.plan.info
   pub few : length chunk.rows ≤ most
+  pub ordered : AreInKeyOrder chunk.rows
 
 -- A window that is armed or open is the session's last one, of the first unfinished table.
 abbrev pub IsOwnWaiting : ℕ → ℕ → List TableInfo → List Cursor → ℕ → Window → Type 0
@@ -54,23 +63,20 @@ EndsAt end [] = Unit {0}
 EndsAt end (commit ∷ []) = end ≡ commit.end_lsn
 EndsAt end (first ∷ (second ∷ more)) = EndsAt end (second ∷ more)
 
--- None of the records is too long as a batch of its own.
-abbrev pub AreShort : List Record → Type 0
-AreShort records = AllByRecursion (λ item. length (group_form (item ∷ [])) ≤ group_limit) records
-
 -- The records of the commit's changes have no value equal to the placeholder, and none is too long.
 abbrev pub CouldBeSent : Identity → List TableInfo → ℤ → Commit → Body → Type 0
 CouldBeSent identity infos now commit (Changes changes) = (clash_of identity infos commit ≡ None)
     × AreShort (envelopes identity infos commit now)
 CouldBeSent identity infos now commit (Mark value) = Unit {0}
 
--- The invariant of a session that began to read after this LSN, and has read these messages, newest first, all of them valid.
+-- The invariant of a session between transactions that began to read after this LSN, and has read these messages, newest first, all of them
+-- valid. Within a transaction it is true of the session as it was before the transaction's first change (`HasOpen`).
 pub record IsWork (after : Lsn) (ms : List Message) (work : SessionState) : Type 0 where
   pub asked : IsOffset work.offset
   pub identity : work.follower.identity ≡ work.offset.identity
   pub infos : work.follower.infos ≡ work.offset.infos
   pub cursors : AreCursorsOf work.offset.infos work.follower.cursors
-  pub stands : StandsWhole work.offset.infos after ms work.assembler
+  pub stands : StandsInPieces work.offset.infos after ms work.assembler
   pub fields : AllByRecursion FitsFields ms
   pub accepted : AreWithoutFault work.offset.infos after ms
   pub lsn : work.offset.lsn ≡ last_lsn after ms
@@ -84,11 +90,62 @@ pub record IsWork (after : Lsn) (ms : List Message) (work : SessionState) : Type
   pub few_rows : work.chunk ≤ 100000
   pub some : 1 ≤ work.every
 
+-- ---- the open transaction
+
+-- The Begin of the open transaction; between transactions one that has no meaning.
+abbrev pub head_in : Option Head → Head
+head_in None = record { lsn = record { 0 = 0 }; time = pos 0; xid = 0 }
+head_in (Some head) = head
+
+-- The open transaction with its changes so far, as a commit that ends there; between transactions one without changes.
+abbrev pub open_commit : List TableInfo → List Message → Commit
+open_commit infos ms = commit_so_far (head_in (begin_of ms)) (changes_so_far infos ms)
+
+-- The records of the open transaction so far have no value equal to the placeholder, and none is too long but perhaps one of the last two,
+-- which aren't appended yet.
+pub record CouldBeSentSoFar (work : SessionState) (ms : List Message) : Type 0 where
+  pub clear : clash_of work.offset.identity work.offset.infos (open_commit work.offset.infos ms) ≡ None
+  pub short : (place : ℕ) (item : Record)
+      → slice_get (envelopes work.offset.identity work.offset.infos (open_commit work.offset.infos ms) work.now_ms) place ≡ Some item
+      → place + 2 < length (envelopes work.offset.identity work.offset.infos (open_commit work.offset.infos ms) work.now_ms)
+      → length (group_form (item ∷ [])) ≤ group_limit
+
+-- The follower was `start` before the open transaction, and has followed its changes so far and released these records.
+abbrev pub FollowsOpen : List Message → Following → List Record → SessionState → Type 0
+FollowsOpen ms start released work =
+    IsAmid start (head_in (begin_of ms)) (changes_so_far work.offset.infos ms) work.now_ms released work.follower
+
+-- The session follows the open transaction: its follower was `start` before it, has followed its changes so far, and released these
+-- records, of which `put` were appended in batches, none of them too long, and the others are in the batch that is gathered. Between
+-- transactions there are none.
+pub record IsAmidWork (ms : List Message) (start : Following) (put : List Record) (work : SessionState) : Type 0 where
+  pub amid : FollowsOpen ms start (put ++ records_in work.batch) work
+  pub gathered : IfSome work.batch IsGathered
+  pub batched : IsBatched put (records_in work.batch)
+  pub short : AreShort put
+  -- While part of a transaction is appended, fewer than `every` commits are not in the stored offset; the time has 64 bits.
+  pub early : (put ≡ []) ⊎ ((work.since < work.every) × IsMomentInRange work.now_ms)
+
+-- The session as it was before the first change of the open transaction, but for the messages that were read since.
+abbrev pub resting : Following → SessionState → SessionState
+resting start work = record work { follower = start; batch = None }
+
+-- How far the session is ahead of the session before the open transaction, after these messages.
+pub record HasOpen (ms : List Message) (work : SessionState) : Type 0 where
+  pub start : Following
+  pub put : List Record
+  pub is : IsAmidWork ms start put work
+
+-- The session before the open transaction; between transactions the session itself.
+abbrev pub rest_in : {ms : List Message} {work : SessionState} → HasOpen ms work → SessionState
+rest_in {ms} {work} ahead = resting ahead.start work
+
 -- The invariant of a session, after some messages.
 pub record HasReadyWork (work : SessionState) : Type 0 where
   pub after : Lsn
   pub messages : List Message
-  pub is : IsWork after messages work
+  pub ahead : HasOpen messages work
+  pub is : IsWork after messages (rest_in ahead)
 
 -- A session that begins with this offset, and has read nothing.
 pub record BeginsWithOffset (offset : Offset) (now : ℤ) (chunk every : ℕ) (work : SessionState) : Type 0 where
@@ -99,6 +156,7 @@ pub record BeginsWithOffset (offset : Offset) (now : ℤ) (chunk every : ℕ) (w
   pub chunk_is : work.chunk ≡ chunk
   pub every_is : work.every ≡ every
   pub none : work.since ≡ 0
+  pub no_batch : work.batch ≡ None
   pub unread : work.number ≡ 0
 
 -- ---- windows

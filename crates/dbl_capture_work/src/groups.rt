@@ -1,21 +1,23 @@
 //! Appends records to a sink in batches.
 
-ghost use Rattle.std.specs.Prelude.{◌≡◌, ◌≢◌, ◌⊎◌, ◌<◌, ◌++◌, ◌∷◌, [], ℕ, Some, List, length};
-ghost use Rattle.std.specs.Prelude.{slice_get, IfErr, IfOk, IsErr, IsTrue, OnOk, OnErr};
-ghost use Rattle.dbl_record.specs.declared.record.Record.{Record as SpecRecord};
-ghost use Rattle.dbl_record.specs.Cuts.{IsHandful, begins_batch, cut};
+ghost use Rattle.std.specs.Prelude.{◌≡◌, ◌⊎◌, ◌<◌, ◌++◌, ◌∷◌, [], None, length, IfErr, IfOk, IfSome};
+ghost use Rattle.std.specs.Prelude.{IsErr, IsTrue, OnOk, false};
+ghost use Rattle.std.specs.Vec.Iter.{into_iter_items};
+ghost use Rattle.dbl_record.specs.Cuts.{IsHandful, begins_batch};
 ghost use Rattle.dbl_record.specs.Groups.{group_form};
 ghost use Rattle.dbl_topic.specs.Sinks.{told_length, group_limit};
 ghost use Rattle.dbl_topic.specs.Keeps.{KeepsSink};
-ghost use Rattle.dbl_capture_work.specs.Causes.{HasPutBefore, IsLongRecord};
-ghost use Rattle.dbl_capture_work.specs.Groups.{HasLastsAtItsEnd, HoldsPut, IsGathered};
-ghost use Rattle.dbl_capture_work.specs.Groups.{IsLeftByCut, WasTorn, WerePut, ends_commit};
-ghost use Rattle.dbl_capture_work.specs.Groups.{report_with, PutsGroup, CountsGroup};
+ghost use Rattle.dbl_capture_work.specs.Causes.{HaltsAppending, PutsAll};
+ghost use Rattle.dbl_capture_work.specs.Groups.{AppendsMore, BeginsBatch, CountsGroup};
+ghost use Rattle.dbl_capture_work.specs.Groups.{HasLastsAtItsEnd, IsGathered, LeavesRecords};
+ghost use Rattle.dbl_capture_work.specs.Groups.{PutsGroup, ends_commit, records_in};
+ghost use Rattle.dbl_capture_work.specs.Groups.{report_with};
 
 use crate::{Halt, Report};
 use dbl_record::{Record, record_length};
 use dbl_topic::Sink;
 use std::alloc::{AllocError, Global};
+use std::vec::IntoIter;
 
 /// The greatest number of records of a batch.
 const RECORDS: usize = 1000;
@@ -23,14 +25,15 @@ const RECORDS: usize = 1000;
 /// The greatest number of bytes of a batch of several records.
 const BYTES: u64 = 16_777_216;
 
-// A batch that is being gathered.
+/// A batch that is being gathered: records of the open transaction that are appended together, once
+/// the next one doesn't fit or the transaction ends.
 #[derive(Drop)]
-struct Gathered {
-    items: Vec<Record>,
-    // The length of its encoding.
-    bytes: u64,
-    // The position of its last record.
-    position: u64,
+pub struct Gathered {
+    pub items: Vec<Record>,
+    /// The length of its encoding.
+    pub bytes: u64,
+    /// The position of its last record.
+    pub position: u64,
 }
 
 fn begin_group(alloc: Global, item: Record) -> Result<Gathered, AllocError>
@@ -61,7 +64,8 @@ fn needs_new_batch(gathered: &Gathered, item: &Record) -> bool
 
 // Adds a record to the batch.
 fn gather(gathered: &mut Gathered, item: Record) -> Result<(), AllocError>
-    requires { IsGathered gathered.old }
+    requires gathered { IsGathered gathered.old }
+    requires joins { begins_batch gathered.old.items.items item ≡ false }
     ensures items { OnOk result (gathered.new.items.items ≡ gathered.old.items.items ++ item ∷ []) }
     ensures gathered { OnOk result (IsGathered gathered.new) }
 {
@@ -121,51 +125,52 @@ fn put_group<K: Sink>(
     Ok(())
 }
 
-/// Appends the records of a commit in batches; `snapshot` says whether they are a window's.
-pub fn put_all<K: Sink>(
+// The batch to go on with: the gathered one, or else one that begins with the next record.
+fn first_batch(
+    alloc: Global,
+    batch: &mut Option<Gathered>,
+    rest: &mut IntoIter<Record>,
+) -> Result<Option<Gathered>, AllocError>
+    requires gathered { IfSome batch.old IsGathered }
+    ensures none { batch.new ≡ None }
+    ensures begins { IfOk result (λ first. BeginsBatch (records_in batch.old)
+        (into_iter_items rest.old) first (into_iter_items rest.new)) }
+{
+    match batch.take() {
+        Some(gathered) => Ok(Some(gathered)),
+        None => match rest.next() {
+            Some(first) => {
+                let begun = begin_group(alloc, first)?;
+                Ok(Some(begun))
+            }
+            None => Ok(None),
+        },
+    }
+}
+
+// Goes on with a batch and the records after it, and appends each batch that is full. The last batch
+// stays gathered.
+fn append_from<K: Sink>(
     alloc: Global,
     sink: &mut K,
-    records: Vec<Record>,
+    batch: &mut Option<Gathered>,
+    mut gathered: Gathered,
+    rest: IntoIter<Record>,
     snapshot: bool,
     report: &mut Report,
 ) -> Result<(), Halt>
     requires live { IsTrue (K.is_live sink.old) }
-    ensures put { (groups : List (List SpecRecord)) → K.holds sink.old groups →
-        OnOk result (K.holds sink.new (groups ++ cut records.items)) }
-    ensures left { (groups left : List (List SpecRecord)) → K.holds sink.old groups →
-        K.may_leave sink.new left → IsLeftByCut groups records.items left }
-    ensures some { (groups : List (List SpecRecord)) → K.holds sink.old groups →
-        (left : List (List SpecRecord)) × K.may_leave sink.new left }
-    ensures noted { HasLastsAtItsEnd records.items →
-        WerePut snapshot records.items report.old report.new }
-    // A window is counted only with its last record.
-    ensures counts { HasLastsAtItsEnd records.items →
-        OnErr result (report.new.chunks ≡ report.old.chunks) }
-    ensures whole { OnOk result (HasLastsAtItsEnd records.items →
-        report.new ≡ report_with snapshot records.items report.old) }
-    ensures kept { (groups : List (List SpecRecord)) → K.holds sink.old groups →
-        HasLastsAtItsEnd records.items → OnErr result (result ≢ Err Halt.Sink →
-        HoldsPut K.holds groups snapshot records.items report.old report.new sink.new) }
-    ensures torn { (groups : List (List SpecRecord)) → K.holds sink.old groups →
-        HasLastsAtItsEnd records.items → result ≡ Err Halt.Sink →
-        WasTorn K.may_leave groups snapshot records.items report.old report.new sink.new }
-    ensures halt { IfErr result (λ h. (h ≡ Halt.Memory) ⊎ ((h ≡ Halt.Sink)
-        ⊎ IsLongRecord records.items h)) }
-    ensures before { (groups : List (List SpecRecord)) → K.holds sink.old groups →
-        HasLastsAtItsEnd records.items → (len : ℕ) → result ≡ Err (Halt.RecordTooLong len) →
-        HasPutBefore K.holds groups snapshot records.items report.old report.new sink.new
-        (Halt.RecordTooLong len) }
-    ensures long { (place : ℕ) (item : SpecRecord) → slice_get records.items place ≡ Some item →
-        group_limit < length (group_form (item ∷ [])) → IsErr result }
+    requires gathered { IsGathered gathered }
+    ensures appends { OnOk result (AppendsMore K.Sink (gathered.items.items ++ into_iter_items rest)
+        batch.new snapshot sink.old sink.new report.old report.new) }
+    ensures leaves { LeavesRecords K.Sink (gathered.items.items ++ into_iter_items rest) snapshot
+        sink.old sink.new report.old report.new result }
+    ensures halts { HaltsAppending K.Sink (gathered.items.items ++ into_iter_items rest) snapshot
+        sink.old sink.new report.old report.new result }
     ensures sink { KeepsSink K.Sink sink.old sink.new result Halt.Sink }
 {
     // Each count has 64 bits.
     let (_records, _chunks, _rows) = (report.records, report.chunks, report.snapshot_rows);
-    let mut rest = records.into_iter();
-    let Some(first) = rest.next() else {
-        return Ok(());
-    };
-    let mut gathered = begin_group(alloc, first)?;
     'records: for item in rest {
         if needs_new_batch(&gathered, &item) {
             put_group(sink, &gathered.items, snapshot, report)?;
@@ -174,6 +179,62 @@ pub fn put_all<K: Sink>(
             gather(&mut gathered, item)?;
         }
     }
-    put_group(sink, &gathered.items, snapshot, report)?;
+    *batch = Some(gathered);
     Ok(())
+}
+
+/// Gathers records, which come after those of the batch, and appends each batch that is full. The
+/// last batch stays gathered. `snapshot` says whether they are a window's.
+pub fn append_records<K: Sink>(
+    alloc: Global,
+    sink: &mut K,
+    batch: &mut Option<Gathered>,
+    records: Vec<Record>,
+    snapshot: bool,
+    report: &mut Report,
+) -> Result<(), Halt>
+    requires live { IsTrue (K.is_live sink.old) }
+    requires gathered { IfSome batch.old IsGathered }
+    ensures appends { OnOk result (AppendsMore K.Sink (records_in batch.old ++ records.items)
+        batch.new snapshot sink.old sink.new report.old report.new) }
+    ensures leaves { LeavesRecords K.Sink (records_in batch.old ++ records.items) snapshot sink.old
+        sink.new report.old report.new result }
+    ensures halts { HaltsAppending K.Sink (records_in batch.old ++ records.items) snapshot sink.old
+        sink.new report.old report.new result }
+    ensures sink { KeepsSink K.Sink sink.old sink.new result Halt.Sink }
+{
+    // Each count has 64 bits.
+    let (_records, _chunks, _rows) = (report.records, report.chunks, report.snapshot_rows);
+    let mut rest = records.into_iter();
+    let first = first_batch(alloc, batch, &mut rest)?;
+    match first {
+        Some(gathered) => append_from(alloc, sink, batch, gathered, rest, snapshot, report),
+        None => Ok(()),
+    }
+}
+
+/// Appends records in batches, after those of the batch that is gathered, of which none stays
+/// gathered.
+pub fn put_all<K: Sink>(
+    alloc: Global,
+    sink: &mut K,
+    batch: &mut Option<Gathered>,
+    records: Vec<Record>,
+    snapshot: bool,
+    report: &mut Report,
+) -> Result<(), Halt>
+    requires live { IsTrue (K.is_live sink.old) }
+    requires gathered { IfSome batch.old IsGathered }
+    ensures none { OnOk result (batch.new ≡ None) }
+    ensures puts { PutsAll K.Sink (records_in batch.old ++ records.items) snapshot sink.old sink.new
+        report.old report.new result }
+    ensures sink { KeepsSink K.Sink sink.old sink.new result Halt.Sink }
+{
+    // Each count has 64 bits.
+    let (_records, _chunks, _rows) = (report.records, report.chunks, report.snapshot_rows);
+    append_records(alloc, sink, batch, records, snapshot, report)?;
+    match batch.take() {
+        Some(gathered) => put_group(sink, &gathered.items, snapshot, report),
+        None => Ok(()),
+    }
 }

@@ -1,32 +1,33 @@
 //! Reads messages, and follows commits.
 
-ghost use Rattle.std.specs.Prelude.{◌≡◌, ◌≢◌, ◌⊎◌, ◌^◌, ◌<◌, ◌++◌, ℕ, All, Some, None, List, IfErr};
-ghost use Rattle.std.specs.Prelude.{IfOk, IfSome, IsErr, IsTrue, OnErr, OnOk, is_ok, is_some};
+ghost use Rattle.std.specs.Prelude.{◌≡◌, ◌⊎◌, ◌^◌, ◌<◌, ◌∷◌, ◌++◌, Some, List, IfErr, IfOk, IsTrue};
 ghost use Rattle.dbl_base.specs.declared.lsn.Lsn.{Lsn as SpecLsn};
 ghost use Rattle.dbl_pgmsg.specs.declared.messages.Message.{Message as SpecMessage};
 ghost use Rattle.dbl_pgmsg.specs.Grammar.{Spells};
 ghost use Rattle.dbl_record.specs.declared.record.Record.{Record as SpecRecord};
-ghost use Rattle.dbl_record.specs.Cuts.{cut};
-ghost use Rattle.dbl_model_table.specs.Rows.{changes_of};
-ghost use Rattle.dbl_model_history.specs.FitsInfos.{FitsInfos};
+ghost use Rattle.dbl_model_table.specs.Heads.{commit_by};
 ghost use Rattle.dbl_model_commit.specs.declared.txn_error.TxnError.{TxnError as SpecTxnError};
+ghost use Rattle.dbl_model_commit.specs.Past.{begin_of};
+ghost use Rattle.dbl_model_commit.specs.Pieces.{changes_so_far};
 ghost use Rattle.dbl_model_commit.specs.Stated.{transaction_fault};
-ghost use Rattle.dbl_txn.specs.Stands.{StandsWhole, Taken};
-ghost use Rattle.dbl_follow.specs.Steps.{clash_by, mark_of, records_by};
+ghost use Rattle.dbl_txn.specs.Stands.{StandsInPieces, TakenPiece};
+ghost use Rattle.dbl_envelope.specs.ModelEvent.Clashes.{clash_of};
+ghost use Rattle.dbl_follow.specs.Followed.{Following};
 ghost use Rattle.dbl_topic.specs.Keeps.{KeepsSink};
-ghost use Rattle.dbl_capture_work.specs.Causes.{HasPutBefore, IsLongRecord};
-ghost use Rattle.dbl_capture_work.specs.Groups.{HoldsPut, WasTorn};
-ghost use Rattle.dbl_capture_work.specs.Takes.{IsClashIn, IsLeftByStep, IsMessageHalt, IsTxnHalt};
-ghost use Rattle.dbl_capture_work.specs.Takes.{ReportsStep, WasStepped, WasTaken, closes};
-ghost use Rattle.dbl_capture_work.specs.Works.{AreShort, HasReadyWork, IsWork};
+ghost use Rattle.dbl_capture_work.specs.Takes.{CountsOnlyRecords, DeliversCommit, DeliversOpen};
+ghost use Rattle.dbl_capture_work.specs.Takes.{EndsOpen, HasTakenPiece, IsClashIn, IsMessageHalt};
+ghost use Rattle.dbl_capture_work.specs.Takes.{IsStated, IsTxnHalt, StatesChanges};
+ghost use Rattle.dbl_capture_work.specs.Works.{FollowsOpen, HasOpen, HasReadyWork, IsAmidWork};
+ghost use Rattle.dbl_capture_work.specs.Works.{IsWork, open_commit, rest_in, resting};
 
-use crate::groups::put_all;
+use crate::groups::{append_records, put_all};
 use crate::work::SessionState;
 use crate::{Halt, Report};
-use dbl_base::Bytes;
-use dbl_model_commit::TxnError;
-use dbl_model_table::{Body, Commit};
+use dbl_base::{Bytes, Seq};
+use dbl_model_commit::{Piece, TxnError};
+use dbl_model_table::{Change, Ended};
 use dbl_pgmsg::{Message, MsgError, decode};
+use dbl_record::Record;
 use dbl_topic::Sink;
 use std::alloc::Global;
 
@@ -42,112 +43,124 @@ fn decode_message(alloc: Global, number: u64, bytes: &Bytes) -> Result<Message, 
     }
 }
 
-// Returns the commit that a message ends, if any.
-fn assemble(work: &mut SessionState, number: u64, message: Message) -> Result<Option<Commit>, Halt>
+// Returns a message's piece of the open transaction.
+fn take_piece(work: &mut SessionState, number: u64, message: Message) -> Result<Piece, Halt>
     ensures taken { (after : SpecLsn) (ms : List SpecMessage) →
-        StandsWhole work.old.offset.infos after ms work.old.assembler →
-        IfOk result (Taken work.old.offset.infos after message ms work.new.assembler) }
+        StandsInPieces work.old.offset.infos after ms work.old.assembler →
+        IfOk result (TakenPiece work.old.offset.infos after message ms work.new.assembler) }
     ensures halt { (after : SpecLsn) (ms : List SpecMessage) →
-        StandsWhole work.old.offset.infos after ms work.old.assembler →
+        StandsInPieces work.old.offset.infos after ms work.old.assembler →
         IfErr result (λ h. (h ≡ Halt.Memory) ⊎ ((error : SpecTxnError)
         × (transaction_fault work.old.offset.infos after message ms ≡ Some error)
         × (h ≡ Halt.Txn number error))) }
     ensures same { work.new ≡ record work.old { assembler = work.new.assembler } }
 {
     let alloc = work.alloc;
-    match work.assembler.take(alloc, message) {
-        Ok(commit) => Ok(commit),
+    match work.assembler.piece(alloc, message) {
+        Ok(piece) => Ok(piece),
         Err(TxnError::Memory) => Err(Halt::Memory),
         Err(error) => Err(Halt::Txn { number, error }),
     }
 }
 
-/// Takes the next message by its bytes, and returns the commit that it ends, if any.
-pub fn take_message(
-    work: &mut SessionState,
-    number: u64,
-    bytes: &Bytes,
-) -> Result<Option<Commit>, Halt>
+/// Takes the next message by its bytes, and returns its piece of the open transaction.
+pub fn take_message(work: &mut SessionState, number: u64, bytes: &Bytes) -> Result<Piece, Halt>
     requires { HasReadyWork work.old }
-    ensures taken { (after : SpecLsn) (ms : List SpecMessage) → IsWork after ms work.old →
-        IfOk result (WasTaken after ms bytes.now work.old work.new) }
-    ensures halt { (after : SpecLsn) (ms : List SpecMessage) → IsWork after ms work.old →
-        IfErr result (λ h. (h ≡ Halt.Memory) ⊎ (IsMessageHalt number bytes.now h
+    ensures taken { (after : SpecLsn) (ms : List SpecMessage) (ahead : HasOpen ms work.old) →
+        IsWork after ms (rest_in ahead) →
+        IfOk result (HasTakenPiece after ms bytes.now work.old work.new) }
+    ensures halt { (after : SpecLsn) (ms : List SpecMessage) (ahead : HasOpen ms work.old) →
+        IsWork after ms (rest_in ahead) → IfErr result
+        (λ h. (h ≡ Halt.Memory) ⊎ (IsMessageHalt number bytes.now h
         ⊎ IsTxnHalt number after ms bytes.now work.old h)) }
-    ensures fits { IfOk result (λ commit. IfSome commit (λ c.
-        All (FitsInfos work.new.follower.infos) (changes_of c))) }
     ensures same { work.new ≡ record work.old { assembler = work.new.assembler } }
 {
     let message = decode_message(work.alloc, number, bytes)?;
-    assemble(work, number, message)
+    take_piece(work, number, message)
 }
 
-fn is_mark(commit: &Commit) -> bool
-    ensures { result ≡ is_some (mark_of commit.now) }
+// Follows changes of the open transaction, and returns the records that they release.
+fn follow_changes(work: &mut SessionState, changes: &Seq<Change>) -> Result<Vec<Record>, Halt>
+    requires { StatesChanges work.old changes.now }
+    ensures follows { (after : SpecLsn) (m : SpecMessage) (ms : List SpecMessage)
+        (start : Following) (released : List SpecRecord) →
+        IsStated after m ms changes.now work.old → FollowsOpen ms start released work.old →
+        IfOk result (λ records. FollowsOpen (m ∷ ms) start (released ++ records.items) work.new) }
+    ensures halt { (after : SpecLsn) (m : SpecMessage) (ms : List SpecMessage)
+        (start : Following) (released : List SpecRecord) →
+        IsStated after m ms changes.now work.old → FollowsOpen ms start released work.old →
+        IfErr result (λ h. (h ≡ Halt.Memory) ⊎ IsClashIn (clash_of start.identity start.infos
+        (open_commit work.old.offset.infos (m ∷ ms))) h) }
+    ensures same { work.new ≡ record work.old { follower = work.new.follower } }
 {
-    match commit.body {
-        Body::Changes(_) => false,
-        Body::Mark(_) => true,
+    let Some(head) = work.assembler.head() else {
+        unreachable!()
+    };
+    let list = changes.items();
+    let mut records = Vec::new(work.alloc);
+    for change in list {
+        let mut more = work.follower.change(&head, change, work.now_ms)?;
+        records.append(&mut more)?;
     }
+    Ok(records)
 }
 
-/// Follows a commit, and appends its records. Returns whether it closed a window.
+/// Follows the changes that the newest message states. The records that are known not to be the last
+/// of the open transaction are appended in batches, the last of which stays gathered.
+pub fn deliver_changes<K: Sink>(
+    work: &mut SessionState,
+    changes: &Seq<Change>,
+    sink: &mut K,
+    report: &mut Report,
+) -> Result<(), Halt>
+    requires live { IsTrue (K.is_live sink.old) }
+    requires states { StatesChanges work.old changes.now }
+    requires since { work.old.since < work.old.every }
+    ensures delivers { (after : SpecLsn) (m : SpecMessage) (ms : List SpecMessage)
+        (start : Following) (put : List SpecRecord) → IsStated after m ms changes.now work.old →
+        IsAmidWork ms start put work.old → DeliversOpen K.Sink
+        (open_commit work.old.offset.infos (m ∷ ms)) (m ∷ ms) start put (resting start work.old)
+        work.new sink.old sink.new report.old report.new result }
+    ensures same { work.new ≡ record work.old {
+      follower = work.new.follower;
+      batch = work.new.batch;
+    } }
+    ensures counts { CountsOnlyRecords report.old report.new }
+    ensures device { KeepsSink K.Sink sink.old sink.new result Halt.Sink }
+{
+    // Each number has 64 bits.
+    let (_records, _chunks, _rows) = (report.records, report.chunks, report.snapshot_rows);
+    let _now = work.now_ms;
+    let records = follow_changes(work, changes)?;
+    append_records(work.alloc, sink, &mut work.batch, records, false, report)
+}
+
+/// Ends the open transaction: appends the rest of its records, or those of the window that its
+/// watermark closes. Returns whether it closed a window.
 pub fn deliver_commit<K: Sink>(
     work: &mut SessionState,
-    commit: &Commit,
+    ended: &Ended,
     sink: &mut K,
     report: &mut Report,
 ) -> Result<bool, Halt>
     requires live { IsTrue (K.is_live sink.old) }
-    requires between { work.old.follower.part ≡ None }
-    requires fits { All (FitsInfos work.old.follower.infos) (changes_of commit.now) }
+    requires ends { EndsOpen work.old ended.now }
     requires since { work.old.since < work.old.every }
     requires commits { report.old.commits < 2 ^ 63 }
-    ensures put { (groups : List (List SpecRecord)) → K.holds sink.old groups →
-        OnOk result (K.holds sink.new
-        (groups ++ cut (records_by work.old.follower commit.now work.old.now_ms))) }
-    ensures left { (groups left : List (List SpecRecord)) → K.holds sink.old groups →
-        K.may_leave sink.new left → IsLeftByStep commit.now work.old groups left }
-    ensures some { (groups : List (List SpecRecord)) → K.holds sink.old groups →
-        (left : List (List SpecRecord)) × K.may_leave sink.new left }
-    // After an error other than the sink's, the sink contains exactly the prefix of the records
-    // that the report counts.
-    ensures kept { (groups : List (List SpecRecord)) → K.holds sink.old groups →
-        OnErr result (result ≢ Err Halt.Sink → HoldsPut K.holds groups
-        (is_some (mark_of commit.now)) (records_by work.old.follower commit.now work.old.now_ms)
-        report.old report.new sink.new) }
-    // After the sink's own error the report counts a prefix, and at most the next batch is torn.
-    ensures torn { (groups : List (List SpecRecord)) → K.holds sink.old groups →
-        result ≡ Err Halt.Sink → WasTorn K.may_leave groups
-        (is_some (mark_of commit.now)) (records_by work.old.follower commit.now work.old.now_ms)
-        report.old report.new sink.new }
-    // If a record is too long, those before it were appended, and are counted.
-    ensures before { (groups : List (List SpecRecord)) → K.holds sink.old groups →
-        (len : ℕ) → result ≡ Err (Halt.RecordTooLong len) → HasPutBefore K.holds groups
-        (is_some (mark_of commit.now)) (records_by work.old.follower commit.now work.old.now_ms)
-        report.old report.new sink.new (Halt.RecordTooLong len) }
-    ensures stepped { OnOk result (WasStepped commit.now work.old work.new) }
-    ensures closes { IfOk result (λ closed. closed ≡ closes work.old commit.now) }
-    ensures noted { ReportsStep commit.now work.old report.old report.new (is_ok result) }
-    ensures counts { OnErr result (report.new.chunks ≡ report.old.chunks) }
-    ensures halt { IfErr result (λ h. (h ≡ Halt.Memory) ⊎ ((h ≡ Halt.Sink)
-        ⊎ (IsClashIn (clash_by work.old.follower commit.now) h
-        ⊎ ((clash_by work.old.follower commit.now ≡ None)
-        × IsLongRecord (records_by work.old.follower commit.now work.old.now_ms) h)))) }
-    ensures clash { (clash_by work.old.follower commit.now ≢ None) → IsErr result }
-    ensures sink { result ≡ Err Halt.Sink → clash_by work.old.follower commit.now ≡ None }
-    ensures long { OnOk result
-        (AreShort (records_by work.old.follower commit.now work.old.now_ms)) }
+    ensures delivers { (ms : List SpecMessage) (start : Following) (put : List SpecRecord) →
+        IsAmidWork ms start put work.old → begin_of ms ≡ Some ended.now.head →
+        DeliversCommit K.Sink (commit_by ended.now (changes_so_far work.old.offset.infos ms)) put
+        (resting start work.old) work.new sink.old sink.new report.old report.new result }
     ensures device { KeepsSink K.Sink sink.old sink.new result Halt.Sink }
 {
     // Each count has 64 bits.
     let (_records, _chunks, _rows) = (report.records, report.chunks, report.snapshot_rows);
-    let snapshot = is_mark(commit);
-    let records = work.follower.step(commit, work.now_ms)?;
+    let snapshot = ended.mark.is_some();
+    let records = work.follower.end(ended, work.now_ms)?;
     let closed = snapshot && !records.is_empty();
-    put_all(work.alloc, sink, records, snapshot, report)?;
-    work.offset.lsn = commit.lsn;
-    work.offset.end_lsn = commit.end_lsn;
+    put_all(work.alloc, sink, &mut work.batch, records, snapshot, report)?;
+    work.offset.lsn = ended.head.lsn;
+    work.offset.end_lsn = ended.end_lsn;
     work.since += 1;
     report.commits += 1;
     Ok(closed)

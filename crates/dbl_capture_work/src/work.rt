@@ -6,6 +6,7 @@ ghost use Rattle.dbl_capture_work.specs.Works.{BeginsWithOffset, HasReadyWork, n
 ghost use Rattle.dbl_capture_model.specs.Steps.{following_of};
 
 use crate::Halt;
+use crate::groups::Gathered;
 use dbl_base::{Seq, copy_items};
 use dbl_follow::Follower;
 use dbl_model_history::Cursor;
@@ -23,6 +24,8 @@ pub struct SessionState {
     pub offset: Offset,
     pub assembler: Assembler,
     pub follower: Follower,
+    /// Records of the open transaction that its follower released, and that aren't appended yet.
+    pub batch: Option<Gathered>,
     pub now_ms: i64,
     pub chunk: u32,
     pub every: u32,
@@ -94,6 +97,7 @@ impl SessionState {
             offset,
             assembler,
             follower,
+            batch: None,
             now_ms,
             chunk,
             every,

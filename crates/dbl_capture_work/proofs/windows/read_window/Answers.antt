@@ -11,6 +11,7 @@ use Rattle.dbl_follow.specs.Followed.{IsPlanOfCaptured}
 use Rattle.dbl_capture_work.specs.declared.halt.Halt.TheVariants as halt
 use Rattle.dbl_capture_work.specs.Causes.{IsHonestFault}
 use Rattle.dbl_capture_work.specs.Windowed.{MayHaveMarks, WasWindowed, own_marks}
+use Rattle.dbl_capture_work.proofs.Ahead.{ready_infos}
 use Rattle.dbl_capture_work.proofs.Exits.{none_taken}
 use Rattle.dbl_capture_work.proofs.Looking.{chunk_own, rest_left}
 use Rattle.dbl_capture_work.proofs.Planning.{plan_info, plan_planned, planned_at}
@@ -40,7 +41,7 @@ returns-in_err-idle-clause-taken g c = none_taken (g.S.Source.told c.args.src.no
 pub arm-requires-clause-planned : goal.arm-requires-clause-planned
 arm-requires-clause-planned g c =
     let planned = plan_planned c.args.work.now c.args.table c.in-Ok.armed.plan (c.in_ok-idle.ensures ∙ ap (λ (p : Plan). Some p) (sym c.in-Ok.ensures.chunk.plan_is)) in
-    subst (λ (l : List TableInfo). IsPlanOfCaptured l c.in-Ok.armed.plan) (sym c.requires.ready.is.infos) planned
+    subst (λ (l : List TableInfo). IsPlanOfCaptured l c.in-Ok.armed.plan) (sym (ready_infos c.args.work.now c.requires.ready)) planned
 
 pub returns-in-Ok-clause-same : goal.returns-in-Ok-clause-same
 returns-in-Ok-clause-same g c =

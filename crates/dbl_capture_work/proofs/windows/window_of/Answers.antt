@@ -5,6 +5,7 @@ use Rattle.dbl_model_table.specs.declared.row.Key.{Key}
 use Rattle.dbl_model_table.specs.declared.table.TableInfo.{TableInfo}
 use Rattle.dbl_model_history.specs.declared.cursor.Cursor.{Cursor}
 use Rattle.dbl_model_history.specs.Fit.{IsKeyOf}
+use Rattle.dbl_capture_work.proofs.Ahead.{ready_cursors}
 use Rattle.dbl_capture_work.proofs.Planning.{as_many_cursors, cursor_key, plan_made}
 use Rattle.dbl_capture_work.proofs.windows.window_of.Goals as goal
 
@@ -12,7 +13,7 @@ pub index-requires-2 : goal.index-requires-2
 index-requires-2 c =
     let work = c.args.work.now in
     let many : length c.cursors.result.now.items ≡ length work.offset.infos =
-    ap length c.cursors.ensures.cursors ∙ as_many_cursors work.offset.infos work.follower.cursors c.requires.ready.is.cursors in
+    ap length c.cursors.ensures.cursors ∙ as_many_cursors work.offset.infos work.follower.cursors (ready_cursors work c.requires.ready) in
     let within : c.args.table < length work.offset.infos = c.requires.table in
     omega (arith, many, within, c.cursors.result.now.ok.0)
 
@@ -23,7 +24,7 @@ new-requires-clause-above c =
     let infos = c.items.result.now.items in
     let cursors = c.cursors.result.now.items in
     let many : length cursors ≡ length work.offset.infos =
-    ap length c.cursors.ensures.cursors ∙ as_many_cursors work.offset.infos work.follower.cursors c.requires.ready.is.cursors in
+    ap length c.cursors.ensures.cursors ∙ as_many_cursors work.offset.infos work.follower.cursors (ready_cursors work c.requires.ready) in
     let one : table < length infos = subst (λ (l : List TableInfo). table < length l) (sym c.items.ensures) c.requires.table in
     let two : table < length cursors = subst (λ (n : ℕ). table < n) (sym many) c.requires.table in
     let here : slice_get work.offset.infos table ≡ Some c.index.result.now =
@@ -32,7 +33,7 @@ new-requires-clause-above c =
     ap (λ (l : List Cursor). slice_get l table) (sym c.cursors.ensures.cursors) ∙ slice_get_read cursors (length cursors) table c.index-2.result.now refl two c.index-2.ensures in
     subst (λ (i : TableInfo). IfSome c.in_ok-above.above (IsKeyOf i)) (sym c.in_ok-info.ensures)
     (subst (λ (k : Option Key). IfSome k (IsKeyOf c.index.result.now)) (sym c.in_ok-above.ensures)
-    (cursor_key work.offset.infos work.follower.cursors table c.index.result.now c.index-2.result.now c.requires.ready.is.cursors here at))
+    (cursor_key work.offset.infos work.follower.cursors table c.index.result.now c.index-2.result.now (ready_cursors work c.requires.ready) here at))
 
 pub returns : goal.returns
 returns c =
@@ -41,7 +42,7 @@ returns c =
     let infos = c.items.result.now.items in
     let cursors = c.cursors.result.now.items in
     let many : length cursors ≡ length work.offset.infos =
-    ap length c.cursors.ensures.cursors ∙ as_many_cursors work.offset.infos work.follower.cursors c.requires.ready.is.cursors in
+    ap length c.cursors.ensures.cursors ∙ as_many_cursors work.offset.infos work.follower.cursors (ready_cursors work c.requires.ready) in
     let one : table < length infos = subst (λ (l : List TableInfo). table < length l) (sym c.items.ensures) c.requires.table in
     let two : table < length cursors = subst (λ (n : ℕ). table < n) (sym many) c.requires.table in
     let here : slice_get work.offset.infos table ≡ Some c.index.result.now =

@@ -25,7 +25,9 @@ use Rattle.dbl_capture_work.specs.Begins.{IsOffsetFor}
 use Rattle.dbl_capture_work.specs.declared.halt.Halt.{Halt}
 use Rattle.dbl_capture_work.specs.declared.report.Report.{Report}
 use Rattle.dbl_capture_work.specs.declared.work.SessionState.{SessionState}
-use Rattle.dbl_capture_work.specs.Works.{next_offset_of}
+use Rattle.dbl_capture_work.specs.Works.{HasOpen, next_offset_of, rest_in}
+use Rattle.dbl_capture_laws.proofs.Opened.{closed_open, closed_rest}
+use Rattle.dbl_capture_laws.proofs.Within.{open_cursors}
 use Rattle.dbl_capture_laws.specs.Carried.{Beginning, IsResting}
 use Rattle.dbl_capture_laws.specs.Ends.{IsReportAt}
 use Rattle.dbl_capture_laws.specs.Sessions.{InSession}
@@ -146,18 +148,18 @@ advances_or_first config found stored chunks history (inr first) = advances_firs
 module _ {S K D : Type 0} {tell : Bool} {source_model : SourceModel S} {sink_model : SinkModel K} {model : DiskModel D} {entry : SessionStart} {work : SessionState} {src : S} {sink : K} {store : StoreOn D}
     (s : InSession tell source_model sink_model model entry work src sink store) where
   closed_at : (chunks : ℕ) → AreClosed work chunks → s.stage.number ≡ chunks + waiting s.stage.following.window
-  closed_at chunks closed = sym s.work_is.number_is ∙ (closed ∙ ap (λ (f : Following). chunks + waiting f.window) s.work_is.follower_is)
+  closed_at chunks closed = sym s.work_is.number_is ∙ (closed_rest s.ahead chunks closed ∙ ap (λ (f : Following). chunks + waiting f.window) s.work_is.follower_is)
 
   -- the offset that would be stored next
   pub brought_next : (chunks : ℕ) → AreClosed work chunks → HaveBrought entry.config.chunk chunks s.stage.history entry.offset (Some (next_offset_of work))
   brought_next chunks closed =
-      brought_by entry s.stage (next_offset_of work) chunks (closed_at chunks closed) (ap (λ (o : Offset). o.infos) s.work_is.offset_is) (ap (λ (f : Following). f.cursors) s.work_is.follower_is) s.going.reading
+      brought_by entry s.stage (next_offset_of work) chunks (closed_at chunks closed) (ap (λ (o : Offset). o.infos) s.work_is.offset_is) (open_cursors s.stage.messages work s.ahead ∙ ap (λ (f : Following). f.cursors) s.work_is.follower_is) s.going.reading
 
   -- the stored one, between two messages
-  pub brought_rest : (b : Beginning) (ms : List Message) (stored : Option Offset) (report : Report) → IsResting b ms stored work report
+  pub brought_rest : (b : Beginning) (ms : List Message) (stored : Option Offset) (report : Report) (ahead : HasOpen ms work) → IsResting b ms stored (rest_in ahead) report
       → HaveBrought entry.config.chunk report.chunks s.stage.history entry.offset stored
-  brought_rest b ms stored report rests =
+  brought_rest b ms stored report ahead rests =
       subst (HaveBrought entry.config.chunk report.chunks s.stage.history entry.offset) (sym rests.is.stored_is)
-      (brought_by entry s.stage rests.is.offset report.chunks (closed_at report.chunks rests.is.windows)
-      (sym (infos_stored b.config b.now b.held b.first rests.is.offset work rests.is.of) ∙ ap (λ (o : Offset). o.infos) s.work_is.offset_is)
-      (rests.same ∙ ap (λ (f : Following). f.cursors) s.work_is.follower_is) s.going.reading)
+      (brought_by entry s.stage rests.is.offset report.chunks (closed_at report.chunks (closed_open ahead report.chunks rests.is.windows))
+      (sym (infos_stored b.config b.now b.held b.first rests.is.offset (rest_in ahead) rests.is.of) ∙ ap (λ (o : Offset). o.infos) s.work_is.offset_is)
+      (rests.same ∙ (sym (open_cursors ms work ahead) ∙ (open_cursors s.stage.messages work s.ahead ∙ ap (λ (f : Following). f.cursors) s.work_is.follower_is))) s.going.reading)

@@ -177,8 +177,12 @@ newest_bytes_ask config held stored report t after earlier ms bytes work h answe
     by number error many f (inr (inl message)) =
         inl (ap (λ (x : Halt). Err x) (message.is ∙ ap₂ (λ (n : ℕ) (e : MsgError). halt.Message n e) (sym (f.number_is ∙ many)) (one_fault bytes message.error error message.fault (at_fault number error f))))
     by number error many f (inr (inr (inl (inl txn)))) = absurd (not_both bytes txn.message error txn.spells (at_fault number error f))
-    by number error many f (inr (inr (inl (inr sent)))) = absurd (not_both bytes sent.2.message error sent.2.spells (at_fault number error f))
-    by number error many f (inr (inr (inr sink))) = absurd (not_both bytes sink.1.2.message error sink.1.2.spells (at_fault number error f))
+    by number error many f (inr (inr (inl (inr (inl part))))) = absurd (not_both bytes part.taken.message error part.taken.spells (at_fault number error f))
+    by number error many f (inr (inr (inl (inr (inr sent))))) = absurd (not_both bytes sent.2.message error sent.2.spells (at_fault number error f))
+    by number error many f (inr (inr (inr sink))) = elim sink.1 [
+      | inl sent ↦ absurd (not_both bytes sent.2.message error sent.2.spells (at_fault number error f))
+      | inr sent ↦ absurd (not_both bytes sent.1.message error sent.1.spells (at_fault number error f))
+    ]
 
 -- ---- before a message is read
 

@@ -1,9 +1,11 @@
 -- A session that reads a window: what it keeps after it, and what it may leave on the way.
-use Rattle.std.proofs.Common.{◌≡◌, ◌∙◌, inl, inr, ◌+◌, ◌≤◌, ◌<◌, ◌^◌, ℕ, zero, suc, true, false, Option, Some, None, List, [], ◌∷◌, length, refl, sym, ap, ap₂, subst, arith, IsTrue, Bool}
+use Rattle.std.proofs.Common.{◌≡◌, ◌∙◌, inl, inr, ◌+◌, ◌≤◌, ◌<◌, ◌^◌, ℕ, zero, suc, true, false, Option, Some, None, List, [], ◌∷◌, ◌++◌, length, refl, sym, ap, ap₂, subst, arith, IsTrue, Bool}
 use Rattle.std.specs.Prelude.{not, slice_get}
 use Rattle.std.specs.List.{AllByRecursion, position}
 use Rattle.dbl_base.specs.declared.lsn.Lsn.{Lsn}
+use Rattle.dbl_pgmsg.specs.declared.messages.Message.{Message}
 use Rattle.dbl_record.specs.declared.record.Record.{Record}
+use Rattle.dbl_record.specs.Cuts.{cut}
 use Rattle.dbl_topic.specs.Model.{SinkModel}
 use Rattle.dbl_capture_work.specs.Source.Model.{SourceModel}
 use Rattle.dbl_model_table.specs.declared.table.TableInfo.{TableInfo}
@@ -14,6 +16,7 @@ use Rattle.dbl_capture_work.specs.ModelHistory.Fit.{IsFitHistory}
 use Rattle.dbl_capture_work.specs.ModelHistory.History.{RawBody, RawCommit}
 use Rattle.dbl_capture_work.specs.ModelHistory.History.RawBody.{Changes, Mark}
 use Rattle.dbl_capture_work.specs.ModelHistory.MarkTexts.Side.{Low, High}
+use Rattle.dbl_capture_work.specs.ModelEvent.Snapshots.{AreInKeyOrder}
 use Rattle.dbl_capture_work.specs.SourceModel.Standings.{Reading, SourceState, CrashState}
 use Rattle.dbl_capture_work.specs.Offset.declared.offset.Offset.{Offset}
 use Rattle.dbl_capture_work.specs.OffsetStore.Stores.{StoreOn}
@@ -31,8 +34,10 @@ use Rattle.dbl_capture_work.proofs.CaptureModelCounting.{few_marks_are_written}
 use Rattle.dbl_capture_work.specs.declared.work.SessionState.{SessionState}
 use Rattle.dbl_capture_laws.specs.Sessions.{state_at_stage, InSession, AddsFewOrNoMarks, LeavesBy}
 use Rattle.dbl_capture_work.specs.Windowed.{MayHaveMarks, HasReadWindow, WasWindowed, own_marks}
-use Rattle.dbl_capture_work.specs.Works.{IsOpenTable, IsOwnChunk, HasReadyWork, IsWork, plan_at, plan_with}
+use Rattle.dbl_capture_work.specs.Works.{IsOpenTable, IsOwnChunk, HasOpen, HasReadyWork, IsWork, plan_at, plan_with, rest_in}
+use Rattle.dbl_capture_work.proofs.Ahead.{ready_cursors}
 use Rattle.dbl_capture_laws.proofs.Marks.{IsBodyOf, own_bodies, own_few}
+use Rattle.dbl_capture_laws.proofs.Within.{armed_open, open_absent, open_cursors}
 use Rattle.dbl_capture_laws.proofs.Keeping.{not_less, source_ends, confirmed_low, capturing, some_chunk}
 
 -- ---- a plan
@@ -60,15 +65,57 @@ plan_parts work table plan is = by (slice_get work.offset.infos table) (slice_ge
     }
 
 -- the window is the session's last one
-pub own_chunk : (work : SessionState) (table : ℕ) (chunk : Chunk) → PlanIs work table chunk.plan → position (λ cursor. not cursor.done) work.follower.cursors ≡ Some table → length chunk.rows ≤ chunk.plan.limit
+pub own_chunk : (work : SessionState) (table : ℕ) (chunk : Chunk) → PlanIs work table chunk.plan → position (λ cursor. not cursor.done) work.follower.cursors ≡ Some table → length chunk.rows ≤ chunk.plan.limit → AreInKeyOrder chunk.rows
     → IsOwnChunk work.offset.incarnation (work.number + 1) work.offset.infos work.follower.cursors work.chunk chunk
-own_chunk work table chunk p first few = record {
+own_chunk work table chunk p first few ordered = record {
   incarnation_is = ap (λ (q : Plan). q.incarnation) p.is;
   number_is = ap (λ (q : Plan). q.number) p.is;
   table = first ∙ ap (λ (q : Plan). Some q.table) (sym p.is);
   info = ap (λ (q : Plan). slice_get work.offset.infos q.table) p.is ∙ (p.info_is ∙ sym (ap (λ (q : Plan). Some q.info) p.is));
   few = subst (λ (n : ℕ). length chunk.rows ≤ n) (ap (λ (q : Plan). q.limit) p.is) few;
+  ordered = ordered;
 }
+
+-- with it the session is what it was
+pub arms_work : {after : Lsn} {ms : List Message} (work : SessionState) (table : ℕ) (chunk : Chunk) → PlanIs work table chunk.plan → position (λ cursor. not cursor.done) work.follower.cursors ≡ Some table → length chunk.rows ≤ chunk.plan.limit → AreInKeyOrder chunk.rows
+    → IsWork after ms work → IsWork after ms (record work { follower = record work.follower { window = Armed chunk }; number = work.number + 1 })
+arms_work work table chunk p first few ordered is = record {
+  asked = is.asked;
+  identity = is.identity;
+  infos = is.infos;
+  cursors = is.cursors;
+  stands = is.stands;
+  fields = is.fields;
+  accepted = is.accepted;
+  lsn = is.lsn;
+  end_is = is.end_is;
+  start = is.start;
+  sent = is.sent;
+  between = is.between;
+  own = own_chunk work table chunk p first few ordered;
+  some_rows = is.some_rows;
+  few_rows = is.few_rows;
+  some = is.some;
+}
+
+-- ---- the session before the open transaction
+
+-- it has the same plan
+pub plan_before : (ms : List Message) (work : SessionState) (ahead : HasOpen ms work) (table : ℕ) (plan : Plan) → PlanIs work table plan
+    → PlanIs (rest_in ahead) table plan
+plan_before ms work ahead table plan p = record {
+  info = p.info;
+  info_is = p.info_is;
+  cursor = p.cursor;
+  cursor_is = ap (λ (l : List Cursor). slice_get l table) (sym (open_cursors ms work ahead)) ∙ p.cursor_is;
+  is = p.is;
+}
+
+-- and the same first table
+pub first_before : (ms : List Message) (work : SessionState) (ahead : HasOpen ms work) (table : ℕ)
+    → position (λ cursor. not cursor.done) work.follower.cursors ≡ Some table → position (λ cursor. not cursor.done) ahead.start.cursors ≡ Some table
+first_before ms work ahead table first =
+    ap (λ (l : List Cursor). position (λ (c : Cursor). not c.done) l) (sym (open_cursors ms work ahead)) ∙ first
 
 -- ---- watermarks
 
@@ -101,7 +148,7 @@ module _ {S K D : Type 0} {tell : Bool} {source_model : SourceModel S} {sink_mod
   incarnation_is = ap (λ (o : Offset). o.incarnation) s.work_is.offset_is
 
   pub absent_of : work.follower.window ≡ Absent → s.stage.following.window ≡ Absent
-  absent_of none = ap (λ (f : Following). f.window) (sym s.work_is.follower_is) ∙ none
+  absent_of none = ap (λ (f : Following). f.window) (sym s.work_is.follower_is) ∙ open_absent s.stage.messages work s.ahead none
 
   module _ (table : ℕ) (plan : Plan) (p : PlanIs work table plan) (unread : IsOpenTable work table) (small : work.number + 1 < 2 ^ 64) where
     pub plan_captured : slice_get s.stage.first.infos plan.table ≡ Some plan.info
@@ -110,7 +157,10 @@ module _ {S K D : Type 0} {tell : Bool} {source_model : SourceModel S} {sink_mod
         ∙ (ap (λ (l : List TableInfo). slice_get l table) (sym infos_are) ∙ (p.info_is ∙ sym (ap (λ (q : Plan). Some q.info) p.is)))
 
     cursor_at : slice_get s.stage.following.cursors plan.table ≡ Some p.cursor
-    cursor_at = ap (λ (q : Plan). slice_get s.stage.following.cursors q.table) p.is ∙ (ap (λ (f : Following). slice_get f.cursors table) (sym s.work_is.follower_is) ∙ p.cursor_is)
+    cursor_at =
+        ap (λ (q : Plan). slice_get s.stage.following.cursors q.table) p.is
+        ∙ (ap (λ (f : Following). slice_get f.cursors table) (sym s.work_is.follower_is)
+        ∙ (ap (λ (l : List Cursor). slice_get l table) (sym (open_cursors s.stage.messages work s.ahead)) ∙ p.cursor_is))
 
     still_unread : p.cursor.done ≡ false
     still_unread = ap (λ (c : Cursor). c.done) (sym (first_some unread.cursor p.cursor (sym unread.cursor_is ∙ p.cursor_is))) ∙ unread.not_done
@@ -146,36 +196,19 @@ module _ {S K D : Type 0} {tell : Bool} {source_model : SourceModel S} {sink_mod
 
     -- where it ends on the way
     pub arm_left : (src2 : S) → work.follower.window ≡ Absent → ((left : CrashState) → source_model.may_leave src2 left → MayHaveMarks (own_marks plan) (state_at_stage s.stage) left)
-        → ((left : CrashState) → source_model.may_leave src2 left → IsFitHistory left.history) → (IsTrue tell → (groups : List (List Record)) → sink_model.may_leave sink groups → groups ≡ s.stage.groups) → (left : CrashState) × source_model.may_leave src2 left → (IsTrue tell → (groups : List (List Record)) × sink_model.may_leave sink groups)
+        → ((left : CrashState) → source_model.may_leave src2 left → IsFitHistory left.history) → (IsTrue tell → (groups : List (List Record)) → sink_model.may_leave sink groups → groups ≡ s.stage.groups ++ cut s.ahead.put) → (left : CrashState) × source_model.may_leave src2 left → (IsTrue tell → (groups : List (List Record)) × sink_model.may_leave sink groups)
         → LeavesBy tell source_model sink_model model entry src2 sink store
     arm_left src2 none may fit only some_source some_sink =
         source_ends s src2 (λ faithful left is. may_be left (may left is) (fit left is) faithful) only (λ left is. few_left none left (may left is)) some_source some_sink
 
   -- ---- the window is armed
 
-  module _ (table : ℕ) (chunk : Chunk) (p : PlanIs work table chunk.plan) (few : length chunk.rows ≤ chunk.plan.limit) (unread : IsOpenTable work table) (small : work.number + 1 < 2 ^ 64) (none : work.follower.window ≡ Absent) where
+  module _ (table : ℕ) (chunk : Chunk) (p : PlanIs work table chunk.plan) (few : length chunk.rows ≤ chunk.plan.limit) (ordered : AreInKeyOrder chunk.rows) (unread : IsOpenTable work table) (small : work.number + 1 < 2 ^ 64) (none : work.follower.window ≡ Absent) where
     abbrev pub armed_work : SessionState
     armed_work = record work { follower = record work.follower { window = Armed chunk }; number = work.number + 1 }
 
-    armed_is : IsWork s.stage.first.lsn s.stage.messages armed_work
-    armed_is = record {
-      asked = s.work_is.is.asked;
-      identity = s.work_is.is.identity;
-      infos = s.work_is.is.infos;
-      cursors = s.work_is.is.cursors;
-      stands = s.work_is.is.stands;
-      fields = s.work_is.is.fields;
-      accepted = s.work_is.is.accepted;
-      lsn = s.work_is.is.lsn;
-      end_is = s.work_is.is.end_is;
-      start = s.work_is.is.start;
-      sent = s.work_is.is.sent;
-      between = s.work_is.is.between;
-      own = own_chunk work table chunk p unread.first few;
-      some_rows = s.work_is.is.some_rows;
-      few_rows = s.work_is.is.few_rows;
-      some = s.work_is.is.some;
-    }
+    armed_is : IsWork s.stage.first.lsn s.stage.messages (rest_in (armed_open s.stage.messages work chunk s.ahead))
+    armed_is = arms_work (rest_in s.ahead) table chunk (plan_before s.stage.messages work s.ahead table chunk.plan p) (first_before s.stage.messages work s.ahead table unread.first) few ordered s.work_is.is
 
     was_armed : (honest : Type 0) → honest → (t : SourceState) → WasWindowed honest chunk.plan chunk (state_at_stage s.stage) t → WasArmed s.stage entry.config.chunk t.history chunk
     was_armed honest is_honest t w = record {
@@ -203,6 +236,7 @@ module _ {S K D : Type 0} {tell : Bool} {source_model : SourceModel S} {sink_mod
     pub armed_on : (honest : Type 0) → honest → (src2 : S) (t : SourceState) → source_model.stands src2 t → WasWindowed honest chunk.plan chunk (state_at_stage s.stage) t → IsFitHistory t.history → InSession tell source_model sink_model model entry armed_work src2 sink store
     armed_on honest is_honest src2 t is w fit = record {
       stage = armed_at s.stage t.history chunk;
+      ahead = armed_open s.stage.messages work chunk s.ahead;
       source_is = subst (source_model.stands src2) (stands_so t w.looked.confirmed w.looked.reading) is;
       sink_is = s.sink_is;
       store_is = s.store_is;
@@ -224,7 +258,7 @@ module _ {S K D : Type 0} {tell : Bool} {source_model : SourceModel S} {sink_mod
       → ((t : SourceState) → source_model.stands src2 t → IsFitHistory t.history) → InSession tell source_model sink_model model entry work2 src2 sink store
   window_on table work2 src2 is_honest w unread small none fit =
       subst (λ (v : SessionState). InSession tell source_model sink_model model entry v src2 sink store) (sym w.armed.is)
-      (armed_on table w.armed.chunk (plan_parts work table w.armed.chunk.plan w.armed.plan) w.armed.few unread small none (source_model.honest src2) is_honest src2 w.stood.standing w.stood.is w.stood.holds (fit w.stood.standing w.stood.is))
+      (armed_on table w.armed.chunk (plan_parts work table w.armed.chunk.plan w.armed.plan) w.armed.few w.armed.ordered unread small none (source_model.honest src2) is_honest src2 w.stood.standing w.stood.is w.stood.holds (fit w.stood.standing w.stood.is))
 
 -- ---- there is a plan
 
@@ -237,7 +271,7 @@ info_here (info ∷ infos) (c ∷ cursors) (suc table) cursor are at = info_here
 
 pub plan_here : (work : SessionState) (table : ℕ) → HasReadyWork work → IsOpenTable work table → (plan : Plan) × (plan_at work table ≡ Some plan)
 plan_here work table ready unread =
-    let here = info_here work.offset.infos work.follower.cursors table unread.cursor ready.is.cursors unread.cursor_is in (
+    let here = info_here work.offset.infos work.follower.cursors table unread.cursor (ready_cursors work ready) unread.cursor_is in (
       record { info = here.0; table = table; above = unread.cursor.last; limit = work.chunk; incarnation = work.offset.incarnation; number = work.number + 1; version = 1 },
       ap (λ (o : Option TableInfo). plan_with work table o (slice_get work.follower.cursors table)) here.1 ∙ ap (λ (o : Option Cursor). plan_with work table (Some here.0) o) unread.cursor_is,
     )

@@ -40,14 +40,16 @@ use Rattle.dbl_capture_work.proofs.FaithfulLists.{after_position, longer, map_ap
 use Rattle.dbl_capture_work.specs.Window.Plans.{Plan, high_text, low_text}
 use Rattle.dbl_capture_work.specs.Follow.declared.window.Window.{Window}
 use Rattle.dbl_capture_work.specs.Follow.declared.window.Window.TheVariants.{Absent, Armed, Open}
+use Rattle.dbl_capture_work.specs.Follow.Followed.{Following}
 use Rattle.dbl_capture_work.specs.Follow.Steps.{Becomes, watermark_in, mark_of}
 use Rattle.dbl_capture_work.specs.declared.report.Report.{Report}
 use Rattle.dbl_capture_work.specs.declared.work.SessionState.{SessionState}
 use Rattle.dbl_capture_work.specs.Begins.{IsAgain, IsFirstOffsetAtHead}
 use Rattle.dbl_capture_work.specs.Takes.{WasStepped, WasTaken}
 use Rattle.dbl_capture_work.specs.Windowed.{HasReadWindow}
-use Rattle.dbl_capture_work.specs.Works.{IsWork}
+use Rattle.dbl_capture_work.specs.Works.{HasOpen, IsWork, rest_in, resting}
 use Rattle.dbl_capture_laws.proofs.Beginnings.{head_position}
+use Rattle.dbl_capture_laws.proofs.Opened.{IsLike, awaits_like, like_awaits, window_like}
 use Rattle.dbl_capture_laws.specs.Carried.{Beginning}
 use Rattle.dbl_capture_laws.specs.Sources.{IsUnderWay}
 use Rattle.dbl_capture_laws.specs.Awaited.{AreAwaited, Awaits, HasBoth, HasMark, HasPositionInLog, IsWithinLog, StoodOffsetsAreWithin, raw_mark_in, marks_at, watermarks_since, marks_of}
@@ -292,12 +294,26 @@ module _ {S : Type 0} (source_model : SourceModel S) where
 
   -- it reads what the session has taken
   pub work_at : (at : Option SourceState) (found : Option Trace) (b : Beginning) (stored : Option Offset) (work : SessionState) (report : Report) (src : S) (u : IsUnderWay source_model at found b stored work report src)
-      → ((s t : SourceState) → source_model.stands src s → source_model.stands src t → s ≡ t) → (s : SourceState) → at ≡ Some s → (a : Awaits source_model.stands work src) → IsWork a.reading.after a.reading.messages work
+      → ((s t : SourceState) → source_model.stands src s → source_model.stands src t → s ≡ t) → (s : SourceState) → at ≡ Some s → (a : Awaits source_model.stands work src)
+      → (ahead : HasOpen a.reading.messages work) × IsWork a.reading.after a.reading.messages (rest_in ahead)
   work_at at found b stored work report src u same s first a =
       let was = u.stood s first in
       let one : record { after = b.first.lsn; messages = u.messages } ≡ a.reading =
       first_some (record { after = b.first.lsn; messages = u.messages }) a.reading (sym was.holds ∙ (ap (λ (x : SourceState). x.reading) (same was.standing a.standing was.is a.is) ∙ a.reading_is)) in
-      subst (λ (r : Reading). IsWork r.after r.messages work) one u.is.is.is
+      subst (λ (r : Reading). (ahead : HasOpen r.messages work) × IsWork r.after r.messages (rest_in ahead)) one (u.ahead, u.is.is.is)
+
+  -- changes of the open transaction are followed
+  pub awaits_part : (start : Following) (next new : SessionState) (src : S) → Awaits source_model.stands next src → IsLike start.window next.follower.window → IsLike start.window new.follower.window → new.offset ≡ next.offset → Awaits source_model.stands new src
+  awaits_part start next new src a before after same = record {
+    standing = a.standing;
+    is = a.is;
+    reading = a.reading;
+    reading_is = a.reading_is;
+    within = a.within;
+    later = a.later;
+    parted = subst (λ (o : Offset). watermarks_since a.reading.after a.standing.history.commits ≡ marks_of (commits_of o.infos a.reading.messages) ++ a.later) (sym same) a.parted;
+    awaited = like_awaits a.later start.window new.follower.window after (awaits_like a.later start.window next.follower.window before a.awaited);
+  }
 
   module _ (old : SessionState) (src src2 : S) (a : Awaits source_model.stands old src) (bytes : List ℕ) (m : Message) (t : SourceState) (spells : Spells bytes m) (is : source_model.stands src2 t) (took : HasReadOneMore m a.standing t) where
     abbrev next_reading : Reading
@@ -344,9 +360,9 @@ module _ {S : Type 0} (source_model : SourceModel S) where
             ∙ (ap (λ (o : Option Commit). marks_of (commits_of old.offset.infos a.reading.messages) ++ marks_of (list_of o)) none ∙ append-nil (marks_of (commits_of old.offset.infos a.reading.messages)))
 
     -- or one that is followed
-    pub awaits_commit : (next new : SessionState) (commit : Commit) → WasTaken a.reading.after a.reading.messages bytes old next (Some commit) → AreWithoutFault old.offset.infos a.reading.after a.reading.messages
-        → WasStepped commit next new → (t.reading ≡ Some next_reading → IsReadRight t.history next_reading) → Awaits source_model.stands new src2
-    awaits_commit next new commit w accepted st right = record {
+    pub awaits_commit : (next new : SessionState) (commit : Commit) (ahead : HasOpen a.reading.messages old) → WasTaken a.reading.after a.reading.messages bytes old next (Some commit) → AreWithoutFault old.offset.infos a.reading.after a.reading.messages
+        → WasStepped commit (resting ahead.start next) new → (t.reading ≡ Some next_reading → IsReadRight t.history next_reading) → Awaits source_model.stands new src2
+    awaits_commit next new commit ahead w accepted st right = record {
       standing = t;
       is = is;
       reading = next_reading;
@@ -354,7 +370,7 @@ module _ {S : Type 0} (source_model : SourceModel S) where
       within = within_more;
       later = marks_of some.later;
       parted = subst (λ (l : List TableInfo). watermarks_since a.reading.after t.history.commits ≡ marks_of (commits_of l (m ∷ a.reading.messages)) ++ marks_of some.later) (sym infos_are) parted_told;
-      awaited = awaited_step next.follower.infos next.follower.window new.follower.window commit.body (marks_of some.later) st.steps.window (subst (AreAwaited (mark_of commit ∷ marks_of some.later)) window_is (subst (λ (l : MarkList). AreAwaited l old.follower.window) next_mark awaited_more));
+      awaited = awaited_step ahead.start.infos ahead.start.window new.follower.window commit.body (marks_of some.later) st.steps.window (awaits_like (mark_of commit ∷ marks_of some.later) ahead.start.window old.follower.window (window_like ahead) (subst (λ (l : MarkList). AreAwaited l old.follower.window) next_mark awaited_more));
     }
       where
         same_message : w.message ≡ m
@@ -396,9 +412,6 @@ module _ {S : Type 0} (source_model : SourceModel S) where
 
         infos_are : new.offset.infos ≡ old.offset.infos
         infos_are = ap (λ (x : SessionState). x.offset.infos) st.same ∙ ap (λ (x : SessionState). x.offset.infos) w.same
-
-        window_is : old.follower.window ≡ next.follower.window
-        window_is = sym (ap (λ (x : SessionState). x.follower.window) w.same)
 
   -- Everything was read.
   all_read : (n k : ℕ) (later : MarkList) → n ≡ k + length later → n ≤ k → later ≡ []

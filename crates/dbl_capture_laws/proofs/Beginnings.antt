@@ -1,5 +1,5 @@
 -- A session that begins: what it may leave before it reads, and what it keeps from then on.
-use Rattle.std.proofs.Common.{◌≡◌, ◌∙◌, ◌⊎◌, inl, inr, ◌+◌, ◌≤◌, ◌<◌, ◌^◌, ℕ, suc, zero, Bool, IsTrue, Option, Some, None, List, [], ◌∷◌, length, map, take, refl, sym, ap, ap₂, subst, arith, le_refl}
+use Rattle.std.proofs.Common.{◌≡◌, ◌∙◌, ◌⊎◌, inl, inr, ◌+◌, ◌≤◌, ◌<◌, ◌^◌, ℕ, suc, zero, Bool, IsTrue, Option, Some, None, List, [], ◌∷◌, length, map, take, refl, sym, ap, ap₂, subst, arith, le_refl, append-nil}
 use Rattle.std.specs.Prelude.{IfSome, slice_get}
 use Rattle.std.specs.List.{AllByRecursion, AllZip}
 use Rattle.dbl_base.specs.declared.lsn.Lsn.{Lsn}
@@ -36,6 +36,8 @@ use Rattle.dbl_capture_work.proofs.CaptureModelGrowing.{first_longer}
 use Rattle.dbl_capture_work.proofs.CaptureModelStarting.{sessions_begin}
 use Rattle.dbl_capture_work.specs.declared.work.SessionState.{SessionState}
 use Rattle.dbl_capture_work.specs.Begins.{AreVersionsAt, IsAgain, IsFirstOffsetAtHead, IsOffsetFor}
+use Rattle.dbl_capture_work.specs.Works.{IsWork}
+use Rattle.dbl_capture_laws.proofs.Opened.{opens_none, rest_none}
 use Rattle.dbl_capture_laws.specs.Found.{BeganAt, BeginsAt, IsFirstAtHead}
 use Rattle.dbl_capture_laws.specs.Sessions.{InSession, AddsFewOrNoMarks, LeavesBy}
 use Rattle.dbl_capture_work.specs.Works as works
@@ -241,11 +243,12 @@ module _ {S K D : Type 0} {tell : Bool} {source_model : SourceModel S} {sink_mod
       let infos : AreInfosOf t.history first.infos = captured_stays b.standing.history t.history first.infos begun.grows.tables b.infos in
       record {
         stage = begun_at entry t.history first (following_of first);
+        ahead = opens_none [] work refl made.is.between made.no_batch;
         source_is = subst (source_model.stands src2) (ap₂ (λ (c : Lsn) (r : Option Reading). record { history = t.history; confirmed = c; reading = r }) (begun.confirmed ∙ b.confirmed) begun.reading) is;
-        sink_is = b.sink_is;
+        sink_is = λ tells. subst (sink_model.holds sink) (sym (append-nil entry.groups)) (b.sink_is tells);
         store_is = b.store_is;
         work_is = record {
-          is = made.is;
+          is = subst (IsWork first.lsn []) (sym (rest_none [] work refl made.is.between made.no_batch)) made.is;
           offset_is = made.offset_is;
           follower_is = made.follower;
           now_is = made.now_is;

@@ -1,5 +1,5 @@
 -- What a session carries from step to step, by the messages that it has taken.
-use Rattle.std.proofs.Common.{◌≡◌, ◌∙◌, ◌+◌, ◌<◌, ◌≤◌, ◌^◌, ℕ, suc, true, false, Option, Some, None, List, [], ◌∷◌, ◌++◌, length, refl, sym, ap, subst, arith, append-nil, length-append}
+use Rattle.std.proofs.Common.{◌≡◌, ◌∙◌, ◌⊎◌, ◌+◌, ◌<◌, ◌≤◌, ◌^◌, ℕ, suc, true, false, Option, Some, None, List, [], ◌∷◌, ◌++◌, length, refl, sym, ap, subst, arith, append-nil, length-append}
 use Rattle.std.specs.Prelude.{is_some, slice_get}
 use Rattle.dbl_base.specs.declared.lsn.Lsn.{Lsn}
 use Rattle.dbl_pgmsg.specs.declared.messages.Message.{Message}
@@ -15,19 +15,21 @@ use Rattle.dbl_capture_work.specs.CaptureModel.Counted.{waiting}
 use Rattle.dbl_capture_work.specs.declared.report.Report.{Report}
 use Rattle.dbl_capture_work.specs.declared.work.SessionState.{SessionState}
 use Rattle.dbl_capture_work.specs.Takes.{ReportsStep, WasStepped, WasTaken, closes}
-use Rattle.dbl_capture_work.specs.Works.{AreShort, IsWork, next_offset_of}
-use Rattle.dbl_capture_laws.proofs.Arms.{PlanIs, own_chunk, plan_parts}
+use Rattle.dbl_record.specs.declared.record.Record.{Record}
+use Rattle.dbl_capture_work.specs.Works.{AreShort, CouldBeSentSoFar, IsWork, next_offset_of}
+use Rattle.dbl_capture_laws.proofs.OpenCommits.{none_after, nothing_so_far}
+use Rattle.dbl_capture_laws.proofs.Arms.{PlanIs, arms_work, plan_parts}
 use Rattle.dbl_capture_laws.proofs.Keeping.{settled_work}
 use Rattle.dbl_capture_laws.proofs.Rising.{accepted_rise}
 use Rattle.dbl_capture_laws.proofs.Taken.{followed_is, taken_is}
 use Rattle.dbl_capture_laws.specs.Written.{AreClosed}
 use Rattle.dbl_capture_laws.specs.Reported.{IsPlacedOf, end_after}
 use Rattle.dbl_capture_laws.specs.Halted.{MovesOne}
-use Rattle.dbl_capture_laws.specs.Underway.{IsOfFirst, IsOpenedBy, IsOrderedWindow}
+use Rattle.dbl_capture_laws.specs.Underway.{IsOfFirst, IsOpenedBy}
 use Rattle.dbl_capture_laws.specs.Carried.{Beginning, CommitsLeaveItRead, IsReadUpTo, IsResting, MessagesLetItRest, SessionsBeginAtRest, StoresLetItRest, WindowsLetItRest}
 use Rattle.dbl_capture_laws.proofs.Written.{read_windows_wait, steps_close_windows}
 use Rattle.dbl_capture_laws.proofs.Reported.{ends_on, of_session}
-use Rattle.dbl_capture_laws.proofs.Moving.{becomes_ordered, moves_one, steps_open_windows}
+use Rattle.dbl_capture_laws.proofs.Moving.{moves_one, steps_open_windows}
 
 -- ---- it begins
 
@@ -51,11 +53,11 @@ sessions_begin_at_rest b every work report for begun messages commits chunks = r
     };
     upto = same_le b.first.lsn.0 work.offset.lsn.0 (ap (λ (o : Offset). o.lsn.0) (sym begun.offset_is));
     is = begun.is;
+    so_far = nothing_so_far work [] refl;
     end_is = ap (λ (o : Offset). o.end_lsn) begun.offset_is;
     many = sym messages;
     followed = commits;
     opened = subst (λ (f : Following). IsOpenedBy f.window []) (sym begun.follower) tt;
-    ordered = subst (λ (f : Following). IsOrderedWindow f.window) (sym begun.follower) tt;
     windows = subst (λ (f : Following). work.number ≡ report.chunks + waiting f.window) (sym begun.follower) (none_yet work.number report.chunks begun.unread chunks);
     moves = record { others = λ place apart. ap (λ (f : Following). slice_get f.cursors place) begun.follower };
   };
@@ -74,24 +76,7 @@ windows_let_it_rest b ms stored old new table report r absent unread armed = sub
     waits = subst (λ (x : SessionState). AreClosed x report.chunks) armed.is (read_windows_wait old new table report.chunks absent armed r.is.windows)
 
     works : IsWork b.first.lsn ms (record old { follower = record old.follower { window = Armed armed.chunk }; number = old.number + 1 })
-    works = record {
-      asked = r.is.is.asked;
-      identity = r.is.is.identity;
-      infos = r.is.is.infos;
-      cursors = r.is.is.cursors;
-      stands = r.is.is.stands;
-      fields = r.is.is.fields;
-      accepted = r.is.is.accepted;
-      lsn = r.is.is.lsn;
-      end_is = r.is.is.end_is;
-      start = r.is.is.start;
-      sent = r.is.is.sent;
-      between = r.is.is.between;
-      own = own_chunk old table armed.chunk plan unread.first armed.few;
-      some_rows = r.is.is.some_rows;
-      few_rows = r.is.is.few_rows;
-      some = r.is.is.some;
-    }
+    works = arms_work old table armed.chunk plan unread.first armed.few armed.ordered r.is.is
 
     rests : IsResting b ms stored (record old { follower = record old.follower { window = Armed armed.chunk }; number = old.number + 1 }) report
     rests = record {
@@ -101,11 +86,11 @@ windows_let_it_rest b ms stored old new table report r absent unread armed = sub
         of = record { for_config = r.is.of.for_config; of = r.is.of.of; placed = r.is.of.placed; time = r.is.of.time; most = r.is.of.most };
         upto = r.is.upto;
         is = works;
+        so_far = record { clear = r.is.so_far.clear; short = r.is.so_far.short };
         end_is = r.is.end_is;
         many = r.is.many;
         followed = r.is.followed;
         opened = tt;
-        ordered = armed.ordered;
         windows = waits;
         moves = r.is.moves;
       };
@@ -118,17 +103,18 @@ one_longer : (n m : ℕ) → n ≡ m → suc n ≡ m + 1
 one_longer n m is = omega (arith, is)
 
 pub messages_let_it_rest : MessagesLetItRest
-messages_let_it_rest b ms stored old next before report bytes r w counted =
-    subst (λ (x : SessionState). IsResting b (w.message ∷ ms) stored x report) (sym w.same)
-    (subst (λ (x : Report). IsResting b (w.message ∷ ms) stored (record old { assembler = next.assembler }) x) (sym counted) rests)
+messages_let_it_rest b ms stored old next before report bytes r w so_far messages commits chunks = subst (λ (x : SessionState). IsResting b (w.message ∷ ms) stored x report) (sym w.same) rests
   where
+    sends : CouldBeSentSoFar (record old { assembler = next.assembler }) (w.message ∷ ms)
+    sends = subst (λ (x : SessionState). CouldBeSentSoFar x (w.message ∷ ms)) w.same so_far
+
     -- it states no commit more
     same_commits : commits_of old.offset.infos ms ≡ commits_of old.offset.infos (w.message ∷ ms)
     same_commits =
         sym (append-nil (commits_of old.offset.infos ms))
         ∙ ap (λ (o : Option Commit). commits_of old.offset.infos ms ++ list_of o) w.commit_is
 
-    rests : IsResting b (w.message ∷ ms) stored (record old { assembler = next.assembler }) (record before { messages = before.messages + 1 })
+    rests : IsResting b (w.message ∷ ms) stored (record old { assembler = next.assembler }) report
     rests = record {
       is = record {
         offset = r.is.offset;
@@ -136,12 +122,12 @@ messages_let_it_rest b ms stored old next before report bytes r w counted =
         of = record { for_config = r.is.of.for_config; of = r.is.of.of; placed = r.is.of.placed; time = r.is.of.time; most = r.is.of.most };
         upto = r.is.upto;
         is = taken_is b.first.lsn ms old r.is.is w.message w.spells.fits.fields next.assembler w.clean w.stands (sym w.commit_is);
+        so_far = record { clear = sends.clear; short = sends.short };
         end_is = r.is.end_is ∙ ap (end_after b.first.end_lsn) same_commits;
-        many = one_longer (length ms) before.messages r.is.many;
-        followed = r.is.followed ∙ ap (λ (l : List Commit). length l) same_commits;
+        many = one_longer (length ms) before.messages r.is.many ∙ sym messages;
+        followed = commits ∙ (r.is.followed ∙ ap (λ (l : List Commit). length l) same_commits);
         opened = subst (λ (l : List Commit). IsOpenedBy old.follower.window l) same_commits r.is.opened;
-        ordered = r.is.ordered;
-        windows = r.is.windows;
+        windows = subst (λ (n : ℕ). AreClosed (record old { assembler = next.assembler }) n) (sym chunks) r.is.windows;
         moves = r.is.moves;
       };
       same = r.same;
@@ -164,7 +150,8 @@ module _ (b : Beginning) (ms : List Message) (stored : Option Offset) (old next 
   abbrev counted : Report
   counted = record before { messages = before.messages + 1 }
 
-  module _ (st : WasStepped commit taken new) (short : AreShort (records_by old.follower commit old.now_ms)) (small : old.number < 2 ^ 64) (reports : ReportsStep commit taken counted report true) where
+  module _ (put rest : List Record) (st : WasStepped commit taken new) (short : AreShort (records_by old.follower commit old.now_ms)) (small : old.number < 2 ^ 64) (parted : records_by old.follower commit old.now_ms ≡ put ++ rest)
+      (either : (put ≡ []) ⊎ (is_some (mark_of commit) ≡ false)) (reports : ReportsStep (is_some (mark_of commit)) rest counted report true) where
     abbrev followed : SessionState
     followed = record taken { offset = record old.offset { lsn = commit.lsn; end_lsn = commit.end_lsn }; follower = new.follower; since = old.since + 1 }
 
@@ -179,7 +166,7 @@ module _ (b : Beginning) (ms : List Message) (stored : Option Offset) (old next 
     commits_are = ap (λ (x : Report). x.commits) reports.is ∙ ap (λ (x : Report). x.commits + 1) (reports.all refl)
 
     closed_are : AreClosed followed report.chunks
-    closed_are = subst (λ (x : SessionState). AreClosed x report.chunks) st.same (steps_close_windows commit taken new counted report small st reports r.is.windows)
+    closed_are = subst (λ (x : SessionState). AreClosed x report.chunks) st.same (steps_close_windows commit taken new put rest counted report small st parted either reports r.is.windows)
 
     rises : old.offset.lsn.0 < commit.lsn.0
     rises = subst (λ (l : Lsn). l.0 < commit.lsn.0) (sym r.is.is.lsn) (accepted_rise old.offset.infos b.first.lsn ms w.message commit (w.clean, r.is.is.accepted) (sym w.commit_is))
@@ -202,13 +189,13 @@ module _ (b : Beginning) (ms : List Message) (stored : Option Offset) (old next 
       };
       upto = lower r.is.offset.lsn.0 old.offset.lsn.0 commit.lsn.0 r.is.upto rises;
       is = followed_is b.first.lsn ms old r.is.is w.message w.spells.fits.fields next.assembler w.clean w.stands commit (sym w.commit_is) new.follower st.steps st.no_clash short st.listed;
+      so_far = nothing_so_far followed (w.message ∷ ms) (none_after old.offset.infos w.message ms commit (sym w.commit_is));
       end_is = sym (ap (end_after b.first.end_lsn) (sym one_commit) ∙ ends_on b.first.end_lsn (commits_of old.offset.infos ms) (commit ∷ []));
       many = one_longer (length ms) before.messages r.is.many ∙ sym messages_are;
       followed = commits_are
           ∙ (ap (λ (n : ℕ). n + 1) r.is.followed
           ∙ (sym (length-append (commits_of old.offset.infos ms) (commit ∷ [])) ∙ ap (λ (l : List Commit). length l) one_commit));
       opened = subst (λ (l : List Commit). IsOpenedBy new.follower.window l) one_commit (steps_open_windows commit taken new (commits_of old.offset.infos ms) st r.is.opened);
-      ordered = becomes_ordered old.follower.infos old.follower.window commit.body new.follower.window st.steps.window r.is.ordered;
       windows = closed_are;
       moves = moved;
     }
@@ -224,9 +211,9 @@ module _ (b : Beginning) (ms : List Message) (stored : Option Offset) (old next 
     })
 
 pub commits_leave_it_read : CommitsLeaveItRead
-commits_leave_it_read b ms stored old next new before report bytes commit r w st short small reports = (
-  after_it b ms stored old next new before report bytes commit r w stepped now_short small now_reports,
-  λ closed. at_rest b ms stored old next new before report bytes commit r w stepped now_short small now_reports
+commits_leave_it_read b ms stored old next new before report bytes commit put rest r w st short small parted either reports = (
+  after_it b ms stored old next new before report bytes commit r w put rest stepped now_short small now_parted either reports,
+  λ closed. at_rest b ms stored old next new before report bytes commit r w put rest stepped now_short small now_parted either reports
       (some_false (closing old.follower.window (mark_of commit)) (subst (λ (x : SessionState). closes x commit ≡ false) w.same closed)),
 )
   where
@@ -236,8 +223,8 @@ commits_leave_it_read b ms stored old next new before report bytes commit r w st
     now_short : AreShort (records_by old.follower commit old.now_ms)
     now_short = subst (λ (x : SessionState). AreShort (records_by x.follower commit x.now_ms)) w.same short
 
-    now_reports : ReportsStep commit (record old { assembler = next.assembler }) (record before { messages = before.messages + 1 }) report true
-    now_reports = subst (λ (x : SessionState). ReportsStep commit x (record before { messages = before.messages + 1 }) report true) w.same reports
+    now_parted : records_by old.follower commit old.now_ms ≡ put ++ rest
+    now_parted = subst (λ (x : SessionState). records_by x.follower commit x.now_ms ≡ put ++ rest) w.same parted
 
 -- ---- an offset is stored
 
@@ -267,11 +254,11 @@ stores_let_it_rest b ms stored old new before report is same counted =
         of = record { for_config = next.for_config; of = next.of; placed = next.placed; time = next.time; most = next.most };
         upto = same_le old.offset.lsn.0 old.offset.lsn.0 refl;
         is = settled_work b.first.lsn ms old is.is;
+        so_far = record { clear = is.so_far.clear; short = is.so_far.short };
         end_is = is.end_is;
         many = is.many;
         followed = is.followed;
         opened = is.opened;
-        ordered = is.ordered;
         windows = is.windows;
         moves = record { others = λ place apart. refl };
       };

@@ -11,7 +11,7 @@ use Rattle.dbl_capture_work.specs.ModelHistory.declared.cursor.Cursor.{Cursor}
 use Rattle.dbl_capture_work.specs.ModelHistory.MarkTexts.{Side, mark_text}
 use Rattle.dbl_capture_work.specs.ModelHistory.MarkTexts.Side.{Low, High}
 use Rattle.dbl_capture_work.specs.ModelCommit.Stated.{commits_of}
-use Rattle.dbl_capture_work.specs.ModelEvent.Clashes.{Clash}
+use Rattle.dbl_capture_work.specs.ModelEvent.Clashes.{Clash, clash_of}
 use Rattle.dbl_capture_work.specs.SourceModel.Standings.{SourceState}
 use Rattle.dbl_capture_work.specs.SourceModel.Trace.{Trace}
 use Rattle.dbl_capture_work.proofs.FaithfulItems.{first_some}
@@ -29,7 +29,7 @@ use Rattle.dbl_capture_work.specs.declared.report.Report.{Report}
 use Rattle.dbl_capture_work.specs.declared.work.SessionState.{SessionState}
 use Rattle.dbl_capture_work.specs.Begins.{IsTooLong}
 use Rattle.dbl_capture_work.specs.Takes.{IsClashIn}
-use Rattle.dbl_capture_work.specs.Works.{IsOwnChunk, IsOwnWaiting, IsWork, next_offset_of}
+use Rattle.dbl_capture_work.specs.Works.{IsOwnChunk, IsOwnWaiting, IsWork, next_offset_of, open_commit}
 use Rattle.dbl_capture_laws.specs.Halted.{IsOpenAmong, IsHalt, IsHaltOfStood, IsNextOffset, IsStoodHalt, IsToldHalt, MissesMark, MovesOne}
 use Rattle.dbl_capture_laws.specs.Underway.{BytesHalt, IsBetweenMessages, IsNewestHalt, IsOfFirst, IsOpenedBy, MarksAreMissed, MessagesHalt, OffsetsHalt, SourcesStoodAtHalts, SourcesStoodAtOffsets, WindowsHalt}
 use Rattle.dbl_capture_laws.proofs.Reported.{read_after, read_is, same_many, taken_more}
@@ -49,7 +49,11 @@ clash_kind (Some c) h found = subst IsOfMessages (sym found) tt
 
 newest_kind : (number : ℕ) (after : Lsn) (ms : List Message) (bytes : List ℕ) (work : SessionState) (h : Halt) → IsNewestHalt number after ms bytes work h → IsOfMessages h
 newest_kind number after ms bytes work h (inl txn) = subst IsOfMessages (sym txn.is) tt
-newest_kind number after ms bytes work h (inr sent) = elim sent.3 [
+newest_kind number after ms bytes work h (inr (inl part)) = elim part.is [
+  | inl clash ↦ clash_kind (clash_of work.offset.identity work.offset.infos (open_commit work.offset.infos (part.taken.message ∷ ms))) h clash
+  | inr long ↦ subst IsOfMessages (sym long.1.long.is) tt
+]
+newest_kind number after ms bytes work h (inr (inr sent)) = elim sent.3 [
   | inl clash ↦ clash_kind (clash_by sent.0.follower sent.1) h clash
   | inr long ↦ subst IsOfMessages (sym long.1.is) tt
 ]
@@ -78,7 +82,8 @@ record IsSpelledOnce (bytes : List ℕ) : Type 0 where
 
 spelled_once : (number : ℕ) (after : Lsn) (ms : List Message) (bytes : List ℕ) (work : SessionState) (h : Halt) → IsNewestHalt number after ms bytes work h → IsSpelledOnce bytes
 spelled_once number after ms bytes work h (inl txn) = record { message = txn.message; spells = txn.spells }
-spelled_once number after ms bytes work h (inr sent) = record { message = sent.2.message; spells = sent.2.spells }
+spelled_once number after ms bytes work h (inr (inl part)) = record { message = part.taken.message; spells = part.taken.spells }
+spelled_once number after ms bytes work h (inr (inr sent)) = record { message = sent.2.message; spells = sent.2.spells }
 
 pub windows_halt : WindowsHalt
 windows_halt config now held first stored work report table told h o b absent open_table chunk = chunk_halts config now held first stored work o report b told table h absent open_table chunk
@@ -100,12 +105,12 @@ bytes_halt config now held first stored work before report found begun old new b
     many = one_more (length t.read) before.messages report.messages t.many messages
 
 pub messages_halt : MessagesHalt
-messages_halt config now held first stored work before report found begun old new bytes h o b anew t taken messages cause =
+messages_halt config now held first stored work before report found begun old new bytes h o b anew t so_far taken messages cause =
     told_of config now held (Some stored) report new h (newest_kind report.messages first.lsn t.messages bytes work h cause) (record {
       reading = record { after = first.lsn; messages = once.message ∷ t.messages };
       was = was_told config now held first stored work o report new (bytes ∷ t.read) (once.message ∷ t.messages) many (once.spells, t.spelled)
           (λ x is. read_is (bytes ∷ t.read) found begun new x is anew (taken_more (bytes ∷ []) t.read begun old new t.taken taken (bytes ∷ t.read) refl));
-      by = newest_by config now held first stored work o report b t.messages t.is bytes once.message once.spells h (sym many) cause;
+      by = newest_by config now held first stored work o report b t.messages t.is so_far bytes once.message once.spells h (sym many) cause;
     })
   where
     once : IsSpelledOnce bytes
@@ -115,11 +120,11 @@ messages_halt config now held first stored work before report found begun old ne
     many = one_more (length t.messages) before.messages report.messages (same_many t.read t.messages t.spelled ∙ t.many) messages
 
 pub sources_stood_at_halts : SourcesStoodAtHalts
-sources_stood_at_halts config now held first stored work before report s t m bytes h o b subsequent reading messages spells cause =
+sources_stood_at_halts config now held first stored work before report s t m bytes h o b subsequent so_far reading messages spells cause =
     stood_of config now held (Some stored) report t h (newest_kind report.messages first.lsn subsequent.messages bytes work h cause) (record {
       reading = record { after = first.lsn; messages = m ∷ subsequent.messages };
       was = was_stood config now held first stored work o report t (m ∷ subsequent.messages) many reading;
-      by = newest_by config now held first stored work o report b subsequent.messages subsequent.is bytes m spells h (sym many) cause;
+      by = newest_by config now held first stored work o report b subsequent.messages subsequent.is so_far bytes m spells h (sym many) cause;
     })
   where
     many : length (m ∷ subsequent.messages) ≡ report.messages

@@ -1,6 +1,8 @@
 -- When an offset is due: whether a commit closes the window that waits.
-use Rattle.std.proofs.Common.{◌≡◌, ◌≢◌, ◌∙◌, ◌⊎◌, inl, inr, ◌≤◌, ◌<◌, ℕ, Bool, true, false, Option, Some, None, List, refl, sym, ap}
+use Rattle.std.proofs.Common.{◌≡◌, ◌≢◌, ◌∙◌, ◌⊎◌, inl, inr, ◌≤◌, ◌<◌, Bool, true, false, Some, None, List, refl, sym, ap}
 use Rattle.std.specs.Prelude.{if◌then◌else◌, bytes_eq, is_some}
+use Rattle.dbl_pgmsg.specs.declared.messages.Message.{Message}
+use Rattle.dbl_record.specs.declared.record.Record.{Record}
 use Rattle.dbl_model_table.specs.declared.change.Body.{Body}
 use Rattle.dbl_model_table.specs.declared.change.Body.TheVariants.{Changes, Mark}
 use Rattle.dbl_model_table.specs.declared.change.Commit.{Commit}
@@ -8,9 +10,13 @@ use Rattle.dbl_model_table.specs.declared.table.TableInfo.{TableInfo}
 use Rattle.dbl_capture_work.specs.Window.Plans.{Chunk, high_text, low_text}
 use Rattle.dbl_capture_work.specs.Follow.declared.window.Window.{Window}
 use Rattle.dbl_capture_work.specs.Follow.declared.window.Window.TheVariants.{Absent, Armed, Open}
+use Rattle.dbl_capture_work.specs.Follow.Followed.{Following}
 use Rattle.dbl_capture_work.specs.Follow.Steps.{Becomes, closing, watermark_in}
 use Rattle.dbl_capture_work.specs.Takes.{WasStepped, closes}
 use Rattle.dbl_capture_work.specs.declared.work.SessionState.{SessionState}
+use Rattle.dbl_capture_work.specs.Works.{HasOpen, IsAmidWork, resting}
+use Rattle.dbl_capture_laws.proofs.Opened.{like_none, window_like}
+use Rattle.dbl_capture_laws.proofs.Within.{open_absent}
 use Rattle.dbl_capture_laws.specs.Turns.{HasClosed, IsDue}
 
 armed_waits : (chunk : Chunk) → Armed chunk ≢ Absent
@@ -57,21 +63,23 @@ not_closing infos (Open chunk) (Mark value) new becomes closes waits none = open
 pub none_closed : (old next : SessionState) → next ≡ record old { assembler = next.assembler } → HasClosed old next → ⊥
 none_closed old next same both = both.0 (sym (ap (λ (w : SessionState). w.follower.window) same) ∙ both.1)
 
-module _ (commit : Commit) (old next new : SessionState) (same : next ≡ record old { assembler = next.assembler }) (stepped : WasStepped commit next new) where
-  window_is : next.follower.window ≡ old.follower.window
-  window_is = ap (λ (w : SessionState). w.follower.window) same
+-- nor does one that states changes
+pub part_closed : {first ms : List Message} {old new : SessionState} {start : Following} {put more : List Record} → IsAmidWork first start put old → IsAmidWork ms start more new → HasClosed old new → ⊥
+part_closed {first} {ms} {old} {new} {start} {put} {more} a b both =
+    both.0 (like_none start.window old.follower.window (window_like (record { start = start; put = put; is = a })) (open_absent ms new (record { start = start; put = more; is = b }) both.1))
 
-  has_closed : (closed : Bool) → closed ≡ closes next commit → closed ≡ true → HasClosed old new
+module _ {ms : List Message} (commit : Commit) (old next new : SessionState) (ahead : HasOpen ms old) (stepped : WasStepped commit (resting ahead.start next) new) where
+  has_closed : (closed : Bool) → closed ≡ closes (resting ahead.start next) commit → closed ≡ true → HasClosed old new
   has_closed closed is shut =
-      let both = closing_absent next.follower.infos next.follower.window commit.body new.follower.window stepped.steps.window (sym is ∙ shut) in
-      (λ none. both.0 (window_is ∙ none), both.1)
+      let both = closing_absent ahead.start.infos ahead.start.window commit.body new.follower.window stepped.steps.window (sym is ∙ shut) in
+      (λ none. both.0 (open_absent ms old ahead none), both.1)
 
-  not_closed : (closed : Bool) → closed ≡ closes next commit → closed ≡ false → HasClosed old new → ⊥
+  not_closed : (closed : Bool) → closed ≡ closes (resting ahead.start next) commit → closed ≡ false → HasClosed old new → ⊥
   not_closed closed is stays both =
-      not_closing next.follower.infos next.follower.window commit.body new.follower.window stepped.steps.window (sym is ∙ stays) (λ none. both.0 (sym window_is ∙ none)) both.1
+      not_closing ahead.start.infos ahead.start.window commit.body new.follower.window stepped.steps.window (sym is ∙ stays) (λ none. both.0 (like_none ahead.start.window old.follower.window (window_like ahead) none)) both.1
 
   -- and the offset is due by that, or by the number of commits
-  pub due_so : (closed due : Bool) → closed ≡ closes next commit → new.since ≤ new.every → (due ≡ true → (closed ≡ true) ⊎ (new.every ≤ new.since))
+  pub due_so : (closed due : Bool) → closed ≡ closes (resting ahead.start next) commit → new.since ≤ new.every → (due ≡ true → (closed ≡ true) ⊎ (new.every ≤ new.since))
       → (due ≡ false → (closed ≡ false) × (new.since < new.every)) → IsDue old new (Some due)
   due_so closed true is most so else_so = inr (refl, most, by (so refl))
     where

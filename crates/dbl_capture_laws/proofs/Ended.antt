@@ -1,5 +1,5 @@
 -- What a session tells where it stops with an error or ends, by the messages that it has taken.
-use Rattle.std.proofs.Common.{◌≡◌, ◌∙◌, ◌⊎◌, inl, inr, ◌+◌, ◌≤◌, ℕ, ℤ, suc, Option, Some, None, Result, Ok, Err, List, [], ◌∷◌, length, refl, sym, ap, ap₂, subst, arith}
+use Rattle.std.proofs.Common.{◌≡◌, ◌∙◌, ◌⊎◌, inl, inr, ◌+◌, ◌≤◌, ℕ, ℤ, suc, Option, Some, None, Result, Ok, Err, List, [], ◌∷◌, ◌++◌, length, refl, sym, ap, ap₂, subst, arith}
 use Rattle.dbl_base.specs.declared.lsn.Lsn.{Lsn}
 use Rattle.dbl_pgmsg.specs.declared.messages.Message.{Message}
 use Rattle.dbl_pgmsg.specs.Grammar.{Spells}
@@ -10,7 +10,8 @@ use Rattle.dbl_model_table.specs.declared.identity.Identity.{Identity}
 use Rattle.dbl_model_table.specs.declared.table.RawTable.{RawTable}
 use Rattle.dbl_model_table.specs.declared.table.TableInfo.{TableInfo}
 use Rattle.dbl_model_table.specs.declared.table.TableName.{TableName}
-use Rattle.dbl_capture_work.specs.ModelEvent.Clashes.{Clash}
+use Rattle.dbl_capture_work.specs.ModelEvent.Clashes.{Clash, clash_of}
+use Rattle.dbl_capture_work.specs.ModelCommit.Pieces.{changes_so_far}
 use Rattle.dbl_capture_work.specs.Follow.Steps.{clash_by}
 use Rattle.dbl_capture_work.specs.SourceModel.Standings.{Reading, SourceState}
 use Rattle.dbl_capture_work.specs.SourceModel.Trace.{Trace, IsTakenAnew, IsTakenBy}
@@ -22,7 +23,7 @@ use Rattle.dbl_capture_work.specs.declared.report.Report.{Report}
 use Rattle.dbl_capture_work.specs.declared.work.SessionState.{SessionState}
 use Rattle.dbl_capture_work.specs.Begins.{IsExhausted, IsFaultOf}
 use Rattle.dbl_capture_work.specs.Takes.{IsClashIn}
-use Rattle.dbl_capture_work.specs.Works.{next_offset_of}
+use Rattle.dbl_capture_work.specs.Works.{next_offset_of, open_commit}
 use Rattle.dbl_capture_laws.specs.Reported.{AreSpelled, Course, HasReadMessages, HasSettled, HasStood, HasStopped, HasTakenMessages, BeginsAfter, IsFollowed, IsLeftOut, StandsAfter, StoodAtLast, TellsSoMany, course_from, course_of}
 use Rattle.dbl_capture_laws.specs.Musts.{MustHaltBy, MustHaltStood, MustHaltTold}
 use Rattle.dbl_capture_laws.specs.Underway.{IsBeginHalt, IsNewestHalt, IsOfFirst, IsOpenHalt}
@@ -31,6 +32,7 @@ use Rattle.dbl_capture_laws.proofs.Reported.{ends_stand_at_last, halts_at_messag
 use Rattle.dbl_capture_laws.proofs.Halting.{after_stored}
 use Rattle.dbl_capture_laws.proofs.Musts.{newest_messages_halt, taken_messages_ask_nothing}
 use Rattle.dbl_capture_laws.proofs.Carried.{of_next}
+use Rattle.dbl_capture_laws.proofs.OpenCommits.{none_known}
 
 -- ---- one reading
 
@@ -144,7 +146,7 @@ module _ (b : Beginning) (ms : List Message) (stored later : Option Offset) (wor
             read = inl both.1;
             must = λ t tells. told_one b o work of report t told.read ms (Err h)
                 (read_is told.read found told.begun new t tells told.begun_unread (taken_more [] told.read told.begun old new told.taken more told.read refl)) told.spelled
-                (taken_messages_ask_nothing b.config b.now b.held b.first o work ms (Err h) of is.is);
+                (taken_messages_ask_nothing b.config b.now b.held b.first o work ms (Err h) of is.is is.so_far);
           }
 
       by : (later ≡ stored) ⊎ (later ≡ Some (next_offset_of work)) → HasHaltedTold b.config b.now b.held later found new report h
@@ -162,7 +164,7 @@ module _ (b : Beginning) (ms : List Message) (stored later : Option Offset) (wor
       at : (o : Offset) → StillOf o → HasHaltedStood b.config b.now b.held (Some o) report s t h
       at o of = record {
         stood = inr (stood_are_followed b.config b.now b.first o b.held report t h of.for_config of.of stood);
-        must = stood_one b o work of report t ms (Err h) stands (taken_messages_ask_nothing b.config b.now b.held b.first o work ms (Err h) of is.is);
+        must = stood_one b o work of report t ms (Err h) stands (taken_messages_ask_nothing b.config b.now b.held b.first o work ms (Err h) of is.is is.so_far);
       }
 
       by : (later ≡ stored) ⊎ (later ≡ Some (next_offset_of work)) → HasHaltedStood b.config b.now b.held later report s t h
@@ -188,7 +190,11 @@ clash_left (Some c) h found = subst (λ (k : Halt). IsLeftOut k 1) (sym found) r
 
 newest_left : (number : ℕ) (after : Lsn) (ms : List Message) (bytes : List ℕ) (work : SessionState) (h : Halt) → IsNewestHalt number after ms bytes work h → IsLeftOut h 1
 newest_left number after ms bytes work h (inl txn) = subst (λ (k : Halt). IsLeftOut k 1) (sym txn.is) refl
-newest_left number after ms bytes work h (inr sent) = elim sent.3 [
+newest_left number after ms bytes work h (inr (inl part)) = elim part.is [
+  | inl clash ↦ clash_left (clash_of work.offset.identity work.offset.infos (open_commit work.offset.infos (part.taken.message ∷ ms))) h clash
+  | inr long ↦ subst (λ (k : Halt). IsLeftOut k 1) (sym long.1.long.is) refl
+]
+newest_left number after ms bytes work h (inr (inr sent)) = elim sent.3 [
   | inl clash ↦ clash_left (clash_by sent.0.follower sent.1) h clash
   | inr long ↦ subst (λ (k : Halt). IsLeftOut k 1) (sym long.1.is) refl
 ]
@@ -215,9 +221,9 @@ module _ (b : Beginning) (ms : List Message) (stored : Option Offset) (work : Se
       many = one_more report.messages before.messages (length ms) messages is.many
 
       by : IsNewestCause report.messages b.first.lsn ms bytes work h → MustHaltBy b.now is.offset (reading_at b.first.lsn (m ∷ ms)) (Err h)
-      by (inl memory) = newest_messages_halt b.config b.now b.held b.first is.offset work ms m bytes report.messages h is.of is.is spells many (inl memory)
+      by (inl memory) = newest_messages_halt b.config b.now b.held b.first is.offset work ms m bytes report.messages h is.of is.is spells many is.so_far (inl memory)
       by (inr (inl message)) = absurd (not_both bytes m message.error spells message.fault)
-      by (inr (inr other)) = newest_messages_halt b.config b.now b.held b.first is.offset work ms m bytes report.messages h is.of is.is spells many (inr other)
+      by (inr (inr other)) = newest_messages_halt b.config b.now b.held b.first is.offset work ms m bytes report.messages h is.of is.is spells many is.so_far (inr other)
 
   at_told : (found old new : Option Trace) → HasReadSinceStart found old ms → IsTakenBy (bytes ∷ []) old new → HasHaltedTold b.config b.now b.held (Some is.offset) found new report h
   at_told found old new told more = record { followed = both.0; read = inl both.1; must = asked }
@@ -293,10 +299,21 @@ open_left config old new told h (inr (inr (inr source))) = subst (λ (k : Halt).
 no_message : (m : Message) (ms : List Message) → [] ≡ m ∷ ms → ⊥
 no_message m ms is = cc
 
+none_left : (newest earlier : List Message) → [] ≡ newest ++ earlier → earlier ≡ []
+none_left [] earlier is = sym is
+none_left (m ∷ newest) earlier is = absurd (no_message m (newest ++ earlier) is)
+
+no_clash : (c : Clash) → None ≡ Some c → ⊥
+no_clash c is = cc
+
 none_asked : (now : ℤ) (offset : Offset) (reading : Reading) (result : Result Ending Halt) → [] ≡ reading.messages → MustHaltBy now offset reading result
 none_asked now offset reading result none = record {
   txn = λ number error f. absurd (no_message f.message f.earlier (none ∙ f.newest));
   clash = λ commit changes c e body found. absurd (no_message e.message e.earlier (none ∙ e.newest));
+  met = λ newest earlier c le same valid found.
+      absurd (no_clash c (ap (λ (l : List Message). clash_of offset.identity offset.infos (open_commit offset.infos l)) (sym (none_left newest earlier (none ∙ same))) ∙ found));
+  long_so_far = λ newest earlier place item le same valid clear at lt long.
+      absurd (none_known offset.identity offset.infos earlier now (ap (changes_so_far offset.infos) (none_left newest earlier (none ∙ same))) place lt);
   long = λ commit changes place item e body clear at long. absurd (no_message e.message e.earlier (none ∙ e.newest));
 }
 
@@ -336,7 +353,7 @@ ends_are_told b ms work report found told ending is a = (
       (ends_stand_at_last b.config found a.begun told b.first b.held report work is.of.for_config is.of.placed a.begun_unread (has_taken b ms (Some (next_offset_of work)) work report found told is a)),
   λ t tells. ap (λ (l : List (List ℕ)). length l) (read_now t tells) ∙ (sym (same_many a.read ms a.spelled) ∙ is.many),
   λ t tells. told_one b (next_offset_of work) work next report t a.read ms (Ok ending) (read_now t tells) a.spelled
-      (taken_messages_ask_nothing b.config b.now b.held b.first (next_offset_of work) work ms (Ok ending) next is.is),
+      (taken_messages_ask_nothing b.config b.now b.held b.first (next_offset_of work) work ms (Ok ending) next is.is is.so_far),
 )
   where
     next : IsOfFirst b.config b.now b.held b.first (next_offset_of work) work
@@ -350,7 +367,7 @@ ends_are_stood b ms work report t ending is stands upto = (
   subst (λ (k : ℤ). HasSettled b.config k b.held (Some (next_offset_of work)) report t) is.of.time
       (sources_settle b.config b.first b.held report work t is.of.for_config is.of.placed (stands_since b ms (Some (next_offset_of work)) work report t is stands) upto),
   stood_one b (next_offset_of work) work next report t ms (Ok ending) stands
-      (taken_messages_ask_nothing b.config b.now b.held b.first (next_offset_of work) work ms (Ok ending) next is.is),
+      (taken_messages_ask_nothing b.config b.now b.held b.first (next_offset_of work) work ms (Ok ending) next is.is is.so_far),
 )
   where
     next : IsOfFirst b.config b.now b.held b.first (next_offset_of work) work

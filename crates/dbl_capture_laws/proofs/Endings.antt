@@ -1,5 +1,5 @@
 -- A session that ends: it is complete, and what it has stored is its own.
-use Rattle.std.proofs.Common.{◌≡◌, ◌∙◌, ◌+◌, ◌≤◌, ℕ, suc, Bool, IsTrue, true, false, cond, Option, Some, None, List, [], ◌∷◌, length, refl, sym, ap, subst, arith}
+use Rattle.std.proofs.Common.{◌≡◌, ◌∙◌, ◌+◌, ◌≤◌, ℕ, suc, Bool, IsTrue, true, false, cond, Option, Some, None, List, [], ◌∷◌, ◌++◌, length, refl, sym, ap, subst, arith, append-nil}
 use Rattle.std.specs.Prelude.{◌==◌, if◌then◌else◌, map, not, nat_lt}
 use Rattle.std.specs.List.{AllByRecursion, position, prefix_len}
 use Rattle.std.proofs.lemmas.Bool.Decides.{nat_tests}
@@ -27,6 +27,9 @@ use Rattle.dbl_capture_work.proofs.CaptureModelCompleting.{read_sessions_are_com
 use Rattle.dbl_capture_work.specs.declared.report.Report.{Report}
 use Rattle.dbl_capture_work.specs.declared.work.SessionState.{SessionState}
 use Rattle.dbl_capture_work.specs.Begins.{AreVersionsAt, IsOffsetFor}
+use Rattle.dbl_record.specs.Cuts.{cut}
+use Rattle.dbl_capture_laws.proofs.Opened.{put_none}
+use Rattle.dbl_capture_laws.proofs.Within.{open_cursors}
 use Rattle.dbl_capture_laws.specs.Ends.{AreAllDone, HasNoneNext, HasOwnStored, IsAtPosition, IsCompleteWith, LeavesComplete, table_to_read}
 use Rattle.dbl_capture_laws.specs.Found.{HasStored, IsFirstAtHead, IsFirstStored, IsStoredBy, position_of}
 use Rattle.dbl_capture_laws.specs.Sessions.{state_at_stage, InSession}
@@ -78,7 +81,8 @@ module _ {S K D : Type 0} {tell : Bool} {source_model : SourceModel S} {sink_mod
   s = w.settled.is
 
   done_so : AreAllDone work.follower.cursors → AllByRecursion (λ cursor. cursor.done ≡ true) s.stage.following.cursors
-  done_so done = subst (λ (f : Following). AllByRecursion (λ (cursor : Cursor). cursor.done ≡ true) f.cursors) s.work_is.follower_is done
+  done_so done =
+      subst (λ (l : List Cursor). AllByRecursion (λ (cursor : Cursor). cursor.done ≡ true) l) (open_cursors s.stage.messages work s.ahead ∙ ap (λ (f : Following). f.cursors) s.work_is.follower_is) done
 
   pub complete_left : IsTrue tell → (honest : Type 0) → ((t : SourceState) (l : CrashState) → source_model.stands src t → source_model.may_leave src l → l ≡ left_of t)
       → ((groups left : List (List Record)) → sink_model.holds sink groups → sink_model.may_leave sink left → left ≡ groups) → honest → (honest → (l : CrashState) → source_model.may_leave src l → IsFitHistory l.history) → AreAllDone work.follower.cursors
@@ -88,9 +92,13 @@ module _ {S K D : Type 0} {tell : Bool} {source_model : SourceModel S} {sink_mod
       (held_left model store (Some s.stage.stored) (s.store_is tells))
       (λ offset same left groups is_left is_groups.
       subst (λ (o : Option Offset). IsCompleteWith entry left groups o) (sym same)
-      (subst (λ (g : List (List Record)). IsComplete entry left g s.stage.stored) (sym (only_sink s.stage.groups groups (s.sink_is tells) is_groups))
+      (subst (λ (g : List (List Record)). IsComplete entry left g s.stage.stored) (sym (only_sink (s.stage.groups ++ cut s.ahead.put) groups (s.sink_is tells) is_groups ∙ nothing_put))
       (subst (λ (o : Offset). IsComplete entry left s.stage.groups o) (sym w.settled.stored_is) (complete_now left is_left))))
     where
+      -- no transaction is open
+      nothing_put : s.stage.groups ++ cut s.ahead.put ≡ s.stage.groups
+      nothing_put = ap (λ (l : List Record). s.stage.groups ++ cut l) (put_none s.ahead w.closed) ∙ append-nil s.stage.groups
+
       complete_now : (left : CrashState) → source_model.may_leave src left → IsComplete entry left s.stage.groups (next_offset s.stage)
       complete_now left is =
           read_sessions_are_complete entry s.stage left w.more faithful w.all (done_so done) (rests_left s honest only is_honest fit faithful left is)

@@ -5,6 +5,8 @@ use Rattle.std.specs.List.{AllByRecursion}
 use Rattle.std.proofs.lemmas.List.Concat.{flat_map-append}
 use Rattle.std.proofs.lemmas.List.Elements.{filter-append}
 use Rattle.std.proofs.lemmas.Slice.Eq.{bytes_eq-Decides}
+use Rattle.dbl_base.specs.declared.lsn.Lsn.{Lsn}
+use Rattle.dbl_pgmsg.specs.declared.messages.Message.{Message}
 use Rattle.dbl_record.specs.declared.record.Record.{Record}
 use Rattle.dbl_record.specs.Acts.{is_progress}
 use Rattle.dbl_record.specs.Cuts.{cut, joined}
@@ -37,7 +39,7 @@ use Rattle.dbl_capture_work.specs.Takes.{HasSnapshotRecords}
 use Rattle.dbl_capture_work.specs.Works.{IsOwnChunk, IsOwnWaiting}
 use Rattle.dbl_capture_work.proofs.FollowSnapshotSteps.{closing-None}
 use Rattle.dbl_capture_laws.proofs.KindLemmas.{IsOfKind, chunks_so, kinds_by, kinds_taken, rows_so}
-use Rattle.dbl_capture_laws.specs.Gained.{AreCounted, AreRisingCommits, AreSent, CommitsAreSent, IsSentFor, Making, PutsAreCounted, making_of}
+use Rattle.dbl_capture_laws.specs.Gained.{AreCounted, AreRisingCommits, AreSent, CommitsAreSent, IsGained, IsSentFor, Making, PutsAreCounted, making_of}
 
 -- ---- numbers
 
@@ -52,7 +54,7 @@ equal_le a b is = omega (arith, is)
 
 -- ---- lists
 
-joined_snoc : (parts : List (List Record)) (part : List Record) → joined (parts ++ part ∷ []) ≡ joined parts ++ part
+pub joined_snoc : (parts : List (List Record)) (part : List Record) → joined (parts ++ part ∷ []) ≡ joined parts ++ part
 joined_snoc parts part = flat_map-append (λ (g : List Record). g) parts (part ∷ []) ∙ ap (λ (l : List Record). joined parts ++ l) (append-nil part)
 
 take_after : (xs ys : List Record) (n : ℕ) → take (length xs + n) (xs ++ ys) ≡ xs ++ take n ys
@@ -168,6 +170,32 @@ commits_are_sent after ms m commit old records is ends lt clear listed gained = 
         (sym (cut_apart records (take n (part_of old commit)) (parted_at old.offset.lsn.0 commit.lsn.0 records (take n (part_of old commit)) lt gained.within (run_at commit.lsn.0 (part_of old commit) n run)))
         ∙ ap cut (sym (take_after records (part_of old commit) n)))
 
+-- ---- a commit's own records are sent
+
+module _ (after : Lsn) (ms : List Message) (old : SessionState) (records : List Record) (commit : Commit) (gained : IsGained after ms old records)
+    (lt : old.offset.lsn.0 < commit.lsn.0) where
+  abbrev own_records : List Record
+  own_records = envelopes old.offset.identity old.offset.infos commit old.now_ms
+
+  pub own_are_sent : clash_of old.offset.identity old.offset.infos commit ≡ None
+      → AreSent (making_of old.offset old.now_ms old.chunk) after.0 (commits_of old.offset.infos ms ++ commit ∷ []) (records ++ own_records)
+  own_are_sent clear = record {
+    parts = gained.sent.parts ++ own_records ∷ [];
+    each = zip_append (IsSentFor (making_of old.offset old.now_ms old.chunk)) (commits_of old.offset.infos ms) (commit ∷ []) gained.sent.parts (own_records ∷ [])
+        gained.sent.each (inl (record { clear = clear; are = refl }), tt);
+    whole = ap (λ (l : List Record). l ++ own_records) gained.sent.whole ∙ sym (joined_snoc gained.sent.parts own_records);
+    rising = rising_snoc after.0 old.offset.lsn.0 (commits_of old.offset.infos ms) commit gained.sent.rising gained.commits_within gained.order lt;
+  }
+
+  pub own_cut : (n : ℕ) (groups : List (List Record))
+      → (groups ++ cut records) ++ cut (take n own_records) ≡ groups ++ cut (take (length records + n) (records ++ own_records))
+  own_cut n groups =
+      append_assoc groups (cut records) (cut (take n own_records))
+      ∙ ap (λ (l : List (List Record)). groups ++ l)
+      (sym (cut_apart records (take n own_records) (parted_at old.offset.lsn.0 commit.lsn.0 records (take n own_records) lt gained.within
+      (run_at commit.lsn.0 own_records n (commit_run old.offset.identity old.offset.infos commit old.now_ms))))
+      ∙ ap cut (sym (take_after records own_records n)))
+
 -- ---- it is counted
 
 -- a count goes on, as far as 64 bits tell
@@ -195,6 +223,27 @@ counted_on before after snapshot items more c kinds one two three =
           three ∙ (ap (counted before.snapshot_rows) (sym (rows_so snapshot items kinds))
           ∙ goes_on (2 ^ 64 - 1) before.snapshot_rows (snapshot_row_count (joined more)) (snapshot_row_count items) (snapshot_row_count (joined (more ++ cut items))) c.rows (filter_more is_row (joined more) items (joined (more ++ cut items)) whole));
     }
+
+-- groups of the same records are counted alike
+same_joined : (a b : List (List Record)) (report : Report) → joined a ≡ joined b → AreCounted a report → AreCounted b report
+same_joined a b report same c = record {
+  records = c.records ∙ ap (λ (l : List Record). counted 0 (length l)) same;
+  chunks = c.chunks ∙ ap (λ (l : List Record). counted 0 (chunks_in l)) same;
+  rows = c.rows ∙ ap (λ (l : List Record). counted 0 (snapshot_row_count l)) same;
+}
+
+-- records are counted that are put after others of their commit
+pub counted_after : (before after : Report) (snapshot : Bool) (records put items : List Record) → AreCounted (cut records ++ cut put) before
+    → AllByRecursion (IsOfKind snapshot) items
+    → after.records ≡ (report_with snapshot items before).records → after.chunks ≡ (report_with snapshot items before).chunks
+    → after.snapshot_rows ≡ (report_with snapshot items before).snapshot_rows
+    → AreCounted (cut records ++ cut (put ++ items)) after
+counted_after before after snapshot records put items c kinds one two three =
+    same_joined ((cut records ++ cut put) ++ cut items) (cut records ++ cut (put ++ items)) after
+    (joined_cut (cut records ++ cut put) items
+    ∙ (ap (λ (l : List Record). l ++ items) (joined_cut (cut records) put)
+    ∙ (append_assoc (joined (cut records)) put items ∙ sym (joined_cut (cut records) (put ++ items)))))
+    (counted_on before after snapshot items (cut records ++ cut put) c kinds one two three)
 
 pub puts_are_counted : PutsAreCounted
 puts_are_counted commit work count before report more range moment listed c one two three =

@@ -23,7 +23,7 @@ use Rattle.dbl_capture_work.specs.declared.work.SessionState.{SessionState}
 use Rattle.dbl_capture_work.specs.Begins.{IsExhausted, IsFaultOf, IsGoneFrom, IsOffsetFor, IsTooLong}
 use Rattle.dbl_capture_work.specs.Causes.{IsChunkHalt, IsLongRecord, IsOfRows}
 use Rattle.dbl_capture_work.specs.Halts.{source_halt, window_halt}
-use Rattle.dbl_capture_work.specs.Takes.{IsClashIn, IsMessageHalt, IsTxnHalt}
+use Rattle.dbl_capture_work.specs.Takes.{IsClashIn, IsLongSoFar, IsMessageHalt, IsTxnHalt}
 use Rattle.dbl_capture_laws.specs.Underway.{IsBeginHalt}
 use Rattle.dbl_capture_laws.specs.Caused.{IsNotGone}
 use Rattle.dbl_capture_laws.specs.HasState.{IsGoneBelow}
@@ -68,6 +68,12 @@ follow_reads clash records h (inl memory) = memory_reads h memory
 follow_reads clash records h (inr (inl failed)) = subst IsNotGone (sym failed) tt
 follow_reads clash records h (inr (inr (inl is))) = clash_reads clash h is
 follow_reads clash records h (inr (inr (inr long))) = subst IsNotGone (sym long.1.is) tt
+
+pub open_reads : (clash : Option Clash) (records : List Record) (h : Halt) → (h ≡ halt.Memory) ⊎ ((h ≡ halt.Sink) ⊎ (IsClashIn clash h ⊎ ((clash ≡ None) × IsLongSoFar records h))) → IsNotGone h
+open_reads clash records h (inl memory) = memory_reads h memory
+open_reads clash records h (inr (inl failed)) = subst IsNotGone (sym failed) tt
+open_reads clash records h (inr (inr (inl is))) = clash_reads clash h is
+open_reads clash records h (inr (inr (inr long))) = subst IsNotGone (sym long.1.long.is) tt
 
 -- ---- it begins
 

@@ -5,10 +5,12 @@ use Rattle.dbl_base.specs.declared.lsn.Lsn.{Lsn}
 use Rattle.dbl_pgmsg.specs.declared.messages.Message.{Message}
 use Rattle.dbl_pgmsg.specs.Grammar.{Spells}
 use Rattle.dbl_capture_work.specs.Source.Model.{SourceModel}
+use Rattle.dbl_model_table.specs.declared.change.Change.{Change}
 use Rattle.dbl_model_table.specs.declared.change.Commit.{Commit}
 use Rattle.dbl_model_table.specs.declared.config.Config.{Config}
 use Rattle.dbl_model_table.specs.declared.table.RawTable.{RawTable}
 use Rattle.dbl_model_table.specs.declared.table.TableName.{TableName}
+use Rattle.dbl_capture_work.specs.ModelCommit.declared.piece.Piece.TheVariants.{Changed}
 use Rattle.dbl_capture_work.specs.SourceModel.Calls.{HasReadOneMore}
 use Rattle.dbl_capture_work.specs.SourceModel.Standings.{Reading, SourceState, HasState}
 use Rattle.dbl_capture_work.specs.SourceModel.Trace.{Trace}
@@ -28,8 +30,8 @@ use Rattle.dbl_capture_work.specs.declared.work.SessionState.{SessionState}
 use Rattle.dbl_capture_work.specs.Begins.{IsExhausted, IsFaultOf, IsGoneFrom, IsModelFault, IsOffsetFor, IsTooLong}
 use Rattle.dbl_capture_work.specs.Causes.{IsChunkHalt, IsLongRecord, IsOfRows}
 use Rattle.dbl_capture_work.specs.Halts.{source_halt, window_halt}
-use Rattle.dbl_capture_work.specs.Takes.{IsClashIn, IsMessageHalt, IsTxnHalt, WasTaken}
-use Rattle.dbl_capture_work.specs.Works.{next_offset_of}
+use Rattle.dbl_capture_work.specs.Takes.{HasTakenPiece, IsClashIn, IsMessageHalt, IsTxnHalt, WasTaken}
+use Rattle.dbl_capture_work.specs.Works.{next_offset_of, rest_in, resting}
 use Rattle.dbl_capture_laws.specs.Halted.{IsHaltOfStood}
 use Rattle.dbl_capture_laws.specs.Underway.{IsBeginHalt, IsBetweenMessages, IsNewestHalt}
 use Rattle.dbl_capture_laws.specs.Carried.{Beginning, IsReadUpTo, IsResting, StandsAt}
@@ -38,6 +40,9 @@ use Rattle.dbl_capture_laws.proofs.Causes.{missed, sources_stood_at_halts, sourc
 use Rattle.dbl_capture_laws.proofs.Ended.{stands_since}
 use Rattle.dbl_capture_laws.proofs.Halting.{was_stood}
 use Rattle.dbl_capture_laws.proofs.Honest.{spelled_bytes_never_halt}
+use Rattle.dbl_capture_laws.proofs.Ahead.{rest_next, rest_taken}
+use Rattle.dbl_capture_laws.proofs.Opened.{awaited_open}
+use Rattle.dbl_capture_laws.proofs.OpenCommits.{IsOpenCause, open_newest, rest_halt, rest_piece}
 use Rattle.dbl_capture_laws.specs.HasState.{IsHaltStanding, IsNotOffsetTooLong, IsShortOr}
 
 -- ---- halts that aren't told by messages
@@ -141,7 +146,7 @@ module _ (b : Beginning) (ms : List Message) (stored : Option Offset) (work : Se
   newest_stood before report m bytes h r at spells counted windows cause =
       held_as before report r.is h
       (sources_stood_at_halts b.config b.now b.held b.first r.is.offset work before report (stood_before b ms t) t m bytes h r.is.of
-      (subst (IsBetweenMessages work r.is.offset) (sym windows) (between before r)) (stands_since b ms stored work before (stood_before b ms t) r.is refl) at counted spells cause)
+      (subst (IsBetweenMessages work r.is.offset) (sym windows) (between before r)) (stands_since b ms stored work before (stood_before b ms t) r.is refl) r.is.so_far at counted spells cause)
 
   -- the newest message, which is invalid
   pub message_stood : (before : Report) (m : Message) (bytes : List ℕ) (h : Halt) → IsResting b ms stored work before → StandsAt b (m ∷ ms) t → Spells bytes m
@@ -160,7 +165,17 @@ module _ (b : Beginning) (ms : List Message) (stored : Option Offset) (work : Se
   commit_stood before report m bytes next commit h r at spells w counted windows (inl memory) = subst (IsHaltOfStood b.config b.now b.held stored report t) (sym memory) tt
   commit_stood before report m bytes next commit h r at spells w counted windows (inr (inl failed)) = subst (IsHaltOfStood b.config b.now b.held stored report t) (sym failed) tt
   commit_stood before report m bytes next commit h r at spells w counted windows (inr (inr either)) =
-      newest_stood before report m bytes h r at spells counted windows (inr (next, commit, w, either))
+      newest_stood before report m bytes h r at spells counted windows (inr (inr (next, commit, w, either)))
+
+  -- or those of changes that it states
+  pub part_stood : (before report : Report) (m : Message) (bytes : List ℕ) (next : SessionState) (changes : List Change) (h : Halt) → IsResting b ms stored work before → StandsAt b (m ∷ ms) t → Spells bytes m
+      → (p : HasTakenPiece b.first.lsn ms bytes work next (Changed changes)) → report.messages ≡ before.messages + 1 → report.chunks ≡ before.chunks
+      → (h ≡ halt.Memory) ⊎ ((h ≡ halt.Sink) ⊎ IsOpenCause next (p.taken.message ∷ ms) h)
+      → IsHaltOfStood b.config b.now b.held stored report t h
+  part_stood before report m bytes next changes h r at spells p counted windows (inl memory) = subst (IsHaltOfStood b.config b.now b.held stored report t) (sym memory) tt
+  part_stood before report m bytes next changes h r at spells p counted windows (inr (inl failed)) = subst (IsHaltOfStood b.config b.now b.held stored report t) (sym failed) tt
+  part_stood before report m bytes next changes h r at spells p counted windows (inr (inr either)) =
+      newest_stood before report m bytes h r at spells counted windows (inr (inl (open_newest b.first.lsn ms bytes work next changes h p r.is.so_far either)))
 
   -- a watermark that it waits for
   pub missed_stood : (report : Report) (value : List ℕ) → IsResting b ms stored work report → StandsAt b ms t → awaited work.follower.window ≡ Some value
@@ -198,28 +213,43 @@ module _ {S : Type 0} (source_model : SourceModel S) (at : Option SourceState) (
       let was = u.stood s first in
       let read = took was.standing was.is in
       stands_so b.config b.now b.held stored (record before { messages = before.messages + 1 }) (source_model.stands src2) read.2.standing read.2.is h
-      (message_stood b u.messages stored work read.2.standing before read.0 bytes h u.is (took_on b u.messages read.0 was.standing read.2.standing was.holds read.2.holds) read.1 cause)
+      (message_stood b u.messages stored (rest_in u.ahead) read.2.standing before read.0 bytes h u.is (took_on b u.messages read.0 was.standing read.2.standing was.holds read.2.holds) read.1
+      (rest_halt u.ahead.start b.first.lsn u.messages bytes (before.messages + 1) work h cause))
 
   pub commits_stood : (before report : Report) (bytes : List ℕ) (after : SessionState) (commit : Commit) (h : Halt) (u : IsUnderWay source_model at found b stored work before src)
       → ((s : SourceState) → source_model.stands src s → (m : Message) × Spells bytes m × HasState source_model.stands src2 (HasReadOneMore m s))
       → WasTaken b.first.lsn u.messages bytes work after (Some commit) → report.messages ≡ before.messages + 1 → report.chunks ≡ before.chunks
-      → (h ≡ halt.Memory) ⊎ ((h ≡ halt.Sink) ⊎ (IsClashIn (clash_by after.follower commit) h ⊎ ((clash_by after.follower commit ≡ None) × IsLongRecord (records_by after.follower commit after.now_ms) h)))
+      → (h ≡ halt.Memory) ⊎ ((h ≡ halt.Sink) ⊎ (IsClashIn (clash_by u.ahead.start commit) h ⊎ ((clash_by u.ahead.start commit ≡ None) × IsLongRecord (records_by u.ahead.start commit after.now_ms) h)))
       → (s : SourceState) → at ≡ Some s → IsHaltStanding b.config b.now b.held stored report (source_model.stands src2) h
   commits_stood before report bytes after commit h u took w counted windows cause s first =
       let was = u.stood s first in
       let read = took was.standing was.is in
       stands_so b.config b.now b.held stored report (source_model.stands src2) read.2.standing read.2.is h
-      (commit_stood b u.messages stored work read.2.standing before report read.0 bytes after commit h u.is (took_on b u.messages read.0 was.standing read.2.standing was.holds read.2.holds) read.1 w counted windows cause)
+      (commit_stood b u.messages stored (rest_in u.ahead) read.2.standing before report read.0 bytes (resting u.ahead.start after) commit h u.is (took_on b u.messages read.0 was.standing read.2.standing was.holds read.2.holds) read.1
+      (rest_taken b.first.lsn u.messages bytes work after (Some commit) u.ahead.start w) counted windows cause)
+
+  pub parts_stood : (before report : Report) (bytes : List ℕ) (after : SessionState) (changes : List Change) (h : Halt) (u : IsUnderWay source_model at found b stored work before src)
+      → ((s : SourceState) → source_model.stands src s → (m : Message) × Spells bytes m × HasState source_model.stands src2 (HasReadOneMore m s))
+      → (p : HasTakenPiece b.first.lsn u.messages bytes work after (Changed changes)) → report.messages ≡ before.messages + 1 → report.chunks ≡ before.chunks
+      → (h ≡ halt.Memory) ⊎ ((h ≡ halt.Sink) ⊎ IsOpenCause after (p.taken.message ∷ u.messages) h)
+      → (s : SourceState) → at ≡ Some s → IsHaltStanding b.config b.now b.held stored report (source_model.stands src2) h
+  parts_stood before report bytes after changes h u took p counted windows cause s first =
+      let was = u.stood s first in
+      let read = took was.standing was.is in
+      stands_so b.config b.now b.held stored report (source_model.stands src2) read.2.standing read.2.is h
+      (part_stood b u.messages stored (rest_in u.ahead) read.2.standing before report read.0 bytes (resting u.ahead.start after) changes h u.is (took_on b u.messages read.0 was.standing read.2.standing was.holds read.2.holds) read.1
+      (rest_piece u.ahead.start b.first.lsn u.messages bytes work after (Changed changes) p) counted windows cause)
 
   pub marks_stood : (report : Report) (value : List ℕ) (u : IsUnderWay source_model at found b stored work report src) → awaited work.follower.window ≡ Some value
       → (s : SourceState) → at ≡ Some s → IsHaltStanding b.config b.now b.held stored report (source_model.stands src) (halt.WatermarkMissing value work.offset.lsn)
   marks_stood report value u waits s first =
       let was = u.stood s first in
-      (was.standing, was.is, missed_stood b u.messages stored work was.standing report value u.is was.holds waits)
+      (was.standing, was.is, missed_stood b u.messages stored (rest_in u.ahead) was.standing report value u.is was.holds (sym (awaited_open u.ahead) ∙ waits))
 
   pub offsets_stood : (report : Report) (h : Halt) (u : HasCommitted source_model at found b stored work report src)
       → IsOffset (next_offset_of work) → (h ≡ halt.Memory) ⊎ ((h ≡ halt.Offsets) ⊎ IsTooLong (next_offset_of work) h)
       → (s : SourceState) → at ≡ Some s → IsHaltStanding b.config b.now b.held stored report (source_model.stands src) h
   offsets_stood report h u asked cause s first =
       let was = u.stood s first in
-      stands_so b.config b.now b.held stored report (source_model.stands src) was.standing was.is h (offset_stood b u.messages stored work was.standing report h u.is was.holds asked cause)
+      stands_so b.config b.now b.held stored report (source_model.stands src) was.standing was.is h
+      (offset_stood b u.messages stored (rest_in u.ahead) was.standing report h u.is was.holds (subst IsOffset (rest_next u.messages work u.ahead) asked) (subst (λ (o : Offset). (h ≡ halt.Memory) ⊎ ((h ≡ halt.Offsets) ⊎ IsTooLong o h)) (rest_next u.messages work u.ahead) cause))

@@ -1,9 +1,10 @@
 -- What the calls of a session keep, and what they may leave. The laws of the source, the sink and the store are given by name.
-use Rattle.std.proofs.Common.{◌≡◌, ◌∙◌, ◌⊎◌, inl, inr, ◌≤◌, ◌<◌, ℕ, max, Option, Some, Result, Ok, Err, List, [], length, refl, sym, ap, ap₂, subst, arith, append-nil, IsTrue, Bool, None}
+use Rattle.std.proofs.Common.{◌≡◌, ◌∙◌, ◌⊎◌, inl, inr, ◌≤◌, ◌<◌, ℕ, max, Option, Some, Result, Ok, Err, List, [], ◌++◌, length, refl, sym, ap, ap₂, subst, arith, append-nil, IsTrue, Bool, None}
 use Rattle.std.specs.Prelude.{IfOk, OnErr, OnOk}
 use Rattle.dbl_base.specs.declared.lsn.Lsn.{Lsn}
 use Rattle.dbl_pgmsg.specs.declared.messages.Message.{Message}
 use Rattle.dbl_record.specs.declared.record.Record.{Record}
+use Rattle.dbl_record.specs.Cuts.{cut}
 use Rattle.dbl_topic.specs.Model.{SinkModel}
 use Rattle.dbl_capture_work.specs.Source.Model.{SourceModel}
 use Rattle.dbl_capture_work.specs.Disk.Model.{DiskModel}
@@ -27,9 +28,10 @@ use Rattle.dbl_capture_work.specs.CaptureModel.Outcomes.{FollowsSession}
 use Rattle.dbl_capture_work.proofs.CaptureModelCounting.{few_marks_are_written}
 use Rattle.dbl_capture_work.proofs.CaptureModelMarking.{others_marked}
 use Rattle.dbl_capture_work.proofs.CaptureModelStepping.{others_keep_going, confirms_keep_going, stores_keep_going}
-use Rattle.dbl_capture_work.proofs.CaptureModelEnding.{stood_of, sources_may_end, stores_may_end}
+use Rattle.dbl_capture_work.proofs.CaptureModelEnding.{stood_of}
+use Rattle.dbl_capture_laws.proofs.Within.{open_left, settled_open}
 use Rattle.dbl_capture_work.specs.declared.work.SessionState.{SessionState}
-use Rattle.dbl_capture_work.specs.Works.{HasReadyWork, IsWork}
+use Rattle.dbl_capture_work.specs.Works.{HasReadyWork, IsWork, rest_in}
 use Rattle.dbl_capture_laws.specs.Sessions.{state_at_stage, InSession, AddsFewOrNoMarks, Captures, IsCapturing, LeavesBy}
 
 -- ---- answers
@@ -134,7 +136,7 @@ settled_work after ms work is = record {
 }
 
 pub settled_ready : (work new : SessionState) → new ≡ record work { since = 0 } → HasReadyWork work → HasReadyWork new
-settled_ready work new same r = subst HasReadyWork (sym same) (record { after = r.after; messages = r.messages; is = settled_work r.after r.messages work r.is })
+settled_ready work new same r = subst HasReadyWork (sym same) (record { after = r.after; messages = r.messages; ahead = settled_open r.messages work r.is.some r.ahead; is = settled_work r.after r.messages (rest_in r.ahead) r.is })
 
 -- so that it isn't due again
 pub settled_since : (work new : SessionState) → new ≡ record work { since = 0 } → HasReadyWork work → new.since < new.every
@@ -151,6 +153,7 @@ module _ {S K D : Type 0} {tell : Bool} {source_model : SourceModel S} {sink_mod
   abbrev pub moved_on : (src2 : S) (t : SourceState) → source_model.stands src2 t → Moved (state_at_stage s.stage) t → IsFitHistory t.history → InSession tell source_model sink_model model entry work src2 sink store
   moved_on src2 t is moved fit = record {
     stage = record s.stage { history = t.history };
+    ahead = s.ahead;
     source_is = subst (source_model.stands src2) (ap₂ (λ (c : Lsn) (r : Option Reading). record { history = t.history; confirmed = c; reading = r }) moved.confirmed moved.reading) is;
     sink_is = s.sink_is;
     store_is = s.store_is;
@@ -170,13 +173,13 @@ module _ {S K D : Type 0} {tell : Bool} {source_model : SourceModel S} {sink_mod
   -- ---- it ends
 
   -- by its source
-  pub source_ends : (src2 : S) → (WasFaithful entry → (left : CrashState) → source_model.may_leave src2 left → MayBeLeft s.stage left) → (IsTrue tell → (groups : List (List Record)) → sink_model.may_leave sink groups → groups ≡ s.stage.groups)
+  pub source_ends : (src2 : S) → (WasFaithful entry → (left : CrashState) → source_model.may_leave src2 left → MayBeLeft s.stage left) → (IsTrue tell → (groups : List (List Record)) → sink_model.may_leave sink groups → groups ≡ s.stage.groups ++ cut s.ahead.put)
       → ((left : CrashState) → source_model.may_leave src2 left → AddsFewOrNoMarks entry left) → (left : CrashState) × source_model.may_leave src2 left → (IsTrue tell → (groups : List (List Record)) × sink_model.may_leave sink groups) → LeavesBy tell source_model sink_model model entry src2 sink store
   source_ends src2 may only few some_source some_sink = record {
     follows = λ t faithful. left_weaker model (disk_of store) (λ offset. offset ≡ Some s.stage.stored) (λ offset. (left : CrashState) (groups : List (List Record)) → source_model.may_leave src2 left → sink_model.may_leave sink groups → FollowsSession entry left groups offset)
         (held_left model store (Some s.stage.stored) (s.store_is t))
         (λ offset same left groups is_left is_groups.
-        subst (λ (o : Option Offset). FollowsSession entry left groups o) (sym same) (subst (λ (g : List (List Record)). FollowsSession entry left g (Some s.stage.stored)) (sym (only t groups is_groups)) (sources_may_end entry s.stage left faithful (may faithful left is_left) s.going)));
+        subst (λ (o : Option Offset). FollowsSession entry left groups o) (sym same) (subst (λ (g : List (List Record)). FollowsSession entry left g (Some s.stage.stored)) (sym (only t groups is_groups)) (open_left entry s.stage work s.ahead s.work_is s.going left s.stage.stored faithful (may faithful left is_left) (inl refl))));
     few = few;
     some_source = some_source;
     some_sink = some_sink;
@@ -184,15 +187,15 @@ module _ {S K D : Type 0} {tell : Bool} {source_model : SourceModel S} {sink_mod
 
   -- by its store
   pub store_ends : (store2 : StoreOn D) → (IsTrue tell → LeavesOffset model (disk_of store2) (λ offset. (offset ≡ Some s.stage.stored) ⊎ (offset ≡ Some (next_offset s.stage))))
-      → (WasFaithful entry → (left : CrashState) → source_model.may_leave src left → MayBeLeft s.stage left) → (IsTrue tell → (groups : List (List Record)) → sink_model.may_leave sink groups → groups ≡ s.stage.groups)
+      → (WasFaithful entry → (left : CrashState) → source_model.may_leave src left → MayBeLeft s.stage left) → (IsTrue tell → (groups : List (List Record)) → sink_model.may_leave sink groups → groups ≡ s.stage.groups ++ cut s.ahead.put)
       → ((left : CrashState) → source_model.may_leave src left → AddsFewOrNoMarks entry left) → (left : CrashState) × source_model.may_leave src left → (IsTrue tell → (groups : List (List Record)) × sink_model.may_leave sink groups)
       → LeavesBy tell source_model sink_model model entry src sink store2
   store_ends store2 leaves may only few some_source some_sink = record {
     follows = λ t faithful. left_weaker model (disk_of store2) (λ offset. (offset ≡ Some s.stage.stored) ⊎ (offset ≡ Some (next_offset s.stage))) (λ offset. (left : CrashState) (groups : List (List Record)) → source_model.may_leave src left → sink_model.may_leave sink groups → FollowsSession entry left groups offset) (leaves t)
         (λ offset either left groups is_left is_groups.
         subst (λ (g : List (List Record)). FollowsSession entry left g offset) (sym (only t groups is_groups)) (elim either [
-          | inl same ↦ subst (λ (o : Option Offset). FollowsSession entry left s.stage.groups o) (sym same) (sources_may_end entry s.stage left faithful (may faithful left is_left) s.going)
-          | inr same ↦ subst (λ (o : Option Offset). FollowsSession entry left s.stage.groups o) (sym same) (stores_may_end entry s.stage left faithful (may faithful left is_left) s.going)
+          | inl same ↦ subst (λ (o : Option Offset). FollowsSession entry left (s.stage.groups ++ cut s.ahead.put) o) (sym same) (open_left entry s.stage work s.ahead s.work_is s.going left s.stage.stored faithful (may faithful left is_left) (inl refl))
+          | inr same ↦ subst (λ (o : Option Offset). FollowsSession entry left (s.stage.groups ++ cut s.ahead.put) o) (sym same) (open_left entry s.stage work s.ahead s.work_is s.going left (next_offset s.stage) faithful (may faithful left is_left) (inr refl))
         ]));
     few = few;
     some_source = some_source;
@@ -205,11 +208,12 @@ module _ {S K D : Type 0} {tell : Bool} {source_model : SourceModel S} {sink_mod
       subst (λ (w : SessionState). InSession tell source_model sink_model model entry w src sink store2) (sym same)
       (record {
         stage = stored_at s.stage;
+        ahead = settled_open s.stage.messages work s.work_is.is.some s.ahead;
         source_is = s.source_is;
         sink_is = s.sink_is;
         store_is = held;
         work_is = record {
-          is = settled_work s.stage.first.lsn s.stage.messages work s.work_is.is;
+          is = settled_work s.stage.first.lsn s.stage.messages (rest_in s.ahead) s.work_is.is;
           offset_is = s.work_is.offset_is;
           follower_is = s.work_is.follower_is;
           now_is = s.work_is.now_is;
@@ -225,6 +229,7 @@ module _ {S K D : Type 0} {tell : Bool} {source_model : SourceModel S} {sink_mod
   pub confirmed_on : (src2 : S) (t : SourceState) (upto : Lsn) → source_model.stands src2 t → IsConfirmed upto (state_at_stage s.stage) t → IsFitHistory t.history → upto.0 ≤ s.stage.stored.lsn.0 → InSession tell source_model sink_model model entry work src2 sink store
   confirmed_on src2 t upto is confirmed fit le = record {
     stage = record s.stage { history = t.history; confirmed = t.confirmed };
+    ahead = s.ahead;
     source_is = subst (source_model.stands src2) (ap (λ (r : Option Reading). record { history = t.history; confirmed = t.confirmed; reading = r }) confirmed.reading) is;
     sink_is = s.sink_is;
     store_is = s.store_is;
@@ -285,9 +290,9 @@ module _ {S K D : Type 0} {tell : Bool} {source_model : SourceModel S} {sink_mod
       → ((groups left : List (List Record)) → sink_model.holds sink groups → sink_model.may_leave sink left → left ≡ groups) → ((groups : List (List Record)) → sink_model.holds sink groups → sink_model.may_leave sink groups) → honest → (honest → (l : CrashState) → source_model.may_leave src l → IsFitHistory l.history) → 1 ≤ entry.config.chunk
       → LeavesBy tell source_model sink_model model entry src sink store
   rests honest only may only_sink may_hold is_honest fit some =
-      source_ends src (rests_left honest only is_honest fit) (λ t groups is. only_sink s.stage.groups groups (s.sink_is t) is)
+      source_ends src (rests_left honest only is_honest fit) (λ t groups is. only_sink (s.stage.groups ++ cut s.ahead.put) groups (s.sink_is t) is)
       (λ left is. few_rest left (only (state_at_stage s.stage) left s.source_is is) some)
-      (left_of (state_at_stage s.stage), may (state_at_stage s.stage) s.source_is) (λ t. (s.stage.groups, may_hold s.stage.groups (s.sink_is t)))
+      (left_of (state_at_stage s.stage), may (state_at_stage s.stage) s.source_is) (λ t. (s.stage.groups ++ cut s.ahead.put, may_hold (s.stage.groups ++ cut s.ahead.put) (s.sink_is t)))
 
   -- a window reads a row or more
   pub some_chunk : 1 ≤ entry.config.chunk

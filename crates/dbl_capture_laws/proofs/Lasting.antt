@@ -1,6 +1,6 @@
 -- How many watermarks are left where a session ends.
 use Rattle.std.proofs.Common.{◌≡◌, ◌∙◌, ◌+◌, ℕ, Option, Some, None, List, Result, Ok, Err, sym, ap, subst, ◌≤◌, ◌<◌, ◌^◌, ◌-◌, ◌*◌, min, inl, inr, length, take, arith, false, true, refl}
-use Rattle.std.specs.Prelude.{OnErr, OnOk, is_some}
+use Rattle.std.specs.Prelude.{Bool, OnErr, OnOk}
 use Rattle.dbl_capture_work.specs.SourceModel.Standings.{CrashState, SourceState, left_of}
 use Rattle.dbl_capture_work.specs.Offset.declared.offset.Offset.{Offset}
 use Rattle.dbl_capture_work.specs.CaptureModel.Counted.{waiting}
@@ -8,16 +8,15 @@ use Rattle.dbl_capture_work.specs.declared.halt.Halt.{Halt}
 use Rattle.dbl_capture_work.specs.declared.work.SessionState.{SessionState}
 use Rattle.dbl_capture_laws.specs.Ends.{HasOwnStored}
 use Rattle.dbl_capture_laws.specs.Written.{AreClosed, AddsAtMost, AddsNoMore}
-use Rattle.dbl_model_table.specs.declared.change.Commit.{Commit}
+use Rattle.dbl_record.specs.declared.record.Record.{Record}
 use Rattle.dbl_capture_work.specs.ModelHistory.History.{History, IsRising}
 use Rattle.dbl_capture_work.specs.SourceModel.Growth.{Grows, marks_in}
 use Rattle.dbl_capture_work.specs.SourceModel.Calls.{Moved}
 use Rattle.dbl_capture_work.proofs.SourceModelGrowthLemmas.{grows_none}
-use Rattle.dbl_capture_work.specs.Follow.Steps.{mark_of, records_by}
 use Rattle.dbl_capture_work.specs.declared.report.Report.{Report}
 use Rattle.dbl_capture_work.specs.Begins.{MayRest}
 use Rattle.dbl_capture_work.specs.Groups.{chunks_of}
-use Rattle.dbl_capture_work.specs.Takes.{ReportsStep}
+use Rattle.dbl_capture_work.specs.Takes.{CountsOnlyRecords, ReportsStep}
 use Rattle.dbl_capture_laws.proofs.StepMarks.{others_add_no_marks}
 
 -- ---- where it ends
@@ -32,18 +31,22 @@ more_counted n k a small is = omega (arith, small, is)
 few_closed : (n c w : ℕ) → n ≡ c + w → n < 2 ^ 64 → c ≤ 2 ^ 64 - 1
 few_closed n c w is small = omega (arith, is, small)
 
-pub torn_more : (commit : Commit) (old work : SessionState) (before after : Report) → AreClosed old before.chunks → old.number < 2 ^ 64 → ReportsStep commit work (record before { messages = before.messages + 1 }) after false → before.chunks ≤ after.chunks
-torn_more commit old work before after closed small reports =
-    more_counted before.chunks (chunks_of (is_some (mark_of commit)) (take reports.records_are.count (records_by work.follower commit work.now_ms))) after.chunks
+pub torn_more : (snapshot : Bool) (records : List Record) (old : SessionState) (before after : Report) → AreClosed old before.chunks → old.number < 2 ^ 64 → ReportsStep snapshot records (record before { messages = before.messages + 1 }) after false → before.chunks ≤ after.chunks
+torn_more snapshot records old before after closed small reports =
+    more_counted before.chunks (chunks_of snapshot (take reports.records_are.count records)) after.chunks
     (few_closed old.number before.chunks (waiting old.follower.window) closed small)
     (ap (λ (r : Report). r.chunks) reports.is ∙ ap (λ (r : Report). r.chunks) reports.records_are.report)
 
 -- nor after one that was
-pub step_more : (commit : Commit) (old work : SessionState) (before after : Report) → AreClosed old before.chunks → old.number < 2 ^ 64 → ReportsStep commit work (record before { messages = before.messages + 1 }) after true → before.chunks ≤ after.chunks
-step_more commit old work before after closed small reports =
-    more_counted before.chunks (chunks_of (is_some (mark_of commit)) (records_by work.follower commit work.now_ms)) after.chunks
+pub step_more : (snapshot : Bool) (records : List Record) (old : SessionState) (before after : Report) → AreClosed old before.chunks → old.number < 2 ^ 64 → ReportsStep snapshot records (record before { messages = before.messages + 1 }) after true → before.chunks ≤ after.chunks
+step_more snapshot records old before after closed small reports =
+    more_counted before.chunks (chunks_of snapshot records) after.chunks
     (few_closed old.number before.chunks (waiting old.follower.window) closed small)
     (ap (λ (r : Report). r.chunks) reports.is ∙ ap (λ (r : Report). r.chunks) (reports.all refl))
+
+-- nor after changes of one
+pub open_more : (before after : Report) → CountsOnlyRecords (record before { messages = before.messages + 1 }) after → before.chunks ≤ after.chunks
+open_more before after counts = let same : after.chunks ≡ before.chunks = ap (λ (r : Report). r.chunks) counts in omega (arith, same)
 
 -- nothing happened
 pub left_rests : (history : History) (s : SourceState) (left : CrashState) → IsRising history → s.history ≡ history → left ≡ left_of s → Grows history left.history

@@ -33,6 +33,7 @@ pub use Rattle.dbl_capture_work.proofs.WindowHonestLemmas
 pub mod KindLemmas
 pub mod Rising
 pub mod Fewer
+pub mod Within
 pub mod Keeping
 pub mod Marks
 pub mod Arms
@@ -50,6 +51,10 @@ pub mod Gained
 pub mod Reported
 pub mod Unread
 pub mod Moving
+pub mod Ahead
+pub mod OpenCommits
+pub mod Opened
+pub mod Delivered
 pub mod Halting
 pub mod Causes
 pub mod Musts

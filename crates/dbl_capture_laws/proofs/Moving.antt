@@ -17,7 +17,7 @@ use Rattle.dbl_capture_work.specs.Follow.Followed.{Following}
 use Rattle.dbl_capture_work.specs.Follow.Steps.{Becomes, Steps, closing, cursors_after, has_text, mark_of, seen_by}
 use Rattle.dbl_capture_work.specs.Works.{IsOwnChunk, IsOwnWaiting}
 use Rattle.dbl_capture_laws.specs.Halted.{IsOpenAmong, MovesOne}
-use Rattle.dbl_capture_laws.specs.Underway.{IsOpenedBy, IsOrderedWindow, StepsMoveOneCursor, StepsOpenWindows}
+use Rattle.dbl_capture_laws.specs.Underway.{IsOpenedBy, StepsMoveOneCursor, StepsOpenWindows}
 
 -- ---- windows open at their low watermarks
 
@@ -89,24 +89,6 @@ steps_open_windows commit old new commits stepped opened = by_body commit.body r
     by_body : (b : Body) → commit.body ≡ b → Becomes old.follower.infos old.follower.window b new.follower.window → IsOpenedBy new.follower.window (commits ++ commit ∷ [])
     by_body (Changes changes) body to = by_changes changes body old.follower.window refl to
     by_body (Mark value) body to = by_mark value body old.follower.window refl to
-
--- ---- and keep the order of their rows
-
-pub becomes_ordered : (infos : List TableInfo) (w : Window) (body : Body) (new : Window) → Becomes infos w body new → IsOrderedWindow w → IsOrderedWindow new
-becomes_ordered infos Absent (Changes changes) new to was = subst IsOrderedWindow (sym to) tt
-becomes_ordered infos (Armed chunk) (Changes changes) new to was = subst IsOrderedWindow (sym to) was
-becomes_ordered infos (Open chunk) (Changes changes) new to was = subst IsOrderedWindow (sym to.1) to.3
-becomes_ordered infos Absent (Mark value) new to was = subst IsOrderedWindow (sym to) tt
-becomes_ordered infos (Armed chunk) (Mark value) new to was = by (bytes_eq value (low_text chunk.plan)) to
-  where
-    by : (b : Bool) → new ≡ (if b then Open chunk else Armed chunk) → IsOrderedWindow new
-    by true at = subst IsOrderedWindow (sym at) was
-    by false at = subst IsOrderedWindow (sym at) was
-becomes_ordered infos (Open chunk) (Mark value) new to was = by (bytes_eq value (high_text chunk.plan)) to
-  where
-    by : (b : Bool) → new ≡ (if b then Absent else Open chunk) → IsOrderedWindow new
-    by true at = subst IsOrderedWindow (sym at) tt
-    by false at = subst IsOrderedWindow (sym at) was
 
 -- ---- and move one cursor
 

@@ -34,7 +34,7 @@ use Rattle.dbl_capture_work.specs.declared.work.SessionState.{SessionState}
 use Rattle.dbl_capture_work.specs.Begins.{IsExhausted, IsFaultOf, IsGoneFrom, IsTooLong}
 use Rattle.dbl_capture_work.specs.Causes.{IsHonestChunkHalt, IsHonestFault, IsLongRecord}
 use Rattle.dbl_capture_work.specs.Halts.{source_halt, window_halt}
-use Rattle.dbl_capture_work.specs.Takes.{IsClashIn, IsMessageHalt, IsTxnHalt}
+use Rattle.dbl_capture_work.specs.Takes.{IsClashIn, IsLongSoFar, IsMessageHalt, IsTxnHalt}
 use Rattle.dbl_capture_laws.specs.Sessions.{IsCapturing}
 use Rattle.dbl_capture_laws.specs.Nevers.{IsHonestHalt}
 use Rattle.dbl_capture_laws.specs.Underway.{IsBeginHalt}
@@ -104,6 +104,12 @@ module _ (entry : SessionStart) (stands : SourceState → Type 0) where
   follow_honest clash records h (inr (inl failed)) = subst Honest (sym failed) tt
   follow_honest clash records h (inr (inr (inl is))) = clash_honest clash h is
   follow_honest clash records h (inr (inr (inr long))) = subst Honest (sym long.1.is) tt
+
+  pub open_honest : (clash : Option Clash) (records : List Record) (h : Halt) → (h ≡ halt.Memory) ⊎ ((h ≡ halt.Sink) ⊎ (IsClashIn clash h ⊎ ((clash ≡ None) × IsLongSoFar records h))) → Honest h
+  open_honest clash records h (inl memory) = subst Honest (sym memory) tt
+  open_honest clash records h (inr (inl failed)) = subst Honest (sym failed) tt
+  open_honest clash records h (inr (inr (inl is))) = clash_honest clash h is
+  open_honest clash records h (inr (inr (inr long))) = subst Honest (sym long.1.long.is) tt
 
   pub taken_honest : (infos : List TableInfo) (t : SourceState) (after : Lsn) (ms : List Message) (m : Message) (bytes : List ℕ) (number : ℕ) (work : SessionState) (h : Halt) → IsCapturing entry infos → stands t
       → t.reading ≡ Some (record { after = after; messages = m ∷ ms }) → AreInfosOf t.history infos → IsReadRight t.history (record { after = after; messages = m ∷ ms }) → work.offset.infos ≡ infos → AreWithoutFault infos after ms

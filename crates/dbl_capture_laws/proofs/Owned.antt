@@ -1,11 +1,13 @@
 -- What makes a session stop with an error over a conforming source and faithful stores: values equal to the placeholder, records and offsets
 -- of the source's history.
 use Rattle.std.proofs.Common.{◌≡◌, ◌∙◌, ◌⊎◌, inl, inr, ◌+◌, ◌≤◌, ℕ, ℤ, zero, suc, Option, Some, None, List, [], ◌∷◌, ◌++◌, length, drop, take, refl, sym, ap, ap₂, subst, arith, append_assoc, length-append}
-use Rattle.std.specs.Prelude.{IsSome, not, slice_get}
+use Rattle.std.specs.Prelude.{IfSome, IsSome, IsSomeAnd, not, slice_get}
 use Rattle.std.specs.List.{AllByRecursion, position}
+use Rattle.std.proofs.lemmas.List.{append-nil}
 use Rattle.dbl_base.specs.declared.lsn.Lsn.{Lsn}
 use Rattle.dbl_pgmsg.specs.declared.messages.Message.{Message}
 use Rattle.dbl_record.specs.declared.record.Record.{Record}
+use Rattle.dbl_record.specs.Cuts.{cut}
 use Rattle.dbl_model_table.specs.declared.identity.Identity.{Identity}
 use Rattle.dbl_model_table.specs.declared.row.Key.{Key}
 use Rattle.dbl_model_table.specs.declared.table.TableInfo.{TableInfo}
@@ -13,7 +15,13 @@ use Rattle.dbl_model_table.specs.declared.change.Body.{Body}
 use Rattle.dbl_model_table.specs.declared.change.Body.TheVariants.{Changes, Mark}
 use Rattle.dbl_model_table.specs.declared.change.Change.{Change}
 use Rattle.dbl_model_table.specs.declared.change.Commit.{Commit}
+use Rattle.dbl_model_table.specs.declared.change.Head.{Head}
+use Rattle.dbl_model_table.specs.Heads.{commit_head, commit_so_far}
 use Rattle.dbl_model_table.specs.Rows.{all_changes, changes_of}
+use Rattle.dbl_capture_work.specs.ModelCommit.BegunCommits.{BeginsCommit}
+use Rattle.dbl_capture_work.specs.ModelCommit.Past.{begin_of}
+use Rattle.dbl_capture_work.specs.ModelCommit.Pieces.{changes_so_far, if_open}
+use Rattle.dbl_capture_work.specs.ModelCommit.Stated.{commits_of, list_of, open_changes}
 use Rattle.dbl_capture_work.specs.ModelHistory.declared.cursor.Cursor.{Cursor}
 use Rattle.dbl_capture_work.specs.ModelHistory.KeyBounds.{IsAbove, IsUpTo}
 use Rattle.dbl_capture_work.specs.ModelHistory.History.{History, RawCommit}
@@ -46,6 +54,7 @@ use Rattle.dbl_capture_work.specs.Follow.Followed.{Following}
 use Rattle.dbl_capture_work.specs.Follow.Steps.{clash_by, clash_in, closed_of, closing, watermark_in, mark_of, records_by, records_of}
 use Rattle.dbl_capture_work.specs.CaptureModel.Counted.{IsOnTable, IsWaiting, waiting}
 use Rattle.dbl_capture_work.specs.CaptureModel.Entries.{SessionStart, StoodInLog}
+use Rattle.dbl_capture_work.specs.CaptureModel.Exits.{MayBeLeft}
 use Rattle.dbl_capture_work.specs.CaptureModel.Going.{IsFirstOf, IsGoing, KeepsStage, IsPlacedInHistory}
 use Rattle.dbl_capture_work.specs.CaptureModel.Marked.{IsOpenAt, IsOwnWindow, IsWindowAt}
 use Rattle.dbl_capture_work.specs.CaptureModel.Outcomes.{FollowsSession}
@@ -61,19 +70,20 @@ use Rattle.dbl_capture_work.specs.declared.report.Report.{Report}
 use Rattle.dbl_capture_work.specs.declared.work.SessionState.{SessionState}
 use Rattle.dbl_capture_work.specs.Begins.{IsFirstOffsetAtHead, IsTooLong}
 use Rattle.dbl_capture_work.specs.Causes.{IsLongRecord}
-use Rattle.dbl_capture_work.specs.Takes.{IsClashIn}
-use Rattle.dbl_capture_work.specs.Works.{IsOwnChunk, IsOwnWaiting, next_offset_of}
-use Rattle.dbl_capture_laws.specs.Sessions.{Captures, IsCapturing}
+use Rattle.dbl_capture_work.specs.Takes.{IsClashIn, IsLongSoFar}
+use Rattle.dbl_capture_work.specs.Works.{IsOwnChunk, IsOwnWaiting, head_in, next_offset_of}
+use Rattle.dbl_capture_laws.specs.Sessions.{Captures, IsCapturing, state_at_stage}
 use Rattle.dbl_capture_laws.specs.Stored.{session_identity, named_by}
 use Rattle.dbl_capture_work.specs.ModelHistory.KeyedRows.{last_key, row_in}
 use Rattle.dbl_capture_work.specs.SourceModel.Selected.{rows_up_to}
 use Rattle.dbl_capture_work.proofs.CaptureModelCounts.{was_selected}
 use Rattle.dbl_model_table.specs.declared.row.Row.{Row}
-use Rattle.dbl_capture_laws.specs.Nevers.{IsNewest, IsOwnClash, IsOwnClosed, IsOwnLong}
-use Rattle.dbl_capture_laws.specs.Underway.{IsOrderedWindow}
+use Rattle.dbl_capture_laws.specs.Nevers.{BecomesCommit, IsNewest, IsOwnClash, IsOwnClosed, IsOwnLong}
 use Rattle.dbl_capture_laws.specs.Carried.{Beginning}
+use Rattle.dbl_capture_laws.proofs.OpenCommits.{clash_stays, ends_none, is_open, long_stays}
+use Rattle.dbl_capture_laws.proofs.Within.{open_cursors, open_left}
 use Rattle.dbl_capture_laws.proofs.Halting.{incarnation_stored}
-use Rattle.dbl_capture_laws.specs.Owned.{ClashesAreOwn, EndsNext, FirstLongOffsetsAreOwn, FirstOffsetsAreLong, IsOverFaithful, LongOffsetsAreOwn, LongRecordsAreOwn, read_with}
+use Rattle.dbl_capture_laws.specs.Owned.{ClashesAreOwn, EndsNext, FirstLongOffsetsAreOwn, FirstOffsetsAreLong, IsOverFaithful, LongOffsetsAreOwn, LongRecordsAreOwn, OpenClashesAreOwn, OpenLongRecordsAreOwn, StatesNext, read_with}
 
 -- ---- moments of watermarks
 
@@ -156,7 +166,12 @@ module _ (entry : SessionStart) (stage : Stage) (b : Beginning) (ms : List Messa
   at_place = ap (λ (l : List Commit). slice_get l (length before)) parted.1 ∙ slice_get-seam before commit parted.0
 
   abbrev newest : IsNewest stage.first.infos stage.history (read_with stage m)
-  newest = record { commit = commit; ends = record { message = m; earlier = stage.messages; newest = refl; accepted = (e.clean, o.going.reading.accepted); ends = e.ends }; place = length before; stands = at_place }
+  newest = record {
+    commit = commit;
+    ends = inl (record { message = m; earlier = stage.messages; newest = refl; accepted = (e.clean, o.going.reading.accepted); ends = e.ends });
+    place = length before;
+    stands = at_place;
+  }
 
   follows_identity : stage.following.identity ≡ session_identity entry
   follows_identity = o.going.reading.follows_identity ∙ identity_is entry stage o.going
@@ -179,8 +194,11 @@ module _ (entry : SessionStart) (stage : Stage) (b : Beginning) (ms : List Messa
     waiting_open : work.follower.window ≡ Open chunk
     waiting_open = ap (λ (f : Following). f.window) o.work_is.follower_is ∙ closes.is_open
 
+    own_chunk : IsOwnChunk work.offset.incarnation work.number work.offset.infos work.follower.cursors work.chunk chunk
+    own_chunk = subst (IsOwnWaiting work.offset.incarnation work.number work.offset.infos work.follower.cursors work.chunk) waiting_open o.rests.is.is.own
+
     ordered : AreInKeyOrder chunk.rows
-    ordered = subst IsOrderedWindow waiting_open o.rests.is.ordered
+    ordered = own_chunk.ordered
 
     body_is : commit.body ≡ Mark (high_text chunk.plan)
     body_is = marked_so commit.body (high_text chunk.plan) closes.mark_is
@@ -263,9 +281,6 @@ module _ (entry : SessionStart) (stage : Stage) (b : Beginning) (ms : List Messa
     own_text : (side : Side) → mark_text stage.first.incarnation stage.number side ≡ mark_text o.rests.is.offset.incarnation (later.chunks + 1) side
     own_text side = ap₂ (λ (i n : ℕ). mark_text i n side) incarnation_own number_own
 
-    own_chunk : IsOwnChunk work.offset.incarnation work.number work.offset.infos work.follower.cursors work.chunk chunk
-    own_chunk = subst (IsOwnWaiting work.offset.incarnation work.number work.offset.infos work.follower.cursors work.chunk) waiting_open o.rests.is.is.own
-
     own_closed : IsOwnClosed stage.first.infos entry.config.chunk o.rests.is.offset later stage.history (length before) (closed_of chunk)
     own_closed = record {
       here = record {
@@ -327,6 +342,112 @@ module _ (entry : SessionStart) (stage : Stage) (b : Beginning) (ms : List Messa
       long_own h (closing stage.following.window (mark_of commit)) refl
       (subst (λ (f : Following). IsLongRecord (records_by f commit entry.now) h) o.work_is.follower_is (subst (λ (now : ℤ). IsLongRecord (records_by work.follower commit now) h) o.work_is.now_is found))
 
+-- ---- changes of the open transaction
+
+-- what a longer list begins with
+some_first : (later : List Commit) (P : Commit → Type 0) → IsSomeAnd (slice_get later 0) P → (commit : Commit) × (rest : List Commit) × (later ≡ commit ∷ rest) × P commit
+some_first [] P is = absurd is
+some_first (commit ∷ rest) P is = (commit, rest, refl, is)
+
+-- the open transaction with this message begins the commit after these
+record BeginsHere (stage : Stage) (m : Message) (head : Head) (before : List Commit) : Type 0 where
+  commit : Commit
+  rest : List Commit
+  parted : commits_at stage ≡ before ++ commit ∷ rest
+  begins : BeginsCommit stage.first.infos (m ∷ stage.messages) head commit
+
+module _ (entry : SessionStart) (stage : Stage) (b : Beginning) (ms : List Message) (stored : Option Offset) (work : SessionState) (report : Report) (m : Message) (changes : List Change) (so_far : Commit) (later : Report)
+    (o : IsOverFaithful entry stage b ms stored work report) (e : StatesNext stage m changes so_far) where
+  abbrev placed : IsPlacedInHistory stage
+  placed = o.going.placed (stood_of entry o.faithful)
+
+  abbrev read_before : List Commit
+  read_before = (o.going.placed (stood_of entry o.faithful)).parts.old ++ read_at stage
+
+  opened : (head : Head) × (begin_of (m ∷ stage.messages) ≡ Some head)
+  opened = is_open stage.first.infos stage.first.lsn m stage.messages changes e.clean e.states e.some
+
+  -- the commit that it begins comes next
+  here : BeginsHere stage m opened.0 read_before
+  here =
+      let some = e.right.1 (e.clean, o.going.reading.accepted) in
+      let none : commits_of stage.first.infos (m ∷ stage.messages) ≡ read_at stage =
+      ap (λ (x : Option Commit). read_at stage ++ list_of x) (ends_none stage.first.infos m stage.messages changes e.states e.some) ∙ append-nil (read_at stage) in
+      let both : read_at stage ++ placed.parts.later ≡ read_at stage ++ some.later =
+      sym placed.parts.stated ∙ (some.stated ∙ ap (λ (l : List Commit). l ++ some.later) none) in
+      let next : IsSomeAnd (slice_get some.later 0) (BeginsCommit stage.first.infos (m ∷ stage.messages) opened.0) =
+      subst (λ (x : Option Head). IfSome x (λ begun. IsSomeAnd (slice_get some.later 0) (BeginsCommit stage.first.infos (m ∷ stage.messages) begun))) opened.1 some.next in
+      let first = some_first some.later (BeginsCommit stage.first.infos (m ∷ stage.messages) opened.0) next in
+      record {
+        commit = first.0;
+        rest = first.1;
+        parted = placed.parts.spelled ∙ ap (λ (l : List Commit). read_before ++ l) (cancel (read_at stage) placed.parts.later some.later both ∙ first.2);
+        begins = first.3;
+      }
+
+  -- with its Begin, and its first changes
+  so_far_is : so_far ≡ commit_so_far opened.0 (open_changes stage.first.infos (m ∷ stage.messages))
+  so_far_is =
+      e.commit_is
+      ∙ (ap (λ (x : Option Head). commit_so_far (head_in x) (changes_so_far stage.first.infos (m ∷ stage.messages))) opened.1
+      ∙ ap (commit_so_far opened.0) (ap (λ (x : Option Head). if_open x (open_changes stage.first.infos (m ∷ stage.messages))) opened.1))
+
+  becomes : BecomesCommit so_far here.commit
+  becomes = record {
+    head = ap commit_head so_far_is ∙ (λ i. record { lsn = here.begins.lsn i; time = here.begins.time i; xid = here.begins.xid i });
+    more = here.begins.rest;
+    changes = sym here.begins.stated ∙ ap (λ (c : Commit). changes_of c ++ here.begins.rest) (sym so_far_is);
+  }
+
+  newest_part : IsNewest stage.first.infos stage.history (read_with stage m)
+  newest_part = record {
+    commit = here.commit;
+    ends = inr (record {
+      so_far = so_far;
+      more = record {
+        message = m;
+        earlier = stage.messages;
+        newest = refl;
+        accepted = (e.clean, o.going.reading.accepted);
+        changes = changes;
+        states = e.states;
+        some = e.some;
+        commit_is = e.commit_is;
+      };
+      becomes = becomes;
+    });
+    place = length read_before;
+    stands = ap (λ (l : List Commit). slice_get l (length read_before)) here.parted ∙ slice_get-seam read_before here.commit here.rest;
+  }
+
+  open_clash_own : (h : Halt) → IsClashIn (clash_of stage.first.identity stage.first.infos so_far) h → IsOwnClash entry o.rests.is.offset later stage.history (read_with stage m) h
+  unfolding newest_part
+  open_clash_own h found = record {
+    infos = stage.first.infos;
+    captured = capturing entry stage o.going;
+    newest = newest_part;
+    clash = inl (clash_stays (session_identity entry) stage.first.infos so_far here.commit becomes.more becomes.changes h
+        (subst (λ (i : Identity). IsClashIn (clash_of i stage.first.infos so_far) h) (identity_is entry stage o.going) found));
+  }
+
+  open_long_own : (h : Halt) → IsLongSoFar (envelopes stage.first.identity stage.first.infos so_far entry.now) h → IsOwnLong entry o.rests.is.offset later stage.history (read_with stage m) h
+  unfolding newest_part
+  open_long_own h found = record {
+    infos = stage.first.infos;
+    captured = capturing entry stage o.going;
+    newest = newest_part;
+    long = inl (long_stays (session_identity entry) stage.first.infos so_far here.commit becomes.more becomes.changes entry.now becomes.head h
+        (subst (λ (i : Identity). IsLongSoFar (envelopes i stage.first.infos so_far entry.now) h) (identity_is entry stage o.going) found));
+  }
+
+pub open_clashes_are_own : OpenClashesAreOwn
+open_clashes_are_own entry stage b ms stored work report m changes so_far later h o e found =
+    (o.rests.is.offset, o.rests.is.stored_is, open_clash_own entry stage b ms stored work report m changes so_far later o e h found)
+
+pub open_long_records_are_own : OpenLongRecordsAreOwn
+open_long_records_are_own entry stage b ms stored work report m changes so_far later h o e found =
+    (o.rests.is.offset, o.rests.is.stored_is, open_long_own entry stage b ms stored work report m changes so_far later o e h found)
+
 pub clashes_are_own : ClashesAreOwn
 clashes_are_own entry stage b ms stored work report m commit later h o e same found = (o.rests.is.offset, o.rests.is.stored_is, clash_here entry stage b ms stored work report m commit later o e same h found)
 
@@ -336,16 +457,34 @@ long_records_are_own entry stage b ms stored work report m commit later h o e sa
 -- ---- offsets
 
 pub long_offsets_are_own : LongOffsetsAreOwn
-long_offsets_are_own entry stage work h faithful going work_is long = record {
+long_offsets_are_own entry stage work ahead h faithful going work_is long = record {
   offset = next_offset stage;
   identity = identity_is entry stage going;
   captured = capturing entry stage going;
-  is = (going.kept (stood_of entry faithful) faithful).next_is;
+  is = follows.faithful.lags.offset_is;
   long = subst (λ (x : Offset). IsTooLong x h) next_same long;
 }
   where
     next_same : next_offset_of work ≡ next_offset stage
-    next_same = ap₂ (λ (x : Offset) (f : Following). record x { cursors = f.cursors }) work_is.offset_is work_is.follower_is
+    next_same =
+        ap₂ (λ (x : Offset) (l : List Cursor). (let o : Offset = record x { cursors = l } in o)) work_is.offset_is
+        (open_cursors stage.messages work ahead ∙ ap (λ (f : Following). f.cursors) work_is.follower_is)
+
+    same_le : (n : ℕ) → n ≤ n
+    same_le n = omega arith
+
+    rests : MayBeLeft stage (left_of (state_at_stage stage))
+    rests = record {
+      more = [];
+      grown = record { tables = refl; commits = sym (append-nil stage.history.commits) };
+      marks = tt;
+      fit = going.reading.fit;
+      no_fall = same_le stage.confirmed.0;
+      confirmed = (going.kept (stood_of entry faithful) faithful).stored_is.confirmed_to;
+    }
+
+    follows : FollowsSession entry (left_of (state_at_stage stage)) (stage.groups ++ cut ahead.put) (Some (next_offset stage))
+    follows = open_left entry stage work ahead work_is going (left_of (state_at_stage stage)) (next_offset stage) faithful rests (inr refl)
 
 pub first_long_offsets_are_own : FirstLongOffsetsAreOwn
 first_long_offsets_are_own entry s t first h faithful history_is confirmed_is fit_entry fit begins long = record {

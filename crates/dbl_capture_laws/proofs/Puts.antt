@@ -1,6 +1,7 @@
 -- What the sink gains from step to step, and what is left of it.
-use Rattle.std.proofs.Common.{◌≡◌, ◌∙◌, inl, inr, ◌+◌, ◌-◌, ◌≤◌, ◌<◌, ◌^◌, ℕ, ℤ, min, Bool, true, false, Option, Some, None, List, [], ◌∷◌, ◌++◌, length, take, refl, sym, ap, subst, arith, append-nil, length-append}
-use Rattle.std.specs.Prelude.{is_some}
+use Rattle.std.proofs.Common.{◌≡◌, ◌∙◌, ◌+◌, ◌≤◌, ◌<◌, ◌^◌, ℕ, ℤ, Bool, true, false, Option, Some, None, List, [], ◌∷◌, ◌++◌, length, take, drop, refl, sym, ap, subst, arith, append-nil, length-append}
+use Rattle.std.proofs.lemmas.List.{take-append-drop, take-take}
+use Rattle.std.specs.Prelude.{is_some, IsSome}
 use Rattle.std.specs.List.{AllByRecursion}
 use Rattle.dbl_base.specs.declared.lsn.Lsn.{Lsn}
 use Rattle.dbl_pgmsg.specs.declared.messages.Message.{Message}
@@ -12,23 +13,28 @@ use Rattle.dbl_model_table.specs.declared.change.Commit.{Commit}
 use Rattle.dbl_model_table.specs.declared.identity.Identity.{Identity}
 use Rattle.dbl_model_table.specs.declared.table.TableInfo.{TableInfo}
 use Rattle.dbl_capture_work.specs.ModelHistory.Ranges.{IsCommitInRange, IsMomentInRange}
+use Rattle.dbl_capture_work.specs.ModelCommit.Past.{Head, begin_of}
 use Rattle.dbl_capture_work.specs.ModelCommit.Stated.{commits_of, ended_commit, list_of}
+use Rattle.dbl_capture_work.specs.ModelEvent.EventJson.{envelopes}
+use Rattle.dbl_capture_work.specs.Window.Plans.{Chunk}
+use Rattle.dbl_capture_work.specs.Follow.declared.window.Window.TheVariants.{Absent}
+use Rattle.dbl_capture_work.specs.Follow.Followed.{Following}
 use Rattle.dbl_capture_work.specs.Follow.Steps.{clash_by, mark_of, records_by}
 use Rattle.dbl_capture_work.specs.Offset.declared.offset.Offset.{Offset}
 use Rattle.dbl_capture_work.specs.CaptureModel.Entries.{appends_after}
 use Rattle.dbl_capture_work.proofs.CaptureModelEvents.{take_whole}
 use Rattle.dbl_capture_work.specs.declared.report.Report.{Report}
 use Rattle.dbl_capture_work.specs.declared.work.SessionState.{SessionState}
-use Rattle.dbl_capture_work.specs.CaptureModel.Reports.{chunks_in, snapshot_row_count}
-use Rattle.dbl_capture_work.specs.Groups.{chunks_of, counted, report_with, counted_snapshot_rows}
-use Rattle.dbl_capture_work.specs.Takes.{IsLeftByStep, HasSnapshotRecords, ReportsStep, WasStepped, WasTaken}
-use Rattle.dbl_capture_work.specs.Works.{IsWork}
-use Rattle.dbl_capture_laws.proofs.Rising.{accepted_rise}
+use Rattle.dbl_capture_work.specs.Groups.{counted, report_with}
+use Rattle.dbl_capture_work.specs.Takes.{HasSnapshotRecords, ReportsStep, WasStepped, WasTaken}
+use Rattle.dbl_capture_work.specs.Works.{head_in, IsWork, open_commit}
+use Rattle.dbl_capture_laws.proofs.Rising.{accepted_rise, begun_after}
 use Rattle.dbl_capture_laws.specs.Gained.{AreCounted, AreSent, Gains, IsGained, IsSentFor, Making, making_of}
 use Rattle.dbl_capture_laws.specs.Reported.{BeginsAfter}
 use Rattle.dbl_capture_laws.specs.Underway.{IsOfFirst}
-use Rattle.dbl_capture_laws.specs.Puts.{CommitsGain, GainsBegin, GainsStay, MessagesGainNothing, RestsLeaveGains, StepsAreCounted, StepsLeaveGains}
-use Rattle.dbl_capture_laws.proofs.Gained.{commits_are_sent, is_sent, puts_are_counted}
+use Rattle.dbl_capture_laws.specs.Puts.{CommitsGain, GainsBegin, GainsStay, MessagesGainNothing, OpensAreCounted, OpensLeaveGains, RestsLeaveGains, StepsAreCounted, StepsLeaveGains}
+use Rattle.dbl_capture_laws.proofs.Gained.{commits_are_sent, counted_after, is_sent, own_are_sent, own_cut}
+use Rattle.dbl_capture_laws.proofs.KindLemmas.{IsOfKind, kinds_by, kinds_taken}
 use Rattle.dbl_capture_laws.proofs.Ranged.{stated_commits_are_in_range}
 use Rattle.dbl_capture_laws.proofs.Halting.{after_stored}
 
@@ -125,6 +131,10 @@ rests_leave_gains config now held first stored work ms records groups left o is 
 le_lt : (a b c : ℕ) → a ≤ b → b < c → a ≤ c
 le_lt a b c le lt = omega (arith, le, lt)
 
+pub kinds_after : (snapshot : Bool) (xs ys : List Record) → AllByRecursion (IsOfKind snapshot) (xs ++ ys) → AllByRecursion (IsOfKind snapshot) ys
+kinds_after snapshot [] ys kinds = kinds
+kinds_after snapshot (x ∷ xs) ys kinds = kinds_after snapshot xs ys kinds.1
+
 module _ (after : Lsn) (ms : List Message) (bytes : List ℕ) (commit : Commit) (old next : SessionState) (is : IsWork after ms old) (w : WasTaken after ms bytes old next (Some commit)) where
   ends : ended_commit old.offset.infos w.message ms ≡ Some commit
   ends = sym w.commit_is
@@ -152,12 +162,18 @@ module _ (after : Lsn) (ms : List Message) (bytes : List ℕ) (commit : Commit) 
   pub items_sent : clash_by next.follower commit ≡ None → HasSnapshotRecords commit next → IsSentFor (making_at old) commit (records_by next.follower commit next.now_ms)
   items_sent clear listed = subst (IsSentFor (making_at old) commit) (sym items_are) (is_sent old commit is.identity is.infos is.own (clear_here clear) (listed_here listed) commit.body refl)
 
-  -- some first ones of them are counted
-  counted_here : (count : ℕ) (before report : Report) (records : List Record) → length ms < 2 ^ 30 → IsMomentInRange old.now_ms → HasSnapshotRecords commit next → AreCounted (cut records) before
-      → report ≡ report_with (is_some (mark_of commit)) (take count items) before → AreCounted (cut records ++ cut (take count items)) report
-  counted_here count before report records many moment listed c is_report =
-      puts_are_counted commit old count before report (cut records) (ranged many) moment (listed_here listed) c
-      (ap (λ (r : Report). r.records) is_report) (ap (λ (r : Report). r.chunks) is_report) (ap (λ (r : Report). r.snapshot_rows) is_report)
+  -- records of it are counted that are put after others of it
+  counted_here : (before report : Report) (records put rest some : List Record) → length ms < 2 ^ 30 → IsMomentInRange old.now_ms → HasSnapshotRecords commit next
+      → records_by next.follower commit next.now_ms ≡ put ++ rest
+      → ((snapshot : Bool) → AllByRecursion (IsOfKind snapshot) rest → AllByRecursion (IsOfKind snapshot) some) → AreCounted (cut records ++ cut put) before
+      → report.records ≡ (report_with (is_some (mark_of commit)) some before).records
+      → report.chunks ≡ (report_with (is_some (mark_of commit)) some before).chunks
+      → report.snapshot_rows ≡ (report_with (is_some (mark_of commit)) some before).snapshot_rows → AreCounted (cut records ++ cut (put ++ some)) report
+  counted_here before report records put rest some many moment listed whole of c one two three =
+      counted_after before report (is_some (mark_of commit)) records put some c
+      (of (is_some (mark_of commit)) (kinds_after (is_some (mark_of commit)) put rest
+      (subst (AllByRecursion (IsOfKind (is_some (mark_of commit)))) (sym items_are ∙ whole)
+      (kinds_by old.follower commit old.now_ms (ranged many) moment (listed_here listed))))) one two three
 
   module _ (records : List Record) (gained : IsGained after ms old records) (clear : clash_by old.follower commit ≡ None) (listed : HasSnapshotRecords commit old) where
     sends : AreSent (making_at old) after.0 (commits_of old.offset.infos (w.message ∷ ms)) (records ++ items)
@@ -190,30 +206,29 @@ module _ (after : Lsn) (ms : List Message) (bytes : List ℕ) (commit : Commit) 
       order = gained_at.order;
     })
 
-    counted_by : (before report : Report) → length ms < 2 ^ 30 → IsMomentInRange old.now_ms → ReportsStep commit (record old { assembler = next.assembler }) before report true → AreCounted (cut records) before → AreCounted (cut (records ++ items)) report
-    counted_by before report many moment reports c =
+    counted_by : (before report : Report) (put rest : List Record) → length ms < 2 ^ 30 → IsMomentInRange old.now_ms → HasSnapshotRecords commit next
+        → records_by next.follower commit next.now_ms ≡ put ++ rest → ReportsStep (is_some (mark_of commit)) rest before report true
+        → AreCounted (cut records ++ cut put) before → AreCounted (cut (records ++ items)) report
+    counted_by before report put rest many moment listed_next whole reports c =
         subst (λ (l : List (List Record)). AreCounted l report) (all_cut [])
-        (subst (λ (l : List Record). AreCounted (cut records ++ cut l) report) (take_whole items)
-        (puts_are_counted commit old (length items) before report (cut records) (ranged many) moment listed c
-        (ap (λ (r : Report). r.records) reports.is ∙ (ap (λ (r : Report). r.records) (reports.all refl) ∙ ap (λ (l : List Record). (report_with (is_some (mark_of commit)) l before).records) (sym (take_whole items))))
-        (ap (λ (r : Report). r.chunks) reports.is ∙ (ap (λ (r : Report). r.chunks) (reports.all refl) ∙ ap (λ (l : List Record). (report_with (is_some (mark_of commit)) l before).chunks) (sym (take_whole items))))
-        (ap (λ (r : Report). r.snapshot_rows) reports.is ∙ (ap (λ (r : Report). r.snapshot_rows) (reports.all refl) ∙ ap (λ (l : List Record). (report_with (is_some (mark_of commit)) l before).snapshot_rows) (sym (take_whole items))))))
+        (subst (λ (l : List Record). AreCounted (cut records ++ cut l) report) (sym whole ∙ items_are)
+        (counted_here before report records put rest rest many moment listed_next whole (λ snapshot kinds. kinds) c
+        (ap (λ (r : Report). r.records) reports.is ∙ ap (λ (r : Report). r.records) (reports.all refl))
+        (ap (λ (r : Report). r.chunks) reports.is ∙ ap (λ (r : Report). r.chunks) (reports.all refl))
+        (ap (λ (r : Report). r.snapshot_rows) reports.is ∙ ap (λ (r : Report). r.snapshot_rows) (reports.all refl))))
 
 pub commits_gain : CommitsGain
-commits_gain after ms bytes commit old next new before report records is w st many moment reports gained c = (
+commits_gain after ms bytes commit old next new before report records put rest is w st many moment whole apart reports gained c = (
   subst (λ (l : List Record). IsGained after (w.message ∷ ms) new (records ++ l)) (sym (items_are after ms bytes commit old next is w))
       (gained_by after ms bytes commit old next is w records gained clear listed new stepped),
   subst (λ (l : List Record). AreCounted (cut (records ++ l)) report) (sym (items_are after ms bytes commit old next is w))
-      (counted_by after ms bytes commit old next is w records gained clear listed before report many moment now_reports c),
+      (counted_by after ms bytes commit old next is w records gained clear listed before report put rest many moment st.listed whole reports c),
   λ groups. subst (λ (l : List Record). (groups ++ cut records) ++ cut l ≡ groups ++ cut (records ++ l)) (sym (items_are after ms bytes commit old next is w))
       (all_cut after ms bytes commit old next is w records gained clear listed groups),
 )
   where
     stepped : WasStepped commit (record old { assembler = next.assembler }) new
     stepped = subst (λ (x : SessionState). WasStepped commit x new) w.same st
-
-    now_reports : ReportsStep commit (record old { assembler = next.assembler }) before report true
-    now_reports = subst (λ (x : SessionState). ReportsStep commit x before report true) w.same reports
 
     clear : clash_by old.follower commit ≡ None
     clear = stepped.no_clash
@@ -224,18 +239,57 @@ commits_gain after ms bytes commit old next new before report records is w st ma
 -- ---- a commit that wasn't put whole
 
 pub steps_leave_gains : StepsLeaveGains
-steps_leave_gains config now held first stored old next ms bytes commit records groups left o is w gained was = by was
-  where
-    by : IsLeftByStep commit next (groups ++ cut records) left → Gains config now held (Some stored) groups left
-    by (inl none) = rests_leave_gains config now held first stored old ms records groups left o gained none
-    by (inr some) =
-        gains_cut config now held first stored old o (commits_of old.offset.infos (w.message ∷ ms)) (records ++ records_by old.follower commit old.now_ms) (length records + some.cut_is.0) groups left
-        (sends first.lsn ms bytes commit old next is w records gained (clear_here first.lsn ms bytes commit old next is w some.no_clash) (listed_here first.lsn ms bytes commit old next is w some.listed))
-        (some.cut_is.1
-        ∙ (ap (λ (l : List Record). (groups ++ cut records) ++ cut (take some.cut_is.0 l)) (items_are first.lsn ms bytes commit old next is w)
-        ∙ first_cut first.lsn ms bytes commit old next is w records gained (clear_here first.lsn ms bytes commit old next is w some.no_clash) (listed_here first.lsn ms bytes commit old next is w some.listed) some.cut_is.0 groups))
+steps_leave_gains config now held first stored old next ms bytes commit records groups left o is w gained some =
+    gains_cut config now held first stored old o (commits_of old.offset.infos (w.message ∷ ms)) (records ++ records_by old.follower commit old.now_ms) (length records + some.cut_is.0) groups left
+    (sends first.lsn ms bytes commit old next is w records gained (clear_here first.lsn ms bytes commit old next is w some.no_clash) (listed_here first.lsn ms bytes commit old next is w some.listed))
+    (some.cut_is.1
+    ∙ (ap (λ (l : List Record). (groups ++ cut records) ++ cut (take some.cut_is.0 l)) (items_are first.lsn ms bytes commit old next is w)
+    ∙ first_cut first.lsn ms bytes commit old next is w records gained (clear_here first.lsn ms bytes commit old next is w some.no_clash) (listed_here first.lsn ms bytes commit old next is w some.listed) some.cut_is.0 groups))
 
-abbrev tail_of : List (List Record) → List (List Record)
+-- ---- a transaction that is open
+
+-- the open transaction's LSN is after those of all commits
+pub opens_rise : (after : Lsn) (ms : List Message) (work : SessionState) → IsWork after ms work → IsSome (begin_of ms)
+    → work.offset.lsn.0 < (open_commit work.offset.infos ms).lsn.0
+opens_rise after ms work is inside = by (begin_of ms) refl inside
+  where
+    by : (o : Option Head) → begin_of ms ≡ o → IsSome o → work.offset.lsn.0 < (open_commit work.offset.infos ms).lsn.0
+    by None begun some = cc
+    by (Some head) begun some =
+        subst (λ (n : ℕ). work.offset.lsn.0 < n) (sym (ap (λ (o : Option Head). (head_in o).lsn.0) begun))
+        (subst (λ (l : Lsn). l.0 < head.lsn.0) (sym is.lsn) (begun_after work.offset.infos after ms head is.accepted begun))
+
+pub opens_leave_gains : OpensLeaveGains
+opens_leave_gains config now held first stored work ms count records groups left o is gained inside clear left_is =
+    let commit = open_commit work.offset.infos ms in
+    let rises = opens_rise first.lsn ms work is inside in
+    gains_cut config now held first stored work o (commits_of work.offset.infos ms ++ commit ∷ [])
+    (records ++ envelopes work.offset.identity work.offset.infos commit work.now_ms) (length records + count) groups left
+    (own_are_sent first.lsn ms work records commit gained rises clear) (left_is ∙ own_cut first.lsn ms work records commit gained rises count groups)
+
+-- the records of a commit's changes are a change's each
+pub own_kinds : (work : SessionState) (commit : Commit) → IsCommitInRange commit → IsMomentInRange work.now_ms → mark_of commit ≡ None
+    → AllByRecursion (IsOfKind false) (envelopes work.offset.identity work.offset.infos commit work.now_ms)
+own_kinds work commit range moment none =
+    let f : Following = record { identity = work.offset.identity; infos = work.offset.infos; cursors = []; window = Absent; part = None } in
+    subst (λ (o : Option (List ℕ)). AllByRecursion (IsOfKind (is_some o)) (envelopes work.offset.identity work.offset.infos commit work.now_ms)) none
+    (kinds_by f commit work.now_ms range moment (λ chunk is. absurd (no_chunk chunk is)))
+  where
+    no_chunk : (chunk : Chunk) → None ≡ Some chunk → ⊥
+    no_chunk chunk is = cc
+
+pub opens_are_counted : OpensAreCounted
+opens_are_counted work commit count from before report records range moment none le c is_report =
+    let items = envelopes work.offset.identity work.offset.infos commit work.now_ms in
+    let whole : take from items ++ drop from (take count items) ≡ take count items =
+    ap (λ (l : List Record). l ++ drop from (take count items)) (sym (take-take from count items le)) ∙ take-append-drop from (take count items) in
+    subst (λ (l : List Record). AreCounted (cut records ++ cut l) report) whole
+    (counted_after before report false records (take from items) (drop from (take count items)) c
+    (kinds_after false (take from items) (drop from (take count items))
+    (subst (AllByRecursion (IsOfKind false)) (sym whole) (kinds_taken false count items (own_kinds work commit range moment none))))
+    (ap (λ (r : Report). r.records) is_report) (ap (λ (r : Report). r.chunks) is_report) (ap (λ (r : Report). r.snapshot_rows) is_report))
+
+abbrev pub tail_of : List (List Record) → List (List Record)
 tail_of [] = []
 tail_of (x ∷ xs) = xs
 
@@ -247,36 +301,8 @@ none_since (x ∷ xs) ys is = none_since xs ys (ap tail_of is)
 pub none_cut : (items : List Record) → cut items ≡ [] → items ≡ []
 none_cut items is = sym (cuts_join items) ∙ ap joined is
 
-same_count : (n k most : ℕ) → n ≡ min (0 + k) most → min (n + 0) most ≡ n
-same_count n k most is = omega (arith, is)
-
--- no records change a report
-no_records : (snapshot : Bool) (more : List (List Record)) (before report : Report) → AreCounted more before → report ≡ report_with snapshot [] before → AreCounted (more ++ []) report
-no_records snapshot more before report c is = subst (λ (l : List (List Record)). AreCounted l report) (sym (append-nil more)) (record {
-  records = ap (λ (r : Report). r.records) is ∙ (same_count before.records (length (joined more)) (2 ^ 64 - 1) c.records ∙ c.records);
-  chunks = ap (λ (r : Report). r.chunks) is ∙ (none_of snapshot (λ (n : ℕ). counted before.chunks n) ∙ (same_count before.chunks (chunks_in (joined more)) (2 ^ 64 - 1) c.chunks ∙ c.chunks));
-  rows = ap (λ (r : Report). r.snapshot_rows) is ∙ (no_rows snapshot (λ (n : ℕ). counted before.snapshot_rows n) ∙ (same_count before.snapshot_rows (snapshot_row_count (joined more)) (2 ^ 64 - 1) c.rows ∙ c.rows));
-})
-  where
-    none_of : (s : Bool) (f : ℕ → ℕ) → f (chunks_of s []) ≡ f 0
-    none_of true f = refl
-    none_of false f = refl
-
-    no_rows : (s : Bool) (f : ℕ → ℕ) → f (counted_snapshot_rows s []) ≡ f 0
-    no_rows true f = refl
-    no_rows false f = refl
-
-nothing_counted : (snapshot : Bool) (some : List Record) (more : List (List Record)) (before report : Report) → some ≡ [] → AreCounted more before → report ≡ report_with snapshot some before → AreCounted (more ++ cut some) report
-nothing_counted snapshot some more before report none c is =
-    subst (λ (l : List Record). AreCounted (more ++ cut l) report) (sym none)
-    (no_records snapshot more before report c (is ∙ ap (λ (l : List Record). report_with snapshot l before) none))
-
 pub steps_are_counted : StepsAreCounted
-steps_are_counted after ms bytes commit old next count before report records groups is w many moment was c is_report = by was
-  where
-    by : IsLeftByStep commit next groups (groups ++ cut (take count (records_by next.follower commit next.now_ms))) → AreCounted (cut records ++ cut (take count (records_by next.follower commit next.now_ms))) report
-    by (inl none) = nothing_counted (is_some (mark_of commit)) (take count (records_by next.follower commit next.now_ms)) (cut records) before report (none_cut (take count (records_by next.follower commit next.now_ms)) (none_since groups (cut (take count (records_by next.follower commit next.now_ms))) none)) c is_report
-    by (inr some) =
-        subst (λ (l : List Record). AreCounted (cut records ++ cut (take count l)) report) (sym (items_are after ms bytes commit old next is w))
-        (counted_here after ms bytes commit old next is w count before report records many moment some.listed c
-        (is_report ∙ ap (λ (l : List Record). report_with (is_some (mark_of commit)) (take count l) before) (items_are after ms bytes commit old next is w)))
+steps_are_counted after ms bytes commit old next count before report records put rest groups is w many moment whole apart was c is_report =
+    counted_here after ms bytes commit old next is w before report records put rest (take count rest) many moment was.listed whole
+    (λ snapshot kinds. kinds_taken snapshot count rest kinds) c
+    (ap (λ (r : Report). r.records) is_report) (ap (λ (r : Report). r.chunks) is_report) (ap (λ (r : Report). r.snapshot_rows) is_report)

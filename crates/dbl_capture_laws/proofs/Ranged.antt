@@ -1,6 +1,6 @@
 -- Commits that messages state are in range: their numbers and texts, and how many changes they have.
 use Rattle.std.proofs.Common.{◌≡◌, inl, inr, ◌+◌, ◌*◌, ◌≤◌, ◌<◌, ◌^◌, ℕ, suc, Bool, true, false, Option, Some, None, Result, Ok, Err, List, [], ◌∷◌, ◌++◌, length, sym, subst, arith, length-append}
-use Rattle.std.specs.Prelude.{◌&&◌, ◌||◌, if◌then◌else◌, not, is_some, option_map, slice_get, FitsSigned, IfSome}
+use Rattle.std.specs.Prelude.{◌&&◌, ◌||◌, if◌then◌else◌, not, is_some, option_map, slice_get, FitsSigned, IfSome, IsSome}
 use Rattle.std.specs.Int.{w64}
 use Rattle.std.specs.List.{AllByRecursion, list_any}
 use Rattle.std.specs.Str.{IsUtf8}
@@ -38,6 +38,9 @@ use Rattle.dbl_capture_work.specs.ModelCommit.Past.{Head, begin_of, mark_by, mar
 use Rattle.dbl_capture_work.specs.ModelCommit.Stated.{body_of, clears, commit_of, has_some, in_table, is_the_watermark, ok_or_none, open_changes, row_stated, stated_in, target, targets_at, truncate_stated}
 use Rattle.dbl_capture_work.specs.ModelCommit.Tuples.{◌>>=◌, change_of, refuse_if, some_or}
 use Rattle.dbl_capture_work.proofs.ModelCommitChangeFits.{open_fits}
+use Rattle.dbl_model_table.specs.Heads.{commit_so_far}
+use Rattle.dbl_capture_work.specs.ModelCommit.Pieces.{if_open}
+use Rattle.dbl_capture_work.specs.Works.{head_in, open_commit}
 use Rattle.dbl_capture_laws.specs.Gained.{StatedCommitsAreInRange}
 
 -- ---- values
@@ -247,8 +250,11 @@ begun_ranged (says.Truncate options oids ∷ ms) all = begun_ranged ms all.1
 
 -- ---- a commit
 
-few_enough : (n k : ℕ) → n ≤ 2 ^ 31 * k → k < 2 ^ 30 → n < 2 ^ 62
-few_enough n k le lt = omega (arith, le, lt)
+few_enough : (n k : ℕ) → n ≤ 2 ^ 31 * k → k ≤ 2 ^ 30 → n < 2 ^ 62
+few_enough n k le most = omega (arith, le, most)
+
+less_most : (k : ℕ) → k < 2 ^ 30 → k ≤ 2 ^ 30
+less_most k lt = omega (arith, lt)
 
 body_ranged : (mark : Option (List ℕ)) (cs : List Change) → IfSome mark IsUtf8 → length cs < 2 ^ 62 → AllByRecursion IsChangeInRange cs → IsBodyInRange (body_of mark cs)
 body_ranged (Some value) cs text few all = text
@@ -266,7 +272,7 @@ module _ (infos : List TableInfo) (ms : List Message) (commit : Commit) (all : A
         time = begun.0;
         xid = begun.1;
         body = body_ranged (open_mark ms) (open_changes infos ms) (mark_ranged ms all)
-            (few_enough (length (open_changes infos ms)) (length ms) (open_few infos ms all) many)
+            (few_enough (length (open_changes infos ms)) (length ms) (open_few infos ms all) (less_most (length ms) many))
             (changes_ranged infos (open_changes infos ms) (open_fits infos ms all));
       })
 
@@ -281,3 +287,33 @@ stated_commits_are_in_range infos (says.TypeName o n m) ms commit all many is = 
 stated_commits_are_in_range infos (says.Relation o n m i c) ms commit all many is = cc
 stated_commits_are_in_range infos (says.Logical f l p c) ms commit all many is = cc
 stated_commits_are_in_range infos (says.Truncate options oids) ms commit all many is = cc
+
+-- ---- the open transaction
+
+lsn_ranged : (ms : List Message) → AllByRecursion FitsFields ms → IfSome (begin_of ms) (λ head. head.lsn.0 < 2 ^ 64)
+lsn_ranged [] all = tt
+lsn_ranged (says.Begin l t x ∷ ms) all = all.0.0
+lsn_ranged (says.Commit f l e t ∷ ms) all = tt
+lsn_ranged (says.Insert oid new ∷ ms) all = lsn_ranged ms all.1
+lsn_ranged (says.Update oid before new ∷ ms) all = lsn_ranged ms all.1
+lsn_ranged (says.Delete oid before ∷ ms) all = lsn_ranged ms all.1
+lsn_ranged (says.Origin l n ∷ ms) all = lsn_ranged ms all.1
+lsn_ranged (says.TypeName o n m ∷ ms) all = lsn_ranged ms all.1
+lsn_ranged (says.Relation o n m i c ∷ ms) all = lsn_ranged ms all.1
+lsn_ranged (says.Logical f l p c ∷ ms) all = lsn_ranged ms all.1
+lsn_ranged (says.Truncate options oids ∷ ms) all = lsn_ranged ms all.1
+
+pub open_in_range : (infos : List TableInfo) (ms : List Message) → AllByRecursion FitsFields ms → length ms ≤ 2 ^ 30 → IsSome (begin_of ms)
+    → IsCommitInRange (open_commit infos ms)
+open_in_range infos ms all many inside = by (begin_of ms) inside (begun_ranged ms all) (lsn_ranged ms all)
+  where
+    by : (o : Option Head) → IsSome o → IfSome o IsBegunInRange → IfSome o (λ head. head.lsn.0 < 2 ^ 64)
+        → IsCommitInRange (commit_so_far (head_in o) (if_open o (open_changes infos ms)))
+    by None some begun lsn = cc
+    by (Some head) some begun lsn = record {
+      lsn = lsn;
+      end_lsn = lsn;
+      time = begun.0;
+      xid = begun.1;
+      body = (few_enough (length (open_changes infos ms)) (length ms) (open_few infos ms all) many, changes_ranged infos (open_changes infos ms) (open_fits infos ms all));
+    }

@@ -1,12 +1,12 @@
 -- What a turn of a session has stored, and what it reports.
-use Rattle.std.proofs.Common.{◌≡◌, ◌∙◌, ◌⊎◌, inl, inr, ◌+◌, ◌≤◌, ◌<◌, ℕ, Bool, true, false, Option, Some, None, Result, Err, refl, sym, ap, subst, arith}
+use Rattle.std.proofs.Common.{◌≡◌, ◌∙◌, ◌⊎◌, inl, inr, ◌+◌, ◌≤◌, ◌<◌, ℕ, Bool, true, false, Option, Some, None, List, Result, Ok, Err, refl, sym, ap, subst, arith}
 use Rattle.std.specs.Prelude.{if◌then◌else◌, is_ok}
-use Rattle.dbl_model_table.specs.declared.change.Commit.{Commit}
+use Rattle.dbl_record.specs.declared.record.Record.{Record}
 use Rattle.dbl_capture_work.specs.Offset.declared.offset.Offset.{Offset}
 use Rattle.dbl_capture_work.specs.declared.halt.Halt.{Halt}
 use Rattle.dbl_capture_work.specs.declared.report.Report.{Report}
 use Rattle.dbl_capture_work.specs.declared.work.SessionState.{SessionState}
-use Rattle.dbl_capture_work.specs.Takes.{ReportsStep}
+use Rattle.dbl_capture_work.specs.Takes.{CountsOnlyRecords, ReportsStep}
 use Rattle.dbl_capture_work.specs.Works.{next_offset_of}
 use Rattle.dbl_capture_laws.specs.Ends.{HasOwnStored, IsAtPosition, IsReportAt}
 use Rattle.dbl_capture_laws.specs.Turns.{IsCountedNext, IsDue}
@@ -88,8 +88,8 @@ pub record HasStepped (before after : Report) (more : ℕ) : Type 0 where
   pub position : after.position ≡ before.position
 
 -- a step counts its records, and a commit where all of them were put
-pub step_counts : (commit : Commit) (work : SessionState) (before after : Report) (done : Bool) → ReportsStep commit work before after done → HasStepped before after (if done then 1 else 0)
-step_counts commit work before after done r = record {
+pub step_counts : (snapshot : Bool) (records : List Record) (before after : Report) (done : Bool) → ReportsStep snapshot records before after done → HasStepped before after (if done then 1 else 0)
+step_counts snapshot records before after done r = record {
   messages = ap (λ (x : Report). x.messages) r.is ∙ ap (λ (x : Report). x.messages) r.records_are.report;
   commits = ap (λ (x : Report). x.commits) r.is ∙ ap (λ (x : Report). x.commits + (if done then 1 else 0)) r.records_are.report;
   position = ap (λ (x : Report). x.position) r.is ∙ ap (λ (x : Report). x.position) r.records_are.report;
@@ -126,8 +126,20 @@ pub none_more : (a b : ℕ) → b ≡ a + 0 → b ≡ a
 none_more a b is = omega (arith, is)
 
 -- one was, and the records of the commit that it ends weren't all put
-pub counted_torn : (r : Result (Option Bool) Halt) (h : Halt) (commit : Commit) (work : SessionState) (before after : Report) → r ≡ Err h → ReportsStep commit work (record before { messages = before.messages + 1 }) after false → IsCountedNext r before after
-counted_torn r h commit work before after is noted =
-    let st : HasStepped (record before { messages = before.messages + 1 }) after 0 = step_counts commit work (record before { messages = before.messages + 1 }) after false noted in
+pub counted_torn : (r : Result (Option Bool) Halt) (h : Halt) (snapshot : Bool) (records : List Record) (before after : Report) → r ≡ Err h → ReportsStep snapshot records (record before { messages = before.messages + 1 }) after false → IsCountedNext r before after
+counted_torn r h snapshot records before after is noted =
+    let st : HasStepped (record before { messages = before.messages + 1 }) after 0 = step_counts snapshot records (record before { messages = before.messages + 1 }) after false noted in
     let bounds = between before.messages after.messages st.messages in
     counted_err r h before after is bounds.0 bounds.1 (none_more before.commits after.commits st.commits) st.position
+
+-- one was, and the records of its changes weren't all put
+pub counted_open : (r : Result (Option Bool) Halt) (h : Halt) (before after : Report) → r ≡ Err h → CountsOnlyRecords (record before { messages = before.messages + 1 }) after → IsCountedNext r before after
+counted_open r h before after is counts =
+    let bounds = between before.messages after.messages (ap (λ (x : Report). x.messages) counts) in
+    counted_err r h before after is bounds.0 bounds.1 (ap (λ (x : Report). x.commits) counts) (ap (λ (x : Report). x.position) counts)
+
+-- or they were
+pub counted_part : (due : Bool) (before after : Report) → CountsOnlyRecords (record before { messages = before.messages + 1 }) after → IsCountedNext (Ok (Some due)) before after
+counted_part due before after counts =
+    let commits : after.commits ≡ before.commits = ap (λ (x : Report). x.commits) counts in
+    (ap (λ (x : Report). x.messages) counts, omega (arith, commits), ap (λ (x : Report). x.position) counts)

@@ -25,7 +25,7 @@ less : (a b : ℕ) → nat_lt a b ≡ true → a < b
 less a b is = grind (arith, nat_tests)
 
 -- the open transaction's LSN is after that of the last one
-begun_after : (infos : List TableInfo) (after : Lsn) (ms : List Message) (begun : Head) → AreWithoutFault infos after ms → begin_of ms ≡ Some begun → (last_lsn after ms).0 < begun.lsn.0
+pub begun_after : (infos : List TableInfo) (after : Lsn) (ms : List Message) (begun : Head) → AreWithoutFault infos after ms → begin_of ms ≡ Some begun → (last_lsn after ms).0 < begun.lsn.0
 begun_after infos after [] begun accepted is = cc
 begun_after infos after (says.Begin lsn time xid ∷ ms) begun accepted is =
     let clean : own_fault infos after (says.Begin lsn time xid) ms ≡ None = no_other (place_fault (says.Begin lsn time xid) (is_some (begin_of ms))) (own_fault infos after (says.Begin lsn time xid) ms) accepted.0 in

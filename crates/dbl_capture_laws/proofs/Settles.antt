@@ -2,6 +2,7 @@
 use Rattle.std.proofs.Common.{◌≡◌, ◌∙◌, ◌⊎◌, inl, inr, ◌≤◌, ℕ, max, Option, Some, List, [], ◌∷◌, ◌++◌, length, refl, sym, ap, ap₂, subst, arith, IsTrue, Bool}
 use Rattle.dbl_base.specs.declared.lsn.Lsn.{Lsn}
 use Rattle.dbl_record.specs.declared.record.Record.{Record}
+use Rattle.dbl_record.specs.Cuts.{cut}
 use Rattle.dbl_topic.specs.Model.{SinkModel}
 use Rattle.dbl_capture_work.specs.Source.Model.{SourceModel}
 use Rattle.dbl_capture_work.specs.Disk.Model.{DiskModel}
@@ -20,12 +21,14 @@ use Rattle.dbl_capture_work.specs.CaptureModel.Stages.{Stage, next_offset}
 use Rattle.dbl_capture_work.specs.CaptureModel.Going.{IsGoing}
 use Rattle.dbl_capture_work.specs.CaptureModel.Steps.{stored_at}
 use Rattle.dbl_capture_work.specs.CaptureModel.Outcomes.{FollowsSession}
-use Rattle.dbl_capture_work.proofs.CaptureModelEnding.{stood_of, sources_may_end}
+use Rattle.dbl_capture_work.proofs.CaptureModelEnding.{stood_of}
 use Rattle.dbl_capture_work.proofs.CaptureModelStepping.{confirms_keep_going, stores_keep_going}
 use Rattle.dbl_capture_work.specs.declared.work.SessionState.{SessionState}
-use Rattle.dbl_capture_laws.specs.Sessions.{state_at_stage, InSession, AddsFewOrNoMarks, LeavesBy}
+use Rattle.dbl_capture_laws.specs.Sessions.{state_at_stage, InSession, IsWorkOf, AddsFewOrNoMarks, LeavesBy}
 use Rattle.dbl_capture_laws.specs.Turns.{HasReadAllAt, IsSettled, IsSettledWhole}
-use Rattle.dbl_capture_work.specs.Works.{next_offset_of}
+use Rattle.dbl_capture_work.specs.ModelHistory.declared.cursor.Cursor.{Cursor}
+use Rattle.dbl_capture_work.specs.Works.{next_offset_of, rest_in}
+use Rattle.dbl_capture_laws.proofs.Within.{open_cursors, open_left, settled_open}
 use Rattle.dbl_capture_laws.proofs.Keeping.{held_left, left_weaker, left_others, left_confirm, settled_work, source_ends, store_ends, stored_on, confirmed_low, rests_left, few_at, few_rest, some_chunk}
 
 -- commits of others have no watermark
@@ -41,7 +44,8 @@ module _ {S K D : Type 0} {tell : Bool} {source_model : SourceModel S} {sink_mod
     (s : InSession tell source_model sink_model model entry work src sink store) where
   -- the offset that the session would store is the next one of its stage
   pub next_is : next_offset_of work ≡ next_offset s.stage
-  next_is = ap₂ (λ (o : Offset) (f : Following). record o { cursors = f.cursors }) s.work_is.offset_is s.work_is.follower_is
+  next_is = ap₂ (λ (o : Offset) (l : List Cursor). (let n : Offset = record o { cursors = l } in n)) s.work_is.offset_is
+      (open_cursors s.stage.messages work s.ahead ∙ ap (λ (f : Following). f.cursors) s.work_is.follower_is)
 
   -- few watermarks were added where only others have committed since
   pub few_followed : (left : CrashState) → Grows s.stage.history left.history → AddsFewOrNoMarks entry left
@@ -51,14 +55,14 @@ module _ {S K D : Type 0} {tell : Bool} {source_model : SourceModel S} {sink_mod
 
   -- of one that may have let others commit, and nothing else
   pub follow_fails : (src2 : S) → ((left : CrashState) → source_model.may_leave src2 left → MayFollow (state_at_stage s.stage) left) → ((left : CrashState) → source_model.may_leave src2 left → IsFitHistory left.history)
-      → (IsTrue tell → (groups : List (List Record)) → sink_model.may_leave sink groups → groups ≡ s.stage.groups) → (left : CrashState) × source_model.may_leave src2 left → (IsTrue tell → (groups : List (List Record)) × sink_model.may_leave sink groups) → LeavesBy tell source_model sink_model model entry src2 sink store
+      → (IsTrue tell → (groups : List (List Record)) → sink_model.may_leave sink groups → groups ≡ s.stage.groups ++ cut s.ahead.put) → (left : CrashState) × source_model.may_leave src2 left → (IsTrue tell → (groups : List (List Record)) × sink_model.may_leave sink groups) → LeavesBy tell source_model sink_model model entry src2 sink store
   follow_fails src2 may fit only some_source some_sink =
       source_ends s src2 (λ faithful left is. left_others s.stage left (may left is) (fit left is) (confirmed_low s faithful)) only
       (λ left is. few_followed left (may left is).grows) some_source some_sink
 
   -- of a confirm, of a position that isn't after the stored offset
   pub confirm_fails : (src2 : S) (upto : Lsn) → upto.0 ≤ s.stage.stored.lsn.0 → ((left : CrashState) → source_model.may_leave src2 left → MayFollowConfirm upto (state_at_stage s.stage) left)
-      → ((left : CrashState) → source_model.may_leave src2 left → IsFitHistory left.history) → (IsTrue tell → (groups : List (List Record)) → sink_model.may_leave sink groups → groups ≡ s.stage.groups) → (left : CrashState) × source_model.may_leave src2 left → (IsTrue tell → (groups : List (List Record)) × sink_model.may_leave sink groups)
+      → ((left : CrashState) → source_model.may_leave src2 left → IsFitHistory left.history) → (IsTrue tell → (groups : List (List Record)) → sink_model.may_leave sink groups → groups ≡ s.stage.groups ++ cut s.ahead.put) → (left : CrashState) × source_model.may_leave src2 left → (IsTrue tell → (groups : List (List Record)) × sink_model.may_leave sink groups)
       → LeavesBy tell source_model sink_model model entry src2 sink store
   confirm_fails src2 upto le may fit only some_source some_sink =
       source_ends s src2 (λ faithful left is. left_confirm s.stage left upto (may left is) (fit left is) (confirmed_low s faithful) le) only
@@ -73,7 +77,7 @@ module _ {S K D : Type 0} {tell : Bool} {source_model : SourceModel S} {sink_mod
   pub store_fails : (store2 : StoreOn D) (honest : Type 0)
       → (IsTrue tell → LeavesOffset model (disk_of store2) (λ left. (left ≡ Some s.stage.stored) ⊎ (left ≡ Some (next_offset_of work))))
       → ((t : SourceState) (l : CrashState) → source_model.stands src t → source_model.may_leave src l → l ≡ left_of t) → ((t : SourceState) → source_model.stands src t → source_model.may_leave src (left_of t)) → honest → (honest → (l : CrashState) → source_model.may_leave src l → IsFitHistory l.history)
-      → (IsTrue tell → (groups : List (List Record)) → sink_model.may_leave sink groups → groups ≡ s.stage.groups) → (IsTrue tell → (groups : List (List Record)) × sink_model.may_leave sink groups) → LeavesBy tell source_model sink_model model entry src sink store2
+      → (IsTrue tell → (groups : List (List Record)) → sink_model.may_leave sink groups → groups ≡ s.stage.groups ++ cut s.ahead.put) → (IsTrue tell → (groups : List (List Record)) × sink_model.may_leave sink groups) → LeavesBy tell source_model sink_model model entry src sink store2
   store_fails store2 honest leaves only may is_honest fit only_sink some_sink =
       store_ends s store2
       (λ t. left_weaker model (disk_of store2) (λ left. (left ≡ Some s.stage.stored) ⊎ (left ≡ Some (next_offset_of work))) (λ left. (left ≡ Some s.stage.stored) ⊎ (left ≡ Some (next_offset s.stage))) (leaves t) either_next)
@@ -98,6 +102,19 @@ up_to a b c l is same = omega (arith, is, same)
 
 module _ {S K D : Type 0} {tell : Bool} {source_model : SourceModel S} {sink_model : SinkModel K} {model : DiskModel D} {entry : SessionStart} {work : SessionState} {src : S} {sink : K} {store : StoreOn D}
     (s : InSession tell source_model sink_model model entry work src sink store) where
+  -- it agrees with the stage after the store
+  pub settled_work_of : IsWorkOf entry (stored_at s.stage) (rest_in (settled_open s.stage.messages work s.work_is.is.some s.ahead))
+  settled_work_of = record {
+    is = settled_work s.stage.first.lsn s.stage.messages (rest_in s.ahead) s.work_is.is;
+    offset_is = s.work_is.offset_is;
+    follower_is = s.work_is.follower_is;
+    now_is = s.work_is.now_is;
+    chunk_is = s.work_is.chunk_is;
+    every_is = s.work_is.every_is;
+    since_is = refl;
+    number_is = s.work_is.number_is;
+  }
+
   abbrev pub rested_work : SessionState
   rested_work = record work { since = 0 }
 
@@ -110,7 +127,7 @@ module _ {S K D : Type 0} {tell : Bool} {source_model : SourceModel S} {sink_mod
   -- the confirm after the store fails
   pub settle_fails : (src2 : S) (store2 : StoreOn D) → (IsTrue tell → HoldsOffset model store2 (Some (next_offset_of work)))
       → ((left : CrashState) → source_model.may_leave src2 left → MayFollowConfirm (next_offset_of work).lsn (state_at_stage s.stage) left) → ((left : CrashState) → source_model.may_leave src2 left → IsFitHistory left.history)
-      → (IsTrue tell → (groups : List (List Record)) → sink_model.may_leave sink groups → groups ≡ s.stage.groups) → (left : CrashState) × source_model.may_leave src2 left → (IsTrue tell → (groups : List (List Record)) × sink_model.may_leave sink groups)
+      → (IsTrue tell → (groups : List (List Record)) → sink_model.may_leave sink groups → groups ≡ s.stage.groups ++ cut s.ahead.put) → (left : CrashState) × source_model.may_leave src2 left → (IsTrue tell → (groups : List (List Record)) × sink_model.may_leave sink groups)
       → LeavesBy tell source_model sink_model model entry src2 sink store2
   settle_fails src2 store2 held may fit only some_source some_sink = record {
     follows = λ t faithful. left_weaker model (disk_of store2) (λ offset. offset ≡ Some (next_offset s.stage)) (λ offset. (left : CrashState) (groups : List (List Record)) → source_model.may_leave src2 left → sink_model.may_leave sink groups → FollowsSession entry left groups offset)
@@ -122,12 +139,14 @@ module _ {S K D : Type 0} {tell : Bool} {source_model : SourceModel S} {sink_mod
     some_sink = some_sink;
   }
     where
-      follows_stored : (faithful : WasFaithful entry) (left : CrashState) → source_model.may_leave src2 left → FollowsSession entry left s.stage.groups (Some (next_offset s.stage))
+      follows_stored : (faithful : WasFaithful entry) (left : CrashState) → source_model.may_leave src2 left
+          → FollowsSession entry left (s.stage.groups ++ cut s.ahead.put) (Some (next_offset s.stage))
       follows_stored faithful left is =
           let k = s.going.kept (stood_of entry faithful) faithful in
-          sources_may_end entry (stored_at s.stage) left faithful
+          open_left entry (stored_at s.stage) (record work { since = 0 }) (settled_open s.stage.messages work s.work_is.is.some s.ahead) settled_work_of
+          (stores_keep_going entry s.stage s.going) left (next_offset s.stage) faithful
           (left_confirm (stored_at s.stage) left (next_offset_of work).lsn (may left is) (fit left is) (low_on s.stage.confirmed.0 s.stage.stored.lsn.0 s.stage.lsn.0 k.stored_is.confirmed_to k.to) (same_le (next_offset_of work).lsn.0 s.stage.lsn.0 (stored_lsn work s.stage s.work_is.offset_is)))
-          (stores_keep_going entry s.stage s.going)
+          (inl refl)
 
   module _ (src2 : S) (store2 : StoreOn D) (t : SourceState) (held : IsTrue tell → HoldsOffset model store2 (Some (next_offset_of work))) (is : source_model.stands src2 t) (confirmed : IsConfirmed (next_offset_of work).lsn (state_at_stage s.stage) t) (fit : IsFitHistory t.history) where
     pub settled_source : source_model.stands src2 (state_at_stage (record (stored_at s.stage) { history = t.history; confirmed = t.confirmed }))
@@ -146,11 +165,12 @@ module _ {S K D : Type 0} {tell : Bool} {source_model : SourceModel S} {sink_mod
     settled_on = record {
       is = record {
         stage = record (stored_at s.stage) { history = t.history; confirmed = t.confirmed };
+        ahead = settled_open s.stage.messages work s.work_is.is.some s.ahead;
         source_is = settled_source;
         sink_is = s.sink_is;
         store_is = held_next store2 held;
         work_is = record {
-          is = settled_work s.stage.first.lsn s.stage.messages work s.work_is.is;
+          is = settled_work s.stage.first.lsn s.stage.messages (rest_in s.ahead) s.work_is.is;
           offset_is = s.work_is.offset_is;
           follower_is = s.work_is.follower_is;
           now_is = s.work_is.now_is;
@@ -169,4 +189,9 @@ module _ {S K D : Type 0} {tell : Bool} {source_model : SourceModel S} {sink_mod
 pub settled_whole : {S K D : Type 0} {tell : Bool} {source_model : SourceModel S} {sink_model : SinkModel K} {model : DiskModel D} {entry : SessionStart} {work : SessionState} {src : S} {sink : K} {store : StoreOn D}
     (h : HasReadAllAt tell source_model sink_model model entry work src sink store) (src2 : S) (store2 : StoreOn D) (t : SourceState) → (IsTrue tell → HoldsOffset model store2 (Some (next_offset_of work))) → source_model.stands src2 t → IsConfirmed (next_offset_of work).lsn (state_at_stage h.is.stage) t → IsFitHistory t.history
     → IsSettledWhole tell source_model sink_model model entry (record work { since = 0 }) src2 sink store2
-settled_whole h src2 store2 t held is confirmed fit = record { settled = settled_on h.is src2 store2 t held is confirmed fit; more = h.more; all = h.all }
+settled_whole h src2 store2 t held is confirmed fit = record {
+  settled = settled_on h.is src2 store2 t held is confirmed fit;
+  closed = h.closed;
+  more = h.more;
+  all = h.all;
+}

@@ -19,7 +19,7 @@ use Rattle.dbl_capture_work.specs.declared.work.SessionState.{SessionState}
 use Rattle.dbl_capture_work.specs.Begins.{IsExhausted, IsFaultOf, IsGoneFrom, IsModelFault, IsTooLong}
 use Rattle.dbl_capture_work.specs.Causes.{IsChunkHalt, IsLongRecord, IsOfRows}
 use Rattle.dbl_capture_work.specs.Halts.{source_halt, window_halt}
-use Rattle.dbl_capture_work.specs.Takes.{IsClashIn, IsMessageHalt, IsTxnHalt}
+use Rattle.dbl_capture_work.specs.Takes.{IsClashIn, IsLongSoFar, IsMessageHalt, IsTxnHalt}
 use Rattle.dbl_capture_work.proofs.Exits.{source_failed}
 
 -- ---- words: none is of a watermark that is missing
@@ -152,3 +152,9 @@ follow_of clash records h (inl memory) = subst OfSink (sym memory) tt
 follow_of clash records h (inr (inl sink)) = subst OfSink (sym sink) tt
 follow_of clash records h (inr (inr (inl is))) = clash_halt clash h is
 follow_of clash records h (inr (inr (inr long))) = subst OfSink (sym long.1.is) tt
+
+pub open_of : (clash : Option Clash) (records : List Record) (h : Halt) → (h ≡ halt.Memory) ⊎ ((h ≡ halt.Sink) ⊎ (IsClashIn clash h ⊎ ((clash ≡ None) × IsLongSoFar records h))) → OfSink h
+open_of clash records h (inl memory) = subst OfSink (sym memory) tt
+open_of clash records h (inr (inl sink)) = subst OfSink (sym sink) tt
+open_of clash records h (inr (inr (inl is))) = clash_halt clash h is
+open_of clash records h (inr (inr (inr long))) = subst OfSink (sym long.1.long.is) tt

@@ -1,8 +1,10 @@
 -- The cause of a session's halt, at each of its calls.
 use Rattle.std.proofs.Common.{◌≡◌, ◌⊎◌, inl, inr, ◌+◌, ℕ, ℤ, Option, Some, None, List, [], ◌∷◌, refl, sym, subst}
 use Rattle.dbl_pgmsg.specs.declared.messages.Message.{Message}
+use Rattle.dbl_model_table.specs.declared.change.Change.{Change}
 use Rattle.dbl_model_table.specs.declared.change.Commit.{Commit}
 use Rattle.dbl_model_table.specs.declared.config.Config.{Config}
+use Rattle.dbl_capture_work.specs.ModelCommit.declared.piece.Piece.TheVariants.{Changed}
 use Rattle.dbl_capture_work.specs.SourceModel.Trace.{Trace, IsTakenBy, Read, LastAnswerIs}
 use Rattle.dbl_capture_work.specs.Offset.declared.offset.Offset.{Offset}
 use Rattle.dbl_capture_work.specs.Offset.Offsets.{IsOffset}
@@ -18,7 +20,7 @@ use Rattle.dbl_capture_work.specs.declared.work.SessionState.{SessionState}
 use Rattle.dbl_capture_work.specs.Begins.{IsTooLong}
 use Rattle.dbl_capture_work.specs.Causes.{IsChunkHalt, IsLongRecord}
 use Rattle.dbl_capture_work.specs.Halts.{source_halt}
-use Rattle.dbl_capture_work.specs.Takes.{IsClashIn, IsMessageHalt, IsTxnHalt, WasTaken}
+use Rattle.dbl_capture_work.specs.Takes.{HasTakenPiece, IsClashIn, IsMessageHalt, IsTxnHalt, WasTaken}
 use Rattle.dbl_capture_work.specs.Works.{IsOpenTable, next_offset_of}
 use Rattle.dbl_capture_laws.specs.Halted.{IsHalt}
 use Rattle.dbl_capture_laws.specs.Written.{AreClosed}
@@ -26,6 +28,7 @@ use Rattle.dbl_capture_laws.specs.Underway.{IsBetweenMessages, IsOpenHalt}
 use Rattle.dbl_capture_laws.specs.Carried.{HasReadSinceStart, Beginning, IsReadUpTo, IsResting}
 use Rattle.dbl_capture_laws.proofs.Causes.{bytes_halt, marks_are_missed, messages_halt, offsets_halt, windows_halt}
 use Rattle.dbl_capture_laws.proofs.Ended.{has_taken}
+use Rattle.dbl_capture_laws.proofs.OpenCommits.{IsOpenCause, open_newest}
 use Rattle.dbl_capture_laws.proofs.Unread.{sessions_halt_unread}
 
 module _ (config : Config) (now : ℤ) (held stored : Option Offset) (report : Report) (told : Option Trace) where
@@ -65,7 +68,7 @@ module _ (b : Beginning) (ms : List Message) (stored : Option Offset) (work : Se
       (bytes_halt b.config b.now b.held b.first r.is.offset work before (record before { messages = before.messages + 1 }) found a.begun old new bytes h r.is.of a.begun_unread (has_taken b ms stored work before found old r.is a) one refl message)
   taken_caused before found old new bytes h r a one (inr (inr txn)) =
       held_as before new r.is (record before { messages = before.messages + 1 }) h
-      (messages_halt b.config b.now b.held b.first r.is.offset work before (record before { messages = before.messages + 1 }) found a.begun old new bytes h r.is.of (between before r) a.begun_unread (has_taken b ms stored work before found old r.is a) one refl (inl txn))
+      (messages_halt b.config b.now b.held b.first r.is.offset work before (record before { messages = before.messages + 1 }) found a.begun old new bytes h r.is.of (between before r) a.begun_unread (has_taken b ms stored work before found old r.is a) r.is.so_far one refl (inl txn))
 
   -- for the records of the commit that it ends
   pub follow_caused : (before report : Report) (found old new : Option Trace) (bytes : List ℕ) (next : SessionState) (commit : Commit) (h : Halt) → IsResting b ms stored work before → HasReadSinceStart found old ms → IsTakenBy (bytes ∷ []) old new
@@ -76,7 +79,19 @@ module _ (b : Beginning) (ms : List Message) (stored : Option Offset) (work : Se
   follow_caused before report found old new bytes next commit h r a one w counted same (inr (inl failed)) = subst (IsHalt b.config b.now b.held stored report new) (sym failed) tt
   follow_caused before report found old new bytes next commit h r a one w counted same (inr (inr either)) =
       held_as before new r.is report h
-      (messages_halt b.config b.now b.held b.first r.is.offset work before report found a.begun old new bytes h r.is.of (record { cursors = r.same; windows = subst (AreClosed work) (sym same) r.is.windows }) a.begun_unread (has_taken b ms stored work before found old r.is a) one counted (inr (next, commit, w, either)))
+      (messages_halt b.config b.now b.held b.first r.is.offset work before report found a.begun old new bytes h r.is.of (record { cursors = r.same; windows = subst (AreClosed work) (sym same) r.is.windows }) a.begun_unread (has_taken b ms stored work before found old r.is a) r.is.so_far one counted (inr (inr (next, commit, w, either))))
+
+  -- for the records of changes that it states
+  pub changes_caused : (before report : Report) (found old new : Option Trace) (bytes : List ℕ) (next : SessionState) (changes : List Change) (h : Halt) → IsResting b ms stored work before → HasReadSinceStart found old ms → IsTakenBy (bytes ∷ []) old new
+      → (p : HasTakenPiece b.first.lsn ms bytes work next (Changed changes)) → report.messages ≡ before.messages + 1 → report.chunks ≡ before.chunks
+      → (h ≡ halt.Memory) ⊎ ((h ≡ halt.Sink) ⊎ IsOpenCause next (p.taken.message ∷ ms) h)
+      → IsHalt b.config b.now b.held stored report new h
+  changes_caused before report found old new bytes next changes h r a one p counted same (inl memory) = memory_caused b.config b.now b.held stored report new h memory
+  changes_caused before report found old new bytes next changes h r a one p counted same (inr (inl failed)) = subst (IsHalt b.config b.now b.held stored report new) (sym failed) tt
+  changes_caused before report found old new bytes next changes h r a one p counted same (inr (inr either)) =
+      held_as before new r.is report h
+      (messages_halt b.config b.now b.held b.first r.is.offset work before report found a.begun old new bytes h r.is.of (record { cursors = r.same; windows = subst (AreClosed work) (sym same) r.is.windows }) a.begun_unread (has_taken b ms stored work before found old r.is a) r.is.so_far one counted
+      (inr (inl (open_newest b.first.lsn ms bytes work next changes h p r.is.so_far either))))
 
   -- for a watermark that it waits for
   pub missed_caused : (report : Report) (found told : Option Trace) (value : List ℕ) → IsResting b ms stored work report → HasReadSinceStart found told ms → awaited work.follower.window ≡ Some value → LastAnswerIs told (Read None)

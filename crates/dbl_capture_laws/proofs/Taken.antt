@@ -5,6 +5,7 @@ use Rattle.std.specs.List.{AllByRecursion}
 use Rattle.dbl_base.specs.declared.lsn.Lsn.{Lsn}
 use Rattle.dbl_pgmsg.specs.declared.messages.Message.{Message}
 use Rattle.dbl_pgmsg.specs.Grammar.{FitsFields}
+use Rattle.dbl_record.specs.declared.record.Record.{Record}
 use Rattle.dbl_model_table.specs.declared.table.TableInfo.{TableInfo}
 use Rattle.dbl_model_table.specs.declared.change.Body.{Body}
 use Rattle.dbl_model_table.specs.declared.change.Body.TheVariants.{Changes, Mark}
@@ -14,10 +15,11 @@ use Rattle.dbl_model_table.specs.declared.identity.Identity.{Identity}
 use Rattle.dbl_model_table.specs.declared.row.Key.{Key}
 use Rattle.dbl_model_table.specs.declared.row.Row.{Row}
 use Rattle.dbl_capture_work.specs.ModelHistory.declared.cursor.Cursor.{Cursor}
+use Rattle.dbl_capture_work.specs.ModelCommit.declared.piece.Piece.TheVariants.{Nothing}
 use Rattle.dbl_capture_work.specs.ModelCommit.Stated.{commits_of, ended_commit, list_of, transaction_fault}
 use Rattle.dbl_capture_work.specs.ModelEvent.Clashes.{clash_of}
 use Rattle.dbl_capture_work.specs.ModelEvent.EventJson.{envelopes}
-use Rattle.dbl_capture_work.specs.Txn.Stands.{StandsWhole}
+use Rattle.dbl_capture_work.specs.Txn.Stands.{StandsInPieces}
 use Rattle.dbl_capture_work.specs.Txn.declared.assembler.Assembler.{Assembler}
 use Rattle.dbl_capture_work.specs.Offset.declared.offset.Offset.{Offset}
 use Rattle.dbl_capture_work.specs.Offset.Offsets.{IsOffset}
@@ -31,8 +33,10 @@ use Rattle.dbl_capture_work.specs.Follow.Followed.{Following}
 use Rattle.dbl_capture_work.specs.Follow.Steps.{Becomes, Steps, watermark_in, clash_by, clash_in, closing, cursors_after, records_by, records_of}
 use Rattle.dbl_capture_work.proofs.CaptureModelCursors.{cursors_step}
 use Rattle.dbl_capture_work.specs.declared.work.SessionState.{SessionState}
-use Rattle.dbl_capture_work.specs.Takes.{HasSnapshotRecords, WasStepped, WasTaken}
-use Rattle.dbl_capture_work.specs.Works.{AreShort, CouldBeSent, EndsAt, IsOwnWaiting, HasReadyWork, IsWork}
+use Rattle.dbl_capture_work.specs.Takes.{HasSnapshotRecords, HasTakenPiece, WasStepped, WasTaken}
+use Rattle.dbl_capture_laws.proofs.Ahead.{at_rest_so, batch_after, open_after}
+use Rattle.dbl_capture_laws.proofs.Opened.{nothing_open}
+use Rattle.dbl_capture_work.specs.Works.{AreShort, CouldBeSent, EndsAt, HasOpen, HasReadyWork, IsAmidWork, IsOwnWaiting, IsWork, rest_in, resting}
 use Rattle.dbl_capture_laws.specs.Turns.{IsNextOf}
 use Rattle.dbl_capture_laws.proofs.Rising.{accepted_rise, lsn_stays, lsn_moves}
 use Rattle.dbl_capture_laws.proofs.Fewer.{left_fewer}
@@ -74,7 +78,7 @@ module _ (incarnation number most : ℕ) (infos captured : List TableInfo) (curs
       by false is = same_own (Armed chunk) cur is own
   own_after (Open chunk) (Changes changes) cur to own =
       same_own (Open (record chunk { rows = to.0 })) cur to.1
-      (record { incarnation_is = own.incarnation_is; number_is = own.number_is; table = own.table; info = own.info; few = left_few chunk.plan.table chunk.rows to.0 changes to.2 to.3 own.few })
+      (record { incarnation_is = own.incarnation_is; number_is = own.number_is; table = own.table; info = own.info; few = left_few chunk.plan.table chunk.rows to.0 changes to.2 to.3 own.few; ordered = to.3 })
   own_after (Open chunk) (Mark value) cur to own = by (bytes_eq value (high_text chunk.plan)) cur to
     where
       by : (b : Bool) → cursors2 ≡ cursors_after cursors (if b then Some chunk else None) → new ≡ (if b then Absent else Open chunk) → Own cursors2 new
@@ -87,7 +91,7 @@ module _ (after : Lsn) (ms : List Message) (work : SessionState) (is : IsWork af
   abbrev Sendable : Commit → Type 0
   Sendable commit = CouldBeSent work.offset.identity work.offset.infos work.now_ms commit commit.body
 
-  module _ (m : Message) (fields : FitsFields m) (a : Assembler) (clean : transaction_fault work.offset.infos after m ms ≡ None) (stands_on : StandsWhole work.offset.infos after (m ∷ ms) a) where
+  module _ (m : Message) (fields : FitsFields m) (a : Assembler) (clean : transaction_fault work.offset.infos after m ms ≡ None) (stands_on : StandsInPieces work.offset.infos after (m ∷ ms) a) where
     -- it ends no commit
     pub taken_is : ended_commit work.offset.infos m ms ≡ None → IsWork after (m ∷ ms) (record work { assembler = a })
     taken_is none = record {
@@ -175,17 +179,45 @@ module _ (after : Lsn) (ms : List Message) (work : SessionState) (is : IsWork af
 
 -- ---- it is ready for the next one
 
-pub taken_ready : (after : Lsn) (ms : List Message) (bytes : List ℕ) (old new : SessionState) → IsWork after ms old → WasTaken after ms bytes old new None → HasReadyWork new
-taken_ready after ms bytes old new is w =
-    subst HasReadyWork (sym w.same) (record { after = after; messages = w.message ∷ ms; is = taken_is after ms old is w.message w.spells.fits.fields new.assembler w.clean w.stands (sym w.commit_is) })
+-- the session before the open transaction
+rest_is : (after : Lsn) (ms : List Message) (bytes : List ℕ) (old new : SessionState) (start : Following) → IsWork after ms (resting start old) → (w : WasTaken after ms bytes old new None) → IsWork after (w.message ∷ ms) (resting start new)
+rest_is after ms bytes old new start is w =
+    subst (λ (x : SessionState). IsWork after (w.message ∷ ms) (resting start x)) (sym w.same)
+    (taken_is after ms (resting start old) is w.message w.spells.fits.fields new.assembler w.clean w.stands (sym w.commit_is))
 
-pub stepped_ready : (after : Lsn) (ms : List Message) (bytes : List ℕ) (commit : Commit) (old next new : SessionState) → IsWork after ms old → WasTaken after ms bytes old next (Some commit) → WasStepped commit next new → AreShort (records_by next.follower commit next.now_ms) → HasReadyWork new
-stepped_ready after ms bytes commit old next new is w st short = by (subst (λ (v : SessionState). WasStepped commit v new) w.same st) (subst (λ (v : SessionState). AreShort (records_by v.follower commit v.now_ms)) w.same short)
+pub taken_ready : (after : Lsn) (ms : List Message) (bytes : List ℕ) (old new : SessionState) (ahead : HasOpen ms old) → IsWork after ms (rest_in ahead) → HasTakenPiece after ms bytes old new Nothing → HasReadyWork new
+taken_ready after ms bytes old new ahead is p = record {
+  after = after;
+  messages = p.taken.message ∷ ms;
+  ahead = record { start = ahead.start; put = ahead.put; is = nothing_open after ms bytes old new is.accepted p ahead.start ahead.put ahead.is };
+  is = rest_is after ms bytes old new ahead.start is p.taken;
+}
+
+-- its changes were followed
+pub part_ready : (after : Lsn) (ms : List Message) (bytes : List ℕ) (old next new : SessionState) (ahead : HasOpen ms old) (put : List Record) → IsWork after ms (rest_in ahead) → (w : WasTaken after ms bytes old next None)
+    → IsAmidWork (w.message ∷ ms) ahead.start put new → new ≡ record next { follower = new.follower; batch = new.batch } → HasReadyWork new
+part_ready after ms bytes old next new ahead put is w amid same = record {
+  after = after;
+  messages = w.message ∷ ms;
+  ahead = record { start = ahead.start; put = put; is = amid };
+  is = subst (IsWork after (w.message ∷ ms)) (sym (ap (λ (x : SessionState). resting ahead.start x) same)) (rest_is after ms bytes old next ahead.start is w);
+}
+
+-- the commit that it ends was
+pub stepped_ready : (after : Lsn) (ms : List Message) (bytes : List ℕ) (commit : Commit) (old next new : SessionState) (start : Following) → IsWork after ms (resting start old) → WasTaken after ms bytes old next (Some commit) → WasStepped commit (resting start next) new
+    → AreShort (records_by start commit next.now_ms) → HasReadyWork new
+stepped_ready after ms bytes commit old next new start is w st short = record {
+  after = after;
+  messages = w.message ∷ ms;
+  ahead = open_after after ms bytes commit old next new start w st;
+  is = subst (IsWork after (w.message ∷ ms)) (sym (at_rest_so new (batch_after commit next new start st)))
+      (by (subst (λ (v : SessionState). WasStepped commit (resting start v) new) w.same st) (subst (λ (v : SessionState). AreShort (records_by start commit v.now_ms)) w.same short));
+}
   where
-    by : WasStepped commit (record old { assembler = next.assembler }) new → AreShort (records_by old.follower commit old.now_ms) → HasReadyWork new
-    by st short =
-        subst HasReadyWork (sym st.same)
-        (record { after = after; messages = w.message ∷ ms; is = followed_is after ms old is w.message w.spells.fits.fields next.assembler w.clean w.stands commit (sym w.commit_is) new.follower st.steps st.no_clash short st.listed })
+    by : WasStepped commit (resting start (record old { assembler = next.assembler })) new → AreShort (records_by start commit old.now_ms) → IsWork after (w.message ∷ ms) new
+    by st few =
+        subst (IsWork after (w.message ∷ ms)) (sym st.same)
+        (followed_is after ms (resting start old) is w.message w.spells.fits.fields next.assembler w.clean w.stands commit (sym w.commit_is) new.follower st.steps st.no_clash few st.listed)
 
 -- ---- what stays the same
 
@@ -200,10 +232,21 @@ taken_next old new same = record {
   now_is = ap (λ (w : SessionState). w.now_ms) same;
 }
 
-pub stepped_next : (commit : Commit) (old next new : SessionState) → next ≡ record old { assembler = next.assembler } → WasStepped commit next new → IsNextOf old new
-stepped_next commit old next new same st = by (subst (λ (v : SessionState). WasStepped commit v new) same st)
+pub part_next : (old next new : SessionState) → next ≡ record old { assembler = next.assembler } → new ≡ record next { follower = new.follower; batch = new.batch } → IsNextOf old new
+part_next old next new one two = record {
+  offset_is = placed old.offset new.offset old.offset.lsn old.offset.end_lsn (ap (λ (w : SessionState). w.offset) two ∙ ap (λ (w : SessionState). w.offset) one);
+  number_is = ap (λ (w : SessionState). w.number) two ∙ ap (λ (w : SessionState). w.number) one;
+  every_is = ap (λ (w : SessionState). w.every) two ∙ ap (λ (w : SessionState). w.every) one;
+  now_is = ap (λ (w : SessionState). w.now_ms) two ∙ ap (λ (w : SessionState). w.now_ms) one;
+}
+
+pub part_since : (old next new : SessionState) → next ≡ record old { assembler = next.assembler } → new ≡ record next { follower = new.follower; batch = new.batch } → old.since < old.every → new.since < new.every
+part_since old next new one two since = subst (λ (w : SessionState). w.since < w.every) (sym two) (subst (λ (w : SessionState). w.since < w.every) (sym one) since)
+
+pub stepped_next : (commit : Commit) (old next new : SessionState) (start : Following) → next ≡ record old { assembler = next.assembler } → WasStepped commit (resting start next) new → IsNextOf old new
+stepped_next commit old next new start same st = by (subst (λ (v : SessionState). WasStepped commit (resting start v) new) same st)
   where
-    by : WasStepped commit (record old { assembler = next.assembler }) new → IsNextOf old new
+    by : WasStepped commit (resting start (record old { assembler = next.assembler })) new → IsNextOf old new
     by st = record {
       offset_is = placed old.offset new.offset commit.lsn commit.end_lsn (ap (λ (w : SessionState). w.offset) st.same);
       number_is = ap (λ (w : SessionState). w.number) st.same;
@@ -211,11 +254,11 @@ stepped_next commit old next new same st = by (subst (λ (v : SessionState). Was
       now_is = ap (λ (w : SessionState). w.now_ms) st.same;
     }
 
-pub stepped_since : (commit : Commit) (old next new : SessionState) → next ≡ record old { assembler = next.assembler } → WasStepped commit next new → old.since < old.every → new.since ≤ new.every
-stepped_since commit old next new same st since = by (subst (λ (v : SessionState). WasStepped commit v new) same st)
+pub stepped_since : (commit : Commit) (old next new : SessionState) (start : Following) → next ≡ record old { assembler = next.assembler } → WasStepped commit (resting start next) new → old.since < old.every → new.since ≤ new.every
+stepped_since commit old next new start same st since = by (subst (λ (v : SessionState). WasStepped commit (resting start v) new) same st)
   where
     one_more : (a b n m : ℕ) → a ≡ n + 1 → b ≡ m → n < m → a ≤ b
     one_more a b n m one two lt = omega (arith, one, two, lt)
 
-    by : WasStepped commit (record old { assembler = next.assembler }) new → new.since ≤ new.every
+    by : WasStepped commit (resting start (record old { assembler = next.assembler })) new → new.since ≤ new.every
     by st = one_more new.since new.every old.since old.every (ap (λ (w : SessionState). w.since) st.same) (ap (λ (w : SessionState). w.every) st.same) since

@@ -1,12 +1,16 @@
 -- What a session's report tells where it goes on, and where it stops with an error.
-use Rattle.std.proofs.Common.{◌≡◌, ◌∙◌, ◌⊎◌, inl, inr, ◌+◌, ◌≤◌, ◌^◌, ℕ, ℤ, Bool, true, false, Option, Some, None, List, [], Result, Ok, Err, refl, sym, ap, subst, arith}
+use Rattle.std.proofs.Common.{◌≡◌, ◌∙◌, ◌⊎◌, inl, inr, ◌+◌, ◌≤◌, ◌^◌, ℕ, ℤ, Bool, true, false, Option, Some, None, List, [], ◌∷◌, Result, Ok, Err, refl, sym, ap, subst, arith}
 use Rattle.std.specs.Prelude.{Contains, IfErr, IfSome, IsErrAnd, OnOk}
 use Rattle.dbl_base.specs.declared.lsn.Lsn.{Lsn}
 use Rattle.dbl_pgmsg.specs.declared.messages.Message.{Message}
+use Rattle.dbl_record.specs.declared.record.Record.{Record}
 use Rattle.dbl_capture_work.specs.Source.Model.{SourceModel}
 use Rattle.dbl_model_table.specs.declared.config.Config.{Config}
+use Rattle.dbl_model_table.specs.declared.change.Change.{Change}
 use Rattle.dbl_model_table.specs.declared.change.Commit.{Commit}
 use Rattle.dbl_model_table.specs.declared.table.TableName.{TableName}
+use Rattle.dbl_capture_work.specs.ModelCommit.declared.piece.Piece.TheVariants.{Changed}
+use Rattle.dbl_capture_work.specs.ModelEvent.Clashes.{clash_of}
 use Rattle.dbl_capture_work.specs.ModelHistory.History.{History}
 use Rattle.dbl_capture_work.specs.SourceModel.declared.started.Started.TheVariants.{Gone}
 use Rattle.dbl_capture_work.specs.SourceModel.Standings.{Reading, SourceState}
@@ -26,7 +30,8 @@ use Rattle.dbl_capture_work.specs.declared.work.SessionState.{SessionState}
 use Rattle.dbl_capture_work.specs.Begins.{IsAbsentHalt, IsExhausted, IsGoneFrom, IsModelFault, IsOffsetFor, IsTooLong}
 use Rattle.dbl_capture_work.specs.Causes.{IsChunkHalt, IsLongRecord, IsOfRows}
 use Rattle.dbl_capture_work.specs.Halts.{source_halt, window_halt}
-use Rattle.dbl_capture_work.specs.Takes.{IsClashIn, IsMessageHalt, IsTxnHalt, ReportsStep, WasTaken}
+use Rattle.dbl_capture_work.specs.Takes.{CountsOnlyRecords, HasTakenPiece, IsClashIn, IsMessageHalt, IsTxnHalt, ReportsStep, WasTaken}
+use Rattle.dbl_capture_work.specs.Works.{CouldBeSentSoFar, open_commit}
 use Rattle.dbl_capture_work.proofs.Exits.{taken_on}
 use Rattle.dbl_capture_laws.specs.Reported.{IsLeftOut}
 use Rattle.dbl_capture_laws.specs.Underway.{IsBeginHalt, IsOpenHalt}
@@ -34,6 +39,7 @@ use Rattle.dbl_capture_laws.specs.Carried.{Beginning, IsNewestCause}
 use Rattle.dbl_capture_laws.specs.Sources.{GoesOn, HasCommitted, IsUnderWay}
 use Rattle.dbl_capture_laws.specs.Found.{HasStored}
 use Rattle.dbl_capture_laws.specs.Halted.{IsHalt}
+use Rattle.dbl_capture_laws.proofs.OpenCommits.{IsOpenCause, open_newest}
 use Rattle.dbl_capture_laws.proofs.Reporting.{HasStepped, step_counts}
 
 -- ---- results
@@ -106,8 +112,17 @@ pub follow_cause : (number : ℕ) (after : Lsn) (ms : List Message) (bytes : Lis
     → (h ≡ halt.Memory) ⊎ ((h ≡ halt.Sink) ⊎ (IsClashIn (clash_by next.follower commit) h ⊎ ((clash_by next.follower commit ≡ None) × IsLongRecord (records_by next.follower commit next.now_ms) h)))
     → IsNewestCause number after ms bytes work h
 follow_cause number after ms bytes work next commit h w none (inl memory) = inl memory
-follow_cause number after ms bytes work next commit h w none (inr (inl failed)) = inr (inr (inr (failed, (next, commit, w, none failed))))
-follow_cause number after ms bytes work next commit h w none (inr (inr either)) = inr (inr (inl (inr (next, commit, w, either))))
+follow_cause number after ms bytes work next commit h w none (inr (inl failed)) = inr (inr (inr (failed, inl (next, commit, w, none failed))))
+follow_cause number after ms bytes work next commit h w none (inr (inr either)) = inr (inr (inl (inr (inr (next, commit, w, either)))))
+
+-- at changes that it states
+pub open_cause : (number : ℕ) (after : Lsn) (ms : List Message) (bytes : List ℕ) (work next : SessionState) (changes : List Change) (h : Halt) (p : HasTakenPiece after ms bytes work next (Changed changes)) → CouldBeSentSoFar work ms
+    → (h ≡ halt.Sink → clash_of next.offset.identity next.offset.infos (open_commit next.offset.infos (p.taken.message ∷ ms)) ≡ None) → (h ≡ halt.Memory) ⊎ ((h ≡ halt.Sink) ⊎ IsOpenCause next (p.taken.message ∷ ms) h)
+    → IsNewestCause number after ms bytes work h
+open_cause number after ms bytes work next changes h p so_far none (inl memory) = inl memory
+open_cause number after ms bytes work next changes h p so_far none (inr (inl failed)) =
+    inr (inr (inr (failed, inr (next, p.taken, subst (λ (x : SessionState). clash_of x.offset.identity x.offset.infos (open_commit x.offset.infos (p.taken.message ∷ ms)) ≡ None) p.taken.same (none failed)))))
+open_cause number after ms bytes work next changes h p so_far none (inr (inr either)) = inr (inr (inl (inr (inl (open_newest after ms bytes work next changes h p so_far either)))))
 
 none_more : (a b : ℕ) → b ≡ a + 0 → b ≡ a
 none_more a b is = omega (arith, is)
@@ -117,10 +132,14 @@ pub record IsTornCount (before after : Report) : Type 0 where
   pub messages : after.messages ≡ before.messages + 1
   pub commits : after.commits ≡ before.commits
 
-pub torn_counts : (commit : Commit) (work : SessionState) (before after : Report) → ReportsStep commit work (record before { messages = before.messages + 1 }) after false → IsTornCount before after
-torn_counts commit work before after noted =
-    let st : HasStepped (record before { messages = before.messages + 1 }) after 0 = step_counts commit work (record before { messages = before.messages + 1 }) after false noted in
+pub torn_counts : (snapshot : Bool) (records : List Record) (before after : Report) → ReportsStep snapshot records (record before { messages = before.messages + 1 }) after false → IsTornCount before after
+torn_counts snapshot records before after noted =
+    let st : HasStepped (record before { messages = before.messages + 1 }) after 0 = step_counts snapshot records (record before { messages = before.messages + 1 }) after false noted in
     record { messages = st.messages; commits = none_more before.commits after.commits st.commits }
+
+-- nor is one before its end
+pub open_counts : (before after : Report) → CountsOnlyRecords (record before { messages = before.messages + 1 }) after → IsTornCount before after
+open_counts before after counts = record { messages = ap (λ (r : Report). r.messages) counts; commits = ap (λ (r : Report). r.commits) counts }
 
 -- ---- it goes on
 

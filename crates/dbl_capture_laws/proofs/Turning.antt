@@ -9,9 +9,10 @@ use Rattle.dbl_capture_work.specs.Follow.declared.window.Window.{Window}
 use Rattle.dbl_capture_work.specs.Follow.declared.window.Window.TheVariants.{Absent, Armed, Open}
 use Rattle.dbl_capture_work.specs.Follow.Followed.{awaited}
 use Rattle.dbl_capture_work.specs.declared.work.SessionState.{SessionState}
-use Rattle.dbl_capture_work.specs.Works.{IsArmedWork, IsOpenTable, HasReadyWork}
+use Rattle.dbl_capture_work.specs.Works.{IsArmedWork, IsOpenTable, HasReadyWork, rest_in}
 use Rattle.dbl_capture_laws.specs.Ends.{IsArmedNext, HasNoneNext, table_to_read}
-use Rattle.dbl_capture_laws.proofs.Arms.{PlanIs, plan_parts, own_chunk}
+use Rattle.dbl_capture_laws.proofs.Arms.{PlanIs, arms_work, first_before, plan_before, plan_parts}
+use Rattle.dbl_capture_laws.proofs.Within.{armed_open}
 
 -- ---- the next table
 
@@ -107,24 +108,9 @@ armed_ready old new table r unread armed =
     subst HasReadyWork (sym armed.is) (record {
       after = r.after;
       messages = r.messages;
-      is = record {
-        asked = r.is.asked;
-        identity = r.is.identity;
-        infos = r.is.infos;
-        cursors = r.is.cursors;
-        stands = r.is.stands;
-        fields = r.is.fields;
-        accepted = r.is.accepted;
-        lsn = r.is.lsn;
-        end_is = r.is.end_is;
-        start = r.is.start;
-        sent = r.is.sent;
-        between = r.is.between;
-        own = own_chunk old table armed.chunk p unread.first armed.few;
-        some_rows = r.is.some_rows;
-        few_rows = r.is.few_rows;
-        some = r.is.some;
-      };
+      ahead = armed_open r.messages old armed.chunk r.ahead;
+      is = arms_work (rest_in r.ahead) table armed.chunk (plan_before r.messages old r.ahead table armed.chunk.plan p)
+          (first_before r.messages old r.ahead table unread.first) armed.few armed.ordered r.is;
     })
 
 -- where there is one, it waits for it

@@ -4,7 +4,6 @@ use Rattle.std.specs.Prelude.{slice_get, Result, Ok, Err, OnErr, OnOk}
 use Rattle.std.specs.List.{AllByRecursion}
 use Rattle.std.proofs.Math.Seq.{take-append_seam}
 use Rattle.dbl_pgmsg.specs.declared.messages.Message.{Message}
-use Rattle.dbl_record.specs.declared.record.Record.{Record}
 use Rattle.dbl_topic.specs.Model.{SinkModel}
 use Rattle.dbl_capture_work.specs.Source.Model.{SourceModel}
 use Rattle.dbl_model_table.specs.declared.change.Body.TheVariants.{Mark}
@@ -36,12 +35,13 @@ use Rattle.dbl_capture_work.proofs.CaptureModelEnding.{stood_of}
 use Rattle.dbl_capture_work.proofs.CaptureModelWindowing.{raw_mark}
 use Rattle.dbl_capture_work.specs.declared.report.Report.{Report}
 use Rattle.dbl_capture_work.specs.declared.work.SessionState.{SessionState}
-use Rattle.dbl_capture_work.specs.Works.{next_offset_of}
+use Rattle.dbl_capture_work.specs.Works.{next_offset_of, rest_in}
 use Rattle.dbl_capture_laws.specs.Carried.{Beginning}
 use Rattle.dbl_capture_laws.specs.Closed.{HasClosedRead, HasNoHigh}
 use Rattle.dbl_capture_laws.specs.Sessions.{InSession, state_at_stage}
 use Rattle.dbl_capture_laws.specs.Sources.{HasCommitted}
 use Rattle.dbl_capture_laws.proofs.Halting.{incarnation_stored, infos_stored}
+use Rattle.dbl_capture_laws.proofs.Opened.{closed_open, like_waiting, window_like}
 use Rattle.dbl_capture_laws.proofs.Sources.{reading_of}
 
 -- some first ones of a list are as all of it
@@ -156,6 +156,9 @@ module _ {S K D : Type 0} {tell : Bool} {source_model : SourceModel S} {sink_mod
   incarnation_is : (next_offset_of work).incarnation ≡ s.stage.first.incarnation
   incarnation_is = ap (λ (o : Offset). o.incarnation) s.work_is.offset_is
 
+  waits_are : waiting work.follower.window ≡ waiting s.stage.following.window
+  waits_are = like_waiting s.ahead.start.window work.follower.window (window_like s.ahead) ∙ ap (λ (f : Following). waiting f.window) s.work_is.follower_is
+
   abbrev here : Reading
   here = record { after = s.stage.first.lsn; messages = s.stage.messages }
 
@@ -170,7 +173,7 @@ module _ {S K D : Type 0} {tell : Bool} {source_model : SourceModel S} {sink_mod
       (subst (λ (l : List TableInfo). HasNoHigh s.stage.first.incarnation number (take report.commits (commits_of l s.stage.messages))) (sym infos_are)
       (all_taken (λ (commit : Commit). commit.body ≢ Mark (mark_text s.stage.first.incarnation number High)) report.commits (read_at s.stage)
       (none_unclosed entry s.stage faithful s.going report.chunks
-      (sym s.work_is.number_is ∙ (windows ∙ ap (λ (f : Following). report.chunks + waiting f.window) s.work_is.follower_is)) number subsequent small)))))
+      (sym s.work_is.number_is ∙ (windows ∙ ap (λ (n : ℕ). report.chunks + n) waits_are)) number subsequent small)))))
 
   -- where it stopped, the newest messages aren't counted
   counted_are : (newest : List Message) (commits : ℕ) → commits ≡ length (read_at s.stage) → take commits (commits_of s.stage.first.infos (newest ++ s.stage.messages)) ≡ read_at s.stage
@@ -196,8 +199,8 @@ module _ {S K D : Type 0} {tell : Bool} {source_model : SourceModel S} {sink_mod
     own_of : (offset : Offset) → (stored ≡ Some offset) ⊎ (offset ≡ next_offset_of work) → (offset.incarnation ≡ s.stage.first.incarnation) × (offset.infos ≡ s.stage.first.infos)
     own_of offset (inl held) =
         let same : here.is.offset ≡ offset = first_some here.is.offset offset (sym here.is.stored_is ∙ held) in (
-          sym (ap (λ (o : Offset). o.incarnation) same) ∙ (sym (incarnation_stored b.config b.now b.held b.first here.is.offset work here.is.of) ∙ incarnation_is),
-          sym (ap (λ (o : Offset). o.infos) same) ∙ (sym (infos_stored b.config b.now b.held b.first here.is.offset work here.is.of) ∙ infos_are),
+          sym (ap (λ (o : Offset). o.incarnation) same) ∙ (sym (incarnation_stored b.config b.now b.held b.first here.is.offset (rest_in here.ahead) here.is.of) ∙ incarnation_is),
+          sym (ap (λ (o : Offset). o.infos) same) ∙ (sym (infos_stored b.config b.now b.held b.first here.is.offset (rest_in here.ahead) here.is.of) ∙ infos_are),
         )
     own_of offset (inr next) = (ap (λ (o : Offset). o.incarnation) next ∙ incarnation_is, ap (λ (o : Offset). o.infos) next ∙ infos_are)
 
@@ -215,4 +218,4 @@ module _ {S K D : Type 0} {tell : Bool} {source_model : SourceModel S} {sink_mod
         (subst (λ (l : List TableInfo). HasNoHigh s.stage.first.incarnation number (take report.commits (commits_of l (newest ++ s.stage.messages)))) (sym own.1)
         (subst (λ (commits : List Commit). HasNoHigh s.stage.first.incarnation number commits) (sym (counted_are newest report.commits (counted ∙ commits_are)))
         (none_unclosed entry s.stage faithful s.going before.chunks
-        (sym s.work_is.number_is ∙ (here.is.windows ∙ ap (λ (f : Following). before.chunks + waiting f.window) s.work_is.follower_is)) number (fewer before.chunks report.chunks number more subsequent) small))))
+        (sym s.work_is.number_is ∙ (closed_open here.ahead before.chunks here.is.windows ∙ ap (λ (n : ℕ). before.chunks + n) waits_are)) number (fewer before.chunks report.chunks number more subsequent) small))))

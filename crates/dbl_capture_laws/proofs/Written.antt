@@ -1,5 +1,5 @@
 -- How many windows a report counts, and how many watermarks a session has written beside them.
-use Rattle.std.proofs.Common.{◌≡◌, ◌∙◌, ◌+◌, ◌-◌, ◌*◌, ◌≤◌, ◌<◌, ◌^◌, ℕ, ℤ, zero, suc, min, Bool, true, false, cond, ◌&&◌, Option, Some, None, List, [], ◌∷◌, ◌++◌, length, filter, map, refl, sym, ap, subst, arith, length-append, append_assoc}
+use Rattle.std.proofs.Common.{◌≡◌, ◌∙◌, ◌⊎◌, inl, inr, ◌+◌, ◌-◌, ◌*◌, ◌≤◌, ◌<◌, ◌^◌, ℕ, ℤ, zero, suc, min, Bool, true, false, cond, ◌&&◌, Option, Some, None, List, [], ◌∷◌, ◌++◌, length, filter, map, refl, sym, ap, subst, arith, length-append, append_assoc}
 use Rattle.std.specs.Prelude.{if◌then◌else◌, not, nat_lt, is_some, slice_get, bytes_eq, flat_map, option_map, unwrap_or}
 use Rattle.std.specs.List.{AllByRecursion, AllZip, list_all, position, prefix_len}
 use Rattle.std.proofs.lemmas.Bool.Decides.{nat_tests}
@@ -105,13 +105,22 @@ counts_one n c a most one two three = omega (arith, one, two, three)
 below : (n : ℕ) → n < 2 ^ 64 → n ≤ 2 ^ 64 - 1
 below n lt = omega (arith, lt)
 
-module _ (commit : Commit) (old new : SessionState) (before after : Report) (small : old.number < 2 ^ 64) (stepped : WasStepped commit old new) (reports : ReportsStep commit old before after true) (was : AreClosed old before.chunks) where
+-- the records before the rest count no window
+rest_same : (snapshot : Bool) (records put rest : List Record) → records ≡ put ++ rest → (put ≡ []) ⊎ (snapshot ≡ false) → chunks_of snapshot rest ≡ chunks_of snapshot records
+rest_same snapshot records put rest parted (inl none) = ap (chunks_of snapshot) (sym (parted ∙ ap (λ (l : List Record). l ++ rest) none))
+rest_same snapshot records put rest parted (inr changes) = ap (λ (b : Bool). chunks_of b rest) changes ∙ sym (ap (λ (b : Bool). chunks_of b records) changes)
+
+module _ (commit : Commit) (old new : SessionState) (put rest : List Record) (before after : Report) (small : old.number < 2 ^ 64) (stepped : WasStepped commit old new)
+    (parted : records_by old.follower commit old.now_ms ≡ put ++ rest) (either : (put ≡ []) ⊎ (is_some (mark_of commit) ≡ false))
+    (reports : ReportsStep (is_some (mark_of commit)) rest before after true) (was : AreClosed old before.chunks) where
   abbrev more : ℕ
   more = chunks_of (is_some (mark_of commit)) (records_by old.follower commit old.now_ms)
 
   counted_is : after.chunks ≡ counted before.chunks more
   counted_is =
-      ap (λ (r : Report). r.chunks) reports.is ∙ ap (λ (r : Report). r.chunks) (reports.all refl)
+      ap (λ (r : Report). r.chunks) reports.is
+      ∙ (ap (λ (r : Report). r.chunks) (reports.all refl)
+      ∙ ap (counted before.chunks) (rest_same (is_some (mark_of commit)) (records_by old.follower commit old.now_ms) put rest parted either))
 
   -- the windows that were read stay as many, and what the commit makes of one that waits is told by its body
   by_window : (window : Window) → new.follower.window ≡ window → old.number ≡ after.chunks + waiting window → AreClosed new after.chunks
@@ -162,7 +171,7 @@ module _ (commit : Commit) (old new : SessionState) (before after : Report) (sma
   closes_now = by_body commit.body refl stepped.steps.window
 
 pub steps_close_windows : StepsCloseWindows
-steps_close_windows commit old new before after small stepped reports was = closes_now commit old new before after small stepped reports was
+steps_close_windows commit old new put rest before after small stepped parted either reports was = closes_now commit old new put rest before after small stepped parted either reports was
 
 -- ---- what is left
 

@@ -1,5 +1,5 @@
 -- What a session keeps from call to call, by the messages that it has taken, and what its report says at its end.
-use Rattle.std.specs.Prelude.{◌≡◌, ◌⊎◌, ℕ, ℤ, ◌+◌, ◌<◌, ◌≤◌, ◌^◌, ◌∷◌, [], false, true, Option, Some, None, IfSome, Ok, Err, List, length}
+use Rattle.std.specs.Prelude.{◌≡◌, ◌⊎◌, ℕ, ℤ, ◌+◌, ◌<◌, ◌≤◌, ◌^◌, ◌∷◌, ◌++◌, [], false, is_some, true, Option, Some, None, IfSome, Ok, Err, List, length}
 use Rattle.dbl_base.specs.declared.lsn.Lsn.{Lsn}
 use Rattle.dbl_pgmsg.specs.declared.messages.Message.{Message}
 use Rattle.dbl_pgmsg.specs.Grammar.{Spells}
@@ -10,7 +10,8 @@ use Rattle.dbl_capture_work.specs.SourceModel.Standings.{SourceState}
 use Rattle.dbl_capture_work.specs.SourceModel.Trace.{Trace, IsTakenAnew, IsTakenBy}
 use Rattle.dbl_capture_work.specs.Offset.declared.offset.Offset.{Offset}
 use Rattle.dbl_capture_work.specs.Follow.declared.window.Window.TheVariants.{Absent}
-use Rattle.dbl_capture_work.specs.Follow.Steps.{clash_by, records_by}
+use Rattle.dbl_record.specs.declared.record.Record.{Record}
+use Rattle.dbl_capture_work.specs.Follow.Steps.{mark_of, records_by}
 use Rattle.dbl_capture_work.specs.declared.halt.Halt.{Halt}
 use Rattle.dbl_capture_work.specs.declared.halt.Halt.TheVariants as halt
 use Rattle.dbl_capture_work.specs.declared.report.Ending.{Ending}
@@ -18,13 +19,13 @@ use Rattle.dbl_capture_work.specs.declared.report.Report.{Report}
 use Rattle.dbl_capture_work.specs.declared.work.SessionState.{SessionState}
 use Rattle.dbl_capture_work.specs.Begins.{IsOffsetFor}
 use Rattle.dbl_capture_work.specs.Takes.{IsMessageHalt, ReportsStep, WasStepped, WasTaken, closes}
-use Rattle.dbl_capture_work.specs.Works.{AreShort, IsArmedWork, BeginsWithOffset, IsOpenTable, IsWork, next_offset_of}
+use Rattle.dbl_capture_work.specs.Works.{AreShort, CouldBeSentSoFar, IsArmedWork, BeginsWithOffset, IsOpenTable, IsWork, next_offset_of}
 use Rattle.dbl_capture_laws.specs.Written.{AreClosed}
 use Rattle.dbl_capture_laws.specs.Reported.{AreSpelled, HasReadMessages, HasSettled, HasStoodAfter}
 use Rattle.dbl_capture_laws.specs.Reported.{IsFollowed, IsLeftOut, StoodAtLast, TellsSoMany, end_after}
 use Rattle.dbl_capture_laws.specs.Halted.{MovesOne}
 use Rattle.dbl_capture_laws.specs.Musts.{MustHaltStood, MustHaltTold}
-use Rattle.dbl_capture_laws.specs.Underway.{IsNewestHalt, IsOfFirst, IsOpenHalt, IsOpenedBy, IsOrderedWindow}
+use Rattle.dbl_capture_laws.specs.Underway.{IsNewestHalt, IsOfFirst, IsOpenHalt, IsOpenedBy, IsSentNewest}
 
 -- ---- what a session keeps
 
@@ -43,11 +44,11 @@ pub record IsReadUpTo (b : Beginning) (ms : List Message) (stored : Option Offse
   pub of : IsOfFirst b.config b.now b.held b.first offset work
   pub upto : offset.lsn.0 ≤ work.offset.lsn.0
   pub is : IsWork b.first.lsn ms work
+  pub so_far : CouldBeSentSoFar work ms
   pub end_is : work.offset.end_lsn ≡ end_after b.first.end_lsn (commits_of work.offset.infos ms)
   pub many : length ms ≡ report.messages
   pub followed : report.commits ≡ length (commits_of work.offset.infos ms)
   pub opened : IsOpenedBy work.follower.window (commits_of work.offset.infos ms)
-  pub ordered : IsOrderedWindow work.follower.window
   pub windows : AreClosed work report.chunks
   pub moves : MovesOne offset.cursors work.follower.cursors
 
@@ -87,9 +88,7 @@ pub record HasHaltedStood (config : Config) (now : ℤ) (held stored : Option Of
 abbrev pub IsNewestCause : ℕ → Lsn → List Message → List ℕ → SessionState → Halt → Type 0
 IsNewestCause number after ms bytes work h =
     (h ≡ halt.Memory) ⊎ (IsMessageHalt number bytes h ⊎ (IsNewestHalt number after ms bytes work h
-    ⊎ ((h ≡ halt.Sink)
-    × ((next : SessionState) × (commit : Commit) × WasTaken after ms bytes work next (Some commit)
-    × (clash_by next.follower commit ≡ None)))))
+    ⊎ ((h ≡ halt.Sink) × IsSentNewest after ms bytes work)))
 
 -- ---- from step to step
 
@@ -110,17 +109,18 @@ WindowsLetItRest = (b : Beginning) (ms : List Message) (stored : Option Offset) 
 abbrev pub MessagesLetItRest : Type 0
 MessagesLetItRest = (b : Beginning) (ms : List Message) (stored : Option Offset) (old next : SessionState) (before report : Report)
     (bytes : List ℕ)
-    → IsResting b ms stored old before → (w : WasTaken b.first.lsn ms bytes old next None)
-    → report ≡ record before { messages = before.messages + 1 }
+    → IsResting b ms stored old before → (w : WasTaken b.first.lsn ms bytes old next None) → CouldBeSentSoFar next (w.message ∷ ms)
+    → report.messages ≡ before.messages + 1 → report.commits ≡ before.commits → report.chunks ≡ before.chunks
     → IsResting b (w.message ∷ ms) stored next report
 
 -- A followed commit leads to the invariant after a message, and between two messages if it closes no window.
 abbrev pub CommitsLeaveItRead : Type 0
 CommitsLeaveItRead = (b : Beginning) (ms : List Message) (stored : Option Offset) (old next new : SessionState) (before report : Report)
-    (bytes : List ℕ) (commit : Commit)
+    (bytes : List ℕ) (commit : Commit) (put rest : List Record)
     → IsResting b ms stored old before → (w : WasTaken b.first.lsn ms bytes old next (Some commit)) → WasStepped commit next new
     → AreShort (records_by next.follower commit next.now_ms) → old.number < 2 ^ 64
-    → ReportsStep commit next (record before { messages = before.messages + 1 }) report true
+    → records_by next.follower commit next.now_ms ≡ put ++ rest → (put ≡ []) ⊎ (is_some (mark_of commit) ≡ false)
+    → ReportsStep (is_some (mark_of commit)) rest (record before { messages = before.messages + 1 }) report true
     → IsReadUpTo b (w.message ∷ ms) stored new report
     × (closes next commit ≡ false → IsResting b (w.message ∷ ms) stored new report)
 

@@ -1,6 +1,6 @@
 -- The exact cause of each error of a session.
-use Rattle.std.specs.Prelude.{◌≡◌, ◌≢◌, ◌⊎◌, ℕ, ℤ, ◌+◌, ◌≤◌, not, position, Contains}
-use Rattle.std.specs.Prelude.{Option, Some, None, Err, List, ◌∷◌, ◌++◌, length, slice_get}
+use Rattle.std.specs.Prelude.{◌≡◌, ◌≢◌, ◌⊎◌, ℕ, ℤ, ◌+◌, ◌<◌, ◌≤◌, not, position, Contains}
+use Rattle.std.specs.Prelude.{Option, Some, None, Ok, Err, List, [], ◌∷◌, ◌++◌, length, slice_get}
 use Rattle.std.specs.List.{AllByRecursion}
 use Rattle.dbl_base.specs.declared.lsn.Lsn.{Lsn}
 use Rattle.dbl_pgmsg.specs.declared.error.MsgError.{MsgError}
@@ -11,6 +11,7 @@ use Rattle.dbl_model_table.specs.declared.table.TableName.{TableName}
 use Rattle.dbl_model_table.specs.declared.table.TableInfo.{TableInfo}
 use Rattle.dbl_model_table.specs.declared.change.Body.{Body}
 use Rattle.dbl_model_table.specs.declared.change.Body.TheVariants.{Changes, Mark}
+use Rattle.dbl_model_table.specs.declared.change.Change.{Change}
 use Rattle.dbl_model_table.specs.declared.change.Commit.{Commit}
 use Rattle.dbl_capture_work.specs.ModelHistory.declared.cursor.Cursor.{Cursor}
 use Rattle.dbl_capture_work.specs.ModelHistory.MarkTexts.{Side, mark_text}
@@ -18,7 +19,7 @@ use Rattle.dbl_capture_work.specs.ModelHistory.MarkTexts.Side.{High, Low}
 use Rattle.dbl_capture_work.specs.ModelCommit.declared.txn_error.TxnError.{TxnError}
 use Rattle.dbl_capture_work.specs.ModelCommit.Blocks.{AreWithoutFault}
 use Rattle.dbl_capture_work.specs.ModelCommit.Past.{last_lsn}
-use Rattle.dbl_capture_work.specs.ModelCommit.Stated.{commits_of, ended_commit, transaction_fault}
+use Rattle.dbl_capture_work.specs.ModelCommit.Stated.{commits_of, ended_commit, stated, transaction_fault}
 use Rattle.dbl_capture_work.specs.ModelEvent.declared.closed.Closed.{Closed}
 use Rattle.dbl_capture_work.specs.ModelEvent.Clashes.{clash_of, snapshot_clash}
 use Rattle.dbl_capture_work.specs.ModelEvent.EventJson.{envelopes}
@@ -39,6 +40,7 @@ use Rattle.dbl_capture_work.specs.Begins.{IsExhausted, IsModelFault, IsOffsetFor
 use Rattle.dbl_capture_work.specs.Causes.{IsLongRecord}
 use Rattle.dbl_capture_work.specs.Halts.{window_halt}
 use Rattle.dbl_capture_work.specs.Takes.{IsClashIn}
+use Rattle.dbl_capture_work.specs.Works.{open_commit}
 use Rattle.dbl_capture_laws.specs.Found.{HasStored}
 use Rattle.dbl_capture_laws.specs.Reported.{AreSpelled, HasReadAfter, BeginsAfter}
 
@@ -87,6 +89,17 @@ pub record EndsCommit (infos : List TableInfo) (reading : Reading) (commit : Com
   pub accepted : AreWithoutFault infos reading.after (message ∷ earlier)
   pub ends : ended_commit infos message earlier ≡ Some commit
 
+-- The messages are valid, and the newest states changes, with which this is the open transaction so far.
+pub record StatesMore (infos : List TableInfo) (reading : Reading) (commit : Commit) : Type 0 where
+  pub message : Message
+  pub earlier : List Message
+  pub newest : reading.messages ≡ message ∷ earlier
+  pub accepted : AreWithoutFault infos reading.after (message ∷ earlier)
+  pub changes : List Change
+  pub states : stated infos message earlier ≡ Ok changes
+  pub some : changes ≢ []
+  pub commit_is : commit ≡ open_commit infos (message ∷ earlier)
+
 -- ---- windows
 
 -- The plan of the next window: of the first unfinished table, after its cursor, with at most `chunk` rows, the next number and version 1.
@@ -120,32 +133,57 @@ pub record ClosesAt (config : Config) (report : Report) (offset : Offset) (value
 
 -- ---- the newest commit
 
--- The error names the first value equal to the placeholder in a commit's records, or in those of the window that it closes.
-abbrev pub IsClashHalt : Config → Report → Offset → Commit → Body → Halt → Type 0
-IsClashHalt config report offset commit (Changes changes) h = IsClashIn (clash_of offset.identity offset.infos commit) h
-IsClashHalt config report offset commit (Mark value) h =
-    (closed : Closed) × ClosesAt config report offset value closed × IsClashIn (snapshot_clash offset.identity offset.infos closed) h
+-- The newest message states a change with a value equal to the placeholder, the first one of the open transaction; the error names it.
+pub record HasOpenClash (offset : Offset) (reading : Reading) (h : Halt) : Type 0 where
+  pub commit : Commit
+  pub more : StatesMore offset.infos reading commit
+  pub before : clash_of offset.identity offset.infos (open_commit offset.infos more.earlier) ≡ None
+  pub clash : IsClashIn (clash_of offset.identity offset.infos commit) h
 
--- One of the records is too long, and no value is equal to the placeholder.
+-- The newest message ends the commit that closes a window, one of whose rows has a value equal to the placeholder; the error names it. The
+-- definition doesn't say which rows were read.
+pub record HasClosedClash (config : Config) (report : Report) (offset : Offset) (reading : Reading) (h : Halt) : Type 0 where
+  pub commit : Commit
+  pub ends : EndsCommit offset.infos reading commit
+  pub value : List ℕ
+  pub mark : commit.body ≡ Mark value
+  pub closed : Closed
+  pub closes : ClosesAt config report offset value closed
+  pub clash : IsClashIn (snapshot_clash offset.identity offset.infos closed) h
+
+-- A record of the open transaction is too long, and the record after it is known not to be the transaction's last one, as it wasn't before the
+-- newest message. No value is equal to the placeholder.
+pub record HasOpenLong (now : ℤ) (offset : Offset) (reading : Reading) (h : Halt) : Type 0 where
+  pub commit : Commit
+  pub more : StatesMore offset.infos reading commit
+  pub clear : clash_of offset.identity offset.infos commit ≡ None
+  pub long : IsLongRecord (envelopes offset.identity offset.infos commit now) h
+  pub known : long.place + 2 < length (envelopes offset.identity offset.infos commit now)
+  pub before : length (envelopes offset.identity offset.infos (open_commit offset.infos more.earlier) now) ≤ long.place + 2
+
+-- One of the records is too long, and no value is equal to the placeholder; of a commit's changes one of the last two records, as the others
+-- were appended before its end.
 abbrev pub IsLongOf : Config → ℤ → Report → Offset → Commit → Body → Halt → Type 0
 IsLongOf config now report offset commit (Changes changes) h =
-    (clash_of offset.identity offset.infos commit ≡ None) × IsLongRecord (envelopes offset.identity offset.infos commit now) h
+    (clash_of offset.identity offset.infos commit ≡ None) × ((long : IsLongRecord (envelopes offset.identity offset.infos commit now) h)
+    × (length (envelopes offset.identity offset.infos commit now) ≤ long.place + 2))
 IsLongOf config now report offset commit (Mark value) h =
     (closed : Closed) × ClosesAt config report offset value closed × (snapshot_clash offset.identity offset.infos closed ≡ None)
     × IsLongRecord (snapshot offset.identity offset.infos closed commit now) h
 
--- The newest message ends a commit whose records have a value equal to the placeholder. If the commit closes a window, the definition
--- doesn't say which rows were read.
-pub record HasClash (config : Config) (report : Report) (offset : Offset) (reading : Reading) (h : Halt) : Type 0 where
-  pub commit : Commit
-  pub ends : EndsCommit offset.infos reading commit
-  pub clash : IsClashHalt config report offset commit commit.body h
+-- A value equal to the placeholder is in the newest change, or in a row of the window that the newest message's commit closes.
+abbrev pub HasClash : Config → Report → Offset → Reading → Halt → Type 0
+HasClash config report offset reading h = HasOpenClash offset reading h ⊎ HasClosedClash config report offset reading h
 
 -- The newest message ends a commit one of whose records, or of the window that it closes, is too long.
-pub record HasLong (config : Config) (now : ℤ) (report : Report) (offset : Offset) (reading : Reading) (h : Halt) : Type 0 where
+pub record HasEndLong (config : Config) (now : ℤ) (report : Report) (offset : Offset) (reading : Reading) (h : Halt) : Type 0 where
   pub commit : Commit
   pub ends : EndsCommit offset.infos reading commit
   pub long : IsLongOf config now report offset commit commit.body h
+
+-- A record that is too long is appended once the record after it is known not to be its transaction's last one, or at the transaction's end.
+abbrev pub HasLong : Config → ℤ → Report → Offset → Reading → Halt → Type 0
+HasLong config now report offset reading h = HasOpenLong now offset reading h ⊎ HasEndLong config now report offset reading h
 
 -- ---- offsets and watermarks
 

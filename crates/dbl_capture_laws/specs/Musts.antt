@@ -1,5 +1,5 @@
 -- When a session has to stop with an error.
-use Rattle.std.specs.Prelude.{◌≡◌, ◌⊎◌, ℕ, ℤ, ◌<◌, Contains, Option, Some, None, Result, Err, List, [], ◌∷◌, length, slice_get}
+use Rattle.std.specs.Prelude.{◌≡◌, ◌⊎◌, ℕ, ℤ, ◌+◌, ◌<◌, ◌≤◌, Contains, Option, Some, None, Result, Err, List, [], ◌∷◌, ◌++◌, length, slice_get}
 use Rattle.std.specs.List.{AllByRecursion}
 use Rattle.dbl_base.specs.declared.lsn.Lsn.{Lsn}
 use Rattle.dbl_pgmsg.specs.declared.error.MsgError.{MsgError}
@@ -13,6 +13,8 @@ use Rattle.dbl_model_table.specs.declared.change.Commit.{Commit}
 use Rattle.dbl_model_table.specs.declared.table.RawTable.{RawTable}
 use Rattle.dbl_model_table.specs.declared.table.TableName.{TableName}
 use Rattle.dbl_model_table.specs.Made.{table_fault}
+use Rattle.dbl_pgmsg.specs.declared.messages.Message.{Message}
+use Rattle.dbl_capture_work.specs.ModelCommit.Blocks.{AreWithoutFault}
 use Rattle.dbl_capture_work.specs.ModelCommit.declared.txn_error.TxnError.{TxnError}
 use Rattle.dbl_capture_work.specs.ModelEvent.Clashes.{Clash, clash_of}
 use Rattle.dbl_capture_work.specs.ModelEvent.EventJson.{envelopes}
@@ -32,6 +34,7 @@ use Rattle.dbl_capture_work.specs.declared.report.Report.{Report}
 use Rattle.dbl_capture_work.specs.Begins.{CanBeCaptured, IsExhausted}
 use Rattle.dbl_capture_work.specs.Causes.{IsLongRecord}
 use Rattle.dbl_capture_work.specs.Halts.{window_halt}
+use Rattle.dbl_capture_work.specs.Works.{open_commit}
 use Rattle.dbl_capture_laws.specs.Found.{HasStored}
 use Rattle.dbl_capture_laws.specs.Halted.{EndsCommit, IsMessageFault, IsNextPlan, IsTxnFault, WasStood, WasTold}
 use Rattle.dbl_topic.specs.Sinks.{group_limit}
@@ -50,12 +53,23 @@ HaltsAtRecord records result = (h : Halt) × (result ≡ Err h) × ((h ≡ halt.
 
 -- ---- by the messages that were read
 
--- The session stops if the newest message is invalid, or if the changes of the commit that it ends have a value equal to the placeholder,
--- or else a record that is too long.
+-- The session stops if the newest message is invalid; or if the changes that the messages, but perhaps the newest, state in a transaction have
+-- a value equal to the placeholder, or else a record that is too long, once the record after it is known not to be the transaction's last
+-- one, or at the transaction's end.
 pub record MustHaltBy (now : ℤ) (offset : Offset) (reading : Reading) (result : Result Ending Halt) : Type 0 where
   pub txn : (number : ℕ) (error : TxnError) → IsTxnFault offset.infos reading number error → HaltsWith (halt.Txn number error) result
   pub clash : (commit : Commit) (changes : List Change) (c : Clash) → EndsCommit offset.infos reading commit → commit.body ≡ Changes changes
       → clash_of offset.identity offset.infos commit ≡ Some c → HaltsWith (halt.Clash c.table c.column) result
+  pub met : (newest earlier : List Message) (c : Clash) → length newest ≤ 1 → reading.messages ≡ newest ++ earlier
+      → AreWithoutFault offset.infos reading.after earlier
+      → clash_of offset.identity offset.infos (open_commit offset.infos earlier) ≡ Some c → HaltsWith (halt.Clash c.table c.column) result
+  pub long_so_far : (newest earlier : List Message) (place : ℕ) (item : Record) → length newest ≤ 1 → reading.messages ≡ newest ++ earlier
+      → AreWithoutFault offset.infos reading.after earlier
+      → clash_of offset.identity offset.infos (open_commit offset.infos earlier) ≡ None
+      → slice_get (envelopes offset.identity offset.infos (open_commit offset.infos earlier) now) place ≡ Some item
+      → place + 2 < length (envelopes offset.identity offset.infos (open_commit offset.infos earlier) now)
+      → group_limit < length (group_form (item ∷ []))
+      → HaltsAtRecord (envelopes offset.identity offset.infos (open_commit offset.infos earlier) now) result
   pub long : (commit : Commit) (changes : List Change) (place : ℕ) (item : Record) → EndsCommit offset.infos reading commit
       → commit.body ≡ Changes changes
       → clash_of offset.identity offset.infos commit ≡ None

@@ -1,5 +1,5 @@
 -- What never stops a session, over a source whose state is known, and over a conforming one.
-use Rattle.std.specs.Prelude.{◌≡◌, ◌⊎◌, ℕ, ◌+◌, ◌≤◌, length, not, position, map, Option, Some, IsSome, List, slice_get}
+use Rattle.std.specs.Prelude.{◌≡◌, ◌⊎◌, ℕ, ◌+◌, ◌≤◌, length, not, position, map, Option, Some, IsSome, List, ◌++◌, slice_get}
 use Rattle.std.specs.List.{AllByRecursion}
 use Rattle.dbl_value.specs.declared.error.ValueError.{ValueError}
 use Rattle.dbl_record.specs.declared.record.Record.{Record}
@@ -7,9 +7,11 @@ use Rattle.dbl_record.specs.Cuts.{joined}
 use Rattle.dbl_model_table.specs.declared.config.Config.{Config}
 use Rattle.dbl_model_table.specs.declared.table.TableName.{TableName}
 use Rattle.dbl_model_table.specs.declared.table.TableInfo.{TableInfo}
+use Rattle.dbl_model_table.specs.declared.change.Change.{Change}
 use Rattle.dbl_model_table.specs.declared.change.Commit.{Commit}
 use Rattle.dbl_model_table.specs.declared.row.Key.{Key}
-use Rattle.dbl_model_table.specs.Rows.{all_changes}
+use Rattle.dbl_model_table.specs.Heads.{commit_head}
+use Rattle.dbl_model_table.specs.Rows.{all_changes, changes_of}
 use Rattle.dbl_capture_work.specs.ModelHistory.declared.cursor.Cursor.{Cursor}
 use Rattle.dbl_capture_work.specs.ModelHistory.Fit.{AreInfosOf}
 use Rattle.dbl_capture_work.specs.ModelHistory.History.{History}
@@ -41,7 +43,7 @@ use Rattle.dbl_capture_work.specs.Causes.{IsLongRecord}
 use Rattle.dbl_capture_work.specs.Takes.{IsClashIn}
 use Rattle.dbl_capture_laws.specs.Sessions.{IsCapturing}
 use Rattle.dbl_capture_laws.specs.Stored.{session_identity}
-use Rattle.dbl_capture_laws.specs.Halted.{EndsCommit, IsTxnFault}
+use Rattle.dbl_capture_laws.specs.Halted.{EndsCommit, IsTxnFault, StatesMore}
 
 -- ---- over a conforming source
 
@@ -90,10 +92,22 @@ pub record IsOwnClosed (infos : List TableInfo) (chunk : ℕ) (offset : Offset) 
   pub through : (closed.through ≡ cursor.last)
       ⊎ ((key : Key) × (closed.through ≡ Some key) × (at : ℕ) × IsSome (rows_up_to infos history at closed.table key))
 
--- The commit that the newest message ends is one of the history.
+-- The open transaction so far begins this commit: it has the commit's Begin, and its first changes.
+pub record BecomesCommit (so_far commit : Commit) : Type 0 where
+  pub head : commit_head so_far ≡ commit_head commit
+  pub more : List Change
+  pub changes : changes_of commit ≡ changes_of so_far ++ more
+
+-- The newest message states changes of the open transaction, which begins this commit.
+pub record StatesPart (infos : List TableInfo) (reading : Reading) (commit : Commit) : Type 0 where
+  pub so_far : Commit
+  pub more : StatesMore infos reading so_far
+  pub becomes : BecomesCommit so_far commit
+
+-- The commit that the newest message ends, or of which it states changes, is one of the history.
 pub record IsNewest (infos : List TableInfo) (history : History) (reading : Reading) : Type 0 where
   pub commit : Commit
-  pub ends : EndsCommit infos reading commit
+  pub ends : EndsCommit infos reading commit ⊎ StatesPart infos reading commit
   pub place : ℕ
   pub stands : slice_get (typed infos history) place ≡ Some commit
 

@@ -1,14 +1,17 @@
 -- The cause of an error is in the source's history, if the source is conforming and the stores were faithful.
-use Rattle.std.specs.Prelude.{◌≡◌, map, None, Some, Option, List, ◌∷◌}
+use Rattle.std.specs.Prelude.{◌≡◌, ◌≢◌, map, None, Some, Option, Ok, List, [], ◌∷◌, ◌++◌}
 use Rattle.dbl_pgmsg.specs.declared.messages.Message.{Message}
-use Rattle.dbl_record.specs.Cuts.{joined}
+use Rattle.dbl_record.specs.Cuts.{cut, joined}
+use Rattle.dbl_model_table.specs.declared.change.Change.{Change}
 use Rattle.dbl_model_table.specs.declared.change.Commit.{Commit}
 use Rattle.dbl_model_table.specs.declared.config.Config.{Config}
 use Rattle.dbl_model_table.specs.declared.table.TableInfo.{TableInfo}
 use Rattle.dbl_capture_work.specs.ModelHistory.Fit.{AreInfosOf, IsFitHistory}
 use Rattle.dbl_capture_work.specs.ModelHistory.History.{History}
 use Rattle.dbl_base.specs.declared.lsn.Lsn.{Lsn}
-use Rattle.dbl_capture_work.specs.ModelCommit.Stated.{ended_commit, transaction_fault}
+use Rattle.dbl_capture_work.specs.ModelCommit.Stated.{ended_commit, stated, transaction_fault}
+use Rattle.dbl_capture_work.specs.ModelEvent.Clashes.{clash_of}
+use Rattle.dbl_capture_work.specs.ModelEvent.EventJson.{envelopes}
 use Rattle.dbl_capture_work.specs.SourceModel.Calls.{Moved}
 use Rattle.dbl_capture_work.specs.SourceModel.Standings.{Reading, SourceState}
 use Rattle.dbl_capture_work.specs.Offset.declared.offset.Offset.{Offset}
@@ -23,8 +26,8 @@ use Rattle.dbl_capture_work.specs.declared.report.Report.{Report}
 use Rattle.dbl_capture_work.specs.declared.work.SessionState.{SessionState}
 use Rattle.dbl_capture_work.specs.Begins.{IsFirstOffsetAtHead, IsTooLong}
 use Rattle.dbl_capture_work.specs.Causes.{IsLongRecord}
-use Rattle.dbl_capture_work.specs.Takes.{IsClashIn}
-use Rattle.dbl_capture_work.specs.Works.{next_offset_of}
+use Rattle.dbl_capture_work.specs.Takes.{IsClashIn, IsLongSoFar}
+use Rattle.dbl_capture_work.specs.Works.{HasOpen, next_offset_of, open_commit, rest_in}
 use Rattle.dbl_capture_laws.specs.Found.{BeginsAt}
 use Rattle.dbl_capture_laws.specs.Sessions.{IsWorkOf, state_at_stage}
 use Rattle.dbl_capture_laws.specs.Carried.{Beginning, IsResting}
@@ -34,6 +37,15 @@ use Rattle.dbl_capture_laws.specs.Nevers.{IsFirstLong, IsOwnClash, IsOwnLong, Is
 pub record EndsNext (stage : Stage) (m : Message) (commit : Commit) : Type 0 where
   pub clean : transaction_fault stage.first.infos stage.first.lsn m stage.messages ≡ None
   pub ends : ended_commit stage.first.infos m stage.messages ≡ Some commit
+  pub right : ReadsOneMore stage m
+
+-- The next message is valid and states changes, with which this is the open transaction so far; and the messages with it state the history's
+-- commits.
+pub record StatesNext (stage : Stage) (m : Message) (changes : List Change) (so_far : Commit) : Type 0 where
+  pub clean : transaction_fault stage.first.infos stage.first.lsn m stage.messages ≡ None
+  pub states : stated stage.first.infos m stage.messages ≡ Ok changes
+  pub some : changes ≢ []
+  pub commit_is : so_far ≡ open_commit stage.first.infos (m ∷ stage.messages)
   pub right : ReadsOneMore stage m
 
 -- The messages that were read, and this one.
@@ -78,6 +90,22 @@ ClashesAreOwn = (entry : SessionStart) (stage : Stage) (b : Beginning) (ms : Lis
     → IsClashIn (clash_by work.follower commit) h
     → (offset : Offset) × (stored ≡ Some offset) × IsOwnClash entry offset later stage.history (read_with stage m) h
 
+-- A value equal to the placeholder in the changes of the open transaction is in the history: in the commit that it begins.
+abbrev pub OpenClashesAreOwn : Type 0
+OpenClashesAreOwn = (entry : SessionStart) (stage : Stage) (b : Beginning) (ms : List Message) (stored : Option Offset)
+    (work : SessionState) (report : Report) (m : Message) (changes : List Change) (so_far : Commit) (later : Report) (h : Halt)
+    → IsOverFaithful entry stage b ms stored work report → StatesNext stage m changes so_far
+    → IsClashIn (clash_of stage.first.identity stage.first.infos so_far) h
+    → (offset : Offset) × (stored ≡ Some offset) × IsOwnClash entry offset later stage.history (read_with stage m) h
+
+-- A record of the open transaction that is too long comes from the history: from the commit that it begins.
+abbrev pub OpenLongRecordsAreOwn : Type 0
+OpenLongRecordsAreOwn = (entry : SessionStart) (stage : Stage) (b : Beginning) (ms : List Message) (stored : Option Offset)
+    (work : SessionState) (report : Report) (m : Message) (changes : List Change) (so_far : Commit) (later : Report) (h : Halt)
+    → IsOverFaithful entry stage b ms stored work report → StatesNext stage m changes so_far
+    → IsLongSoFar (envelopes stage.first.identity stage.first.infos so_far entry.now) h
+    → (offset : Offset) × (stored ≡ Some offset) × IsOwnLong entry offset later stage.history (read_with stage m) h
+
 -- A record of the next commit that is too long comes from the history: from that commit, or from the window that it closes.
 abbrev pub LongRecordsAreOwn : Type 0
 LongRecordsAreOwn = (entry : SessionStart) (stage : Stage) (b : Beginning) (ms : List Message) (stored : Option Offset)
@@ -86,11 +114,11 @@ LongRecordsAreOwn = (entry : SessionStart) (stage : Stage) (b : Beginning) (ms :
     → IsLongRecord (records_by work.follower commit work.now_ms) h
     → (offset : Offset) × (stored ≡ Some offset) × IsOwnLong entry offset later stage.history (read_with stage m) h
 
--- A next offset that is too long agrees with the stores.
+-- A next offset that is too long agrees with the stores, also within a transaction.
 abbrev pub LongOffsetsAreOwn : Type 0
-LongOffsetsAreOwn = (entry : SessionStart) (stage : Stage) (work : SessionState) (h : Halt)
-    → WasFaithful entry → IsGoing entry stage → IsWorkOf entry stage work → IsTooLong (next_offset_of work) h
-    → IsOwnOffset entry (state_at_stage stage) (joined stage.groups) h
+LongOffsetsAreOwn = (entry : SessionStart) (stage : Stage) (work : SessionState) (ahead : HasOpen stage.messages work) (h : Halt)
+    → WasFaithful entry → IsGoing entry stage → IsWorkOf entry stage (rest_in ahead) → IsTooLong (next_offset_of work) h
+    → IsOwnOffset entry (state_at_stage stage) (joined (stage.groups ++ cut ahead.put)) h
 
 -- A first offset that is too long agrees with the stores.
 abbrev pub FirstLongOffsetsAreOwn : Type 0

@@ -1,8 +1,9 @@
 -- A session between two of its calls, over any source, sink and store, and what these may leave when it ends.
-use Rattle.std.specs.Prelude.{◌≡◌, ◌⊎◌, Bool, IsTrue, Option, Some, None, List, map}
+use Rattle.std.specs.Prelude.{◌≡◌, ◌⊎◌, Bool, IsTrue, Option, Some, None, List, ◌++◌, map}
 use Rattle.dbl_model_table.specs.declared.config.Config.{Config}
 use Rattle.dbl_model_table.specs.declared.table.TableInfo.{TableInfo}
 use Rattle.dbl_record.specs.declared.record.Record.{Record}
+use Rattle.dbl_record.specs.Cuts.{cut}
 use Rattle.dbl_topic.specs.Model.{SinkModel}
 use Rattle.dbl_capture_work.specs.Source.Model.{SourceModel}
 use Rattle.dbl_capture_work.specs.Disk.Model.{DiskModel}
@@ -17,7 +18,7 @@ use Rattle.dbl_capture_work.specs.CaptureModel.Stages.{Stage}
 use Rattle.dbl_capture_work.specs.CaptureModel.Going.{IsGoing}
 use Rattle.dbl_capture_work.specs.CaptureModel.Outcomes.{FollowsSession, HasFewMarks}
 use Rattle.dbl_capture_work.specs.declared.work.SessionState.{SessionState}
-use Rattle.dbl_capture_work.specs.Works.{IsWork}
+use Rattle.dbl_capture_work.specs.Works.{HasOpen, IsWork, rest_in}
 
 -- The source's state at a stage of the session.
 abbrev pub state_at_stage : Stage → SourceState
@@ -38,14 +39,17 @@ pub record IsWorkOf (entry : SessionStart) (stage : Stage) (work : SessionState)
   pub since_is : work.since ≡ stage.since
   pub number_is : work.number ≡ stage.number
 
--- The invariant of a session: its stage agrees with the source's state, and with the contents of sink and store if these are known.
+-- The invariant of a session: its stage agrees with the source's state, and with the contents of sink and store if these are known. Within a
+-- transaction the stage is that of the session before the transaction, but for the messages read since; the sink has besides what was appended
+-- of the transaction.
 pub record InSession {S K D : Type 0} (tell : Bool) (source_model : SourceModel S) (sink_model : SinkModel K)
     (model : DiskModel D) (entry : SessionStart) (work : SessionState) (src : S) (sink : K) (store : StoreOn D) : Type 0 where
   pub stage : Stage
+  pub ahead : HasOpen stage.messages work
   pub source_is : source_model.stands src (state_at_stage stage)
-  pub sink_is : IsTrue tell → sink_model.holds sink stage.groups
+  pub sink_is : IsTrue tell → sink_model.holds sink (stage.groups ++ cut ahead.put)
   pub store_is : IsTrue tell → HoldsOffset model store (Some stage.stored)
-  pub work_is : IsWorkOf entry stage work
+  pub work_is : IsWorkOf entry stage (rest_in ahead)
   pub going : IsGoing entry stage
 
 -- ---- what is captured

@@ -12,25 +12,27 @@ use Rattle.dbl_capture_work.specs.declared.halt.Halt.TheVariants as halt
 use Rattle.dbl_capture_work.specs.declared.report.Ending.{Ending}
 use Rattle.dbl_capture_work.specs.declared.report.Report.{Report}
 use Rattle.dbl_capture_work.specs.declared.work.SessionState.{SessionState}
+use Rattle.dbl_capture_work.specs.Works.{rest_in}
 use Rattle.dbl_capture_laws.specs.Gained.{Gains, ReportsGroups}
 use Rattle.dbl_capture_laws.specs.Tallied.{IsTallied, IsTalliedAfter}
 use Rattle.dbl_capture_laws.specs.Carried.{Beginning}
 use Rattle.dbl_capture_laws.specs.Sources.{HasCommitted, IsUnderWay}
 use Rattle.dbl_capture_laws.specs.Puts.{HasPut}
 
--- The invariant between two messages: the sink has gained the records of the commits that the messages read so far state.
+-- The invariant between two messages: the sink has gained the records of the commits that the messages read so far state, and those of the
+-- open transaction that were appended.
 pub record IsPutting {S K : Type 0} (source_model : SourceModel S) (sink_model : SinkModel K) (groups : List (List Record))
     (at : Option SourceState) (found : Option Trace) (b : Beginning) (stored : Option Offset)
     (work : SessionState) (report : Report) (src : S) (sink : K) : Type 0 where
   pub way : IsUnderWay source_model at found b stored work report src
-  pub put : HasPut sink_model.holds groups b.first.lsn way.messages work report sink
+  pub put : HasPut sink_model.holds groups b.first.lsn way.messages (rest_in way.ahead) way.ahead.put report sink
 
 -- The invariant after a commit: the sink has gained the records of all commits that were followed.
 pub record HasPutCommit {S K : Type 0} (source_model : SourceModel S) (sink_model : SinkModel K) (groups : List (List Record))
     (at : Option SourceState) (found : Option Trace) (b : Beginning) (stored : Option Offset)
     (work : SessionState) (report : Report) (src : S) (sink : K) : Type 0 where
   pub way : HasCommitted source_model at found b stored work report src
-  pub put : HasPut sink_model.holds groups b.first.lsn way.messages work report sink
+  pub put : HasPut sink_model.holds groups b.first.lsn way.messages (rest_in way.ahead) way.ahead.put report sink
 
 -- The session stopped: what is left of the sink, and what the report counts of it, with the commits unless an append failed.
 pub record HasHaltedPut {S K : Type 0} (source_model : SourceModel S) (sink_model : SinkModel K)

@@ -9,14 +9,15 @@ use Rattle.dbl_capture_work.specs.Offset.declared.offset.Offset.{Offset}
 use Rattle.dbl_capture_work.specs.declared.halt.Halt.{Halt}
 use Rattle.dbl_capture_work.specs.declared.report.Report.{Report}
 use Rattle.dbl_capture_work.specs.declared.work.SessionState.{SessionState}
-use Rattle.dbl_capture_work.specs.Works.{next_offset_of}
+use Rattle.dbl_capture_work.specs.Works.{HasOpen, next_offset_of, rest_in}
 use Rattle.dbl_capture_laws.specs.Carried.{HasReadSinceStart, Beginning, HasHaltedStood, HasHaltedTold, IsReadUpTo, IsResting, StandsAt}
 
--- The invariant between two messages: those read so far are in the source's trace, and in its state if that was known at first.
+-- The invariant between two messages, also within a transaction: those read so far are in the source's trace, and in its state if that was known at first.
 pub record IsUnderWay {S : Type 0} (source_model : SourceModel S) (at : Option SourceState) (found : Option Trace) (b : Beginning)
     (stored : Option Offset) (work : SessionState) (report : Report) (src : S) : Type 0 where
   pub messages : List Message
-  pub is : IsResting b messages stored work report
+  pub ahead : HasOpen messages work
+  pub is : IsResting b messages stored (rest_in ahead) report
   pub tells : HasReadSinceStart found (source_model.told src) messages
   pub stood : (s : SourceState) → at ≡ Some s → HasState source_model.stands src (StandsAt b messages)
 
@@ -24,7 +25,8 @@ pub record IsUnderWay {S : Type 0} (source_model : SourceModel S) (at : Option S
 pub record HasCommitted {S : Type 0} (source_model : SourceModel S) (at : Option SourceState) (found : Option Trace) (b : Beginning)
     (stored : Option Offset) (work : SessionState) (report : Report) (src : S) : Type 0 where
   pub messages : List Message
-  pub is : IsReadUpTo b messages stored work report
+  pub ahead : HasOpen messages work
+  pub is : IsReadUpTo b messages stored (rest_in ahead) report
   pub tells : HasReadSinceStart found (source_model.told src) messages
   pub stood : (s : SourceState) → at ≡ Some s → HasState source_model.stands src (StandsAt b messages)
 
@@ -40,7 +42,8 @@ pub record HasSettledAll {S : Type 0} (source_model : SourceModel S) (at : Optio
     (stored : Option Offset) (work : SessionState) (report : Report) (src : S) : Type 0 where
   pub messages : List Message
   pub stored_is : stored ≡ Some (next_offset_of work)
-  pub is : IsResting b messages stored work report
+  pub ahead : HasOpen messages work
+  pub is : IsResting b messages stored (rest_in ahead) report
   pub tells : HasReadSinceStart found (source_model.told src) messages
   pub stood : (s : SourceState) → at ≡ Some s
       → HasState source_model.stands src (λ t. StandsAt b messages t × (work.offset.lsn.0 ≤ t.confirmed.0))

@@ -1,5 +1,5 @@
 -- The commits that a report counts: those of which the sink has all records.
-use Rattle.std.specs.Prelude.{◌≡◌, ◌⊎◌, ℕ, ℤ, ◌<◌, ◌≤◌, ◌++◌, take, Option, Some, Result, Ok, Err, List, [], ◌∷◌, length}
+use Rattle.std.specs.Prelude.{◌≡◌, ◌⊎◌, ℕ, ℤ, ◌<◌, ◌≤◌, ◌++◌, take, Option, Some, None, IsSome, Result, Ok, Err, List, [], ◌∷◌, length}
 use Rattle.std.specs.List.{AllZip}
 use Rattle.dbl_base.specs.declared.lsn.Lsn.{Lsn}
 use Rattle.dbl_pgmsg.specs.declared.messages.Message.{Message}
@@ -8,14 +8,17 @@ use Rattle.dbl_record.specs.declared.record.Record.{Record}
 use Rattle.dbl_record.specs.Cuts.{cut}
 use Rattle.dbl_model_table.specs.declared.change.Commit.{Commit}
 use Rattle.dbl_model_table.specs.declared.config.Config.{Config}
-use Rattle.dbl_capture_work.specs.ModelCommit.Past.{last_lsn}
+use Rattle.dbl_capture_work.specs.ModelCommit.Past.{begin_of, last_lsn}
 use Rattle.dbl_capture_work.specs.ModelCommit.Stated.{commits_of, ended_commit}
+use Rattle.dbl_capture_work.specs.ModelEvent.Clashes.{clash_of}
+use Rattle.dbl_capture_work.specs.ModelEvent.EventJson.{envelopes}
 use Rattle.dbl_capture_work.specs.SourceModel.Standings.{Reading, SourceState}
 use Rattle.dbl_capture_work.specs.SourceModel.Trace.{Trace}
 use Rattle.dbl_capture_work.specs.Offset.declared.offset.Offset.{Offset}
 use Rattle.dbl_capture_work.specs.declared.halt.Halt.{Halt}
 use Rattle.dbl_capture_work.specs.declared.report.Ending.{Ending}
 use Rattle.dbl_capture_work.specs.declared.report.Report.{Report}
+use Rattle.dbl_capture_work.specs.Works.{open_commit}
 use Rattle.dbl_capture_laws.specs.Found.{HasStored}
 use Rattle.dbl_capture_laws.specs.Gained.{AreSent, IsSentFor, Making, making_of}
 use Rattle.dbl_capture_laws.specs.Reported.{HasReadAfter, BeginsAfter, IsLeftOut}
@@ -26,6 +29,21 @@ use Rattle.dbl_capture_laws.specs.Reported.{HasReadAfter, BeginsAfter, IsLeftOut
 abbrev pub IsLeftOutBy : Result Ending Halt → ℕ → Type 0
 IsLeftOutBy (Ok ending) n = n ≡ 0
 IsLeftOutBy (Err h) n = IsLeftOut h n
+
+-- The part is a proper prefix of the records of the transaction that these messages leave open, none of which has a value equal to the
+-- placeholder.
+pub record IsOpenPart (by : Making) (messages : List Message) (part : List Record) : Type 0 where
+  pub inside : IsSome (begin_of messages)
+  pub clear : clash_of by.identity by.infos (open_commit by.infos messages) ≡ None
+  pub count : ℕ
+  pub few : count < length (envelopes by.identity by.infos (open_commit by.infos messages) by.now)
+  pub part_is : part ≡ take count (envelopes by.identity by.infos (open_commit by.infos messages) by.now)
+
+-- The part is a proper prefix of the records of the transaction that the message leaves open after the earlier ones.
+pub record IsMorePart (by : Making) (earlier : List Message) (such : Message → Type 0) (part : List Record) : Type 0 where
+  pub message : Message
+  pub is : such message
+  pub of : IsOpenPart by (message ∷ earlier) part
 
 -- The message ends a commit after the earlier ones, and the part is a proper prefix of the records of that commit.
 pub record IsFirstPart (by : Making) (earlier : List Message) (such : Message → Type 0) (part : List Record) : Type 0 where
@@ -39,16 +57,18 @@ pub record IsFirstPart (by : Making) (earlier : List Message) (such : Message �
   pub few : count < length records
   pub part_is : part ≡ take count records
 
--- The part that was appended for a newest message that isn't counted: nothing, or a proper prefix of the records of its commit.
+-- The part that was appended beyond the counted commits: nothing, or a proper prefix of the records of the open transaction; or of those of
+-- the commit that a newest message ends which isn't counted.
 abbrev pub IsPartOf : {A : Type 0} → Making → List Message → (A → Message → Type 0) → List A → List Record → Type 0
-IsPartOf by earlier such [] part = part ≡ []
-IsPartOf by earlier such (newest ∷ []) part = (part ≡ []) ⊎ IsFirstPart by earlier (such newest) part
+IsPartOf by earlier such [] part = (part ≡ []) ⊎ IsOpenPart by earlier part
+IsPartOf by earlier such (newest ∷ []) part =
+    (part ≡ []) ⊎ (IsOpenPart by earlier part ⊎ (IsMorePart by earlier (such newest) part ⊎ IsFirstPart by earlier (such newest) part))
 IsPartOf by earlier such (newest ∷ (other ∷ more)) part = ⊥
 
 -- ---- what is counted
 
 -- The counted commits are those that the messages state, except perhaps the newest: the sink has all records of the counted ones, and none
--- or a proper prefix of the newest. A newest commit without records may be counted or not, unless the stored offset is at it. Whether a
+-- or a proper prefix of the newest, or of the open transaction. A newest commit without records may be counted or not, unless the stored offset is at it. Whether a
 -- high watermark closed a window isn't said.
 pub record Tallies {K A : Type 0} (holds : K → List (List Record) → Type 0) (groups : List (List Record)) (sink : K) (by : Making)
     (after : Lsn) (stored : Lsn) (such : A → Message → Type 0) (read : List A) (commits : ℕ) (result : Result Ending Halt) : Type 0 where

@@ -5,6 +5,7 @@ use Rattle.dbl_model_table.specs.declared.change.Commit.{Commit}
 use Rattle.dbl_topic.specs.Model.{SinkModel}
 use Rattle.dbl_capture_work.specs.Source.Model.{SourceModel}
 use Rattle.dbl_capture_work.specs.Disk.Model.{DiskModel}
+use Rattle.dbl_capture_work.specs.ModelCommit.Past.{begin_of}
 use Rattle.dbl_capture_work.specs.SourceModel.Stated.{to_state}
 use Rattle.dbl_capture_work.specs.SourceModel.Standings.{SourceState}
 use Rattle.dbl_capture_work.specs.OffsetStore.Stores.{StoreOn}
@@ -47,10 +48,11 @@ IsDue old new (Some due) =
 
 -- ---- the end
 
--- All commits that existed when the session began were read, and perhaps others.
+-- All commits that existed when the session began were read, and perhaps others, and no transaction is open.
 pub record HasReadAllAt {S K D : Type 0} (tell : Bool) (source_model : SourceModel S) (sink_model : SinkModel K)
     (model : DiskModel D) (entry : SessionStart) (work : SessionState) (src : S) (sink : K) (store : StoreOn D) : Type 0 where
   pub is : InSession tell source_model sink_model model entry work src sink store
+  pub closed : begin_of is.stage.messages ≡ None
   pub more : List Commit
   pub all : read_at is.stage ≡ to_state is.stage.first.infos is.stage.first.lsn entry.history ++ more
 
@@ -67,5 +69,6 @@ pub record IsSettled {S K D : Type 0} (tell : Bool) (source_model : SourceModel 
 pub record IsSettledWhole {S K D : Type 0} (tell : Bool) (source_model : SourceModel S) (sink_model : SinkModel K)
     (model : DiskModel D) (entry : SessionStart) (work : SessionState) (src : S) (sink : K) (store : StoreOn D) : Type 0 where
   pub settled : IsSettled tell source_model sink_model model entry work src sink store
+  pub closed : begin_of settled.is.stage.messages ≡ None
   pub more : List Commit
   pub all : read_at settled.is.stage ≡ to_state settled.is.stage.first.infos settled.is.stage.first.lsn entry.history ++ more

@@ -1,13 +1,15 @@
 -- A session in progress, and the causes of its errors.
-use Rattle.std.specs.Prelude.{◌≡◌, ◌⊎◌, ℕ, ℤ, ◌+◌, ◌∷◌, ◌++◌, [], Contains, Option, Some, None, Result, Err, List, length}
+use Rattle.std.specs.Prelude.{◌≡◌, ◌≢◌, ◌⊎◌, ℕ, ℤ, ◌+◌, ◌∷◌, ◌++◌, [], Contains, Option, Some, None, Result, Ok, Err, List, length}
 use Rattle.dbl_base.specs.declared.lsn.Lsn.{Lsn}
 use Rattle.dbl_pgmsg.specs.declared.messages.Message.{Message}
 use Rattle.dbl_pgmsg.specs.Grammar.{Spells}
 use Rattle.dbl_model_table.specs.declared.change.Commit.{Commit}
 use Rattle.dbl_model_table.specs.declared.config.Config.{Config}
 use Rattle.dbl_model_table.specs.declared.table.TableName.{TableName}
-use Rattle.dbl_capture_work.specs.ModelCommit.Stated.{commits_of}
-use Rattle.dbl_capture_work.specs.ModelEvent.Snapshots.{AreInKeyOrder}
+use Rattle.dbl_model_table.specs.declared.change.Change.{Change}
+use Rattle.dbl_capture_work.specs.ModelCommit.Stated.{commits_of, stated}
+use Rattle.dbl_capture_work.specs.ModelEvent.Clashes.{clash_of}
+use Rattle.dbl_capture_work.specs.ModelEvent.EventJson.{envelopes}
 use Rattle.dbl_capture_work.specs.SourceModel.Standings.{SourceState}
 use Rattle.dbl_capture_work.specs.SourceModel.declared.started.Started.TheVariants.{Gone}
 use Rattle.dbl_capture_work.specs.SourceModel.Trace.{Trace, Began, IsTakenAnew, IsTakenBy, Read, LastAnswerIs}
@@ -26,8 +28,8 @@ use Rattle.dbl_capture_work.specs.declared.report.Report.{Report}
 use Rattle.dbl_capture_work.specs.declared.work.SessionState.{SessionState}
 use Rattle.dbl_capture_work.specs.Begins.{IsExhausted, IsModelFault, IsOffsetFor, IsTooLong}
 use Rattle.dbl_capture_work.specs.Causes.{IsChunkHalt, IsLongRecord}
-use Rattle.dbl_capture_work.specs.Takes.{IsClashIn, IsMessageHalt, IsTxnHalt, WasStepped, WasTaken}
-use Rattle.dbl_capture_work.specs.Works.{IsOpenTable, IsWork, next_offset_of}
+use Rattle.dbl_capture_work.specs.Takes.{IsClashIn, IsLongSoFar, IsMessageHalt, IsTxnHalt, WasStepped, WasTaken}
+use Rattle.dbl_capture_work.specs.Works.{CouldBeSentSoFar, IsOpenTable, IsWork, next_offset_of, open_commit}
 use Rattle.dbl_capture_laws.specs.Found.{HasStored}
 use Rattle.dbl_capture_laws.specs.Written.{AreClosed}
 use Rattle.dbl_capture_laws.specs.Reported.{HasTakenMessages, IsPlacedOf, StandsAfter}
@@ -81,12 +83,6 @@ IsOpenedBy Absent commits = Unit {0}
 IsOpenedBy (Armed chunk) commits = Unit {0}
 IsOpenedBy (Open chunk) commits = IsOpenAmong (low_text chunk.plan) (high_text chunk.plan) commits
 
--- A window's rows are in key order.
-abbrev pub IsOrderedWindow : Window → Type 0
-IsOrderedWindow Absent = Unit {0}
-IsOrderedWindow (Armed chunk) = AreInKeyOrder chunk.rows
-IsOrderedWindow (Open chunk) = AreInKeyOrder chunk.rows
-
 -- A followed commit keeps an open window opened by its low watermark.
 abbrev pub StepsOpenWindows : Type 0
 StepsOpenWindows = (commit : Commit) (old new : SessionState) (commits : List Commit)
@@ -116,20 +112,34 @@ BytesHalt = (config : Config) (now : ℤ) (held : Option Offset) (first stored :
     → IsTakenBy (bytes ∷ []) old new → report.messages ≡ before.messages + 1 → IsMessageHalt report.messages bytes h
     → IsHalt config now held (Some stored) report new h
 
--- The newest message or a record of its commit is invalid.
+-- The newest message states changes with which the open transaction has a value equal to the placeholder, or else a record that is too long and
+-- isn't one of its last two. Before it there was none.
+pub record IsOpenNewestHalt (after : Lsn) (ms : List Message) (bytes : List ℕ) (work : SessionState) (h : Halt) : Type 0 where
+  pub next : SessionState
+  pub taken : WasTaken after ms bytes work next None
+  pub changes : List Change
+  pub states : stated work.offset.infos taken.message ms ≡ Ok changes
+  pub some : changes ≢ []
+  pub before : CouldBeSentSoFar work ms
+  pub is : IsClashIn (clash_of work.offset.identity work.offset.infos (open_commit work.offset.infos (taken.message ∷ ms))) h
+      ⊎ ((clash_of work.offset.identity work.offset.infos (open_commit work.offset.infos (taken.message ∷ ms)) ≡ None)
+      × IsLongSoFar (envelopes work.offset.identity work.offset.infos (open_commit work.offset.infos (taken.message ∷ ms)) work.now_ms) h)
+
+-- The newest message is invalid, or the changes that it states, or a record of its commit. `work` is the session before the open transaction.
 abbrev pub IsNewestHalt : ℕ → Lsn → List Message → List ℕ → SessionState → Halt → Type 0
 IsNewestHalt number after ms bytes work h =
     IsTxnHalt number after ms bytes work h
+    ⊎ (IsOpenNewestHalt after ms bytes work h
     ⊎ ((next : SessionState) × (commit : Commit) × WasTaken after ms bytes work next (Some commit)
     × (IsClashIn (clash_by next.follower commit) h
-    ⊎ ((clash_by next.follower commit ≡ None) × IsLongRecord (records_by next.follower commit next.now_ms) h)))
+    ⊎ ((clash_by next.follower commit ≡ None) × IsLongRecord (records_by next.follower commit next.now_ms) h))))
 
 -- The cause of an error for the newest message or its commit, by the source's trace.
 abbrev pub MessagesHalt : Type 0
 MessagesHalt = (config : Config) (now : ℤ) (held : Option Offset) (first stored : Offset) (work : SessionState) (before report : Report)
     (found begun old new : Option Trace) (bytes : List ℕ) (h : Halt)
     → IsOfFirst config now held first stored work → IsBetweenMessages work stored report.chunks → IsTakenAnew found begun
-    → (t : HasTakenMessages first.lsn first.end_lsn begun old before work)
+    → (t : HasTakenMessages first.lsn first.end_lsn begun old before work) → CouldBeSentSoFar work t.messages
     → IsTakenBy (bytes ∷ []) old new → report.messages ≡ before.messages + 1
     → IsNewestHalt report.messages first.lsn t.messages bytes work h
     → IsHalt config now held (Some stored) report new h
@@ -139,7 +149,7 @@ abbrev pub SourcesStoodAtHalts : Type 0
 SourcesStoodAtHalts = (config : Config) (now : ℤ) (held : Option Offset) (first stored : Offset) (work : SessionState)
     (before report : Report) (s t : SourceState) (m : Message) (bytes : List ℕ) (h : Halt)
     → IsOfFirst config now held first stored work → IsBetweenMessages work stored report.chunks
-    → (b : StandsAfter first.lsn first.end_lsn before work s)
+    → (b : StandsAfter first.lsn first.end_lsn before work s) → CouldBeSentSoFar work b.messages
     → t.reading ≡ Some (record { after = first.lsn; messages = m ∷ b.messages }) → report.messages ≡ before.messages + 1
     → Spells bytes m
     → IsNewestHalt report.messages first.lsn b.messages bytes work h
@@ -172,13 +182,20 @@ SourcesStoodAtOffsets = (config : Config) (now : ℤ) (held : Option Offset) (fi
     → MovesOne stored.cursors work.follower.cursors → IsOffset (next_offset_of work) → IsTooLong (next_offset_of work) h
     → IsHaltOfStood config now held (Some stored) report t h
 
+-- The records of the newest message's changes, or of the commit that it ends, have no value equal to the placeholder.
+abbrev pub IsSentNewest : Lsn → List Message → List ℕ → SessionState → Type 0
+IsSentNewest after ms bytes work =
+    ((next : SessionState) × (commit : Commit) × WasTaken after ms bytes work next (Some commit) × (clash_by next.follower commit ≡ None))
+    ⊎ ((next : SessionState) × (w : WasTaken after ms bytes work next None)
+    × (clash_of work.offset.identity work.offset.infos (open_commit work.offset.infos (w.message ∷ ms)) ≡ None))
+
 -- ---- required errors
 
 -- Messages that were taken and followed require no error.
 abbrev pub TakenMessagesAskNothing : Type 0
 TakenMessagesAskNothing = (config : Config) (now : ℤ) (held : Option Offset) (first stored : Offset) (work : SessionState)
     (ms : List Message) (result : Result Ending Halt)
-    → IsOfFirst config now held first stored work → IsWork first.lsn ms work
+    → IsOfFirst config now held first stored work → IsWork first.lsn ms work → CouldBeSentSoFar work ms
     → MustHaltBy now stored (record { after = first.lsn; messages = ms }) result
 
 -- A stop at the newest message returns the error that it or its commit requires.
@@ -186,7 +203,6 @@ abbrev pub NewestMessagesHalt : Type 0
 NewestMessagesHalt = (config : Config) (now : ℤ) (held : Option Offset) (first stored : Offset) (work : SessionState) (ms : List Message)
     (m : Message) (bytes : List ℕ) (number : ℕ) (h : Halt)
     → IsOfFirst config now held first stored work → IsWork first.lsn ms work → Spells bytes m → number ≡ length (m ∷ ms)
-    → (h ≡ halt.Memory) ⊎ (IsNewestHalt number first.lsn ms bytes work h
-    ⊎ ((h ≡ halt.Sink) × ((next : SessionState) × (commit : Commit) × WasTaken first.lsn ms bytes work next (Some commit)
-    × (clash_by next.follower commit ≡ None))))
+    → CouldBeSentSoFar work ms
+    → (h ≡ halt.Memory) ⊎ (IsNewestHalt number first.lsn ms bytes work h ⊎ ((h ≡ halt.Sink) × IsSentNewest first.lsn ms bytes work))
     → MustHaltBy now stored (record { after = first.lsn; messages = m ∷ ms }) (Err h)

@@ -1,5 +1,5 @@
 -- How many watermarks a session writes, compared with the windows that it closes, and how far these advance its cursors.
-use Rattle.std.specs.Prelude.{◌≡◌, ◌⊎◌, ℕ, ◌+◌, ◌*◌, ◌<◌, ◌^◌, ◌≤◌, true, if◌then◌else◌, not, position, Option, Some, None, List, length}
+use Rattle.std.specs.Prelude.{◌≡◌, ◌⊎◌, ℕ, ◌+◌, ◌*◌, ◌<◌, ◌^◌, ◌≤◌, true, false, if◌then◌else◌, is_some, not, position, Option, Some, None, List, [], ◌++◌, length}
 use Rattle.std.specs.List.{AllByRecursion, list_all}
 use Rattle.dbl_model_table.specs.declared.change.Commit.{Commit}
 use Rattle.dbl_capture_work.specs.ModelHistory.declared.cursor.Cursor.{Cursor}
@@ -8,6 +8,8 @@ use Rattle.dbl_capture_work.specs.SourceModel.Growth.{marks_in}
 use Rattle.dbl_capture_work.specs.Offset.declared.offset.Offset.{Offset}
 use Rattle.dbl_capture_work.specs.Faithful.Lag.{IsUnread}
 use Rattle.dbl_capture_work.specs.Faithful.Kept.{HasGrown}
+use Rattle.dbl_record.specs.declared.record.Record.{Record}
+use Rattle.dbl_capture_work.specs.Follow.Steps.{mark_of, records_by}
 use Rattle.dbl_capture_work.specs.Follow.declared.window.Window.TheVariants.{Absent}
 use Rattle.dbl_capture_work.specs.CaptureModel.Counted.{HaveComeOn, waiting}
 use Rattle.dbl_capture_work.specs.CaptureModel.Entries.{SessionStart}
@@ -87,8 +89,9 @@ ReadWindowsWait = (old new : SessionState) (table chunks : ℕ) → old.follower
 
 -- A report counts the window that a followed commit closes, while fewer than 2^64 windows were read.
 abbrev pub StepsCloseWindows : Type 0
-StepsCloseWindows = (commit : Commit) (old new : SessionState) (before after : Report) → old.number < 2 ^ 64
-    → WasStepped commit old new → ReportsStep commit old before after true
+StepsCloseWindows = (commit : Commit) (old new : SessionState) (put rest : List Record) (before after : Report) → old.number < 2 ^ 64
+    → WasStepped commit old new → records_by old.follower commit old.now_ms ≡ put ++ rest → (put ≡ []) ⊎ (is_some (mark_of commit) ≡ false)
+    → ReportsStep (is_some (mark_of commit)) rest before after true
     → AreClosed old before.chunks → AreClosed new after.chunks
 
 -- ---- what is left

@@ -38,16 +38,17 @@ pub use honest_laws::{
     captured_tables_can_be_captured, honest_transactions_fail, spelled_bytes_never_halt,
 };
 pub use laws::{
-    commits_leave_it_ready, messages_leave_it_ready, stores_leave_it_ready, windows_leave_it_ready,
+    commits_leave_it_ready, messages_leave_it_ready, parts_leave_it_ready, stores_leave_it_ready,
+    windows_leave_it_ready,
 };
 pub use mark_laws::{few_marks_are_left, marks_are_exact, read_windows_wait, steps_close_windows};
 pub use owned_laws::{
     clashes_are_own, first_long_offsets_are_own, first_offsets_are_long, long_offsets_are_own,
-    long_records_are_own,
+    long_records_are_own, open_clashes_are_own, open_long_records_are_own,
 };
 pub use put_laws::{
-    commits_gain, gains_begin, gains_stay, messages_gain_nothing, rests_leave_gains,
-    steps_are_counted, steps_leave_gains,
+    commits_gain, gains_begin, gains_stay, messages_gain_nothing, opens_are_counted,
+    opens_leave_gains, rests_leave_gains, steps_are_counted, steps_leave_gains,
 };
 pub use report_laws::{
     commits_are_sent, ends_stand_at_last, halts_at_messages, halts_between, messages_are_taken,

@@ -2,6 +2,7 @@
 
 ghost use Rattle.dbl_capture_laws.specs.Puts.{CommitsGain, GainsBegin, GainsStay};
 ghost use Rattle.dbl_capture_laws.specs.Puts.{MessagesGainNothing, RestsLeaveGains};
+ghost use Rattle.dbl_capture_laws.specs.Puts.{OpensAreCounted, OpensLeaveGains};
 ghost use Rattle.dbl_capture_laws.specs.Puts.{StepsAreCounted, StepsLeaveGains};
 
 /// A session begins with nothing gained.
@@ -29,6 +30,11 @@ pub fn rests_leave_gains()
     ensures { RestsLeaveGains }
 {}
 
+/// The sink's gain within an open transaction is a gain by the stored offset.
+pub fn opens_leave_gains()
+    ensures { OpensLeaveGains }
+{}
+
 /// The sink's gain within a commit is a gain by the stored offset.
 pub fn steps_leave_gains()
     ensures { StepsLeaveGains }
@@ -37,4 +43,9 @@ pub fn steps_leave_gains()
 /// The appended prefix of a commit's records is counted.
 pub fn steps_are_counted()
     ensures { StepsAreCounted }
+{}
+
+/// The appended prefix of an open transaction's records is counted.
+pub fn opens_are_counted()
+    ensures { OpensAreCounted }
 {}

@@ -6,8 +6,9 @@ ghost use Rattle.dbl_capture.specs.ReadSteps.{ReadsMessage, ReportsRead, StopsAt
 ghost use Rattle.dbl_source.specs.Keeps.{KeepsSource};
 ghost use Rattle.dbl_topic.specs.Keeps.{KeepsSink};
 
-use dbl_capture_work::{Halt, Report, SessionState, deliver_commit, take_message};
+use dbl_capture_work::{Halt, Report, SessionState, deliver_changes, deliver_commit, take_message};
 use dbl_disk::Disk;
+use dbl_model_commit::Piece;
 use dbl_offset::OffsetStore;
 use dbl_source::Source;
 use dbl_topic::Sink;
@@ -21,8 +22,8 @@ fn is_due(work: &SessionState, closed: bool) -> bool
     closed || work.since >= work.every
 }
 
-/// Reads the next message, and follows the commit that it ends. Returns None if nothing is left,
-/// and else whether the offset is due to be stored.
+/// Reads the next message, and follows the changes that it states, or the commit that it ends.
+/// Returns None if nothing is left, and else whether the offset is due to be stored.
 pub(crate) fn read_and_deliver<S: Source, K: Sink, D: Disk>(
     work: &mut SessionState,
     src: &mut S,
@@ -47,11 +48,15 @@ pub(crate) fn read_and_deliver<S: Source, K: Sink, D: Disk>(
         Some(bytes) => {
             report.messages += 1;
             match take_message(work, report.messages, &bytes)? {
-                Some(commit) => {
-                    let closed = deliver_commit(work, &commit, sink, report)?;
+                Piece::Nothing => Ok(Some(false)),
+                Piece::Changed(changes) => {
+                    deliver_changes(work, &changes, sink, report)?;
+                    Ok(Some(false))
+                }
+                Piece::Ended(ended) => {
+                    let closed = deliver_commit(work, &ended, sink, report)?;
                     Ok(Some(is_due(work, closed)))
                 }
-                None => Ok(Some(false)),
             }
         }
         None => Ok(None),

@@ -5,7 +5,7 @@ use Rattle.dbl_model_history.specs.Ranges.{IsMomentInRange}
 use Rattle.dbl_offset_content.specs.declared.offset.Offset.{Offset}
 use Rattle.dbl_offset.specs.Stores.{disk_of}
 use Rattle.dbl_capture_work.specs.Begins.{IsOffsetFor}
-use Rattle.dbl_capture_work.specs.Works.{next_offset_of}
+use Rattle.dbl_capture_work.specs.Works.{IsWork, next_offset_of, rest_in}
 use Rattle.dbl_capture_work.proofs.Exits.{later_on, rose_after}
 use Rattle.dbl_capture_laws.proofs.StepCauses.{err_at, err_then, residual_is, residual_of}
 use Rattle.dbl_capture_laws.specs.Ends.{HasOwnStored}
@@ -53,6 +53,7 @@ use Rattle.dbl_capture_laws.proofs.Going.{free_below}
 use Rattle.dbl_capture_laws.proofs.Advancing.{advances_by, advances_or_first, brought_rest, longer_left}
 use Rattle.dbl_capture_laws.proofs.Confirming.{confirmed_first, confirmed_or_first}
 use Rattle.dbl_capture_laws.proofs.Excluding.{no_answer, no_ok, not_ok}
+use Rattle.dbl_capture_laws.proofs.Opened.{closed_rest, opens_none, rest_none, settled_closed}
 use Rattle.dbl_capture.proofs.capture.session.Goals as goal
 
 -- it didn't begin
@@ -98,7 +99,14 @@ process_messages-requires g c = record {
   reading = c.in_ok-work.ensures.state.reading;
   sink_live = c.requires.sink_live;
   store_live = c.in_ok-work.ensures.store.live;
-  ready = record { after = c.in_ok-work.ensures.state.begun.0.lsn; messages = []; is = c.in_ok-work.ensures.state.begun.2.is };
+  ready =
+      let b = c.in_ok-work.ensures.state.begun.2 in
+      record {
+        after = c.in_ok-work.ensures.state.begun.0.lsn;
+        messages = [];
+        ahead = opens_none [] c.in_ok-work.work refl b.is.between b.no_batch;
+        is = subst (IsWork c.in_ok-work.ensures.state.begun.0.lsn []) (sym (rest_none [] c.in_ok-work.work refl b.is.between b.no_batch)) b.is;
+      };
   since = omega (arith, c.in_ok-work.ensures.state.begun.2.none, c.in_ok-work.ensures.state.begun.2.every_is, c.requires.config.every.0);
   time = subst IsMomentInRange (sym (c.in_ok-work.ensures.state.begun.2.now_is ∙ to_z-of_z c.ranges.now_ms)) c.ranges.now_ms;
   number = c.in_ok-work.ensures.state.begun.2.unread;
@@ -134,8 +142,8 @@ returns-clause-marks g c = record {
       let u = subst (λ (n : ℤ). IsUnderWay g.S.Source None (g.S.Source.told c.args.src.now) (beginning_at c.args.config.now n c.args.offsets.now.offset way.0) c.open_session.new.store.offset c.in_ok-work.work c.open_session.new.report c.open_session.new.src) (to_z-of_z c.ranges.now_ms) way.1 in
       let all = c.process_messages.ensures.report.all None (g.S.Source.told c.args.src.now) b u in
       exactly_by c.process_messages.result _ _ _ _ _ (c.process_messages.ensures.session.next false entry in_session honest) all c.process_messages.ensures.state.none c.process_messages.ensures.state.waited
-      (λ t e none left may. exact_left t c.process_messages.new.store.offset c.process_messages.new.report.chunks _ left (g.met.S.Source.only _ (state_at_stage t.stage) left t.source_is may) (exact_budget t c.process_messages.new.store.offset c.process_messages.new.report.chunks e.stored_is e.is.is.windows none))
-      (λ t e none absent left may. exact_left t c.process_messages.new.store.offset c.process_messages.new.report.chunks _ left (g.met.S.Source.only _ (state_at_stage t.stage) left t.source_is may) (exact_complete t c.process_messages.new.store.offset c.process_messages.new.report.chunks e.stored_is e.is.is.windows none absent));
+      (λ t e none left may. exact_left t c.process_messages.new.store.offset c.process_messages.new.report.chunks _ left (g.met.S.Source.only _ (state_at_stage t.stage) left t.source_is may) (exact_budget t c.process_messages.new.store.offset c.process_messages.new.report.chunks e.stored_is (settled_closed e) none))
+      (λ t e none absent left may. exact_left t c.process_messages.new.store.offset c.process_messages.new.report.chunks _ left (g.met.S.Source.only _ (state_at_stage t.stage) left t.source_is may) (exact_complete t c.process_messages.new.store.offset c.process_messages.new.report.chunks e.stored_is (settled_closed e) none absent));
   most = λ s was honest had left may.
       let entry = session_start_at c.args.config.now c.args.now_ms s c.args.offsets.now.offset in
       let in_session = c.in_ok-work.ensures.session.next false entry refl (sym (to_z-of_z c.ranges.now_ms)) (source_found _ _ _ c.args.config.now c.args.now_ms s _ _ c.args.offsets.now was) (c.process_messages.ensures.source.honest honest) had in
@@ -146,7 +154,7 @@ returns-clause-marks g c = record {
       let own = c.process_messages.ensures.state.stored (subst (λ (o : Offset). HasOwnStored o c.open_session.new.store.offset) (sym begins.2.offset_is) (own_first begins.0 c.open_session.new.store.offset begins.1)) in
       stored_most c.in_ok-work.work.offset c.process_messages.new.store.offset c.process_messages.new.report.chunks s.history left.history own
       (either_most c.process_messages.result _ _ (AddsNoMore c.process_messages.new.report.chunks s.history left.history) (c.process_messages.ensures.session.next false entry in_session honest) (c.process_messages.ensures.report.all None (g.S.Source.told c.args.src.now) b u) (c.process_messages.ensures.session.most false entry None (g.S.Source.told c.args.src.now) b in_session u honest)
-      (λ t e. others_leave_few_marks entry t.stage c.process_messages.new.work left.history c.process_messages.new.report.chunks c.process_messages.new.report.chunks t.work_is t.going e.is.is.windows (same_most c.process_messages.new.report.chunks)
+      (λ t e. others_leave_few_marks entry t.stage (rest_in t.ahead) left.history c.process_messages.new.report.chunks c.process_messages.new.report.chunks t.work_is t.going (closed_rest t.ahead c.process_messages.new.report.chunks (settled_closed e)) (same_most c.process_messages.new.report.chunks)
       (left_rests t.stage.history (state_at_stage t.stage) left t.going.reading.fit.rising refl (g.met.S.Source.only c.process_messages.new.src (state_at_stage t.stage) left t.source_is may)))
       (λ few. few left may));
   advances = λ s was honest had left may.
@@ -158,7 +166,7 @@ returns-clause-marks g c = record {
       let b = beginning_at c.args.config.now c.args.now_ms c.args.offsets.now.offset way.0 in
       let u = subst (λ (n : ℤ). IsUnderWay g.S.Source None (g.S.Source.told c.args.src.now) (beginning_at c.args.config.now n c.args.offsets.now.offset way.0) c.open_session.new.store.offset c.in_ok-work.work c.open_session.new.report c.open_session.new.src) (to_z-of_z c.ranges.now_ms) way.1 in
       either_most c.process_messages.result _ _ (AdvancesAtMost c.args.config.now.chunk chunks left.history c.args.offsets.now.offset stored) (c.process_messages.ensures.session.next false entry in_session honest) (c.process_messages.ensures.report.all None (g.S.Source.told c.args.src.now) b u) (c.process_messages.ensures.session.advances false entry None (g.S.Source.told c.args.src.now) b in_session u honest)
-      (λ t e. advances_by c.args.config.now.chunk chunks chunks t.stage.history left.history c.args.offsets.now.offset stored (brought_rest t b e.messages stored c.process_messages.new.report e.is) (same_most chunks)
+      (λ t e. advances_by c.args.config.now.chunk chunks chunks t.stage.history left.history c.args.offsets.now.offset stored (brought_rest t b e.messages stored c.process_messages.new.report e.ahead e.is) (same_most chunks)
       (longer_left (state_at_stage t.stage) left (g.met.S.Source.only c.process_messages.new.src (state_at_stage t.stage) left t.source_is may)))
       (λ stops. stops left may);
 }
@@ -240,7 +248,7 @@ returns-clause-halt g c = record {
       let all = c.process_messages.ensures.report.all None (g.S.Source.told c.args.src.now) b u in
       let halted = c.process_messages.ensures.report.halted None (g.S.Source.told c.args.src.now) b u in
       answer_as c.process_messages.result _ _ (λ r. MustHalt c.args.config.now c.args.offsets.now.offset c.process_messages.new.store.offset c.process_messages.new.report t r) (ok_pair c.process_messages.result _ _ all c.process_messages.ensures.state.quiet) halted
-      (λ a e. quiet_asks b a.0.messages c.process_messages.new.store.offset c.process_messages.new.work c.process_messages.new.report c.process_messages.new.report (g.S.Source.told c.args.src.now) (g.S.Source.told c.process_messages.new.src) c.process_messages.new.store.offset (Ok e) a.0.is.is a.0.tells a.1 (inl refl) t is)
+      (λ a e. quiet_asks b a.0.messages c.process_messages.new.store.offset (rest_in a.0.ahead) c.process_messages.new.report c.process_messages.new.report (g.S.Source.told c.args.src.now) (g.S.Source.told c.process_messages.new.src) c.process_messages.new.store.offset (Ok e) a.0.is.is a.0.tells a.1 (inl refl) t is)
       (λ h x. x.must t is);
   exhausted = λ h is. absurd (not_both c.open_session.result _ h (c.open_session.ensures.stops.exhausted h is) c.in_ok-work.was);
   missed = c.process_messages.ensures.state.missed;
@@ -480,7 +488,7 @@ returns-clause-unclosed g c entry asked f honest faithful t now =
     let u = subst (λ (n : ℤ). IsUnderWay g.S.Source (Some f.standing) (g.S.Source.told c.args.src.now) (beginning_at c.args.config.now n c.args.offsets.now.offset way.0) c.open_session.new.store.offset c.in_ok-work.work c.open_session.new.report c.open_session.new.src) (to_z-of_z c.ranges.now_ms) way.1 in
     closed_either c.process_messages.result (HasClosedRead c.process_messages.new.store.offset c.process_messages.new.report t)
     (ok_then c.process_messages.result _ _ (ok_pair c.process_messages.result _ _ (c.process_messages.ensures.session.next true entry in_session honest) (c.process_messages.ensures.report.all (Some f.standing) (g.S.Source.told c.args.src.now) b u))
-    (λ x. closed_read x.0 faithful c.process_messages.new.store.offset c.process_messages.new.report t x.1.stored_is (g.met.S.Source.one c.process_messages.new.src t (state_at_stage x.0.stage) now x.0.source_is) x.1.is.is.windows))
+    (λ x. closed_read x.0 faithful c.process_messages.new.store.offset c.process_messages.new.report t x.1.stored_is (g.met.S.Source.one c.process_messages.new.src t (state_at_stage x.0.stage) now x.0.source_is) (settled_closed x.1)))
     (c.process_messages.ensures.session.unclosed entry f.standing (g.S.Source.told c.args.src.now) b in_session u faithful honest t now)
 
 -- ---- whether the log is gone

@@ -26,6 +26,8 @@ use Rattle.dbl_capture_laws.proofs.Unclosed.{closed_at_halt}
 use Rattle.dbl_capture_laws.proofs.Advancing.{longer_left}
 use Rattle.dbl_capture_laws.proofs.Confirming.{confirmed_on}
 use Rattle.dbl_capture_laws.proofs.Excluding.{no_ok}
+use Rattle.dbl_capture_work.specs.Works.{rest_in}
+use Rattle.dbl_capture_laws.proofs.Opened.{awaited_open, closed_rest}
 use Rattle.dbl_capture.proofs.settle.finish_complete.Goals as goal
 
 pub returns-in_err-copy-in-Some-clause-session : goal.returns-in_err-copy-in-Some-clause-session
@@ -34,7 +36,7 @@ returns-in_err-copy-in-Some-clause-session g c = record {
   left = λ tell entry s honest. on_err _ _ (rests s _ (g.met.S.Source.only _) (g.met.S.Source.may _) (g.met.K.Sink.only _) (g.met.K.Sink.may _) honest (λ h l is. g.met.S.Source.fit _ l is h) (some_chunk s));
   own = λ entry. residual_of c.from_residual.result halt.Memory (IsHonestHalt entry (g.S.Source.stands c.args.src.now)) c.from_residual.ensures.1 tt;
   most = λ tell entry s closed.
-      leaves_most _ g.S.Source.may_leave c.args.src.now c.args.report.now.chunks entry.history (λ left may. others_leave_few_marks entry s.stage c.args.work.now left.history c.args.report.now.chunks c.args.report.now.chunks s.work_is s.going closed (same_most c.args.report.now.chunks)
+      leaves_most _ g.S.Source.may_leave c.args.src.now c.args.report.now.chunks entry.history (λ left may. others_leave_few_marks entry s.stage (rest_in s.ahead) left.history c.args.report.now.chunks c.args.report.now.chunks s.work_is s.going (closed_rest s.ahead c.args.report.now.chunks closed) (same_most c.args.report.now.chunks)
       (left_rests s.stage.history (state_at_stage s.stage) left s.going.reading.fit.rising refl (g.met.S.Source.only c.args.src.now (state_at_stage s.stage) left s.source_is may)));
   content = λ entry s faithful. residual_of c.from_residual.result halt.Memory (IsFaithfulHalt entry c.args.store.now.offset c.args.report.now (g.S.Source.stands c.args.src.now) (g.K.Sink.holds c.args.sink.now)) c.from_residual.ensures.1 tt;
   unclosed = λ entry first found b s u faithful honest t now.
@@ -47,7 +49,7 @@ returns-in_ok-copy-in-Some-clause-session g c = record {
   left = λ tell entry s honest. rests s _ (g.met.S.Source.only _) (g.met.S.Source.may _) (g.met.K.Sink.only _) (g.met.K.Sink.may _) honest (λ h l is. g.met.S.Source.fit _ l is h) (some_chunk s);
   own = λ entry. tt;
   most = λ tell entry s closed left may.
-      others_leave_few_marks entry s.stage c.args.work.now left.history c.args.report.now.chunks c.args.report.now.chunks s.work_is s.going closed (same_most c.args.report.now.chunks)
+      others_leave_few_marks entry s.stage (rest_in s.ahead) left.history c.args.report.now.chunks c.args.report.now.chunks s.work_is s.going (closed_rest s.ahead c.args.report.now.chunks closed) (same_most c.args.report.now.chunks)
       (left_rests s.stage.history (state_at_stage s.stage) left s.going.reading.fit.rising refl (g.met.S.Source.only c.args.src.now (state_at_stage s.stage) left s.source_is may));
   content = λ entry s faithful. tt;
   unclosed = λ entry first found b s u faithful honest t now.
@@ -129,7 +131,7 @@ returns-in_err-copy-in-Some-clause-report g c = record {
   all = λ at found b x. no_ok c.from_residual.result _ _ c.from_residual.ensures.1;
   halted = λ at found b u answer.
       residual_of c.from_residual.result halt.Memory (Halts g.S.Source at found b.config b.now b.held c.args.store.now.offset c.args.report.now c.args.src.now) c.from_residual.ensures.1
-      (record { halted = halts_between g.S.Source at found b c.args.store.now.offset c.args.store.now.offset c.args.work.now c.args.report.now c.args.report.now c.args.src.now c.args.src.now halt.Memory (at_rest g.S.Source at found b c.args.store.now.offset c.args.work.now c.args.report.now c.args.src.now u) (none_taken (g.S.Source.told c.args.src.now)) (λ s t was now. ap (λ (x : SourceState). x.reading) (g.met.S.Source.one c.args.src.now t s now was)) memory_left refl refl (inl refl); stood = λ s first. memory_stood b.config b.now b.held c.args.store.now.offset c.args.report.now (g.S.Source.stands c.args.src.now) halt.Memory refl; cause = memory_caused b.config b.now b.held c.args.store.now.offset c.args.report.now (g.S.Source.told c.args.src.now) halt.Memory refl; must = quiet_asks b u.messages c.args.store.now.offset c.args.work.now c.args.report.now c.args.report.now found (g.S.Source.told c.args.src.now) c.args.store.now.offset (Err halt.Memory) u.is.is u.tells (read_quiet (g.S.Source.told c.args.src.now) None answer) (inl refl) });
+      (record { halted = halts_between g.S.Source at found b c.args.store.now.offset c.args.store.now.offset c.args.work.now c.args.report.now c.args.report.now c.args.src.now c.args.src.now halt.Memory (at_rest g.S.Source at found b c.args.store.now.offset c.args.work.now c.args.report.now c.args.src.now u) (none_taken (g.S.Source.told c.args.src.now)) (λ s t was now. ap (λ (x : SourceState). x.reading) (g.met.S.Source.one c.args.src.now t s now was)) memory_left refl refl (inl refl); stood = λ s first. memory_stood b.config b.now b.held c.args.store.now.offset c.args.report.now (g.S.Source.stands c.args.src.now) halt.Memory refl; cause = memory_caused b.config b.now b.held c.args.store.now.offset c.args.report.now (g.S.Source.told c.args.src.now) halt.Memory refl; must = quiet_asks b u.messages c.args.store.now.offset (rest_in u.ahead) c.args.report.now c.args.report.now found (g.S.Source.told c.args.src.now) c.args.store.now.offset (Err halt.Memory) u.is.is u.tells (read_quiet (g.S.Source.told c.args.src.now) None answer) (inl refl) });
   grows = λ s left is may. longer_left s left (g.met.S.Source.only c.args.src.now s left is may);
   confirmed = λ held s t was now confirmed.
       confirmed_on held c.args.store.now.offset c.args.store.now.offset s t refl (ap (λ (x : SourceState). x.confirmed) (g.met.S.Source.one c.args.src.now t s now was)) confirmed;
@@ -139,7 +141,7 @@ pub returns-in_ok-copy-in-Some-clause-report : goal.returns-in_ok-copy-in-Some-c
 returns-in_ok-copy-in-Some-clause-report g c = record {
   all = λ at found b x. tt;
   halted = λ at found b u answer.
-      record { halted = halts_between g.S.Source at found b c.args.store.now.offset c.args.store.now.offset c.args.work.now c.args.report.now c.args.report.now c.args.src.now c.args.src.now _ (at_rest g.S.Source at found b c.args.store.now.offset c.args.work.now c.args.report.now c.args.src.now u) (none_taken (g.S.Source.told c.args.src.now)) (λ s t was now. ap (λ (x : SourceState). x.reading) (g.met.S.Source.one c.args.src.now t s now was)) refl refl refl (inl refl); stood = λ s first. marks_stood g.S.Source at found b c.args.store.now.offset c.args.work.now c.args.src.now c.args.src.now c.args.report.now _ u (sym c.in-Some.ensures.text ∙ ap (λ (v : List ℕ). Some v) (sym c.in_ok-copy-in-Some.ensures)) s first; cause = missed_caused b u.messages c.args.store.now.offset c.args.work.now c.args.report.now found (g.S.Source.told c.args.src.now) _ u.is u.tells (sym c.in-Some.ensures.text ∙ ap (λ (v : List ℕ). Some v) (sym c.in_ok-copy-in-Some.ensures)) answer; must = quiet_asks b u.messages c.args.store.now.offset c.args.work.now c.args.report.now c.args.report.now found (g.S.Source.told c.args.src.now) c.args.store.now.offset _ u.is.is u.tells (read_quiet (g.S.Source.told c.args.src.now) None answer) (inl refl) };
+      record { halted = halts_between g.S.Source at found b c.args.store.now.offset c.args.store.now.offset c.args.work.now c.args.report.now c.args.report.now c.args.src.now c.args.src.now _ (at_rest g.S.Source at found b c.args.store.now.offset c.args.work.now c.args.report.now c.args.src.now u) (none_taken (g.S.Source.told c.args.src.now)) (λ s t was now. ap (λ (x : SourceState). x.reading) (g.met.S.Source.one c.args.src.now t s now was)) refl refl refl (inl refl); stood = λ s first. marks_stood g.S.Source at found b c.args.store.now.offset c.args.work.now c.args.src.now c.args.src.now c.args.report.now _ u (sym c.in-Some.ensures.text ∙ ap (λ (v : List ℕ). Some v) (sym c.in_ok-copy-in-Some.ensures)) s first; cause = missed_caused b u.messages c.args.store.now.offset (rest_in u.ahead) c.args.report.now found (g.S.Source.told c.args.src.now) _ u.is u.tells (sym (awaited_open u.ahead) ∙ (sym c.in-Some.ensures.text ∙ ap (λ (v : List ℕ). Some v) (sym c.in_ok-copy-in-Some.ensures))) answer; must = quiet_asks b u.messages c.args.store.now.offset (rest_in u.ahead) c.args.report.now c.args.report.now found (g.S.Source.told c.args.src.now) c.args.store.now.offset _ u.is.is u.tells (read_quiet (g.S.Source.told c.args.src.now) None answer) (inl refl) };
   grows = λ s left is may. longer_left s left (g.met.S.Source.only c.args.src.now s left is may);
   confirmed = λ held s t was now confirmed.
       confirmed_on held c.args.store.now.offset c.args.store.now.offset s t refl (ap (λ (x : SourceState). x.confirmed) (g.met.S.Source.one c.args.src.now t s now was)) confirmed;

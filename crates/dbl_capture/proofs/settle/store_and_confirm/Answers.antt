@@ -1,4 +1,4 @@
-use Rattle.std.proofs.Common.{◌≡◌, ◌∙◌, ◌⊎◌, Err, Option, Some, subst, inl, inr, refl, sym, ap, le_refl, [], ◌≤◌}
+use Rattle.std.proofs.Common.{◌++◌, ◌≡◌, ◌∙◌, ◌⊎◌, Err, Option, Some, subst, inl, inr, refl, sym, ap, le_refl, [], ◌≤◌}
 use Rattle.dbl_source.specs.SourceModel.Calls.{IsConfirmed}
 use Rattle.dbl_source.specs.SourceModel.Leaves.{MayFollowConfirm}
 use Rattle.dbl_offset_content.specs.declared.offset.Offset.{Offset}
@@ -38,6 +38,10 @@ use Rattle.dbl_capture_laws.proofs.Unclosed.{closed_at_halt}
 use Rattle.dbl_capture_laws.proofs.Advancing.{longer_grows, longer_left}
 use Rattle.dbl_capture_laws.proofs.Confirming.{confirmed_next, confirmed_on, greater}
 use Rattle.dbl_capture_laws.proofs.Excluding.{no_ok}
+use Rattle.dbl_record.specs.Cuts.{cut}
+use Rattle.dbl_capture_work.specs.Works.{rest_in}
+use Rattle.dbl_capture_laws.proofs.Ahead.{rest_kept, rest_next}
+use Rattle.dbl_capture_laws.proofs.Opened.{closed_rest}
 use Rattle.dbl_capture.proofs.settle.store_and_confirm.Goals as goal
 
 -- nothing was asked of the three yet
@@ -49,7 +53,7 @@ returns-in_err-offset-clause-session g c = record {
       on_err _ _ (rests s _ (g.met.S.Source.only _) (g.met.S.Source.may _) (g.met.K.Sink.only _) (g.met.K.Sink.may _) honest (λ h l is. g.met.S.Source.fit _ l is h) (some_chunk s));
   own = λ entry. residual_of c.from_residual.result halt.Memory (IsHonestHalt entry (g.S.Source.stands c.args.src.now)) c.from_residual.ensures.1 tt;
   most = λ tell entry s closed.
-      leaves_most _ g.S.Source.may_leave c.args.src.now c.args.report.now.chunks entry.history (λ left may. others_leave_few_marks entry s.stage c.args.work.now left.history c.args.report.now.chunks c.args.report.now.chunks s.work_is s.going closed (same_most c.args.report.now.chunks)
+      leaves_most _ g.S.Source.may_leave c.args.src.now c.args.report.now.chunks entry.history (λ left may. others_leave_few_marks entry s.stage (rest_in s.ahead) left.history c.args.report.now.chunks c.args.report.now.chunks s.work_is s.going (closed_rest s.ahead c.args.report.now.chunks closed) (same_most c.args.report.now.chunks)
       (left_rests s.stage.history (state_at_stage s.stage) left s.going.reading.fit.rising refl (g.met.S.Source.only c.args.src.now (state_at_stage s.stage) left s.source_is may)));
   content = λ entry s faithful. residual_of c.from_residual.result halt.Memory (IsFaithfulHalt entry c.args.store.now.offset c.args.report.now (g.S.Source.stands c.args.src.now) (g.K.Sink.holds c.args.sink.now)) c.from_residual.ensures.1 tt;
   unclosed = λ entry first found b s u faithful honest t now.
@@ -66,11 +70,11 @@ returns-in_err-put_offset-clause-session g c = record {
       (store_fails s c.put_offset.new.store _
       (λ t. subst (λ (o : Offset). LeavesOffset g.D.Disk (disk_of c.put_offset.new.store) (λ left. (left ≡ Some s.stage.stored) ⊎ (left ≡ Some o))) c.in_ok-offset.ensures.next (c.put_offset.ensures.left (Some s.stage.stored) (s.store_is t)))
       (g.met.S.Source.only _) (g.met.S.Source.may _) honest (λ h l is. g.met.S.Source.fit _ l is h)
-      (λ t groups is. g.met.K.Sink.only _ s.stage.groups groups (s.sink_is t) is) (λ t. (s.stage.groups, g.met.K.Sink.may _ s.stage.groups (s.sink_is t))));
+      (λ t groups is. g.met.K.Sink.only _ (s.stage.groups ++ cut s.ahead.put) groups (s.sink_is t) is) (λ t. (s.stage.groups ++ cut s.ahead.put, g.met.K.Sink.may _ (s.stage.groups ++ cut s.ahead.put) (s.sink_is t))));
   own = λ entry.
       residual_of c.from_residual-in_err-put_offset.result _ (IsHonestHalt entry (g.S.Source.stands c.args.src.now)) c.from_residual-in_err-put_offset.ensures.1 (store_honest entry (g.S.Source.stands c.args.src.now) _ _ c.in_err-put_offset.ensures.halt);
   most = λ tell entry s closed.
-      leaves_most _ g.S.Source.may_leave c.args.src.now c.args.report.now.chunks entry.history (λ left may. others_leave_few_marks entry s.stage c.args.work.now left.history c.args.report.now.chunks c.args.report.now.chunks s.work_is s.going closed (same_most c.args.report.now.chunks)
+      leaves_most _ g.S.Source.may_leave c.args.src.now c.args.report.now.chunks entry.history (λ left may. others_leave_few_marks entry s.stage (rest_in s.ahead) left.history c.args.report.now.chunks c.args.report.now.chunks s.work_is s.going (closed_rest s.ahead c.args.report.now.chunks closed) (same_most c.args.report.now.chunks)
       (left_rests s.stage.history (state_at_stage s.stage) left s.going.reading.fit.rising refl (g.met.S.Source.only c.args.src.now (state_at_stage s.stage) left s.source_is may)));
   content = λ entry s faithful.
       residual_of c.from_residual-in_err-put_offset.result _ (IsFaithfulHalt entry c.put_offset.new.store.offset c.args.report.now (g.S.Source.stands c.args.src.now) (g.K.Sink.holds c.args.sink.now)) c.from_residual-in_err-put_offset.ensures.1
@@ -90,12 +94,12 @@ returns-in_err-confirm-clause-session g c = record {
       (λ t. subst (λ (o : Offset). HoldsOffset g.D.Disk c.put_offset.new.store (Some o)) c.in_ok-offset.ensures.next (c.in_ok-put_offset.ensures.stored (Some s.stage.stored) (s.store_is t)))
       (λ left is. subst (λ (o : Offset). MayFollowConfirm o.lsn (state_at_stage s.stage) left) c.in_ok-offset.ensures.next (c.confirm.ensures.left (state_at_stage s.stage) left s.source_is is))
       (λ left is. g.met.S.Source.fit _ left is honest)
-      (λ t groups is. g.met.K.Sink.only _ s.stage.groups groups (s.sink_is t) is)
-      (c.confirm.ensures.some (state_at_stage s.stage) s.source_is) (λ t. (s.stage.groups, g.met.K.Sink.may _ s.stage.groups (s.sink_is t))));
+      (λ t groups is. g.met.K.Sink.only _ (s.stage.groups ++ cut s.ahead.put) groups (s.sink_is t) is)
+      (c.confirm.ensures.some (state_at_stage s.stage) s.source_is) (λ t. (s.stage.groups ++ cut s.ahead.put, g.met.K.Sink.may _ (s.stage.groups ++ cut s.ahead.put) (s.sink_is t))));
   own = λ entry.
       residual_of c.from_residual-in_err-confirm.result _ (IsHonestHalt entry (g.S.Source.stands c.confirm.new.self)) c.from_residual-in_err-confirm.ensures.1 (source_honest entry (g.S.Source.stands c.confirm.new.self) c.in_err-confirm.field-0.0);
   most = λ tell entry s closed.
-      leaves_most _ g.S.Source.may_leave c.confirm.new.self c.args.report.now.chunks entry.history (λ left may. others_leave_few_marks entry s.stage c.args.work.now left.history c.args.report.now.chunks c.args.report.now.chunks s.work_is s.going closed (same_most c.args.report.now.chunks) (c.confirm.ensures.left (state_at_stage s.stage) left s.source_is may).grows);
+      leaves_most _ g.S.Source.may_leave c.confirm.new.self c.args.report.now.chunks entry.history (λ left may. others_leave_few_marks entry s.stage (rest_in s.ahead) left.history c.args.report.now.chunks c.args.report.now.chunks s.work_is s.going (closed_rest s.ahead c.args.report.now.chunks closed) (same_most c.args.report.now.chunks) (c.confirm.ensures.left (state_at_stage s.stage) left s.source_is may).grows);
   content = λ entry s faithful.
       residual_of c.from_residual-in_err-confirm.result _ (IsFaithfulHalt entry c.put_offset.new.store.offset (record c.args.report.now { position = c.in_ok-offset.offset.lsn.0 }) (g.S.Source.stands c.confirm.new.self) (g.K.Sink.holds c.args.sink.now)) c.from_residual-in_err-confirm.ensures.1
       (free_own entry c.put_offset.new.store.offset (record c.args.report.now { position = c.in_ok-offset.offset.lsn.0 }) (g.S.Source.stands c.confirm.new.self) (g.K.Sink.holds c.args.sink.now) _ (source_free c.in_err-confirm.field-0.0));
@@ -224,7 +228,7 @@ returns-in_err-offset-clause-report g c = record {
   all = λ at found b x. no_ok c.from_residual.result _ _ c.from_residual.ensures.1;
   halted = λ at found b u quiet.
       residual_of c.from_residual.result halt.Memory (Halts g.S.Source at found b.config b.now b.held c.args.store.now.offset c.args.report.now c.args.src.now) c.from_residual.ensures.1
-      (record { halted = halts_between g.S.Source at found b c.args.store.now.offset c.args.store.now.offset c.args.work.now c.args.report.now c.args.report.now c.args.src.now c.args.src.now halt.Memory u (none_taken (g.S.Source.told c.args.src.now)) (λ s t was now. ap (λ (x : SourceState). x.reading) (g.met.S.Source.one c.args.src.now t s now was)) memory_left refl refl (inl refl); stood = λ s first. memory_stood b.config b.now b.held c.args.store.now.offset c.args.report.now (g.S.Source.stands c.args.src.now) halt.Memory refl; cause = memory_caused b.config b.now b.held c.args.store.now.offset c.args.report.now (g.S.Source.told c.args.src.now) halt.Memory refl; must = quiet_asks b u.messages c.args.store.now.offset c.args.work.now c.args.report.now c.args.report.now found (g.S.Source.told c.args.src.now) c.args.store.now.offset (Err halt.Memory) u.is u.tells quiet (inl refl) });
+      (record { halted = halts_between g.S.Source at found b c.args.store.now.offset c.args.store.now.offset c.args.work.now c.args.report.now c.args.report.now c.args.src.now c.args.src.now halt.Memory u (none_taken (g.S.Source.told c.args.src.now)) (λ s t was now. ap (λ (x : SourceState). x.reading) (g.met.S.Source.one c.args.src.now t s now was)) memory_left refl refl (inl refl); stood = λ s first. memory_stood b.config b.now b.held c.args.store.now.offset c.args.report.now (g.S.Source.stands c.args.src.now) halt.Memory refl; cause = memory_caused b.config b.now b.held c.args.store.now.offset c.args.report.now (g.S.Source.told c.args.src.now) halt.Memory refl; must = quiet_asks b u.messages c.args.store.now.offset (rest_in u.ahead) c.args.report.now c.args.report.now found (g.S.Source.told c.args.src.now) c.args.store.now.offset (Err halt.Memory) u.is u.tells quiet (inl refl) });
   awaits = λ x. no_ok c.from_residual.result _ _ c.from_residual.ensures.1;
   grows = λ s left is may. longer_left s left (g.met.S.Source.only c.args.src.now s left is may);
   confirmed = λ held s t was now confirmed.
@@ -236,7 +240,7 @@ returns-in_err-put_offset-clause-report g c = record {
   all = λ at found b x. no_ok c.from_residual-in_err-put_offset.result _ _ c.from_residual-in_err-put_offset.ensures.1;
   halted = λ at found b u quiet.
       residual_of c.from_residual-in_err-put_offset.result _ (Halts g.S.Source at found b.config b.now b.held c.put_offset.new.store.offset c.args.report.now c.args.src.now) c.from_residual-in_err-put_offset.ensures.1
-      (record { halted = halts_between g.S.Source at found b c.args.store.now.offset c.put_offset.new.store.offset c.args.work.now c.args.report.now c.args.report.now c.args.src.now c.args.src.now _ u (none_taken (g.S.Source.told c.args.src.now)) (λ s t was now. ap (λ (x : SourceState). x.reading) (g.met.S.Source.one c.args.src.now t s now was)) (store_left _ _ c.in_err-put_offset.ensures.halt) refl refl (inl c.in_err-put_offset.ensures.keeps); stood = λ s first. subst (λ (o : Option Offset). IsHaltStanding b.config b.now b.held o c.args.report.now (g.S.Source.stands c.args.src.now) c.in_err-put_offset.field-0.0) (sym c.in_err-put_offset.ensures.keeps) (offsets_stood g.S.Source at found b c.args.store.now.offset c.args.work.now c.args.src.now c.args.src.now c.args.report.now c.in_err-put_offset.field-0.0 u (subst IsOffset c.in_ok-offset.ensures.next c.in_ok-offset.ensures.asked) (subst (λ (o : Offset). (c.in_err-put_offset.field-0.0 ≡ halt.Memory) ⊎ ((c.in_err-put_offset.field-0.0 ≡ halt.Offsets) ⊎ IsTooLong o c.in_err-put_offset.field-0.0)) c.in_ok-offset.ensures.next c.in_err-put_offset.ensures.halt) s first); cause = subst (λ (o : Option Offset). IsHalt b.config b.now b.held o c.args.report.now (g.S.Source.told c.args.src.now) c.in_err-put_offset.field-0.0) (sym c.in_err-put_offset.ensures.keeps) (store_caused b u.messages c.args.store.now.offset c.args.work.now c.args.report.now found (g.S.Source.told c.args.src.now) _ u.is u.tells (subst IsOffset c.in_ok-offset.ensures.next c.in_ok-offset.ensures.asked) (subst (λ (o : Offset). (c.in_err-put_offset.field-0.0 ≡ halt.Memory) ⊎ ((c.in_err-put_offset.field-0.0 ≡ halt.Offsets) ⊎ IsTooLong o c.in_err-put_offset.field-0.0)) c.in_ok-offset.ensures.next c.in_err-put_offset.ensures.halt)); must = quiet_asks b u.messages c.args.store.now.offset c.args.work.now c.args.report.now c.args.report.now found (g.S.Source.told c.args.src.now) c.put_offset.new.store.offset (Err c.in_err-put_offset.field-0.0) u.is u.tells quiet (inl c.in_err-put_offset.ensures.keeps) });
+      (record { halted = halts_between g.S.Source at found b c.args.store.now.offset c.put_offset.new.store.offset c.args.work.now c.args.report.now c.args.report.now c.args.src.now c.args.src.now _ u (none_taken (g.S.Source.told c.args.src.now)) (λ s t was now. ap (λ (x : SourceState). x.reading) (g.met.S.Source.one c.args.src.now t s now was)) (store_left _ _ c.in_err-put_offset.ensures.halt) refl refl (inl c.in_err-put_offset.ensures.keeps); stood = λ s first. subst (λ (o : Option Offset). IsHaltStanding b.config b.now b.held o c.args.report.now (g.S.Source.stands c.args.src.now) c.in_err-put_offset.field-0.0) (sym c.in_err-put_offset.ensures.keeps) (offsets_stood g.S.Source at found b c.args.store.now.offset c.args.work.now c.args.src.now c.args.src.now c.args.report.now c.in_err-put_offset.field-0.0 u (subst IsOffset c.in_ok-offset.ensures.next c.in_ok-offset.ensures.asked) (subst (λ (o : Offset). (c.in_err-put_offset.field-0.0 ≡ halt.Memory) ⊎ ((c.in_err-put_offset.field-0.0 ≡ halt.Offsets) ⊎ IsTooLong o c.in_err-put_offset.field-0.0)) c.in_ok-offset.ensures.next c.in_err-put_offset.ensures.halt) s first); cause = subst (λ (o : Option Offset). IsHalt b.config b.now b.held o c.args.report.now (g.S.Source.told c.args.src.now) c.in_err-put_offset.field-0.0) (sym c.in_err-put_offset.ensures.keeps) (store_caused b u.messages c.args.store.now.offset (rest_in u.ahead) c.args.report.now found (g.S.Source.told c.args.src.now) _ u.is u.tells (subst IsOffset (c.in_ok-offset.ensures.next ∙ rest_next u.messages c.args.work.now u.ahead) c.in_ok-offset.ensures.asked) (subst (λ (o : Offset). (c.in_err-put_offset.field-0.0 ≡ halt.Memory) ⊎ ((c.in_err-put_offset.field-0.0 ≡ halt.Offsets) ⊎ IsTooLong o c.in_err-put_offset.field-0.0)) (c.in_ok-offset.ensures.next ∙ rest_next u.messages c.args.work.now u.ahead) c.in_err-put_offset.ensures.halt)); must = quiet_asks b u.messages c.args.store.now.offset (rest_in u.ahead) c.args.report.now c.args.report.now found (g.S.Source.told c.args.src.now) c.put_offset.new.store.offset (Err c.in_err-put_offset.field-0.0) u.is u.tells quiet (inl c.in_err-put_offset.ensures.keeps) });
   awaits = λ x. no_ok c.from_residual-in_err-put_offset.result _ _ c.from_residual-in_err-put_offset.ensures.1;
   grows = λ s left is may. longer_left s left (g.met.S.Source.only c.args.src.now s left is may);
   confirmed = λ held s t was now confirmed.
@@ -253,7 +257,8 @@ returns-in_err-confirm-clause-report g c = record {
             (λ s t was now. absurd (dead_source (g.S.Source.is_live c.confirm.new.self) (g.met.S.Source.lives c.confirm.new.self t now) c.in_err-confirm.ensures.dead)) (source_left c.in_err-confirm.field-0.0) refl refl (inr (c.in_ok-put_offset.ensures.loads ∙ ap (λ (o : Offset). Some o) c.in_ok-offset.ensures.next));
         stood = λ s first. source_stood b.config b.now b.held c.put_offset.new.store.offset (record c.args.report.now { position = c.in_ok-offset.offset.lsn.0 }) (g.S.Source.stands c.confirm.new.self) c.in_err-confirm.field-0.0;
         cause = source_caused b.config b.now b.held c.put_offset.new.store.offset (record c.args.report.now { position = c.in_ok-offset.offset.lsn.0 }) (g.S.Source.told c.confirm.new.self) c.in_err-confirm.field-0.0;
-        must = failure_asks b u.messages c.args.store.now.offset c.args.work.now c.args.report.now (record c.args.report.now { position = c.in_ok-offset.offset.lsn.0 }) found (g.S.Source.told c.args.src.now) (g.S.Source.told c.confirm.new.self) c.put_offset.new.store.offset _ u.is u.tells c.confirm.ensures.taken (source_fails c.in_err-confirm.field-0.0) (inr (c.in_ok-put_offset.ensures.loads ∙ ap (λ (o : Offset). Some o) c.in_ok-offset.ensures.next));
+        must = failure_asks b u.messages c.args.store.now.offset (rest_in u.ahead) c.args.report.now (record c.args.report.now { position = c.in_ok-offset.offset.lsn.0 }) found (g.S.Source.told c.args.src.now) (g.S.Source.told c.confirm.new.self) c.put_offset.new.store.offset _ u.is u.tells c.confirm.ensures.taken (source_fails c.in_err-confirm.field-0.0)
+            (rest_kept u.messages c.args.store.now.offset c.put_offset.new.store.offset c.args.work.now u.ahead (inr (c.in_ok-put_offset.ensures.loads ∙ ap (λ (o : Offset). Some o) c.in_ok-offset.ensures.next)));
       });
   awaits = λ x. no_ok c.from_residual-in_err-confirm.result _ _ c.from_residual-in_err-confirm.ensures.1;
   grows = λ s left is may. longer_grows s.history left.history (c.confirm.ensures.left s left is may).grows;

@@ -25,6 +25,7 @@ use Rattle.dbl_capture_laws.proofs.Advancing.{advances_by, advances_stored, brou
 use Rattle.dbl_source.specs.SourceModel.Standings.{left_of}
 use Rattle.dbl_capture_laws.proofs.Confirming.{confirmed_on}
 use Rattle.dbl_capture_laws.proofs.Excluding.{no_answer, no_ok, not_ok, ok_false}
+use Rattle.dbl_capture_laws.proofs.Opened.{read_closed, way_closed}
 use Rattle.dbl_capture.proofs.turns.process_message.Goals as goal
 
 pub read_and_deliver-requires : goal.read_and_deliver-requires
@@ -47,7 +48,7 @@ returns-in_err-open_next_window-clause-session g c = record {
   complete = λ tell entry x x1 x2. absurd (not_ok c.from_residual.result _ _ c.from_residual.ensures.1 x2);
   own = λ tell entry at found b s u first is honest.
       residual_of c.from_residual.result _ (IsHonestHalt entry (g.S.Source.stands c.open_next_window.new.src)) c.from_residual.ensures.1 (c.in_err-open_next_window.ensures.session.own tell entry s honest);
-  most = λ tell entry at found b s u honest. on_err _ _ (c.in_err-open_next_window.ensures.session.most tell entry c.args.report.now.chunks s u.is.is.windows);
+  most = λ tell entry at found b s u honest. on_err _ _ (c.in_err-open_next_window.ensures.session.most tell entry c.args.report.now.chunks s (way_closed u));
   content = λ entry at found b s u faithful honest.
       residual_of c.from_residual.result _ (IsFaithfulHalt entry c.args.store.now.offset c.args.report.now (g.S.Source.stands c.open_next_window.new.src) (g.K.Sink.holds c.args.sink.now)) c.from_residual.ensures.1
       (free_own entry c.args.store.now.offset c.args.report.now (g.S.Source.stands c.open_next_window.new.src) (g.K.Sink.holds c.args.sink.now) _ c.in_err-open_next_window.ensures.stops.free);
@@ -55,7 +56,7 @@ returns-in_err-open_next_window-clause-session g c = record {
       on_err _ _ (closed_at_halt s (g.met.S.Source.one c.args.src.now) faithful (at_rest g.S.Source (Some first) found b c.args.store.now.offset c.args.work.now c.args.report.now c.args.src.now u) c.args.store.now.offset (inl refl) c.args.report.now refl (le_refl _) [] t (c.open_next_window.ensures.report.still (state_at_stage s.stage) t s.source_is now));
   advances = λ tell entry at found b k u honest.
       leaves_advanced _ g.S.Source.may_leave c.open_next_window.new.src entry.config.chunk c.args.report.now.chunks entry.offset c.args.store.now.offset
-      (λ left may. advances_by entry.config.chunk c.args.report.now.chunks c.args.report.now.chunks k.stage.history left.history entry.offset c.args.store.now.offset (brought_rest k b u.messages c.args.store.now.offset c.args.report.now u.is) (le_refl _)
+      (λ left may. advances_by entry.config.chunk c.args.report.now.chunks c.args.report.now.chunks k.stage.history left.history entry.offset c.args.store.now.offset (brought_rest k b u.messages c.args.store.now.offset c.args.report.now u.ahead u.is) (le_refl _)
       (c.open_next_window.ensures.report.grows (state_at_stage k.stage) left k.source_is may));
 }
 
@@ -68,7 +69,7 @@ returns-in_err-read_and_deliver-clause-session g c = record {
       residual_of c.from_residual-in_err-read_and_deliver.result _ (IsHonestHalt entry (g.S.Source.stands c.read_and_deliver.new.src)) c.from_residual-in_err-read_and_deliver.ensures.1
       (c.in_err-read_and_deliver.ensures.session.own tell entry at found b (c.in_ok-open_next_window.ensures.session.next tell entry s (c.read_and_deliver.ensures.source.honest honest)) (c.in_ok-open_next_window.ensures.report.under_way at found b c.args.report.now u) first is honest);
   most = λ tell entry at found b s u honest.
-      on_err _ _ (c.in_err-read_and_deliver.ensures.session.most tell entry (c.in_ok-open_next_window.ensures.session.next tell entry s (c.read_and_deliver.ensures.source.honest honest)) (c.in_ok-open_next_window.ensures.report.under_way at found b c.args.report.now u).is.is.windows);
+      on_err _ _ (c.in_err-read_and_deliver.ensures.session.most tell entry (c.in_ok-open_next_window.ensures.session.next tell entry s (c.read_and_deliver.ensures.source.honest honest)) (way_closed (c.in_ok-open_next_window.ensures.report.under_way at found b c.args.report.now u)));
   content = λ entry at found b s u faithful honest.
       residual_of c.from_residual-in_err-read_and_deliver.result _ (IsFaithfulHalt entry c.args.store.now.offset c.read_and_deliver.new.report (g.S.Source.stands c.read_and_deliver.new.src) (g.K.Sink.holds c.read_and_deliver.new.sink)) c.from_residual-in_err-read_and_deliver.ensures.1
       (c.in_err-read_and_deliver.ensures.session.content entry at found b (c.in_ok-open_next_window.ensures.session.next true entry s (c.read_and_deliver.ensures.source.honest honest)) (c.in_ok-open_next_window.ensures.report.under_way at found b c.args.report.now u) faithful honest);
@@ -78,8 +79,8 @@ returns-in_err-read_and_deliver-clause-session g c = record {
       let k = c.in_ok-open_next_window.ensures.session.next tell entry s (c.read_and_deliver.ensures.source.honest honest) in
       let way = c.in_ok-open_next_window.ensures.report.under_way at found b c.args.report.now u in
       leaves_advanced _ g.S.Source.may_leave c.read_and_deliver.new.src entry.config.chunk c.read_and_deliver.new.report.chunks entry.offset c.args.store.now.offset
-      (λ left may. advances_by entry.config.chunk c.args.report.now.chunks c.read_and_deliver.new.report.chunks k.stage.history left.history entry.offset c.args.store.now.offset (brought_rest k b way.messages c.args.store.now.offset c.args.report.now way.is)
-      (c.read_and_deliver.ensures.state.windows way.is.is.windows) (c.read_and_deliver.ensures.report.grows (state_at_stage k.stage) left k.source_is may));
+      (λ left may. advances_by entry.config.chunk c.args.report.now.chunks c.read_and_deliver.new.report.chunks k.stage.history left.history entry.offset c.args.store.now.offset (brought_rest k b way.messages c.args.store.now.offset c.args.report.now way.ahead way.is)
+      (c.read_and_deliver.ensures.state.windows (way_closed way)) (c.read_and_deliver.ensures.report.grows (state_at_stage k.stage) left k.source_is may));
 }
 
 pub returns-in_err-read_and_deliver-clause-state : goal.returns-in_err-read_and_deliver-clause-state
@@ -117,7 +118,7 @@ returns-in_err-store_and_confirm-in-Some-true-clause-session g c = record {
   most = λ tell entry at found b s u honest.
       let before = c.store_and_confirm.ensures.source.honest honest in
       on_err _ _ (c.in_err-store_and_confirm-in-Some-true.ensures.session.most tell entry (c.in_ok-read_and_deliver.ensures.session.next tell entry (c.in_ok-open_next_window.ensures.session.next tell entry s (c.read_and_deliver.ensures.source.honest before)) before)
-      (goes_true g.S.Source at found b c.args.store.now.offset c.read_and_deliver.new.work c.read_and_deliver.new.report c.read_and_deliver.new.src _ c.in-Some-true.field-0 c.in-Some-true.is c.in-Some-true.field-0-test (c.in_ok-read_and_deliver.ensures.report.under_way at found b (c.in_ok-open_next_window.ensures.report.under_way at found b c.args.report.now u))).is.windows);
+      (read_closed (goes_true g.S.Source at found b c.args.store.now.offset c.read_and_deliver.new.work c.read_and_deliver.new.report c.read_and_deliver.new.src _ c.in-Some-true.field-0 c.in-Some-true.is c.in-Some-true.field-0-test (c.in_ok-read_and_deliver.ensures.report.under_way at found b (c.in_ok-open_next_window.ensures.report.under_way at found b c.args.report.now u)))));
   content = λ entry at found b s u faithful honest.
       let before = c.store_and_confirm.ensures.source.honest honest in
       residual_of c.from_residual-in_err-store_and_confirm-in-Some-true.result _ (IsFaithfulHalt entry c.store_and_confirm.new.store.offset c.store_and_confirm.new.report (g.S.Source.stands c.store_and_confirm.new.src) (g.K.Sink.holds c.read_and_deliver.new.sink)) c.from_residual-in_err-store_and_confirm-in-Some-true.ensures.1
@@ -137,9 +138,9 @@ returns-in_err-store_and_confirm-in-Some-true-clause-session g c = record {
       (λ left may.
       let grows = c.store_and_confirm.ensures.report.grows (state_at_stage l.stage) left l.source_is may in
       advances_stored _ c.args.store.now.offset c.store_and_confirm.new.store.offset c.read_and_deliver.new.work c.read_and_deliver.new.report c.store_and_confirm.new.report entry.config.chunk left.history entry.offset c.store_and_confirm.ensures.state.reported
-      (advances_by entry.config.chunk c.args.report.now.chunks c.read_and_deliver.new.report.chunks k.stage.history left.history entry.offset c.args.store.now.offset (brought_rest k b way.messages c.args.store.now.offset c.args.report.now way.is)
-      (c.read_and_deliver.ensures.state.windows way.is.is.windows) (longer_on k.stage.history l.stage.history left.history grown grows))
-      (advances_by entry.config.chunk c.read_and_deliver.new.report.chunks c.read_and_deliver.new.report.chunks l.stage.history left.history entry.offset (Some (next_offset_of c.read_and_deliver.new.work)) (brought_next l c.read_and_deliver.new.report.chunks read.is.windows) (le_refl _) grows));
+      (advances_by entry.config.chunk c.args.report.now.chunks c.read_and_deliver.new.report.chunks k.stage.history left.history entry.offset c.args.store.now.offset (brought_rest k b way.messages c.args.store.now.offset c.args.report.now way.ahead way.is)
+      (c.read_and_deliver.ensures.state.windows (way_closed way)) (longer_on k.stage.history l.stage.history left.history grown grows))
+      (advances_by entry.config.chunk c.read_and_deliver.new.report.chunks c.read_and_deliver.new.report.chunks l.stage.history left.history entry.offset (Some (next_offset_of c.read_and_deliver.new.work)) (brought_next l c.read_and_deliver.new.report.chunks (read_closed read)) (le_refl _) grows));
 }
 
 pub returns-in_ok-store_and_confirm-in-Some-true-clause-session : goal.returns-in_ok-store_and_confirm-in-Some-true-clause-session
@@ -225,7 +226,7 @@ returns-in_err-finish_complete-in-None-clause-session g c = record {
   most = λ tell entry at found b s u honest.
       let before = c.finish_complete.ensures.source.honest honest in
       on_err _ _ (c.in_err-finish_complete-in-None.ensures.session.most tell entry (c.in_ok-read_and_deliver.ensures.session.next tell entry (c.in_ok-open_next_window.ensures.session.next tell entry s (c.read_and_deliver.ensures.source.honest before)) before)
-      (goes_none g.S.Source at found b c.args.store.now.offset c.read_and_deliver.new.work c.read_and_deliver.new.report c.read_and_deliver.new.src _ c.in-None.is (c.in_ok-read_and_deliver.ensures.report.under_way at found b (c.in_ok-open_next_window.ensures.report.under_way at found b c.args.report.now u))).is.is.windows);
+      (way_closed (goes_none g.S.Source at found b c.args.store.now.offset c.read_and_deliver.new.work c.read_and_deliver.new.report c.read_and_deliver.new.src _ c.in-None.is (c.in_ok-read_and_deliver.ensures.report.under_way at found b (c.in_ok-open_next_window.ensures.report.under_way at found b c.args.report.now u)))));
   content = λ entry at found b s u faithful honest.
       let before = c.finish_complete.ensures.source.honest honest in
       residual_of c.from_residual-in_err-finish_complete-in-None.result _ (IsFaithfulHalt entry c.finish_complete.new.store.offset c.finish_complete.new.report (g.S.Source.stands c.finish_complete.new.src) (g.K.Sink.holds c.read_and_deliver.new.sink)) c.from_residual-in_err-finish_complete-in-None.ensures.1
@@ -242,8 +243,8 @@ returns-in_err-finish_complete-in-None-clause-session g c = record {
       (λ left may.
       let grows = c.finish_complete.ensures.report.grows (state_at_stage k.stage) left k.source_is may in
       advances_stored _ c.args.store.now.offset c.finish_complete.new.store.offset c.read_and_deliver.new.work c.read_and_deliver.new.report c.finish_complete.new.report entry.config.chunk left.history entry.offset c.finish_complete.ensures.state.reported
-      (advances_by entry.config.chunk c.read_and_deliver.new.report.chunks c.read_and_deliver.new.report.chunks k.stage.history left.history entry.offset c.args.store.now.offset (brought_rest k b way.messages c.args.store.now.offset c.read_and_deliver.new.report way.is) (le_refl _) grows)
-      (advances_by entry.config.chunk c.read_and_deliver.new.report.chunks c.read_and_deliver.new.report.chunks k.stage.history left.history entry.offset (Some (next_offset_of c.read_and_deliver.new.work)) (brought_next k c.read_and_deliver.new.report.chunks way.is.is.windows) (le_refl _) grows));
+      (advances_by entry.config.chunk c.read_and_deliver.new.report.chunks c.read_and_deliver.new.report.chunks k.stage.history left.history entry.offset c.args.store.now.offset (brought_rest k b way.messages c.args.store.now.offset c.read_and_deliver.new.report way.ahead way.is) (le_refl _) grows)
+      (advances_by entry.config.chunk c.read_and_deliver.new.report.chunks c.read_and_deliver.new.report.chunks k.stage.history left.history entry.offset (Some (next_offset_of c.read_and_deliver.new.work)) (brought_next k c.read_and_deliver.new.report.chunks (way_closed way)) (le_refl _) grows));
 }
 
 pub returns-in_ok-finish_complete-in-None-clause-session : goal.returns-in_ok-finish_complete-in-None-clause-session

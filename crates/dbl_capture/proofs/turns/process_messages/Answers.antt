@@ -22,6 +22,7 @@ use Rattle.dbl_capture_laws.proofs.Advancing.{advances_by, advances_stored, brou
 use Rattle.dbl_capture_work.specs.Works.{next_offset_of}
 use Rattle.dbl_capture_laws.proofs.Confirming.{confirmed_on}
 use Rattle.dbl_capture_laws.proofs.Excluding.{no_ok, not_ok}
+use Rattle.dbl_capture_laws.proofs.Opened.{way_closed}
 use Rattle.dbl_capture.proofs.turns.process_messages.Goals as goal
 
 pub turns-init : goal.turns-init
@@ -115,7 +116,7 @@ returns-in_err-open_next_window-clause-session g c = record {
       residual_of c.from_residual-in_err-open_next_window.result _ (IsHonestHalt entry (g.S.Source.stands c.open_next_window.new.src)) c.from_residual-in_err-open_next_window.ensures.1
       (c.in_err-open_next_window.ensures.session.own tell entry (c.turns.invariant.kept tell entry s (c.open_next_window.ensures.source.honest honest)) honest);
   most = λ tell entry at found b s u honest.
-      on_err _ _ (c.in_err-open_next_window.ensures.session.most tell entry c.turns.report.chunks (c.turns.invariant.kept tell entry s (c.open_next_window.ensures.source.honest honest)) (c.turns.invariant.under_way at found b u).is.is.windows);
+      on_err _ _ (c.in_err-open_next_window.ensures.session.most tell entry c.turns.report.chunks (c.turns.invariant.kept tell entry s (c.open_next_window.ensures.source.honest honest)) (way_closed (c.turns.invariant.under_way at found b u)));
   content = λ entry at found b s u faithful honest.
       residual_of c.from_residual-in_err-open_next_window.result _ (IsFaithfulHalt entry c.turns.store.offset c.turns.report (g.S.Source.stands c.open_next_window.new.src) (g.K.Sink.holds c.turns.sink)) c.from_residual-in_err-open_next_window.ensures.1
       (free_own entry c.turns.store.offset c.turns.report (g.S.Source.stands c.open_next_window.new.src) (g.K.Sink.holds c.turns.sink) _ c.in_err-open_next_window.ensures.stops.free);
@@ -127,7 +128,7 @@ returns-in_err-open_next_window-clause-session g c = record {
       let k = c.turns.invariant.kept tell entry s (c.open_next_window.ensures.source.honest honest) in
       let way = c.turns.invariant.under_way at found b u in
       leaves_advanced _ g.S.Source.may_leave c.open_next_window.new.src entry.config.chunk c.turns.report.chunks entry.offset c.turns.store.offset
-      (λ left may. advances_by entry.config.chunk c.turns.report.chunks c.turns.report.chunks k.stage.history left.history entry.offset c.turns.store.offset (brought_rest k b way.messages c.turns.store.offset c.turns.report way.is) (le_refl _)
+      (λ left may. advances_by entry.config.chunk c.turns.report.chunks c.turns.report.chunks k.stage.history left.history entry.offset c.turns.store.offset (brought_rest k b way.messages c.turns.store.offset c.turns.report way.ahead way.is) (le_refl _)
       (c.open_next_window.ensures.report.grows (state_at_stage k.stage) left k.source_is may));
 }
 
@@ -143,7 +144,7 @@ returns-in_err-store_and_confirm-clause-session g c = record {
   most = λ tell entry at found b s u honest.
       let before = c.store_and_confirm.ensures.source.honest honest in
       on_err _ _ (c.in_err-store_and_confirm.ensures.session.most tell entry (c.in_ok-open_next_window.ensures.session.next tell entry (c.turns.invariant.kept tell entry s (c.open_next_window.ensures.source.honest before)) before)
-      (c.in_ok-open_next_window.ensures.report.under_way at found b c.turns.report (c.turns.invariant.under_way at found b u)).is.is.windows);
+      (way_closed (c.in_ok-open_next_window.ensures.report.under_way at found b c.turns.report (c.turns.invariant.under_way at found b u))));
   content = λ entry at found b s u faithful honest.
       let before = c.store_and_confirm.ensures.source.honest honest in
       residual_of c.from_residual-in_err-store_and_confirm.result _ (IsFaithfulHalt entry c.store_and_confirm.new.store.offset c.store_and_confirm.new.report (g.S.Source.stands c.store_and_confirm.new.src) (g.K.Sink.holds c.turns.sink)) c.from_residual-in_err-store_and_confirm.ensures.1
@@ -160,8 +161,8 @@ returns-in_err-store_and_confirm-clause-session g c = record {
       (λ left may.
       let grows = c.store_and_confirm.ensures.report.grows (state_at_stage k.stage) left k.source_is may in
       advances_stored _ c.turns.store.offset c.store_and_confirm.new.store.offset c.open_next_window.new.work c.turns.report c.store_and_confirm.new.report entry.config.chunk left.history entry.offset c.store_and_confirm.ensures.state.reported
-      (advances_by entry.config.chunk c.turns.report.chunks c.turns.report.chunks k.stage.history left.history entry.offset c.turns.store.offset (brought_rest k b way.messages c.turns.store.offset c.turns.report way.is) (le_refl _) grows)
-      (advances_by entry.config.chunk c.turns.report.chunks c.turns.report.chunks k.stage.history left.history entry.offset (Some (next_offset_of c.open_next_window.new.work)) (brought_next k c.turns.report.chunks way.is.is.windows) (le_refl _) grows));
+      (advances_by entry.config.chunk c.turns.report.chunks c.turns.report.chunks k.stage.history left.history entry.offset c.turns.store.offset (brought_rest k b way.messages c.turns.store.offset c.turns.report way.ahead way.is) (le_refl _) grows)
+      (advances_by entry.config.chunk c.turns.report.chunks c.turns.report.chunks k.stage.history left.history entry.offset (Some (next_offset_of c.open_next_window.new.work)) (brought_next k c.turns.report.chunks (way_closed way)) (le_refl _) grows));
 }
 
 -- ---- counts, and what no call undoes

@@ -2,7 +2,7 @@ use Rattle.dbl_capture_laws.specs.Sessions.{state_at_stage}
 use Rattle.dbl_capture_laws.proofs.Arms.{arm_left, plan_captured, plan_here, plan_parts, window_on}
 use Rattle.dbl_capture_laws.proofs.StepCauses.{OfSource, chunk_of, err_at, err_then}
 use Rattle.dbl_capture_laws.proofs.Keeping.{capturing, ok_then, on_err}
-use Rattle.std.proofs.Common.{inl, refl}
+use Rattle.std.proofs.Common.{◌++◌, inl, refl}
 use Rattle.dbl_capture_laws.specs.Caused.{Halts, IsNotGone}
 use Rattle.dbl_capture_laws.proofs.Sources.{arms_on, at_rest, halts_between}
 use Rattle.dbl_capture_laws.proofs.Telling.{chunk_left, ok_both}
@@ -22,6 +22,11 @@ use Rattle.dbl_capture_laws.specs.Owned.{IsContentFree}
 use Rattle.dbl_capture_laws.proofs.Owning.{chunk_free}
 use Rattle.dbl_capture_laws.proofs.HasState.{chunk_stood}
 use Rattle.dbl_capture_laws.proofs.Awaited.{awaits_armed}
+use Rattle.dbl_record.specs.Cuts.{cut}
+use Rattle.dbl_capture_work.specs.Works.{rest_in}
+use Rattle.dbl_capture_laws.proofs.Ahead.{rest_table}
+use Rattle.dbl_capture_laws.proofs.Opened.{chunk_rest, closed_rest}
+use Rattle.dbl_capture_laws.proofs.Within.{open_absent}
 use Rattle.dbl_capture.proofs.windows.arm.Goals as goal
 
 pub returns-clause-session : goal.returns-clause-session
@@ -36,9 +41,9 @@ returns-clause-session g c = record {
       (arm_left s c.args.table planned.0 (plan_parts c.args.work.now c.args.table planned.0 planned.1) c.requires.is_open c.requires.number c.read_window.new.src c.requires.absent
       (λ left is. c.read_window.ensures.left planned.0 planned.1 (state_at_stage s.stage) left s.source_is is)
       (λ left is. g.met.S.Source.fit _ left is honest)
-      (λ t groups is. g.met.K.Sink.only _ s.stage.groups groups (s.sink_is t) is)
+      (λ t groups is. g.met.K.Sink.only _ (s.stage.groups ++ cut s.ahead.put) groups (s.sink_is t) is)
       (c.read_window.ensures.some (state_at_stage s.stage) s.source_is)
-      (λ t. (s.stage.groups, g.met.K.Sink.may _ s.stage.groups (s.sink_is t))));
+      (λ t. (s.stage.groups ++ cut s.ahead.put, g.met.K.Sink.may _ (s.stage.groups ++ cut s.ahead.put) (s.sink_is t))));
   own = λ tell entry s honest.
       let planned = plan_here c.args.work.now c.args.table c.requires.ready c.requires.is_open in
       let here = plan_captured s c.args.table planned.0 (plan_parts c.args.work.now c.args.table planned.0 planned.1) c.requires.is_open c.requires.number in
@@ -51,7 +56,7 @@ returns-clause-session g c = record {
       }) fault);
   most = λ tell entry chunks s closed.
       let planned = plan_here c.args.work.now c.args.table c.requires.ready c.requires.is_open in
-      leaves_most _ g.S.Source.may_leave c.read_window.new.src chunks entry.history (λ left may. windows_leave_few_marks entry s.stage c.args.work.now planned.0 left chunks s.work_is s.going closed c.requires.absent (c.read_window.ensures.left planned.0 planned.1 (state_at_stage s.stage) left s.source_is may));
+      leaves_most _ g.S.Source.may_leave c.read_window.new.src chunks entry.history (λ left may. windows_leave_few_marks entry s.stage (rest_in s.ahead) planned.0 left chunks s.work_is s.going (closed_rest s.ahead chunks closed) (open_absent s.stage.messages c.args.work.now s.ahead c.requires.absent) (c.read_window.ensures.left planned.0 planned.1 (state_at_stage s.stage) left s.source_is may));
 }
 
 pub returns-clause-stops : goal.returns-clause-stops
@@ -74,7 +79,7 @@ returns-clause-report g c = record {
       (λ s is. let w = windowed s is in record { standing = w.stood.standing; is = w.stood.is; holds = w.stood.holds.looked.reading }));
   halted = λ at found b report u.
       err_then c.read_window.result _ (Halts g.S.Source at found b.config b.now b.held c.args.store.now.offset report c.read_window.new.src) c.read_window.ensures.halt
-      (λ h chunk. record { halted = halts_between g.S.Source at found b c.args.store.now.offset c.args.store.now.offset c.args.work.now report report c.args.src.now c.read_window.new.src h (at_rest g.S.Source at found b c.args.store.now.offset c.args.work.now report c.args.src.now u) c.read_window.ensures.taken c.read_window.ensures.still (chunk_left c.args.work.now c.args.table _ h chunk) refl refl (inl refl); stood = λ s first. chunk_stood b.config b.now b.held c.args.store.now.offset report (g.S.Source.stands c.read_window.new.src) c.args.work.now c.args.table (g.S.Source.told c.read_window.new.src) h chunk; cause = chunk_caused b u.messages c.args.store.now.offset c.args.work.now report c.args.table (g.S.Source.told c.read_window.new.src) h u.is c.requires.absent c.requires.is_open chunk; must = chunk_asks b u.messages c.args.store.now.offset c.args.work.now report c.args.table found (g.S.Source.told c.args.src.now) (g.S.Source.told c.read_window.new.src) h u.is u.tells c.read_window.ensures.taken c.requires.absent c.requires.is_open chunk });
+      (λ h chunk. record { halted = halts_between g.S.Source at found b c.args.store.now.offset c.args.store.now.offset c.args.work.now report report c.args.src.now c.read_window.new.src h (at_rest g.S.Source at found b c.args.store.now.offset c.args.work.now report c.args.src.now u) c.read_window.ensures.taken c.read_window.ensures.still (chunk_left c.args.work.now c.args.table _ h chunk) refl refl (inl refl); stood = λ s first. chunk_stood b.config b.now b.held c.args.store.now.offset report (g.S.Source.stands c.read_window.new.src) c.args.work.now c.args.table (g.S.Source.told c.read_window.new.src) h chunk; cause = chunk_caused b u.messages c.args.store.now.offset (rest_in u.ahead) report c.args.table (g.S.Source.told c.read_window.new.src) h u.is (open_absent u.messages c.args.work.now u.ahead c.requires.absent) (rest_table u.messages c.args.work.now u.ahead c.args.table c.requires.is_open) (chunk_rest u.ahead c.args.table (g.S.Source.told c.read_window.new.src) h chunk); must = chunk_asks b u.messages c.args.store.now.offset (rest_in u.ahead) report c.args.table found (g.S.Source.told c.args.src.now) (g.S.Source.told c.read_window.new.src) h u.is u.tells c.read_window.ensures.taken (open_absent u.messages c.args.work.now u.ahead c.requires.absent) (rest_table u.messages c.args.work.now u.ahead c.args.table c.requires.is_open) (chunk_rest u.ahead c.args.table (g.S.Source.told c.read_window.new.src) h chunk) });
   awaits = λ a.
       ok_then c.read_window.result _ _ (c.read_window.ensures.windowed a.standing a.is)
       (λ w. awaits_armed g.S.Source c.args.table c.args.work.now c.read_window.new.work c.args.src.now c.read_window.new.src a w);

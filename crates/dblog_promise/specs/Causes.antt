@@ -43,8 +43,8 @@ pub record HasRead (config : Config) (found stored : Option Offset) (wal : Wal) 
   pub rest : List Message
   pub front : messages_sent wal reading.after ≡ reverse reading.messages ++ rest
 
--- The error is about the newest message, the records of the commit that it ends, the window that it closes, or a watermark of that window
--- that is missing. That window is the first one that the report doesn't count.
+-- The error is about the newest message, the records of the changes that it states or of the commit that it ends, the window that it closes,
+-- or a watermark of that window that is missing. That window is the first one that the report doesn't count.
 pub record IsHaltByLog (config : Config) (now : ℤ) (found stored : Option Offset) (report : Report) (wal : Wal) (h : Halt) : Type 0 where
   pub reading : Reading
   pub was : HasRead config found stored wal reading

@@ -17,3 +17,4 @@ pub mod ExitLemmas
 pub mod WriteLemmas
 pub mod JoinLemmas
 pub mod FirstLemmas
+pub mod MovedLemmas

@@ -1,6 +1,7 @@
 -- For private clauses and for the store's first rows: rows that are committed as they are inserted, where no session has locks.
-use Rattle.std.specs.Prelude.{◌≡◌, ◌⊎◌, ℕ, true, false, if◌then◌else◌, is_some, IfSome, None, Some, Result, Ok, Err}
-use Rattle.std.specs.Prelude.{List, [], ◌∷◌, ◌++◌, length}
+use Rattle.std.specs.Prelude.{◌≡◌, ◌⊎◌, ℕ, true, false, if◌then◌else◌, is_some, IfSome, Option, None, Some, option_map, Result, Ok, Err}
+use Rattle.std.specs.Prelude.{List, [], ◌∷◌, ◌++◌, length, map, bytes_eq}
+use Rattle.std.specs.List.{list_any}
 use Rattle.std.specs.BTreeMap.{get}
 use Rattle.std.specs.BTreeSet.{contains}
 use Rattle.dbl_base.specs.Texts.{text_cmp}
@@ -8,9 +9,10 @@ use Rattle.dbl_pgmsg.specs.declared.messages.Message.{Message}
 use Rattle.dbl_model_table.specs.declared.named_cell.NamedCell.{NamedCell}
 use Rattle.dbl_model_table.specs.declared.row.Key.{Key}
 use Rattle.dbl_model_table.specs.declared.table.RawRow.{RawRow}
+use Rattle.dbl_model_table.specs.declared.table.TableInfo.{TableInfo}
 use Rattle.dbl_model_table.specs.Keys.{same_key}
 use Rattle.dbl_model_table.specs.Made.{place_of}
-use Rattle.dbl_model_table.specs.Tables.{column_names}
+use Rattle.dbl_model_table.specs.Tables.{are_distinct, column_names}
 use Rattle.dbl_tables_rows.specs.SourceLog.Texts.{Texts, key_in}
 use Rattle.dbl_tables_rows.specs.declared.demo_table.DemoTable.{DemoTable}
 use Rattle.dbl_tables_rows.specs.declared.error.StepError.{StepError}
@@ -18,7 +20,8 @@ use Rattle.dbl_tables_rows.specs.declared.error.StepError.TheVariants as errors
 use Rattle.dbl_tables_rows.specs.declared.rows.Rows.{Rows}
 use Rattle.dbl_tables_changes.specs.declared.first.FirstRow.{FirstRow}
 use Rattle.dbl_tables_rows.specs.Acts.{Accepted}
-use Rattle.dbl_tables_rows.specs.Cells.{row_given, is_readable_row}
+use Rattle.dbl_tables_rows.specs.Cells.{cell_named, row_given, is_readable_row}
+use Rattle.dbl_tables_rows.specs.Given.{given_names}
 use Rattle.dbl_tables_rows.specs.Sending.{raw_of, insert_message, is_too_large}
 use Rattle.dbl_tables_rows.specs.Steps.{FoundTable, seen}
 use Rattle.dbl_tables_rows.specs.Views.{Slots, committed_in, held_in}
@@ -32,6 +35,29 @@ first_row table cells = row_given (raw_of table) cells
 -- The key of the row that these cells give.
 abbrev pub first_key : DemoTable → List NamedCell → Key
 first_key table cells = key_in (raw_of table) (first_row table cells)
+
+-- The cell of a column, as a text or null; none if no cell names the column.
+abbrev pub cell_given : List NamedCell → List ℕ → Option (Option (List ℕ))
+cell_given cells name = option_map (λ cell. cell.text) (cell_named cells name)
+
+-- The cells of each column of a table.
+abbrev pub cells_named : TableInfo → List NamedCell → List (Option (Option (List ℕ)))
+cells_named info cells = map (cell_given cells) (column_names info.columns)
+
+-- One more cell was put at its column, or its column was named before, if there is one.
+abbrev pub TakesCell : TableInfo → List NamedCell → NamedCell → List (Option (Option (List ℕ))) → Result Unit StepError → Type 0
+TakesCell info cells cell new (Ok done) = (new ≡ cells_named info (cells ++ cell ∷ []))
+    × (list_any (bytes_eq cell.column) (given_names cells) ≡ false)
+TakesCell info cells cell new (Err e) = (e ≡ errors.BadRow) × (is_some (place_of (column_names info.columns) cell.column) ≡ true
+    → list_any (bytes_eq cell.column) (given_names cells) ≡ true)
+
+-- All cells were put at their columns, and no column is named twice.
+abbrev pub AreTaken : TableInfo → List NamedCell → List (Option (Option (List ℕ))) → Type 0
+AreTaken info cells named = (named ≡ cells_named info cells) × (are_distinct bytes_eq (given_names cells) ≡ true)
+
+-- A column is named twice, unless memory ran out.
+abbrev pub NamesTwice : List NamedCell → StepError → Type 0
+NamesTwice cells e = (e ≡ errors.Memory) ⊎ ((e ≡ errors.BadRow) × (are_distinct bytes_eq (given_names cells) ≡ false))
 
 -- A row was committed at a key, without a lock.
 pub record PutsRow (key : Key) (row : RawRow) (old new : Slots) : Type 0 where

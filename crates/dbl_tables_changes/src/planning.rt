@@ -134,7 +134,7 @@ fn one_write(
 }
 
 // The row of these cells, which has no null in its key.
-pub(crate) fn read_row(alloc: Global, rows: &Rows, cells: &[NamedCell]) -> Result<RawRow, StepError>
+fn read_row(alloc: Global, rows: &Rows, cells: &[NamedCell]) -> Result<RawRow, StepError>
     ensures reads { HasColumns rows.now.table.info rows.now.places →
         ReadsIfReadable (are_readable (raw_of rows.now.table) cells.now && has_key_texts (raw_of
         rows.now.table) cells.now) result }

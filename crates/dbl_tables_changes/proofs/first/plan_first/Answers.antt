@@ -20,18 +20,18 @@ returns-in_err-row c messages has short is =
 -- the message is too large
 pub returns-in-Err : goal.returns-in-Err
 returns-in-Err c messages has short is =
-    let message : c.in_ok-message.message ≡ insert_message c.args.oid (first_row c.args.rows.now.table c.args.cells.items) = c.in_ok-message.ensures.message ∙ ap (insert_message c.args.oid) c.in_ok-row.ensures.row in
-    let utf8 : length c.args.rows.now.table.info.columns ≤ 1600 → IsUtf8Change c.in_ok-message.message = utf8_given c.args.rows.now.table c.args.cells.items c.in_ok-row.row.cells c.in_ok-message.message c.in_ok-row.ensures.row c.in_ok-message.ensures.utf8 in
+    let message : c.in_ok-message.message ≡ insert_message c.args.oid (first_row c.args.rows.now.table c.args.cells.items) = c.in_ok-message.ensures.message ∙ ap (insert_message c.args.oid) (c.in_ok-row.ensures.row has) in
+    let utf8 : length c.args.rows.now.table.info.columns ≤ 1600 → IsUtf8Change c.in_ok-message.message = utf8_given c.args.rows.now.table c.args.cells.items c.in_ok-row.row.cells c.in_ok-message.message (c.in_ok-row.ensures.row has) c.in_ok-message.ensures.utf8 in
     first_large c.args.rows.now.table c.args.oid messages c.args.cells.items c.in-Err.error (c.in_ok-row.ensures.reads has) c.in_ok-message.message message (c.in-Err.ensures messages utf8 short is)
 
 pub returns : goal.returns
 returns c messages has short is =
-    let message : c.in_ok-message.message ≡ insert_message c.args.oid (first_row c.args.rows.now.table c.args.cells.items) = c.in_ok-message.ensures.message ∙ ap (insert_message c.args.oid) c.in_ok-row.ensures.row in
-    let utf8 : length c.args.rows.now.table.info.columns ≤ 1600 → IsUtf8Change c.in_ok-message.message = utf8_given c.args.rows.now.table c.args.cells.items c.in_ok-row.row.cells c.in_ok-message.message c.in_ok-row.ensures.row c.in_ok-message.ensures.utf8 in
+    let message : c.in_ok-message.message ≡ insert_message c.args.oid (first_row c.args.rows.now.table c.args.cells.items) = c.in_ok-message.ensures.message ∙ ap (insert_message c.args.oid) (c.in_ok-row.ensures.row has) in
+    let utf8 : length c.args.rows.now.table.info.columns ≤ 1600 → IsUtf8Change c.in_ok-message.message = utf8_given c.args.rows.now.table c.args.cells.items c.in_ok-row.row.cells c.in_ok-message.message (c.in_ok-row.ensures.row has) c.in_ok-message.ensures.utf8 in
     record {
       readable = c.in_ok-row.ensures.reads has;
-      row_is = c.in_ok-row.ensures.row;
-      key_is = c.in_ok-key.ensures ∙ ap (key_in (raw_of c.args.rows.now.table)) c.in_ok-row.ensures.row;
+      row_is = (c.in_ok-row.ensures.row has);
+      key_is = c.in_ok-key.ensures ∙ ap (key_in (raw_of c.args.rows.now.table)) (c.in_ok-row.ensures.row has);
       message_is = message;
       fits = subst (λ (m : Message). MeasuresEntry c.args.rows.now.table messages m (Ok c.in-Ok.size)) message (c.in-Ok.ensures messages utf8 short is);
     }

@@ -1,4 +1,4 @@
-use Rattle.std.proofs.Common.{ℤ, None, [], subst}
+use Rattle.std.proofs.Common.{ℤ, [], subst}
 use Rattle.std.specs.Prelude.{IfOk}
 use Rattle.std.proofs.Math.Facts.{to_z-of_z}
 use Rattle.std.proofs.lemmas.Result.{IfOk-weaker, IfErr-weaker}

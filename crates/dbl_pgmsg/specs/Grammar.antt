@@ -4,6 +4,8 @@ use Rattle.std.specs.Prelude.{None, List, [], ◌∷◌, ◌++◌, length, flat_
 use Rattle.std.specs.List.{AllByRecursion}
 use Rattle.std.specs.Str.{byte}
 use Rattle.std.specs.Int.{w16, w32, w64, to_be_bytes, cast_unsigned}
+use Rattle.dbl_pgmsg_tags.specs.declared.tags.CellKind.TheVariants as kinds
+use Rattle.dbl_pgmsg_tags.specs.Tags.{cell_tag}
 use Rattle.dbl_pgmsg.specs.declared.messages.Message.{Message}
 use Rattle.dbl_pgmsg.specs.declared.messages.Message.TheVariants.{Begin, Commit, Origin, TypeName, Relation}
 use Rattle.dbl_pgmsg.specs.declared.messages.Message.TheVariants.{Insert, Update, Delete, Truncate, Logical}
@@ -40,9 +42,9 @@ string text = text ++ 0 ∷ []
 
 -- a cell of TupleData: null, unchanged, or a text preceded by its length
 unfoldable pub cell : TupleCell → List ℕ
-cell Null = byte "n" ∷ []
-cell Unchanged = byte "u" ∷ []
-cell (Text text) = byte "t" ∷ [] ++ int32 (length text) ++ text
+cell Null = cell_tag kinds.Null ∷ []
+cell Unchanged = cell_tag kinds.Unchanged ∷ []
+cell (Text text) = cell_tag kinds.Text ∷ [] ++ int32 (length text) ++ text
 
 -- TupleData: the number of cells, and the cells
 unfoldable pub tuple : Tuple → List ℕ

@@ -12,6 +12,7 @@ use crate::kinds::{
 };
 use crate::reading::place;
 use crate::{Message, MsgError};
+use dbl_pgmsg_tags::is_end;
 use std::alloc::Global;
 
 /// The maximum length of a message in bytes.
@@ -50,7 +51,7 @@ fn read_fields(alloc: Global, tag: u8, fields: &[u8]) -> Result<Message, MsgErro
         return Err(MsgError::TooLong { len: total as u64 });
     }
     let (message, rest) = read_message(alloc, total, tag, fields)?;
-    if !rest.is_empty() {
+    if !is_end(rest) {
         return Err(MsgError::TrailingBytes {
             at: place(total, rest),
         });

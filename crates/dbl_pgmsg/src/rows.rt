@@ -7,6 +7,7 @@ ghost use Rattle.dbl_pgmsg.specs.Reading.{old_at, before_at, column_at, counted_
 use crate::reading::{count, int8, int32, place, signed32, string, text};
 use crate::{MsgError, OldTuple, RelationColumn, Tuple, TupleCell};
 use dbl_base::Seq;
+use dbl_pgmsg_tags::{CellKind, cell_kind};
 use std::alloc::Global;
 
 /// The minimum length of a Relation's column in bytes.
@@ -16,20 +17,22 @@ const COLUMN_BYTES: usize = 10;
 fn read_cell(alloc: Global, total: usize, bytes: &[u8]) -> Result<(TupleCell, &[u8]), MsgError>
     ensures { Gives (λ x. (x.0, x.1.now)) result (cell_at total bytes.now) }
 {
-    match bytes {
-        [] => Err(MsgError::Truncated { at: total as u64 }),
-        [b'n', rest @ ..] => Ok((TupleCell::Null, rest)),
-        [b'u', rest @ ..] => Ok((TupleCell::Unchanged, rest)),
-        [b't', rest @ ..] => {
+    let [tag, rest @ ..] = bytes else {
+        return Err(MsgError::Truncated { at: total as u64 });
+    };
+    match cell_kind(*tag) {
+        Some(CellKind::Null) => Ok((TupleCell::Null, rest)),
+        Some(CellKind::Unchanged) => Ok((TupleCell::Unchanged, rest)),
+        Some(CellKind::Text) => {
             let (text, rest) = text(alloc, total, rest)?;
             Ok((TupleCell::Text(text), rest))
         }
-        [b'b', ..] => Err(MsgError::BinaryColumn {
+        None if *tag == b'b' => Err(MsgError::BinaryColumn {
             at: place(total, bytes),
         }),
-        [byte, ..] => Err(MsgError::BadTupleTag {
+        None => Err(MsgError::BadTupleTag {
             at: place(total, bytes),
-            byte: *byte,
+            byte: *tag,
         }),
     }
 }

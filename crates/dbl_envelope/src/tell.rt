@@ -10,9 +10,10 @@ ghost use Rattle.dbl_envelope_json.specs.Frames.{Framed, AppendsEvents, TellsMov
 
 use dbl_base::Seq;
 use dbl_envelope_json::{
-    Frame, Side, Stamp, created_record, deleted_record, is_key_of, moved_from, moved_to, tombstone,
+    Frame, Side, Stamp, created_record, deleted_record, moved_from, moved_to, tombstone,
     truncated_record, updated_record,
 };
+use dbl_envelope_moves::is_moved;
 use dbl_model_table::{Cell, Change, Key, Row};
 use dbl_record::Record;
 use std::alloc::{AllocError, Global};
@@ -83,11 +84,11 @@ fn tell_update(
     ensures { OnOk result (AppendsEvents frame.now stamp.now
         (Update 0 key.now old.now cells.now) out.old.items out.new.items) }
 {
-    if is_key_of(frame.info, key, cells) {
+    if is_moved(frame.info, key, cells) {
+        tell_move(out, alloc, frame, stamp, key, old, cells)
+    } else {
         out.push(updated_record(alloc, frame, stamp, key, old, cells)?)?;
         Ok(())
-    } else {
-        tell_move(out, alloc, frame, stamp, key, old, cells)
     }
 }
 

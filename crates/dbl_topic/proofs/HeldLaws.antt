@@ -3,7 +3,8 @@ use Rattle.std.proofs.Common.{◌≡◌, ◌⊎◌, ℕ, ◌+◌, ◌^◌, ◌�
 use Rattle.std.proofs.lemmas.List.{take_all}
 use Rattle.dbl_disk.specs.Model.{DiskModel}
 use Rattle.dbl_record.specs.declared.record.Record.{Record}
-use Rattle.std.specs.Prelude.{false, max, IsTrue}
+use Rattle.std.specs.Prelude.{true, false, max, IsTrue}
+use Rattle.dbl_disk.specs.Calls.{WritesDisk}
 use Rattle.dbl_journal.specs.Form.{IsJournal, up_to_gate}
 use Rattle.dbl_journal.specs.Growth.{ExtendsJournal}
 use Rattle.dbl_journal.specs.Stored.{LeavesEntries, OnDisk, count_of, size}
@@ -13,7 +14,7 @@ use Rattle.dbl_journal.specs.declared.error.JournalError.{JournalError}
 use Rattle.dbl_journal.specs.declared.error.JournalError.TheVariants as journal
 use Rattle.dbl_topic.specs.declared.error.SinkError.TheVariants as sink
 use Rattle.dbl_topic.specs.Faults.{sink_fault}
-use Rattle.dbl_topic.specs.Held.{HasGroups, HoldsGroups, LeavesGroups, MayLeaveGroups}
+use Rattle.dbl_topic.specs.Held.{HasCounted, HasGroups, HoldsGroups, LeavesGroups, MayLeaveGroups}
 use Rattle.dbl_topic.specs.SinkLaws.{leaves_held, log_of, one_log}
 use Rattle.dbl_topic.specs.Logs.{AreLogEntries, IsLog, IsLogEntry, log_size}
 use Rattle.dbl_topic.specs.Sinks.{IsLeftByPut, IsLeftByWhole}
@@ -49,6 +50,13 @@ still_there P journal.Failed old new dead same live p = let not = dead refl in c
 still_there P (journal.NotAJournal at) old new dead same live p = subst P (sym (same (λ is. cc))) p
 still_there P (journal.EntryTooLong len) old new dead same live p = subst P (sym (same (λ is. cc))) p
 still_there P journal.Memory old new dead same live p = subst P (sym (same (λ is. cc))) p
+
+-- after an append a log that can be used has counted no more failures
+pub counted_put : {D : Type 0} (model : DiskModel D) (failed : Type 0) (old new : OnDisk D) → IsTrue old.live → WritesDisk model failed old.disk new.disk new.live → (faults : ℕ) → HasCounted model faults old
+    → HasCounted model faults new
+counted_put model failed old new was writes faults has live =
+    let here = has was in
+    (writes.told here.0.0 here.0.1, writes.steady (λ is. let wrong : true ≡ false = sym live ∙ writes.dead is in cc) here.0.0 here.0.1 ∙ here.1)
 
 -- all of a group is some first records of it
 pub part_of_whole : (groups : List (List Record)) (group : List Record) (left : List (List Record)) → 1 ≤ length group → IsLeftByWhole groups group left → IsLeftByPut groups group left

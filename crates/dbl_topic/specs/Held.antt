@@ -1,5 +1,5 @@
 -- A topic log on a disk.
-use Rattle.std.specs.Prelude.{ℕ, IsTrue, List}
+use Rattle.std.specs.Prelude.{◌≡◌, ℕ, IsTrue, Some, List}
 use Rattle.dbl_disk.specs.Model.{DiskModel}
 use Rattle.dbl_record.specs.declared.record.Record.{Record}
 use Rattle.dbl_journal.specs.Growth as journals
@@ -27,7 +27,14 @@ pub record HasGroups {D : Type 0} (model : DiskModel D) (log : OnDisk D) : Type 
   pub holds : IsTrue log.live → (groups : List (List Record)) × HoldsGroups model log groups
   pub leaves : LeavesGroups model log.disk (λ groups. Unit {0})
 
--- The new log extends the old one by appends with any answers: its journal extends the old one's, and it is valid if the old one was.
+-- If the log is usable, its disk has known contents, and has counted only these failures.
+abbrev pub HasCounted : {D : Type 0} → DiskModel D → ℕ → OnDisk D → Type 0
+HasCounted model faults log =
+    IsTrue log.live → ((bytes : List ℕ) × (model.seen log.disk ≡ Some bytes)) × (model.faults log.disk ≡ faults)
+
+-- The new log extends the old one by appends with any answers: its journal extends the old one's, it is valid if the old one was, and while
+-- it is usable no call of its disk has failed.
 pub record ExtendsTopics {D : Type 0} (model : DiskModel D) (old new : OnDisk D) : Type 0 where
   pub journal : journals.ExtendsJournal model old new
   pub groups : HasGroups model old → HasGroups model new
+  pub steady : (faults : ℕ) → HasCounted model faults old → HasCounted model faults new

@@ -302,11 +302,16 @@ impl<D: Disk> Sink for TopicLog<D> {
 
     ghost whole = { λ log groups held. leaves_held _ log groups held };
 
-    ghost comes_self = { λ log. record { journal = λ gate most has. has; groups = λ kept. kept } };
+    ghost comes_self = { λ log. record {
+      journal = λ gate most has. has;
+      groups = λ kept. kept;
+      steady = λ faults has. has;
+    } };
 
     ghost comes_on = { λ first second third before after. record {
       journal = λ gate most has. after.journal gate most (before.journal gate most has);
       groups = λ kept. after.groups (before.groups kept);
+      steady = λ faults has. after.steady faults (before.steady faults has);
     } };
 
     fn put(&mut self, group: &Vec<Record>) -> Result<(), SinkError>

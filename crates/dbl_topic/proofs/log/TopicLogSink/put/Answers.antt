@@ -10,7 +10,7 @@ use Rattle.dbl_topic.specs.declared.error.SinkError.TheVariants.{TooLong}
 use Rattle.dbl_topic.specs.Held.{HoldsGroups, LeavesGroups}
 use Rattle.dbl_topic.specs.SinkLaws.{may_leave_held, only_held}
 use Rattle.dbl_topic.specs.Sinks.{IsLeftByWhole}
-use Rattle.dbl_topic.proofs.HeldLaws.{leaves_any, leaves_put, left_by_put, some_left, still_there, too_long_of, failed_of_sink}
+use Rattle.dbl_topic.proofs.HeldLaws.{leaves_any, leaves_put, left_by_put, some_left, counted_put, still_there, too_long_of, failed_of_sink}
 use Rattle.dbl_journal.proofs.Growth.{comes_at}
 use Rattle.dbl_topic.proofs.LogLaws.{entries-push, size_of}
 use Rattle.dbl_base.specs.Streams.{FaultCounted}
@@ -124,34 +124,10 @@ failure_is : (d e : JournalError) → failure d ≡ failure e → d ≡ e
 failure_is d e same = cc
 
 pub returns-then-len-gt-GROUP_LIMIT-clause-comes : goal.returns-then-len-gt-GROUP_LIMIT-clause-comes
-returns-then-len-gt-GROUP_LIMIT-clause-comes g c = record { journal = λ gate most has. has; groups = λ kept. kept }
+returns-then-len-gt-GROUP_LIMIT-clause-comes g c = record { journal = λ gate most has. has; groups = λ kept. kept; steady = λ faults has. has }
 
 pub returns-in_err-bytes-clause-comes : goal.returns-in_err-bytes-clause-comes
-returns-in_err-bytes-clause-comes g c = record { journal = λ gate most has. has; groups = λ kept. kept }
-
-pub returns-in_err-append_built-clause-comes : goal.returns-in_err-append_built-clause-comes
-returns-in_err-append_built-clause-comes g c = record {
-  journal = comes_at g.D.Disk c.self.inside.journal c.args.self.now c.append_built.new.self c.self.view_is c.append_built.ensures.comes;
-  groups = λ kept.
-      let held = kept.holds c.requires.live in
-      let inside = subst (λ (log : OnDisk _). HoldsGroups g.D.Disk log held.0) (sym c.self.view_is) held.1 in
-      record {
-        holds = λ live. (
-          held.0,
-          still_there (λ (log : OnDisk _). HoldsGroups g.D.Disk log held.0) c.in_err-append_built.field-0.0 c.self.inside.journal c.append_built.new.self
-              (λ is. c.in_err-append_built.ensures.puts.dead (ap (λ (e : JournalError). Err e) is)) (λ not. c.in_err-append_built.ensures.unchanged (λ is. not (failure_is _ _ is))) live inside,
-        );
-        leaves = returns-in_err-append_built-clause-whole g c held.0 held.1;
-      };
-}
-
-pub returns-clause-comes : goal.returns-clause-comes
-returns-clause-comes g c = record {
-  journal = comes_at g.D.Disk c.self.inside.journal c.args.self.now c.append_built.new.self c.self.view_is c.append_built.ensures.comes;
-  groups = λ kept.
-      let held = kept.holds c.requires.live in
-      record { holds = λ live. (_, returns-clause-added g c held.0 held.1); leaves = returns-clause-whole g c held.0 held.1 };
-}
+returns-in_err-bytes-clause-comes g c = record { journal = λ gate most has. has; groups = λ kept. kept; steady = λ faults has. has }
 
 pub returns-then-len-gt-GROUP_LIMIT-clause-puts : goal.returns-then-len-gt-GROUP_LIMIT-clause-puts
 returns-then-len-gt-GROUP_LIMIT-clause-puts g c = record {
@@ -196,4 +172,32 @@ returns-clause-puts g c = record {
   dead = λ is. absurd (let i = is in cc);
   steady = λ answered old told.
       c.in_ok-append_built.ensures.puts.steady (λ ok. cc) old (ap (λ (log : OnDisk _). g.D.Disk.seen log.disk) c.self.view_is ∙ told) ∙ ap (λ (log : OnDisk _). g.D.Disk.faults log.disk) c.self.view_is;
+}
+
+-- what no append undoes
+
+pub returns-in_err-append_built-clause-comes : goal.returns-in_err-append_built-clause-comes
+returns-in_err-append_built-clause-comes g c = record {
+  journal = comes_at g.D.Disk c.self.inside.journal c.args.self.now c.append_built.new.self c.self.view_is c.append_built.ensures.comes;
+  groups = λ kept.
+      let held = kept.holds c.requires.live in
+      let inside = subst (λ (log : OnDisk _). HoldsGroups g.D.Disk log held.0) (sym c.self.view_is) held.1 in
+      record {
+        holds = λ live. (
+          held.0,
+          still_there (λ (log : OnDisk _). HoldsGroups g.D.Disk log held.0) c.in_err-append_built.field-0.0 c.self.inside.journal c.append_built.new.self
+              (λ is. c.in_err-append_built.ensures.puts.dead (ap (λ (e : JournalError). Err e) is)) (λ not. c.in_err-append_built.ensures.unchanged (λ is. not (failure_is _ _ is))) live inside,
+        );
+        leaves = returns-in_err-append_built-clause-whole g c held.0 held.1;
+      };
+  steady = counted_put g.D.Disk _ c.args.self.now c.append_built.new.self c.requires.live (returns-in_err-append_built-clause-puts g c);
+}
+
+pub returns-clause-comes : goal.returns-clause-comes
+returns-clause-comes g c = record {
+  journal = comes_at g.D.Disk c.self.inside.journal c.args.self.now c.append_built.new.self c.self.view_is c.append_built.ensures.comes;
+  groups = λ kept.
+      let held = kept.holds c.requires.live in
+      record { holds = λ live. (_, returns-clause-added g c held.0 held.1); leaves = returns-clause-whole g c held.0 held.1 };
+  steady = counted_put g.D.Disk _ c.args.self.now c.append_built.new.self c.requires.live (returns-clause-puts g c);
 }

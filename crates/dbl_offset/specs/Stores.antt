@@ -66,15 +66,23 @@ greatest_room = 2 ^ 30
 abbrev pub BeginsTorn : List ℕ → List ℕ → Type 0
 BeginsTorn old new = Torn 0 least_room old new
 
--- Whether the disk's contents are known, and no longer than this number of bytes, or than a store of any offset may be.
-pub record IsKnownWithin {D : Type 0} (model : DiskModel D) (most : ℕ) (disk : D) : Type 0 where
-  pub bytes : List ℕ
-  pub told : model.seen disk ≡ Some bytes
-  pub short : length bytes ≤ max most greatest_room
+-- The bounds of a store: a number of bytes, and how many failures its disk has counted.
+pub record StoreBounds : Type 0 where
+  pub most : ℕ
+  pub faults : ℕ
 
--- Whether the new store extends the old one, as after every call: the contents of its disk stay known, and within a bound.
+-- Whether the disk's contents are known, and no longer than this number of bytes, or than a store of any offset may be; and if the store is
+-- live, whether its disk has counted only these failures.
+pub record IsKnownWithin {D : Type 0} (model : DiskModel D) (bounds : StoreBounds) (store : StoreOn D) : Type 0 where
+  pub bytes : List ℕ
+  pub told : model.seen (disk_of store) ≡ Some bytes
+  pub short : length bytes ≤ max bounds.most greatest_room
+  pub steady : IsLive store → model.faults (disk_of store) ≡ bounds.faults
+
+-- Whether the new store extends the old one, as after every call: the contents of its disk stay known, and within a bound, and while it is
+-- live no call of its disk has failed.
 abbrev pub ExtendsOffsets : {D : Type 0} → DiskModel D → StoreOn D → StoreOn D → Type 0
-ExtendsOffsets model old new = (most : ℕ) → IsKnownWithin model most (disk_of old) → IsKnownWithin model most (disk_of new)
+ExtendsOffsets model old new = (bounds : StoreBounds) → IsKnownWithin model bounds old → IsKnownWithin model bounds new
 
 -- What storing an offset leaves of a store's disk, by whether the call failed.
 abbrev pub PutLeaves : {D : Type 0} → DiskModel D → Type 0 → StoreOn D → StoreOn D → Type 0

@@ -177,7 +177,7 @@ module _ {W T F : Type 0} (wal_model : DiskModel W) (topics_model : DiskModel T)
   kept_again kept = record {
     wal = ap is_some (source_kept wal_model topics_model offsets_model is_w is_t is_f w t f so lo fo src lg st config now sn ln fn report result ran).come.told.1;
     topics = ap is_some (ran.sink_comes.journal 0 (length t) (log_come topics_model t lo lg)).told.1;
-    offsets = ap is_some (ran.store_comes (length f) (record { bytes = f; told = st.told; short = omega arith })).told;
+    offsets = ap is_some (ran.store_comes (record { most = length f; faults = offsets_model.faults (disk_of fo) }) (record { bytes = f; told = st.told; short = omega arith; steady = λ live. refl })).told;
     each = λ w1 t1 f1 mw mt mf. (
         let here = image_of wal_model topics_model offsets_model is_w is_t is_f w t f so lo fo src lg st config now sn ln fn report result ran kept w1 t1 f1 mw mt mf in
         (here.held, here.read, here.kept));

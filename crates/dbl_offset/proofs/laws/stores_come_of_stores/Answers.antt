@@ -1,4 +1,5 @@
-use Rattle.std.proofs.Common.{◌≡◌, length, ap, arith}
+use Rattle.std.proofs.Common.{◌≡◌, length, refl, ap, arith}
+use Rattle.dbl_offset.specs.Stores.{disk_of}
 use Rattle.dbl_offset.proofs.laws.stores_come_of_stores.Goals as goal
 
 pub returns-clause-itself : goal.returns-clause-itself
@@ -9,11 +10,11 @@ returns-clause-on g c first second third one two most known = two most (one most
 
 pub returns-clause-told : goal.returns-clause-told
 returns-clause-told g c old new offset extends held =
-    let after = extends (length held.bytes) (record { bytes = held.bytes; told = held.told; short = omega arith }) in
+    let after = extends (record { most = length held.bytes; faults = g.D.Disk.faults (disk_of old) }) (record { bytes = held.bytes; told = held.told; short = omega arith; steady = λ live. refl }) in
     (after.bytes, after.told)
 
 pub returns-clause-grown : goal.returns-clause-grown
 returns-clause-grown g c old new before after extends was now =
-    let found = extends (length before) (record { bytes = before; told = was; short = omega arith }) in
+    let found = extends (record { most = length before; faults = g.D.Disk.faults (disk_of old) }) (record { bytes = before; told = was; short = omega arith; steady = λ live. refl }) in
     let is : after ≡ found.bytes = cc (found.told) in
     omega (arith, ap length is, found.short)

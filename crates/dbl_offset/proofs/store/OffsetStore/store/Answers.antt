@@ -1,4 +1,4 @@
-use Rattle.std.proofs.Common.{◌≡◌, ◌+◌, ◌-◌, ◌≤◌, ◌<◌, ◌^◌, ◌∙◌, List, ℕ, Result, Ok, Err, length, refl, sym, ap, subst, arith}
+use Rattle.std.proofs.Common.{◌≡◌, ◌+◌, ◌-◌, ◌≤◌, ◌<◌, ◌^◌, ◌∙◌, true, false, List, ℕ, Result, Ok, Err, length, refl, sym, ap, subst, arith}
 use Rattle.std.specs.Prelude.{max}
 use Rattle.std.proofs.lemmas.Nat.{div-add-mod', mod_below}
 use Rattle.dbl_base.specs.Streams.{FaultCounted}
@@ -86,7 +86,12 @@ returns-in-Ok-write_slot-clause-comes g c most known =
     let short : length c.as_slice.result.now ≤ 2 ^ 28 + 4 = omega (arith, ap length c.as_slice.ensures.value, c.in-Ok.ensures.short) in
     let most_of : length left.0 ≤ max (length known.bytes) (2 ^ 30) = few (length c.as_slice.result.now) (length known.bytes) (length left.0) short
     (c.write_slot.ensures.grows known.bytes left.0 was left.1) in
-    record { bytes = left.0; told = left.1; short = omega (arith, most_of, known.short) }
+    record {
+      bytes = left.0;
+      told = left.1;
+      short = omega (arith, most_of, known.short);
+      steady = λ live. c.in-Ok-write_slot.ensures.steady known.bytes was ∙ ap (λ (s : StoreOn _). g.D.Disk.faults s.disk) c.self.view_is ∙ known.steady c.requires.live;
+    }
 
 pub returns-in-Ok-write_slot-clause-puts : goal.returns-in-Ok-write_slot-clause-puts
 returns-in-Ok-write_slot-clause-puts g c =
@@ -123,7 +128,7 @@ returns-clause-comes g c most known =
     let short : length c.as_slice.result.now ≤ 2 ^ 28 + 4 = omega (arith, ap length c.as_slice.ensures.value, c.in-Ok.ensures.short) in
     let most_of : length left.0 ≤ max (length known.bytes) (2 ^ 30) = few (length c.as_slice.result.now) (length known.bytes) (length left.0) short
     (c.write_slot.ensures.grows known.bytes left.0 was left.1) in
-    record { bytes = left.0; told = left.1; short = omega (arith, most_of, known.short) }
+    record { bytes = left.0; told = left.1; short = omega (arith, most_of, known.short); steady = λ live. absurd (let wrong : false ≡ true = live in cc) }
 
 pub returns-clause-puts : goal.returns-clause-puts
 returns-clause-puts g c =

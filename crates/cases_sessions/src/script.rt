@@ -13,7 +13,8 @@ use cases_items::{items, messages, words};
 use dbl_base::Seq;
 use dbl_model_table::{RawRow, RawTable};
 use dbl_pgmsg::Message;
-use dbl_source::{Move, ScriptedSource, Selected};
+use dbl_source::Selected;
+use dbl_source_scripted::{Move, ScriptedSource};
 use std::alloc::Global;
 
 // What an item has after a word, up to the words that may follow it.

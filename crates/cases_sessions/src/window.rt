@@ -10,7 +10,7 @@ use dbl_base::Seq;
 use dbl_model_event::Closed;
 use dbl_model_history::key_fits;
 use dbl_model_table::{Key, TableInfo};
-use dbl_source::ScriptedSource;
+use dbl_source_scripted::ScriptedSource;
 use dbl_window::{Armed, Idle, Seen, new};
 use std::alloc::Global;
 use std::fmt::Write;

@@ -22,7 +22,7 @@ use Rattle.dbl_source.specs.SourceLog.declared.reader_position.ReaderPosition.{R
 use Rattle.dbl_source.specs.SourceLog.Histories.{history_of}
 use Rattle.dbl_source.specs.SourceLog.Numbers.{lsn_of}
 use Rattle.dbl_source.proofs.SourceLogLogLemmas.{length-history}
-use Rattle.dbl_source.proofs.PlayLemmas.{begun_after, is_head}
+use Rattle.dbl_source.proofs.LogStates.{begun_after, is_head}
 use Rattle.dbl_demo_workload.specs.DemoWal.declared.entry.Entry.TheVariants.{Confirms}
 use Rattle.dbl_demo_workload.specs.DemoWal.Groups.{released}
 use Rattle.dbl_demo_workload.specs.DemoWal.Sound.{logged_in}

@@ -15,7 +15,7 @@ use Rattle.dbl_source.specs.SourceLog.declared.logged.Logged.{Logged}
 use Rattle.dbl_source.specs.SourceLog.declared.reader_position.ReaderPosition.{ReaderPosition}
 use Rattle.dbl_source.specs.SourceLog.Sent.{index_of, told_at}
 use Rattle.dbl_source.specs.SourceLog.declared.error.SourceError.{SourceError}
-use Rattle.dbl_source.proofs.PlayLemmas.{read_all}
+use Rattle.dbl_source.proofs.LogStates.{read_all}
 use Rattle.dbl_demo_workload.specs.DemoWal.Groups.{EndsRead, ReadsOn, released}
 use Rattle.dbl_demo_workload.specs.DemoWal.Groups.ReadsOn.{stops, goes}
 use Rattle.dbl_demo_workload.specs.DemoWal.Sound.{logged_in}

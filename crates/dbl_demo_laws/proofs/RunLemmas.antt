@@ -12,7 +12,7 @@ use Rattle.dbl_source.specs.SourceLog.declared.reader_position.ReaderPosition.{R
 use Rattle.dbl_source.specs.SourceLog.Sent.{index_of}
 use Rattle.dbl_source.proofs.SourceLogSentLemmas.{stays}
 use Rattle.dbl_source.specs.SourceLog.Readings.{Describes}
-use Rattle.dbl_source.proofs.CallLemmas.{placed_on}
+use Rattle.dbl_source.proofs.LogStates.{placed_on}
 use Rattle.dbl_journal.specs.Form.{IsJournal}
 use Rattle.dbl_journal.specs.Stored.{LeavesEntries, Lists, OnDisk}
 use Rattle.dbl_journal.proofs.Appends.{length-places}

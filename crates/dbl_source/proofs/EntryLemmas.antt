@@ -12,7 +12,7 @@ use Rattle.dbl_source_log.specs.Relations.{catalogue}
 use Rattle.dbl_source_log.specs.Histories.{history_of}
 use Rattle.dbl_source_log.proofs.ThemselvesLemmas.{name_same}
 use Rattle.dbl_source_log.proofs.RowTexts.{entry_named}
-use Rattle.dbl_source.specs.Played.{entry_at}
+use Rattle.dbl_source.specs.LogStates.{entry_at}
 
 -- the catalogue shows no table of the watermarks
 pub none_marked : (us : List LogTable) (name : TableName) → is_watermark name ≡ true → find (λ r. same_name r.name name) (catalogue us) ≡ None

@@ -1,21 +1,8 @@
-//! Sources of changes: what a connector requires of a database, and a source that plays other
-//! clients' commits from a script.
+//! Sources of changes: what a connector requires of a database.
 #![tactic(auto)]
 
-mod asked;
-mod catalogue;
-mod laws;
-mod moves;
-mod playing;
-mod scripted;
 mod source;
 
 pub use dbl_source_log::{SourceError, Step, next_step, remember};
 pub use dbl_source_model::{Selected, Started};
-pub use laws::{
-    commits_keep_fair, fair_scripts_are_honest, fair_sources_stand, first_commits_are_fair,
-    marks_keep_fair, new_sources_are_fair, selects_have_returned, selects_keep_fair,
-};
-pub use moves::{COMMIT_LIMIT, Move, has_room};
-pub use scripted::ScriptedSource;
 pub use source::Source;

@@ -1,5 +1,0 @@
-use Rattle.dbl_source.proofs.NewLemmas.{new_fair}
-use Rattle.dbl_source.proofs.laws.new_sources_are_fair.Goals as goal
-
-pub returns : goal.returns
-returns c = new_fair

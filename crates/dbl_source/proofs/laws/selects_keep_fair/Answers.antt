@@ -1,5 +1,0 @@
-use Rattle.dbl_source.proofs.GrownLemmas.{selects_fair}
-use Rattle.dbl_source.proofs.laws.selects_keep_fair.Goals as goal
-
-pub returns : goal.returns
-returns c = selects_fair

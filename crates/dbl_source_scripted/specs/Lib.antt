@@ -1,0 +1,9 @@
+pub mod Moves
+pub mod Played
+pub mod Fairness
+pub mod Steps
+pub mod Fields
+pub mod Exits
+pub mod ScriptLaws
+pub mod Laws
+pub mod FairExample

@@ -55,7 +55,7 @@ pub record CanBeClosed (identity : Identity) (infos : List TableInfo) (now : ℤ
 
 -- ---- what a session meets
 
--- The records of the commit that the newest message ends can be sent, if it is one of the history.
+-- The records of the commit that the newest message ends, or of which it states changes, can be sent, if it is one of the history.
 abbrev pub CanSend : SessionStart → History → List TableInfo → Reading → Type 0
 CanSend entry history infos reading = (newest : IsNewest infos history reading)
     → CanBeSent (session_identity entry) infos entry.now newest.commit

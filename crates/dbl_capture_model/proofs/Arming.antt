@@ -9,7 +9,7 @@ use Rattle.dbl_model_table.specs.declared.table.TableInfo.{TableInfo}
 use Rattle.dbl_model_table.specs.declared.change.Commit.{Commit}
 use Rattle.dbl_model_table.specs.Rows.{Rows, no_rows, rows_from, all_changes}
 use Rattle.dbl_faithful.specs.ModelHistory.declared.cursor.Cursor.{Cursor}
-use Rattle.dbl_faithful.specs.ModelHistory.History.{RawBody, RawCommit, History}
+use Rattle.dbl_faithful.specs.ModelHistory.History.{RawCommit, History}
 use Rattle.dbl_faithful.specs.ModelHistory.History.RawBody.{Mark}
 use Rattle.dbl_faithful.specs.ModelHistory.Fit.{AreInfosOf, IsFitHistory}
 use Rattle.dbl_faithful.specs.ModelHistory.MarkTexts.{Side, mark_text}
@@ -21,7 +21,7 @@ use Rattle.dbl_faithful.proofs.ConsumeLawsLists.{slice_get-seam}
 use Rattle.dbl_follow.specs.SourceModel.Growth.{HasChanges, Marks, marks_in}
 use Rattle.dbl_follow.specs.SourceModel.Selected.{rows_up_to}
 use Rattle.dbl_follow.proofs.SourceModelGrowthLemmas.{no_mark_more, one_mark_more}
-use Rattle.dbl_faithful.proofs.Items.{first_some, at_left, at_cases, at_all, all_weaker, take_within}
+use Rattle.dbl_faithful.proofs.Items.{first_some, at_left, at_cases, at_all, take_within}
 use Rattle.dbl_faithful.specs.Lag.{IsMarkedBy}
 use Rattle.dbl_faithful.specs.Kept.{HasGrown}
 use Rattle.dbl_faithful.specs.Stores.{top_position}

@@ -16,7 +16,7 @@ use Rattle.dbl_follow.specs.declared.window.Window.{Window}
 use Rattle.dbl_follow.specs.declared.window.Window.TheVariants.{Absent, Armed, Open}
 use Rattle.dbl_capture_model.specs.Entries.{SessionStart}
 use Rattle.dbl_capture_model.specs.Stages.{Stage}
-use Rattle.dbl_capture_model.specs.Counted.{waiting, ended_of, WasRead, IsWaiting, HaveComeOn, IsCounted}
+use Rattle.dbl_capture_model.specs.Counted.{waiting, ended_of, WasRead, IsWaiting, HaveComeOn}
 use Rattle.dbl_capture_model.specs.Going.{IsReading}
 use Rattle.dbl_capture_model.specs.Outcomes.{CoverRows, HasFewMarks}
 use Rattle.dbl_capture_model.specs.Exits.{FewMarksAreWritten}

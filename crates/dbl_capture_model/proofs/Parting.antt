@@ -15,8 +15,7 @@ use Rattle.dbl_model_table.specs.declared.change.Commit.{Commit}
 use Rattle.dbl_model_table.specs.declared.change.Head.{Head}
 use Rattle.dbl_model_table.specs.Heads.{commit_head, commit_so_far}
 use Rattle.dbl_model_table.specs.Rows.{changes_of}
-use Rattle.dbl_faithful.specs.ModelHistory.History.{AreRising, RawCommit, History, IsRising}
-use Rattle.dbl_faithful.specs.ModelHistory.Fit.{IsFitHistory}
+use Rattle.dbl_faithful.specs.ModelHistory.History.{AreRising, RawCommit}
 use Rattle.dbl_faithful.specs.ModelHistory.Ranges.{IsMomentInRange}
 use Rattle.dbl_faithful.specs.ModelHistory.Typed.{typed, typed_commit}
 use Rattle.dbl_faithful.proofs.ModelHistoryMomentLemmas.{lsns}
@@ -26,29 +25,29 @@ use Rattle.dbl_faithful.specs.ModelEvent.Clashes.{notice_clash, first_found, cla
 use Rattle.dbl_faithful.proofs.ConsumeLawsNotices.{all_append}
 use Rattle.dbl_faithful.specs.ToldEvents.{tell, events_of_commit, IsClearPrint}
 use Rattle.dbl_faithful.specs.CaughtUp.{HasDeliveredUpTo}
-use Rattle.dbl_faithful.proofs.Agree.{IsRun, commit_run}
+use Rattle.dbl_faithful.proofs.Agree.{commit_run}
 use Rattle.dbl_faithful.proofs.CaughtUp.{sent_records_are_caught_up}
 use Rattle.dbl_faithful.proofs.Items.{all_weaker}
 use Rattle.dbl_faithful.proofs.Positions.{all_above, rising_after}
 use Rattle.dbl_faithful.specs.Stores.{IsCommitAt, top_position, lag}
 use Rattle.dbl_faithful.specs.Faithful.{IsFaithful}
 use Rattle.dbl_faithful.specs.Lag.{IsOffsetOf}
-use Rattle.dbl_faithful.specs.Onward.{IsLaterCursor, GoesOnward, Adds}
+use Rattle.dbl_faithful.specs.Onward.{IsLaterCursor, Adds}
 use Rattle.dbl_faithful.specs.Offset.declared.offset.Offset.{Offset}
 use Rattle.dbl_faithful.proofs.Faithful.{faithful_records_stand, caught_up_stores_are_faithful}
 use Rattle.dbl_faithful.proofs.Offsets.{more_records_keep_offsets}
 use Rattle.dbl_faithful.proofs.Splits.{RawNext, raw_next, top_sent}
-use Rattle.dbl_faithful.proofs.Lists.{longer, after_position, after_top}
+use Rattle.dbl_faithful.proofs.Lists.{after_position, after_top}
 use Rattle.dbl_follow.specs.SourceModel.Standings.{CrashState}
 use Rattle.dbl_follow.specs.SourceModel.Stated.{StatesSome, ReadsRight, to_state}
 use Rattle.dbl_follow.specs.ModelCommit.Blocks.{AreWithoutFault}
 use Rattle.dbl_follow.specs.ModelCommit.Past.{begin_of}
-use Rattle.dbl_follow.specs.ModelCommit.Stated.{commits_of, open_changes}
-use Rattle.dbl_follow.specs.ModelCommit.BegunCommits.{BeginsCommit, BeginsNext}
-use Rattle.dbl_capture_model.specs.Entries.{SessionStart, StoodInLog, WasFaithful, stores_at, stores_left, appends_after}
-use Rattle.dbl_capture_model.specs.Stages.{Stage, records_of_stage, commits_at, next_offset, read_at, IsOfSession, far_at}
+use Rattle.dbl_follow.specs.ModelCommit.Stated.{open_changes}
+use Rattle.dbl_follow.specs.ModelCommit.BegunCommits.{BeginsCommit}
+use Rattle.dbl_capture_model.specs.Entries.{SessionStart, WasFaithful}
+use Rattle.dbl_capture_model.specs.Stages.{Stage, records_of_stage, next_offset, read_at, IsOfSession, far_at}
 use Rattle.dbl_capture_model.specs.Going.{IsFirstOf, IsPlacedInHistory, KeepsStage, IsGoing}
-use Rattle.dbl_capture_model.specs.Exits.{IsOpenPart, MayBeLeft, PartsMayBeLeft, ReadHistoriesAreClosed}
+use Rattle.dbl_capture_model.specs.Exits.{MayBeLeft, PartsMayBeLeft, ReadHistoriesAreClosed}
 use Rattle.dbl_capture_model.specs.Outcomes.{FollowsSession}
 use Rattle.dbl_capture_model.proofs.Events.{cancel, no_first, no_other, envelopes_rise}
 use Rattle.dbl_capture_model.proofs.Growing.{new}

@@ -21,7 +21,7 @@ use Rattle.dbl_capture_model.specs.Stages.{Stage, records_of_stage, next_offset,
 use Rattle.dbl_capture_model.specs.Marked.{IsAwaited, IsWindowAt}
 use Rattle.dbl_faithful.specs.Offset.declared.offset.Offset.{Offset}
 use Rattle.dbl_capture_model.specs.Going.{IsReading, IsNear, IsGoing, begun_after}
-use Rattle.dbl_capture_model.specs.Steps.{OthersKeepGoing, ConfirmsKeepGoing, MessagesKeepGoing, StoresKeepGoing, stored_at}
+use Rattle.dbl_capture_model.specs.Steps.{OthersKeepGoing, ConfirmsKeepGoing, MessagesKeepGoing, StoresKeepGoing}
 use Rattle.dbl_faithful.proofs.Lists.{longer, is_longer, still_at, still_position}
 use Rattle.dbl_capture_model.proofs.Growing.{first_longer, confirmed_so, reads_longer, parts_longer, offset_longer, up_longer, near_longer}
 use Rattle.dbl_capture_model.proofs.Marking.{others_marked, own_marks_stay, awaited_stays, window_stays, counted_stays}

@@ -77,8 +77,8 @@ StoresMayEnd = (entry : SessionStart) (stage : Stage) (left : CrashState)
 
 -- ---- within a transaction
 
--- The records are a prefix of those of the open transaction so far, none of which has a value equal to the placeholder: none of them, or not
--- all. The last one isn't appended before the transaction's end, so that none of the prefix is marked as the last of its commit.
+-- The records are a prefix of those of the open transaction so far, none of which has a value equal to the placeholder: none of them, or
+-- not all. The last one isn't appended before the transaction's end, so that none of the prefix is marked as the last of its commit.
 pub record IsOpenPart (stage : Stage) (now : ℤ) (part : List Record) : Type 0 where
   pub head : Head
   pub begun : begin_of stage.messages ≡ Some head
@@ -87,7 +87,8 @@ pub record IsOpenPart (stage : Stage) (now : ℤ) (part : List Record) : Type 0 
   pub few : count
       < length (envelopes stage.first.identity stage.first.infos (commit_so_far head (open_changes stage.first.infos stage.messages)) now)
   pub is : part
-      ≡ take count (envelopes stage.first.identity stage.first.infos (commit_so_far head (open_changes stage.first.infos stage.messages)) now)
+      ≡ take count
+      (envelopes stage.first.identity stage.first.infos (commit_so_far head (open_changes stage.first.infos stage.messages)) now)
 
 -- A stop within a transaction, with a part of its records appended, and the stored offset or the next one, keeps the session's guarantees.
 abbrev pub PartsMayBeLeft : Type 0
@@ -98,7 +99,8 @@ PartsMayBeLeft = (entry : SessionStart) (stage : Stage) (left : CrashState) (par
 
 -- No transaction is open once every commit of the history was read.
 abbrev pub ReadHistoriesAreClosed : Type 0
-ReadHistoriesAreClosed = (entry : SessionStart) (stage : Stage) → length (to_state stage.first.infos stage.first.lsn stage.history) ≤ length (read_at stage)
+ReadHistoriesAreClosed = (entry : SessionStart) (stage : Stage)
+    → length (to_state stage.first.infos stage.first.lsn stage.history) ≤ length (read_at stage)
     → IsGoing entry stage → begin_of stage.messages ≡ None
 
 -- ---- windows

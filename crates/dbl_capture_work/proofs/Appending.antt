@@ -1,6 +1,6 @@
 -- Where gathering and appending records ends: what the sink and the report have then.
 use Rattle.std.proofs.Common.{◌≡◌, ◌∙◌, ◌⊎◌, inl, inr, ◌+◌, ◌-◌, ◌^◌, ◌≤◌, ◌<◌, ℕ, Bool, true, false, List, [], ◌∷◌, ◌++◌, length, refl, sym, ap, subst, arith, append_assoc, append-nil, length-append, le_refl}
-use Rattle.std.specs.Prelude.{Option, Some, None, Result, Ok, Err, IfErr, IsErr, slice_get}
+use Rattle.std.specs.Prelude.{Some, None, Result, Ok, Err, IfErr, IsErr, slice_get}
 use Rattle.std.specs.List.{AllByRecursion}
 use Rattle.dbl_record.specs.declared.record.Record.{Record}
 use Rattle.dbl_record.specs.Cuts.{IsHandful, cut, joined}
@@ -15,7 +15,7 @@ use Rattle.dbl_capture_work.specs.declared.halt.Halt.{Halt}
 use Rattle.dbl_capture_work.specs.declared.halt.Halt.TheVariants as halt
 use Rattle.dbl_capture_work.specs.declared.report.Report.{Report}
 use Rattle.dbl_capture_work.specs.Causes.{HaltsAppending, IsLongRecord, PutsAll}
-use Rattle.dbl_capture_work.specs.Groups.{AppendsMore, AreShort, CountsGroup, HasLastsAtItsEnd, IsBatched, IsGathered, LeavesRecords, PutsGroup, WerePut, chunks_of, counted, lasts, records_in, report_with}
+use Rattle.dbl_capture_work.specs.Groups.{AppendsMore, AreShort, CountsGroup, HasLastsAtItsEnd, IsBatched, IsGathered, LeavesRecords, PutsGroup, WerePut, chunks_of, counted, lasts, report_with}
 use Rattle.dbl_capture_work.proofs.Puts.{IsNextGroup, front_cut, group_lasts, left_cut, next_handful, none_last, report_none, report_twice, within}
 use Rattle.dbl_capture_work.proofs.Putting.{IsGroupHalt, IsPut, IsShortGroup, first_at, holds_put, last_group, le_both, left_still, long_at, long_group, long_put, member_size, none_holds, none_left_over, none_long, none_put, put_kept, shorts_alone, too_long, torn_put, were_put}
 

@@ -1,18 +1,16 @@
 -- What a session's step delivers of the open transaction, after the records that were put before.
-use Rattle.std.proofs.Common.{◌≡◌, ◌∙◌, ◌⊎◌, inl, inr, ◌+◌, ◌-◌, ◌≤◌, ◌<◌, ℕ, ℤ, zero, suc, Bool, true, false, Option, Some, None, List, [], ◌∷◌, ◌++◌, length, take, drop, refl, sym, ap, subst, arith, append_assoc, append-nil, length-append}
+use Rattle.std.proofs.Common.{◌≡◌, ◌∙◌, ◌⊎◌, inl, inr, ◌+◌, ◌-◌, ◌≤◌, ◌<◌, ℕ, ℤ, zero, suc, Bool, true, Some, List, [], ◌∷◌, ◌++◌, length, take, drop, refl, sym, ap, subst, arith, append_assoc, length-append}
 use Rattle.std.specs.Prelude.{slice_get}
 use Rattle.dbl_record.specs.declared.record.Record.{Record}
 use Rattle.dbl_record.specs.Cuts.{cut}
 use Rattle.dbl_model_table.specs.declared.change.Change.{Change}
 use Rattle.dbl_model_table.specs.declared.change.Head.{Head}
-use Rattle.dbl_model_table.specs.declared.table.TableInfo.{TableInfo}
-use Rattle.dbl_model_table.specs.declared.identity.Identity.{Identity}
 use Rattle.dbl_model_table.specs.Heads.{commit_so_far}
 use Rattle.dbl_envelope.specs.ModelEvent.EventJson.{envelopes}
 use Rattle.dbl_model_table.proofs.Lists.{slice_get-lt}
 use Rattle.dbl_topic.specs.Sinks.{IsLeftByPut}
 use Rattle.dbl_follow.specs.Amid.{IsAmid, AreReleased}
-use Rattle.dbl_follow.specs.Followed.{Following, OpenPart}
+use Rattle.dbl_follow.specs.Followed.{Following}
 use Rattle.dbl_capture_work.specs.declared.halt.Halt.{Halt}
 use Rattle.dbl_capture_work.specs.declared.report.Report.{Report}
 use Rattle.dbl_capture_work.specs.Causes.{HasPutBefore}

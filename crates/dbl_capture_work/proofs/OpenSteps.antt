@@ -1,6 +1,6 @@
 -- A session's step within a transaction: what follows of the changes that it followed, and of the records that it appended.
-use Rattle.std.proofs.Common.{◌≡◌, ◌≢◌, ◌∙◌, ◌⊎◌, inl, inr, ◌+◌, ◌-◌, ◌≤◌, ◌<◌, ◌^◌, ℕ, ℤ, zero, suc, Bool, true, false, Option, Some, None, List, [], ◌∷◌, ◌++◌, length, take, drop, refl, sym, ap, subst, arith, append_assoc, append-nil, length-append}
-use Rattle.std.specs.Prelude.{Result, Ok, Err, IfErr, IfOk, IsErr, OnErr, OnOk, slice_get}
+use Rattle.std.proofs.Common.{◌≡◌, ◌∙◌, ◌⊎◌, inl, inr, ◌+◌, ◌-◌, ◌≤◌, ◌<◌, ◌^◌, ℕ, ℤ, zero, suc, false, Option, Some, None, List, [], ◌∷◌, ◌++◌, length, take, drop, refl, sym, ap, subst, arith, append_assoc, append-nil, length-append}
+use Rattle.std.specs.Prelude.{Result, Err, IsErr, OnOk, slice_get}
 use Rattle.std.specs.List.{AllByRecursion}
 use Rattle.std.proofs.lemmas.List.{take-append-drop}
 use Rattle.std.proofs.lemmas.Result.{IfErr-weaker, IfOk-weaker, on_err_weaker}
@@ -19,24 +19,22 @@ use Rattle.dbl_model_commit.specs.Past.{begin_of}
 use Rattle.dbl_model_commit.specs.Pieces.{changes_so_far}
 use Rattle.dbl_envelope.specs.ModelEvent.Clashes.{Clash, clash_of}
 use Rattle.dbl_envelope.specs.ModelEvent.EventJson.{envelopes}
-use Rattle.dbl_window.proofs.ConsumeLawsConsumers.{all_right}
 use Rattle.dbl_follow.specs.Amid.{IsAmid, AreReleased}
 use Rattle.dbl_follow.specs.Followed.{Following}
 use Rattle.dbl_follow.proofs.AmidLemmas.{amid_same}
 use Rattle.dbl_capture_model.proofs.Events.{take_whole}
 use Rattle.dbl_capture_model.proofs.FaithfulItems.{at_cases, at_left, at_right}
-use Rattle.dbl_capture_work.specs.declared.groups.Gathered.{Gathered}
 use Rattle.dbl_capture_work.specs.declared.halt.Halt.{Halt}
 use Rattle.dbl_capture_work.specs.declared.halt.Halt.TheVariants as halt
 use Rattle.dbl_capture_work.specs.declared.report.Report.{Report}
 use Rattle.dbl_capture_work.specs.declared.work.SessionState.{SessionState}
 use Rattle.dbl_capture_work.specs.Causes.{HaltsAppending, IsLongRecord}
-use Rattle.dbl_capture_work.specs.Groups.{AppendsMore, AreShort, HasLastsAtItsEnd, HoldsPut, IsBatched, LeavesRecords, WasTorn, WerePut, records_in, report_with}
+use Rattle.dbl_capture_work.specs.Groups.{AppendsMore, HasLastsAtItsEnd, HoldsPut, IsBatched, LeavesRecords, WasTorn, WerePut, records_in}
 use Rattle.dbl_capture_work.specs.Takes.{CountsOnlyRecords, DeliversOpen, GoesOnOpen, IsClashIn, IsLongSoFar, LeftOpen, open_released}
 use Rattle.dbl_capture_work.specs.Works.{FollowsOpen, IsAmidWork, head_in, open_commit, resting}
 use Rattle.dbl_capture_work.proofs.Batches.{IsOwnBatch, cut_taken, own_gathered, take_within}
 use Rattle.dbl_capture_work.proofs.Puts.{report_none, within}
-use Rattle.dbl_capture_work.proofs.Delivering.{drop_front, groups_after, holds_after, left_after, released_is, released_not_last, take_front, take_joined, torn_after}
+use Rattle.dbl_capture_work.proofs.Delivering.{drop_front, holds_after, left_after, released_is, released_not_last, take_front, take_joined, torn_after}
 
 -- ---- lists
 

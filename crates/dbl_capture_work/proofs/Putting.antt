@@ -1,5 +1,5 @@
 -- Where the puts of a commit's records stand: some groups of the cut were put, one is gathered, and the rest comes after it.
-use Rattle.std.proofs.Common.{◌≡◌, ◌∙◌, ◌⊎◌, inl, inr, ◌+◌, ◌-◌, ◌^◌, ◌≤◌, ◌<◌, ℕ, zero, suc, Bool, true, false, cond, Some, List, [], ◌∷◌, ◌++◌, length, take, refl, sym, ap, subst, arith, append_assoc, append-nil, length-append, add-zero, le_refl}
+use Rattle.std.proofs.Common.{◌≡◌, ◌∙◌, ◌⊎◌, inl, inr, ◌+◌, ◌-◌, ◌^◌, ◌≤◌, ◌<◌, ℕ, zero, suc, Bool, true, false, cond, Some, List, [], ◌∷◌, ◌++◌, length, take, refl, sym, ap, subst, arith, append_assoc, append-nil, length-append, add-zero}
 use Rattle.std.specs.Prelude.{if◌then◌else◌, flat_map, slice_get}
 use Rattle.std.specs.List.{AllByRecursion}
 use Rattle.std.proofs.lemmas.List.Concat.{flat_map-append}
@@ -10,7 +10,6 @@ use Rattle.dbl_record.proofs.CutLaws.{cuts_join}
 use Rattle.dbl_record.proofs.Sizes.{group_size}
 use Rattle.dbl_topic.specs.Sinks.{IsLeftByPut, told_length}
 use Rattle.dbl_capture_model.proofs.FaithfulItems.{at_left, at_right, at_cases}
-use Rattle.dbl_capture_model.proofs.Events.{take_whole}
 use Rattle.dbl_capture_work.specs.declared.report.Report.{Report}
 use Rattle.dbl_capture_work.specs.declared.halt.Halt.{Halt}
 use Rattle.dbl_capture_work.specs.declared.halt.Halt.TheVariants as halt

@@ -1,14 +1,12 @@
 -- A message that is taken, and the records of a commit that is followed.
-use Rattle.std.proofs.Common.{◌≡◌, ◌∙◌, ◌⊎◌, inl, inr, ◌+◌, ◌-◌, ◌^◌, ◌≤◌, ◌<◌, ℕ, ℤ, zero, suc, Bool, true, false, Option, Some, None, IfSome, All, List, [], ◌∷◌, ◌++◌, length, map, take, refl, sym, ap, subst, arith, length-append, le_refl}
+use Rattle.std.proofs.Common.{◌≡◌, ◌∙◌, ◌⊎◌, inl, inr, ◌+◌, ◌-◌, ◌^◌, ◌≤◌, ◌<◌, ℕ, ℤ, zero, suc, Bool, true, false, Option, Some, None, IfSome, All, List, [], ◌∷◌, ◌++◌, length, map, refl, sym, ap, subst, arith, length-append, le_refl}
 use Rattle.std.specs.Prelude.{◌==◌, flat_map, is_some, not, option_map, slice_get, unwrap_or}
 use Rattle.std.specs.List.{AllByRecursion}
 use Rattle.std.proofs.lemmas.Bool.Decides.{nat_tests}
 use Rattle.std.proofs.lemmas.List.Elements.{All-from_recursion}
-use Rattle.dbl_base.specs.declared.lsn.Lsn.{Lsn}
 use Rattle.dbl_pgmsg.specs.declared.messages.Message.{Message}
 use Rattle.dbl_pgmsg.specs.Grammar.{FitsFields}
 use Rattle.dbl_record.specs.declared.record.Record.{Record}
-use Rattle.dbl_record.specs.Cuts.{cut}
 use Rattle.dbl_record.specs.Groups.{group_form}
 use Rattle.dbl_model_table.specs.declared.change.Body.{Body}
 use Rattle.dbl_model_table.specs.declared.change.Body.TheVariants.{Changes, Mark}
@@ -31,13 +29,13 @@ use Rattle.dbl_envelope.proofs.ModelEventEventLemmas.{commits_are_numbered}
 use Rattle.dbl_capture_model.proofs.FaithfulItems.{at_cases, first_some}
 use Rattle.dbl_window.specs.Plans.{Chunk}
 use Rattle.dbl_follow.specs.Followed.{Following}
-use Rattle.dbl_follow.specs.Steps.{Steps, clash_by, closed_of, closing, watermark_in, mark_of, records_by, records_of}
+use Rattle.dbl_follow.specs.Steps.{closed_of, closing, watermark_in, mark_of, records_by, records_of}
 use Rattle.dbl_capture_work.specs.declared.work.SessionState.{SessionState}
 use Rattle.dbl_capture_model.proofs.Events.{take_whole}
 use Rattle.dbl_capture_work.specs.declared.report.Report.{Report}
 use Rattle.dbl_capture_work.specs.Groups.{HasLastsAtItsEnd, WerePut, report_with}
 use Rattle.dbl_capture_work.specs.Takes.{HasSnapshotRecords, ReportsStep}
-use Rattle.dbl_capture_work.specs.Works.{AreShort, IsWork}
+use Rattle.dbl_capture_work.specs.Works.{AreShort}
 use Rattle.dbl_capture_work.proofs.Puts.{report_none}
 use Rattle.dbl_follow.proofs.SnapshotSteps.{closing-None}
 

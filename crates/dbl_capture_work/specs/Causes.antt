@@ -67,8 +67,8 @@ pub record HasPutBefore {K : Type 0} (holds : K → List (List Record) → Type 
   pub held : holds sink (groups ++ cut (put ++ take long.place records))
   pub report : after ≡ report_with snapshot (take long.place records) before
 
--- Why gathering and appending records stops: out of memory, a failed sink, or a record that is too long, before which all were appended. Such
--- a record is appended alone, once the record after it is gathered.
+-- Why gathering and appending records stops: out of memory, a failed sink, or a record that is too long, before which all were appended.
+-- Such a record is appended alone, once the record after it is gathered.
 pub record HaltsAppending {K T : Type 0} (sink_model : SinkModel K) (records : List Record) (snapshot : Bool) (sink new_sink : K)
     (report new_report : Report) (result : Result T Halt) : Type 0 where
   pub causes : IfErr result (λ h. (h ≡ halt.Memory) ⊎ ((h ≡ halt.Sink)
@@ -79,13 +79,15 @@ pub record HaltsAppending {K T : Type 0} (sink_model : SinkModel K) (records : L
       → (len : ℕ) → result ≡ Err (halt.RecordTooLong len)
       → HasPutBefore sink_model.holds groups snapshot [] records report new_report new_sink (halt.RecordTooLong len)
 
--- All of these records are appended in batches, and counted; after an error a prefix of them. A window is counted only with its last record.
+-- All of these records are appended in batches, and counted; after an error a prefix of them. A window is counted only with its last
+-- record.
 pub record PutsAll {K T : Type 0} (sink_model : SinkModel K) (records : List Record) (snapshot : Bool) (sink new_sink : K)
     (report new_report : Report) (result : Result T Halt) : Type 0 where
   pub put : (groups : List (List Record)) → sink_model.holds sink groups → OnOk result (sink_model.holds new_sink (groups ++ cut records))
   pub whole : OnOk result (HasLastsAtItsEnd records → new_report ≡ report_with snapshot records report)
   pub leaves : LeavesRecords sink_model records snapshot sink new_sink report new_report result
-  pub long : (place : ℕ) (item : Record) → slice_get records place ≡ Some item → group_limit < length (group_form (item ∷ [])) → IsErr result
+  pub long : (place : ℕ) (item : Record) → slice_get records place ≡ Some item → group_limit < length (group_form (item ∷ []))
+      → IsErr result
   pub before : (groups : List (List Record)) → sink_model.holds sink groups → HasLastsAtItsEnd records
       → (len : ℕ) → result ≡ Err (halt.RecordTooLong len)
       → HasPutBefore sink_model.holds groups snapshot [] records report new_report new_sink (halt.RecordTooLong len)

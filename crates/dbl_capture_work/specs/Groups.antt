@@ -17,8 +17,8 @@ use Rattle.dbl_capture_work.specs.declared.report.Report.{Report}
 abbrev pub AreShort : List Record → Type 0
 AreShort records = AllByRecursion (λ item. length (group_form (item ∷ [])) ≤ group_limit) records
 
--- A batch that was begun has the length of its encoding, at most 2^64 - 1, and the position of its last record. No other batch begins within
--- it.
+-- A batch that was begun has the length of its encoding, at most 2^64 - 1, and the position of its last record. No other batch begins
+-- within it.
 pub record IsGathered (gathered : Gathered) : Type 0 where
   pub before : List Record
   pub last : Record
@@ -32,8 +32,8 @@ abbrev pub records_in : Option Gathered → List Record
 records_in None = []
 records_in (Some gathered) = gathered.items.items
 
--- Whether these records were appended in batches, up to the batch that is gathered after them: the batches of both are those of the appended
--- ones, and that batch. Before the first batch is gathered nothing was appended.
+-- Whether these records were appended in batches, up to the batch that is gathered after them: the batches of both are those of the
+-- appended ones, and that batch. Before the first batch is gathered nothing was appended.
 abbrev pub IsBatched : List Record → List Record → Type 0
 IsBatched put [] = put ≡ []
 IsBatched put (item ∷ items) = cut (put ++ item ∷ items) ≡ cut put ++ (item ∷ items) ∷ []
@@ -84,8 +84,8 @@ ends_commit (first ∷ (second ∷ more)) = ends_commit (second ∷ more)
 pub record HasLastsAtItsEnd (records : List Record) : Type 0 where
   pub each : (place : ℕ) (item : Record) → slice_get records place ≡ Some item → item.last ≡ true → place + 1 ≡ length records
 
--- The sink contains the records `put` of a commit and, as the report counts, a prefix of the records after them, which is empty or not all of
--- these.
+-- The sink contains the records `put` of a commit and, as the report counts, a prefix of the records after them, which is empty or not all
+-- of these.
 pub record HoldsPut {K : Type 0} (holds : K → List (List Record) → Type 0) (groups : List (List Record)) (snapshot : Bool)
     (put records : List Record) (before after : Report) (sink : K) : Type 0 where
   pub count : ℕ
@@ -121,15 +121,10 @@ pub record CountsGroup {T : Type 0} (snapshot : Bool) (group : List Record) (rep
   pub noted : OnOk result (HasLastsAtItsEnd group → new_report ≡ report_with snapshot group report)
   pub unnoted : OnErr result (new_report ≡ report)
 
--- The gathered batch is appended, if there is one; otherwise as `PutsGroup`.
-abbrev pub PutsRest : {K T : Type 0} → SinkModel K → K → K → List Record → Result T Halt → Type 0
-PutsRest sink_model sink new_sink [] result = new_sink ≡ sink
-PutsRest sink_model sink new_sink (item ∷ items) result = PutsGroup sink_model sink new_sink (item ∷ items) result
-
 -- ---- records that are gathered
 
--- For private clauses: the batch to go on with and the records that come after it, of a batch that is gathered and the records after it; none
--- if there is no record at all.
+-- For private clauses: the batch to go on with and the records that come after it, of a batch that is gathered and the records after it;
+-- none if there is no record at all.
 abbrev pub BeginsBatch : List Record → List Record → Option Gathered → List Record → Type 0
 BeginsBatch before records None rest = (before ≡ []) × (records ≡ [])
 BeginsBatch before records (Some gathered) rest = IsGathered gathered × (gathered.items.items ++ rest ≡ before ++ records)

@@ -167,10 +167,12 @@ pub record GoesOnOpen {K : Type 0} (sink_model : SinkModel K) (ms : List Message
     (new_work : SessionState) (sink new_sink : K) (report new_report : Report) : Type 0 where
   pub more : List Record
   pub is : IsAmidWork ms start (put ++ more) new_work
-  pub held : (groups : List (List Record)) → sink_model.holds sink (groups ++ cut put) → sink_model.holds new_sink (groups ++ cut (put ++ more))
+  pub held : (groups : List (List Record)) → sink_model.holds sink (groups ++ cut put)
+      → sink_model.holds new_sink (groups ++ cut (put ++ more))
   pub counted : new_report ≡ report_with false more report
 
--- The sink gained a prefix of the open transaction's records, none of which has a value equal to the placeholder, and which isn't all of them.
+-- The sink gained a prefix of the open transaction's records, none of which has a value equal to the placeholder, and which isn't all of
+-- them.
 pub record LeftOpen (commit : Commit) (work : SessionState) (groups left : List (List Record)) : Type 0 where
   pub no_clash : clash_of work.follower.identity work.follower.infos commit ≡ None
   pub count : ℕ
@@ -182,8 +184,8 @@ pub record IsLongSoFar (records : List Record) (h : Halt) : Type 0 where
   pub long : IsLongRecord records h
   pub known : long.place + 2 < length records
 
--- The effect of a message that states changes: `commit` is the open transaction with them, as far as it is known, and `put` are those of its
--- records that were appended before.
+-- The effect of a message that states changes: `commit` is the open transaction with them, as far as it is known, and `put` are those of
+-- its records that were appended before.
 pub record DeliversOpen {K T : Type 0} (sink_model : SinkModel K) (commit : Commit) (ms : List Message) (start : Following)
     (put : List Record) (work new_work : SessionState) (sink new_sink : K) (report new_report : Report) (result : Result T Halt)
     : Type 0 where
@@ -202,7 +204,8 @@ pub record DeliversOpen {K T : Type 0} (sink_model : SinkModel K) (commit : Comm
       × IsLongSoFar (envelopes work.follower.identity work.follower.infos commit work.now_ms) h))))
   pub clash : clash_of work.follower.identity work.follower.infos commit ≢ None → IsErr result
   pub no_clash : result ≡ Err halt.Sink → clash_of work.follower.identity work.follower.infos commit ≡ None
-  pub long : (place : ℕ) (item : Record) → slice_get (envelopes work.follower.identity work.follower.infos commit work.now_ms) place ≡ Some item
+  pub long : (place : ℕ) (item : Record)
+      → slice_get (envelopes work.follower.identity work.follower.infos commit work.now_ms) place ≡ Some item
       → place + 2 < length (envelopes work.follower.identity work.follower.infos commit work.now_ms)
       → group_limit < length (group_form (item ∷ [])) → IsErr result
 
@@ -219,16 +222,16 @@ pub record DeliversCommit {K : Type 0} (sink_model : SinkModel K) (commit : Comm
   pub some : (groups : List (List Record)) → sink_model.holds sink groups → (left : List (List Record)) × sink_model.may_leave new_sink left
   -- After an error other than the sink's, the sink has exactly the prefix of the records that the report counts.
   pub kept : (groups : List (List Record)) → sink_model.holds sink (groups ++ cut put) → OnErr result (result ≢ Err halt.Sink
-      → HoldsPut sink_model.holds groups (is_some (mark_of commit)) put (drop (length put) (records_by work.follower commit work.now_ms)) report
-      new_report new_sink)
+      → HoldsPut sink_model.holds groups (is_some (mark_of commit)) put (drop (length put) (records_by work.follower commit work.now_ms))
+      report new_report new_sink)
   -- After the sink's own error the report counts a prefix, and at most the next batch is torn.
   pub torn : (groups : List (List Record)) → sink_model.holds sink (groups ++ cut put) → result ≡ Err halt.Sink
       → WasTorn sink_model.may_leave groups (is_some (mark_of commit)) put (drop (length put) (records_by work.follower commit work.now_ms))
       report new_report new_sink
   -- If a record is too long, those before it were appended, and are counted.
   pub before : (groups : List (List Record)) → sink_model.holds sink (groups ++ cut put) → (len : ℕ) → result ≡ Err (halt.RecordTooLong len)
-      → HasPutBefore sink_model.holds groups (is_some (mark_of commit)) put (drop (length put) (records_by work.follower commit work.now_ms))
-      report new_report new_sink (halt.RecordTooLong len)
+      → HasPutBefore sink_model.holds groups (is_some (mark_of commit)) put
+      (drop (length put) (records_by work.follower commit work.now_ms)) report new_report new_sink (halt.RecordTooLong len)
   pub stepped : OnOk result (WasStepped commit work new_work)
   pub closed : IfOk result (λ closed. closed ≡ closes work commit)
   pub noted : ReportsStep (is_some (mark_of commit)) (drop (length put) (records_by work.follower commit work.now_ms)) report new_report

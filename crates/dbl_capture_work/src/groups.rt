@@ -148,8 +148,8 @@ fn first_batch(
     }
 }
 
-// Goes on with a batch and the records after it, and appends each batch that is full. The last batch
-// stays gathered.
+// Goes on with a batch and the records after it, and appends each batch that is full. The last
+// batch stays gathered.
 fn append_from<K: Sink>(
     alloc: Global,
     sink: &mut K,

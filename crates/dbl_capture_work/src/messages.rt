@@ -105,8 +105,8 @@ fn follow_changes(work: &mut SessionState, changes: &Seq<Change>) -> Result<Vec<
     Ok(records)
 }
 
-/// Follows the changes that the newest message states. The records that are known not to be the last
-/// of the open transaction are appended in batches, the last of which stays gathered.
+/// Follows the changes that the newest message states. The records that are known not to be the
+/// last of the open transaction are appended in batches, the last of which stays gathered.
 pub fn deliver_changes<K: Sink>(
     work: &mut SessionState,
     changes: &Seq<Change>,

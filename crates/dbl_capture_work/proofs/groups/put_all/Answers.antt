@@ -1,12 +1,11 @@
-use Rattle.std.proofs.Common.{◌≡◌, ◌++◌, Some, sym, ap, subst, arith}
-use Rattle.std.specs.Prelude.{Err, None, Option}
+use Rattle.std.proofs.Common.{◌++◌, sym, subst, arith}
+use Rattle.std.specs.Prelude.{Option}
 use Rattle.std.proofs.lemmas.Result.{err_from_is_err_and}
 use Rattle.dbl_capture_work.specs.declared.groups.Gathered.{Gathered}
-use Rattle.dbl_capture_work.specs.declared.halt.Halt.{Halt}
 use Rattle.dbl_capture_work.specs.Groups.{AppendsMore, records_in}
 use Rattle.dbl_capture_work.proofs.Appending.{last_puts, none_puts, stopped_puts}
 use Rattle.dbl_capture_work.proofs.Batches.{own_handful}
-use Rattle.dbl_capture_work.proofs.Exits.{later_on, rose_after, same_error}
+use Rattle.dbl_capture_work.proofs.Exits.{later_on, rose_after}
 use Rattle.dbl_capture_work.proofs.groups.put_all.Goals as goal
 
 pub returns-in_err-append_records-clause-puts : goal.returns-in_err-append_records-clause-puts

@@ -1,4 +1,4 @@
-use Rattle.std.proofs.Common.{◌≡◌, ◌∙◌, false, List, ◌∷◌, ◌++◌, refl, sym, ap, subst, arith, rules, Option}
+use Rattle.std.proofs.Common.{◌≡◌, ◌∙◌, false, ◌∷◌, ◌++◌, refl, sym, ap, subst, arith, rules, Option}
 use Rattle.std.specs.Prelude.{Err, IfSome, OnOk}
 use Rattle.std.proofs.lemmas.Result.{err_from_is_err_and}
 use Rattle.dbl_model_commit.specs.Past.{begin_of}

@@ -1,6 +1,6 @@
 -- What the rows of a window and the newest message tell of a halt, as the stored offset has the tables.
 use Rattle.std.proofs.Common.{◌≡◌, ◌≢◌, ◌∙◌, ◌⊎◌, inl, inr, ◌+◌, ◌≤◌, ◌<◌, ℕ, ℤ, Bool, true, false, Option, Some, None, List, [], ◌∷◌, length, refl, sym, ap, ap₂, subst, arith}
-use Rattle.std.specs.Prelude.{if◌then◌else◌, not, flat_map, map, bytes_eq, slice_get, Result, Ok}
+use Rattle.std.specs.Prelude.{if◌then◌else◌, not, flat_map, map, bytes_eq, slice_get, Ok}
 use Rattle.std.specs.List.{position}
 use Rattle.std.proofs.lemmas.Slice.Eq.{bytes_eq-Decides}
 use Rattle.dbl_pgmsg.specs.declared.messages.Message.{Message}

@@ -29,12 +29,12 @@ use Rattle.dbl_capture_work.specs.declared.halt.Halt.TheVariants as halt
 use Rattle.dbl_capture_work.specs.declared.report.Ending.{Ending}
 use Rattle.dbl_capture_work.specs.declared.work.SessionState.{SessionState}
 use Rattle.dbl_capture_work.specs.Causes.{IsLongRecord}
-use Rattle.dbl_capture_work.specs.Takes.{IsClashIn, IsLongSoFar, IsTxnHalt, WasTaken}
+use Rattle.dbl_capture_work.specs.Takes.{IsClashIn, IsTxnHalt, WasTaken}
 use Rattle.dbl_capture_work.specs.Works.{AreShort, CouldBeSent, CouldBeSentSoFar, IsWork, open_commit}
 use Rattle.dbl_capture_work.proofs.FollowSnapshotSteps.{closing-None}
 use Rattle.dbl_capture_laws.specs.Halted.{EndsCommit, IsTxnFault}
 use Rattle.dbl_capture_laws.specs.Musts.{HaltsAtRecord, HaltsWith, MustHaltBy}
-use Rattle.dbl_capture_laws.specs.Underway.{IsNewestHalt, IsOfFirst, IsOpenNewestHalt, IsSentNewest, NewestMessagesHalt, TakenMessagesAskNothing}
+use Rattle.dbl_capture_laws.specs.Underway.{IsNewestHalt, IsOfFirst, IsSentNewest, NewestMessagesHalt, TakenMessagesAskNothing}
 use Rattle.dbl_capture_work.specs.ModelCommit.Pieces.{changes_so_far}
 use Rattle.dbl_capture_laws.proofs.OpenCommits.{AddsChanges, EndsChanges, IsShortSoFar, clash_so_far, clear_before, ends_open, goes_on, none_after, none_clash, none_known, records_so_far, short_before}
 use Rattle.dbl_capture_laws.proofs.Halting.{accepted_stored, identity_stored, infos_stored}

@@ -31,7 +31,6 @@ use Rattle.dbl_capture_work.specs.declared.work.SessionState.{SessionState}
 use Rattle.dbl_capture_work.specs.Works.{HasOpen, head_in, open_commit, rest_in}
 use Rattle.dbl_capture_work.specs.Groups.{records_in}
 use Rattle.dbl_capture_work.specs.Window.Plans.{Chunk}
-use Rattle.dbl_capture_work.specs.ModelHistory.declared.cursor.Cursor.{Cursor}
 use Rattle.dbl_capture_work.proofs.FollowAmidLemmas.{armed_within}
 use Rattle.dbl_capture_laws.specs.Sessions.{IsWorkOf}
 

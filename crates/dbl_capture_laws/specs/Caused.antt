@@ -1,5 +1,5 @@
 -- What a session's inner functions say of their errors.
-use Rattle.std.specs.Prelude.{◌≡◌, ℤ, Option, Some, Err, List}
+use Rattle.std.specs.Prelude.{◌≡◌, ℤ, Option, Some, Err}
 use Rattle.dbl_base.specs.declared.lsn.Lsn.{Lsn}
 use Rattle.dbl_model_table.specs.declared.config.Config.{Config}
 use Rattle.dbl_capture_work.specs.Source.Model.{SourceModel}

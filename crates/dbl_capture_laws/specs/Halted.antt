@@ -151,8 +151,8 @@ pub record HasClosedClash (config : Config) (report : Report) (offset : Offset) 
   pub closes : ClosesAt config report offset value closed
   pub clash : IsClashIn (snapshot_clash offset.identity offset.infos closed) h
 
--- A record of the open transaction is too long, and the record after it is known not to be the transaction's last one, as it wasn't before the
--- newest message. No value is equal to the placeholder.
+-- A record of the open transaction is too long, and the record after it is known not to be the transaction's last one, as it wasn't before
+-- the newest message. No value is equal to the placeholder.
 pub record HasOpenLong (now : ℤ) (offset : Offset) (reading : Reading) (h : Halt) : Type 0 where
   pub commit : Commit
   pub more : StatesMore offset.infos reading commit
@@ -161,8 +161,8 @@ pub record HasOpenLong (now : ℤ) (offset : Offset) (reading : Reading) (h : Ha
   pub known : long.place + 2 < length (envelopes offset.identity offset.infos commit now)
   pub before : length (envelopes offset.identity offset.infos (open_commit offset.infos more.earlier) now) ≤ long.place + 2
 
--- One of the records is too long, and no value is equal to the placeholder; of a commit's changes one of the last two records, as the others
--- were appended before its end.
+-- One of the records is too long, and no value is equal to the placeholder; of a commit's changes one of the last two records, as the
+-- others were appended before its end.
 abbrev pub IsLongOf : Config → ℤ → Report → Offset → Commit → Body → Halt → Type 0
 IsLongOf config now report offset commit (Changes changes) h =
     (clash_of offset.identity offset.infos commit ≡ None) × ((long : IsLongRecord (envelopes offset.identity offset.infos commit now) h)
@@ -181,7 +181,8 @@ pub record HasEndLong (config : Config) (now : ℤ) (report : Report) (offset : 
   pub ends : EndsCommit offset.infos reading commit
   pub long : IsLongOf config now report offset commit commit.body h
 
--- A record that is too long is appended once the record after it is known not to be its transaction's last one, or at the transaction's end.
+-- A record that is too long is appended once the record after it is known not to be its transaction's last one, or at the transaction's
+-- end.
 abbrev pub HasLong : Config → ℤ → Report → Offset → Reading → Halt → Type 0
 HasLong config now report offset reading h = HasOpenLong now offset reading h ⊎ HasEndLong config now report offset reading h
 

@@ -23,9 +23,9 @@ MessagesLeaveItReady = (after : Lsn) (ms : List Message) (bytes : List ℕ) (old
 
 -- A session that has followed changes of the open transaction is ready.
 abbrev pub PartsLeaveItReady : Type 0
-PartsLeaveItReady = (after : Lsn) (ms : List Message) (bytes : List ℕ) (old next new : SessionState) (ahead : HasOpen ms old) (put : List Record)
-    → IsWork after ms (rest_in ahead) → (w : WasTaken after ms bytes old next None) → IsAmidWork (w.message ∷ ms) ahead.start put new
-    → new ≡ record next { follower = new.follower; batch = new.batch } → HasReadyWork new
+PartsLeaveItReady = (after : Lsn) (ms : List Message) (bytes : List ℕ) (old next new : SessionState) (ahead : HasOpen ms old)
+    (put : List Record) → IsWork after ms (rest_in ahead) → (w : WasTaken after ms bytes old next None)
+    → IsAmidWork (w.message ∷ ms) ahead.start put new → new ≡ record next { follower = new.follower; batch = new.batch } → HasReadyWork new
 
 -- A session that has followed a commit is ready.
 abbrev pub CommitsLeaveItReady : Type 0

@@ -53,9 +53,9 @@ HaltsAtRecord records result = (h : Halt) × (result ≡ Err h) × ((h ≡ halt.
 
 -- ---- by the messages that were read
 
--- The session stops if the newest message is invalid; or if the changes that the messages, but perhaps the newest, state in a transaction have
--- a value equal to the placeholder, or else a record that is too long, once the record after it is known not to be the transaction's last
--- one, or at the transaction's end.
+-- The session stops if the newest message is invalid; or if the changes that the messages, but perhaps the newest, state in a transaction
+-- have a value equal to the placeholder, or else a record that is too long, once the record after it is known not to be the transaction's
+-- last one, or at the transaction's end.
 pub record MustHaltBy (now : ℤ) (offset : Offset) (reading : Reading) (result : Result Ending Halt) : Type 0 where
   pub txn : (number : ℕ) (error : TxnError) → IsTxnFault offset.infos reading number error → HaltsWith (halt.Txn number error) result
   pub clash : (commit : Commit) (changes : List Change) (c : Clash) → EndsCommit offset.infos reading commit → commit.body ≡ Changes changes

@@ -39,8 +39,8 @@ pub record EndsNext (stage : Stage) (m : Message) (commit : Commit) : Type 0 whe
   pub ends : ended_commit stage.first.infos m stage.messages ≡ Some commit
   pub right : ReadsOneMore stage m
 
--- The next message is valid and states changes, with which this is the open transaction so far; and the messages with it state the history's
--- commits.
+-- The next message is valid and states changes, with which this is the open transaction so far; and the messages with it state the
+-- history's commits.
 pub record StatesNext (stage : Stage) (m : Message) (changes : List Change) (so_far : Commit) : Type 0 where
   pub clean : transaction_fault stage.first.infos stage.first.lsn m stage.messages ≡ None
   pub states : stated stage.first.infos m stage.messages ≡ Ok changes

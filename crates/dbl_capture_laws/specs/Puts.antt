@@ -22,8 +22,8 @@ use Rattle.dbl_capture_laws.specs.Underway.{IsOfFirst}
 
 -- ---- the sink's contents
 
--- The sink has gained all records of the commits that were followed, in batches, and then the records `put` of the open transaction; and the
--- report counts them.
+-- The sink has gained all records of the commits that were followed, in batches, and then the records `put` of the open transaction; and
+-- the report counts them.
 pub record HasPut {K : Type 0} (holds : K → List (List Record) → Type 0) (groups : List (List Record)) (after : Lsn) (ms : List Message)
     (work : SessionState) (put : List Record) (report : Report) (sink : K) : Type 0 where
   pub records : List Record
@@ -79,7 +79,8 @@ OpensLeaveGains = (config : Config) (now : ℤ) (held : Option Offset) (first st
     (count : ℕ) (records : List Record) (groups left : List (List Record))
     → IsOfFirst config now held first stored work → IsWork first.lsn ms work → IsGained first.lsn ms work records
     → IsSome (begin_of ms) → clash_of work.offset.identity work.offset.infos (open_commit work.offset.infos ms) ≡ None
-    → left ≡ (groups ++ cut records) ++ cut (take count (envelopes work.offset.identity work.offset.infos (open_commit work.offset.infos ms) work.now_ms))
+    → left ≡ (groups ++ cut records)
+    ++ cut (take count (envelopes work.offset.identity work.offset.infos (open_commit work.offset.infos ms) work.now_ms))
     → Gains config now held (Some stored) groups left
 
 -- The sink's gain within a commit is a gain by the stored offset.

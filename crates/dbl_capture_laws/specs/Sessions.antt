@@ -39,9 +39,9 @@ pub record IsWorkOf (entry : SessionStart) (stage : Stage) (work : SessionState)
   pub since_is : work.since ≡ stage.since
   pub number_is : work.number ≡ stage.number
 
--- The invariant of a session: its stage agrees with the source's state, and with the contents of sink and store if these are known. Within a
--- transaction the stage is that of the session before the transaction, but for the messages read since; the sink has besides what was appended
--- of the transaction.
+-- The invariant of a session: its stage agrees with the source's state, and with the contents of sink and store if these are known. Within
+-- a transaction the stage is that of the session before the transaction, but for the messages read since; the sink has besides what was
+-- appended of the transaction.
 pub record InSession {S K D : Type 0} (tell : Bool) (source_model : SourceModel S) (sink_model : SinkModel K)
     (model : DiskModel D) (entry : SessionStart) (work : SessionState) (src : S) (sink : K) (store : StoreOn D) : Type 0 where
   pub stage : Stage

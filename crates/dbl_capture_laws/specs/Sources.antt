@@ -12,7 +12,8 @@ use Rattle.dbl_capture_work.specs.declared.work.SessionState.{SessionState}
 use Rattle.dbl_capture_work.specs.Works.{HasOpen, next_offset_of, rest_in}
 use Rattle.dbl_capture_laws.specs.Carried.{HasReadSinceStart, Beginning, HasHaltedStood, HasHaltedTold, IsReadUpTo, IsResting, StandsAt}
 
--- The invariant between two messages, also within a transaction: those read so far are in the source's trace, and in its state if that was known at first.
+-- The invariant between two messages, also within a transaction: those read so far are in the source's trace, and in its state if that was
+-- known at first.
 pub record IsUnderWay {S : Type 0} (source_model : SourceModel S) (at : Option SourceState) (found : Option Trace) (b : Beginning)
     (stored : Option Offset) (work : SessionState) (report : Report) (src : S) : Type 0 where
   pub messages : List Message

@@ -68,8 +68,8 @@ IsPartOf by earlier such (newest ∷ (other ∷ more)) part = ⊥
 -- ---- what is counted
 
 -- The counted commits are those that the messages state, except perhaps the newest: the sink has all records of the counted ones, and none
--- or a proper prefix of the newest, or of the open transaction. A newest commit without records may be counted or not, unless the stored offset is at it. Whether a
--- high watermark closed a window isn't said.
+-- or a proper prefix of the newest, or of the open transaction. A newest commit without records may be counted or not, unless the stored
+-- offset is at it. Whether a high watermark closed a window isn't said.
 pub record Tallies {K A : Type 0} (holds : K → List (List Record) → Type 0) (groups : List (List Record)) (sink : K) (by : Making)
     (after : Lsn) (stored : Lsn) (such : A → Message → Type 0) (read : List A) (commits : ℕ) (result : Result Ending Halt) : Type 0 where
   pub newest : List A

@@ -112,8 +112,8 @@ BytesHalt = (config : Config) (now : ℤ) (held : Option Offset) (first stored :
     → IsTakenBy (bytes ∷ []) old new → report.messages ≡ before.messages + 1 → IsMessageHalt report.messages bytes h
     → IsHalt config now held (Some stored) report new h
 
--- The newest message states changes with which the open transaction has a value equal to the placeholder, or else a record that is too long and
--- isn't one of its last two. Before it there was none.
+-- The newest message states changes with which the open transaction has a value equal to the placeholder, or else a record that is too long
+-- and isn't one of its last two. Before it there was none.
 pub record IsOpenNewestHalt (after : Lsn) (ms : List Message) (bytes : List ℕ) (work : SessionState) (h : Halt) : Type 0 where
   pub next : SessionState
   pub taken : WasTaken after ms bytes work next None
@@ -125,7 +125,8 @@ pub record IsOpenNewestHalt (after : Lsn) (ms : List Message) (bytes : List ℕ)
       ⊎ ((clash_of work.offset.identity work.offset.infos (open_commit work.offset.infos (taken.message ∷ ms)) ≡ None)
       × IsLongSoFar (envelopes work.offset.identity work.offset.infos (open_commit work.offset.infos (taken.message ∷ ms)) work.now_ms) h)
 
--- The newest message is invalid, or the changes that it states, or a record of its commit. `work` is the session before the open transaction.
+-- The newest message is invalid, or the changes that it states, or a record of its commit. `work` is the session before the open
+-- transaction.
 abbrev pub IsNewestHalt : ℕ → Lsn → List Message → List ℕ → SessionState → Halt → Type 0
 IsNewestHalt number after ms bytes work h =
     IsTxnHalt number after ms bytes work h

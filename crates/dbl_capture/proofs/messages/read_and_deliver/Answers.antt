@@ -1,9 +1,6 @@
 use Rattle.std.proofs.Common.{◌≡◌, ◌∙◌, ◌+◌, true, ◌++◌, ◌<◌, inl, length, ℕ, List, Some, None, Option, Err, refl, sym, ap, subst, arith, le_refl, rules, ◌∷◌, [], false, append_assoc}
-use Rattle.std.specs.Prelude.{IfSome, All, is_none}
+use Rattle.std.specs.Prelude.{is_none}
 use Rattle.std.proofs.lemmas.Result.{err_from_is_err_and}
-use Rattle.dbl_model_table.specs.declared.change.Commit.{Commit}
-use Rattle.dbl_model_table.specs.Rows.{changes_of}
-use Rattle.dbl_model_history.specs.FitsInfos.{FitsInfos}
 use Rattle.dbl_capture_work.specs.declared.work.SessionState.{SessionState}
 use Rattle.dbl_capture_work.specs.Takes.{HasTakenPiece}
 use Rattle.dbl_capture_laws.specs.Sessions.{state_at_stage}

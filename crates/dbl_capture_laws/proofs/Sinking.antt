@@ -116,7 +116,7 @@ module _ {S K : Type 0} (source_model : SourceModel S) (sink_model : SinkModel K
       by : (h ≡ halt.Memory) ⊎ ((h ≡ halt.Sink) ⊎ (IsClashIn (clash_by u.way.ahead.start commit) h ⊎ ((clash_by u.way.ahead.start commit ≡ None) × IsLongRecord (records_by u.way.ahead.start commit next.now_ms) h)))
           → HasHaltedPut source_model sink_model groups at b.config b.now b.held stored report src2 sink2 h
       by (inl memory) = other_halts (memory_other h memory)
-      by (inr (inl failed)) = puts_fail source_model sink_model groups at found b stored src src2 sink sink2 old next before report u bytes commit rest w many moment whole h leaves failed (torn failed) some
+      by (inr (inl failed)) = puts_fail source_model sink_model groups at found b stored src src2 sink sink2 old next before report u bytes commit rest w many moment whole h leaves failed (torn failed) some took same
       by (inr (inr (inl is))) = other_halts (clash_other (clash_by u.way.ahead.start commit) h is)
       by (inr (inr (inr long))) = other_halts (long_other (records_by u.way.ahead.start commit next.now_ms) h long.1)
 
@@ -146,7 +146,7 @@ module _ {S K : Type 0} (source_model : SourceModel S) (sink_model : SinkModel K
       → IsTakenBy (bytes ∷ []) (source_model.told src) (source_model.told src2) → ((s : SourceState) → source_model.stands src s → (m : Message) × Spells bytes m × HasState source_model.stands src2 (HasReadOneMore m s)) → ((s t : SourceState) → source_model.stands src2 s → source_model.stands src2 t → s ≡ t)
       → (h ≡ halt.Sink) ⊎ (h ≡ halt.Sink → ⊥) → HasHaltedPut source_model sink_model groups at b.config b.now b.held stored report src2 sink2 h
   change_puts leaves may kept torn counts cause one took same (inl failed) =
-      changes_fail source_model sink_model groups at found b stored src src2 sink sink2 old next before report u bytes w many moment inside h leaves failed (torn failed)
+      changes_fail source_model sink_model groups at found b stored src src2 sink sink2 old next before report u bytes w many moment inside h leaves failed (torn failed) took same
   change_puts leaves may kept torn counts cause one took same (inr other) =
       changes_halt source_model sink_model groups at found b stored src src2 sink sink2 old next before report u bytes w many moment inside h leaves may other (kept other)
       (cause_left report.messages b.first.lsn u.way.messages bytes (rest_in u.way.ahead) h cause) counts.messages counts.commits one took same

@@ -48,7 +48,7 @@ use Rattle.dbl_capture_laws.proofs.Taken.{taken_is}
 use Rattle.dbl_capture_laws.proofs.KindLemmas.{IsOfKind, kinds_by, kinds_taken}
 use Rattle.dbl_capture_laws.proofs.Ranged.{open_in_range, stated_commits_are_in_range}
 use Rattle.dbl_capture_laws.proofs.Gained.{counted_after, joined_snoc}
-use Rattle.dbl_capture_laws.proofs.Tallied.{beside_newest, between_stood, between_tallied, newest_stood, newest_told, LeftFront, left_front, open_part, open_part_so, part_so, same_cut, same_rest}
+use Rattle.dbl_capture_laws.proofs.Tallied.{beside_newest, between_stood, between_tallied, newest_passed, newest_stood, newest_told, LeftFront, left_front, open_part, open_part_so, part_so, same_cut, same_rest}
 use Rattle.dbl_capture_laws.proofs.Puts.{commits_gain, gains_begin, gains_stay, kinds_after, making_at, messages_gain_nothing, opens_leave_gains, own_kinds, rests_leave_gains, steps_leave_gains}
 
 -- a report of the same counts
@@ -82,6 +82,17 @@ torn_none put more xs group left same (inr some) =
     sym (cuts_join put) ∙ (ap joined groups ∙ (joined_snoc (cut (put ++ more)) torn ∙ ap (λ (l : List Record). l ++ torn) (cuts_join (put ++ more)))) in
     no_length more (length put) (length torn)
     (ap length items ∙ (length-append (put ++ more) torn ∙ ap (λ (n : ℕ). n + length torn) (length-append put more)))
+
+-- what is left after a batch that failed has all that was appended before the commit
+record HasBefore (groups before left : List (List Record)) : Type 0 where
+  pub more : List (List Record)
+  pub is : left ≡ groups ++ (before ++ more)
+
+has_before : (groups before put : List (List Record)) (group : List Record) (left : List (List Record)) → IsLeftByPut ((groups ++ before) ++ put) group left → HasBefore groups before left
+has_before groups before put group left (inl is) = record { more = put; is = is ∙ append_assoc groups before put }
+has_before groups before put group left (inr some) =
+    let torn : List (List Record) = take some.0 group ∷ [] in
+    record { more = put ++ torn; is = some.3 ∙ (append_assoc (groups ++ before) put torn ∙ append_assoc groups before (put ++ torn)) }
 
 kinds_dropped : (snapshot : Bool) (n : ℕ) (items : List Record) → AllByRecursion (IsOfKind snapshot) items → AllByRecursion (IsOfKind snapshot) (drop n items)
 kinds_dropped snapshot zero items kinds = kinds
@@ -322,6 +333,7 @@ module _ {S K : Type 0} (source_model : SourceModel S) (sink_model : SinkModel K
     counted = reported_so h sink report other (still_counted b stored src sink work before c only report one two three);
     tallied = λ same. between_tallied source_model sink_model groups at found b stored later work before report src src2 sink c (Err h) few messages commits kept none;
     tallied_stood = λ same. between_stood source_model sink_model groups at found b stored later work before report src src2 sink c (Err h) few messages commits kept reads;
+    passed = λ failed. absurd (other failed);
   }
 
   -- ---- at a message that isn't taken
@@ -336,6 +348,7 @@ module _ {S K : Type 0} (source_model : SourceModel S) (sink_model : SinkModel K
     counted = reported_so h sink report other (still_counted b stored src sink work before rests only report (ap (λ (r : Report). r.records) counted) (ap (λ (r : Report). r.chunks) counted) (ap (λ (r : Report). r.snapshot_rows) counted));
     tallied = λ x. newest_told source_model sink_model groups at found b stored work before report src src2 sink sink u bytes h few (ap (λ (r : Report). r.messages) counted) (ap (λ (r : Report). r.commits) counted) u.way.ahead.put part u.put.held one;
     tallied_stood = λ x. newest_stood source_model sink_model groups at found b stored work before report src src2 sink sink u bytes h few (ap (λ (r : Report). r.messages) counted) (ap (λ (r : Report). r.commits) counted) u.way.ahead.put part u.put.held took same;
+    passed = λ failed. absurd (other failed);
   }
     where
       rests : HasPutCommit source_model sink_model groups at found b stored work before src sink
@@ -385,6 +398,7 @@ module _ {S K : Type 0} (source_model : SourceModel S) (sink_model : SinkModel K
       counted = reported_so h sink2 report other (kept_counted kept kinds);
       tallied = λ x. newest_told source_model sink_model groups at found b stored old before report src src2 sink sink2 u bytes h few messages commits (u.way.ahead.put ++ take kept.count rest) part held one;
       tallied_stood = λ x. newest_stood source_model sink_model groups at found b stored old before report src src2 sink sink2 u bytes h few messages commits (u.way.ahead.put ++ take kept.count rest) part held took same;
+      passed = λ failed. absurd (other failed);
     }
       where
         held : sink_model.holds sink2 (groups ++ (cut u.put.records ++ cut (u.way.ahead.put ++ take kept.count rest)))
@@ -393,8 +407,9 @@ module _ {S K : Type 0} (source_model : SourceModel S) (sink_model : SinkModel K
     -- a put failed: some records of its group may be there
     pub more_fail : (t : WasTorn sink_model.may_leave had snapshot u.way.ahead.put rest counting report sink2) → AreOfKind t.count
         → ((left : List (List Record)) → sink_model.may_leave sink2 left → Gains b.config b.now b.held stored groups left) → h ≡ halt.Sink
+        → TookOne src src2 bytes → ((s t : SourceState) → source_model.stands src2 s → source_model.stands src2 t → s ≡ t)
         → HasHaltedPut source_model sink_model groups at b.config b.now b.held stored report src2 sink2 h
-    more_fail t kinds gained same = record {
+    more_fail t kinds gained same took one = record {
       grouped = gained;
       counted = reported_sink h sink2 report same (record {
         more = cut u.put.records ++ cut (u.way.ahead.put ++ take t.count rest);
@@ -404,6 +419,9 @@ module _ {S K : Type 0} (source_model : SourceModel S) (sink_model : SinkModel K
       });
       tallied = λ other. absurd (other same);
       tallied_stood = λ other. absurd (other same);
+      passed = λ failed first t was now there may.
+          let before_it = has_before groups (cut u.put.records) (cut (u.way.ahead.put ++ take t.count rest)) t.group there (t.left there may) in
+          newest_passed source_model sink_model groups at found b stored old before src src2 sink u bytes there before_it.more before_it.is took one first t was now;
     }
 
   -- ---- a commit
@@ -459,10 +477,11 @@ module _ {S K : Type 0} (source_model : SourceModel S) (sink_model : SinkModel K
     kinds_torn n group left (inr step) torn = kinds_listed n step.listed
 
     pub puts_fail : h ≡ halt.Sink → WasTorn sink_model.may_leave (groups ++ cut u.put.records) (is_some (mark_of commit)) u.way.ahead.put rest (record before { messages = before.messages + 1 }) report sink2
-        → (left : List (List Record)) × sink_model.may_leave sink2 left → HasHaltedPut source_model sink_model groups at b.config b.now b.held stored report src2 sink2 h
-    puts_fail same t left =
+        → (left : List (List Record)) × sink_model.may_leave sink2 left → TookOne src src2 bytes → ((s t : SourceState) → source_model.stands src2 s → source_model.stands src2 t → s ≡ t)
+        → HasHaltedPut source_model sink_model groups at b.config b.now b.held stored report src2 sink2 h
+    puts_fail same t left took one =
         more_fail b stored src src2 sink sink2 old next before report u bytes (is_some (mark_of commit)) rest h t
-        (kinds_torn t.count t.group left.0 (leaves left.0 left.1) (t.left left.0 left.1)) gained_left same
+        (kinds_torn t.count t.group left.0 (leaves left.0 left.1) (t.left left.0 left.1)) gained_left same took one
 
   -- ---- changes of the open transaction
 
@@ -547,5 +566,6 @@ module _ {S K : Type 0} (source_model : SourceModel S) (sink_model : SinkModel K
         opens_gained_left other few messages commits one took same
 
     pub changes_fail : h ≡ halt.Sink → WasTorn sink_model.may_leave (groups ++ cut u.put.records) false u.way.ahead.put after_put (record before { messages = before.messages + 1 }) report sink2
+        → TookOne src src2 bytes → ((s t : SourceState) → source_model.stands src2 s → source_model.stands src2 t → s ≡ t)
         → HasHaltedPut source_model sink_model groups at b.config b.now b.held stored report src2 sink2 h
-    changes_fail same t = more_fail b stored src src2 sink sink2 old next before report u bytes false after_put h t (front_kinds t.count) opens_gained_left same
+    changes_fail same t took one = more_fail b stored src src2 sink sink2 old next before report u bytes false after_put h t (front_kinds t.count) opens_gained_left same took one

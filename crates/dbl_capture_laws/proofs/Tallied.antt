@@ -36,7 +36,7 @@ use Rattle.dbl_capture_work.specs.Takes.{IsLeftByStep, LeftOpen, WasTaken}
 use Rattle.dbl_capture_work.specs.Works.{HasOpen, head_in, IsWork, next_offset_of, open_commit, rest_in}
 use Rattle.dbl_capture_laws.specs.Gained.{IsGained, Making, making_of}
 use Rattle.dbl_capture_laws.specs.Reported.{IsLeftOut}
-use Rattle.dbl_capture_laws.specs.Tallied.{IsLeftOutBy, IsOpenPart, IsPartOf, IsTallied, IsTalliedAfter, Tallies}
+use Rattle.dbl_capture_laws.specs.Tallied.{HasPassed, IsLeftOutBy, IsOpenPart, IsPartOf, IsTallied, IsTalliedAfter, SendsUpTo, Tallies}
 use Rattle.dbl_capture_laws.specs.Underway.{IsOfFirst}
 use Rattle.dbl_capture_laws.specs.Carried.{Beginning, IsReadUpTo, StandsAt}
 use Rattle.dbl_capture_laws.proofs.Reported.{has_stored, read_after, read_is, same_many, taken_more}
@@ -270,6 +270,42 @@ module _ {S K : Type 0} (source_model : SourceModel S) (sink_model : SinkModel K
       (one_more report.messages before.messages (length u.way.messages) messages u.way.is.is.many)
       (newest_tallied sink_model.holds groups sink2 (λ (m n : Message). m ≡ n) (Err h) b.first.lsn u.way.messages before_it u.put.records u.put.is u.way.messages (same_all u.way.messages) report.commits (commits ∙ u.way.is.is.followed) o.lsn upto read.0 part few
       (front_of (making_at before_it) u.way.messages bytes read.0 part read.1 part_is) held)) (inl refl)
+
+-- the sink has the commits before it, whatever it has of its own records
+module _ {S K : Type 0} (source_model : SourceModel S) (sink_model : SinkModel K) (groups : List (List Record)) (at : Option SourceState) (found : Option Trace) (b : Beginning)
+    (stored : Option Offset) (work : SessionState) (before : Report) (src src2 : S) (sink : K) (u : IsPutting source_model sink_model groups at found b stored work before src sink)
+    (bytes : List ℕ) (left more : List (List Record)) (left_is : left ≡ groups ++ (cut u.put.records ++ more)) where
+  sends_up_to : (m : Message) (o : Offset) → IsOfFirst b.config b.now b.held b.first o (rest_in u.way.ahead) → o.lsn.0 ≤ (last_lsn b.first.lsn u.way.messages).0
+      → SendsUpTo groups left (making_of o b.now b.config.chunk) b.first.lsn o.lsn (λ (x y : Message). x ≡ y) (m ∷ u.way.messages)
+  sends_up_to m o of upto =
+      subst (λ (by : Making). SendsUpTo groups left by b.first.lsn o.lsn (λ (x y : Message). x ≡ y) (m ∷ u.way.messages)) (making_stored b.config b.now b.held b.first o (rest_in u.way.ahead) of)
+      (record {
+        newest = m ∷ [];
+        earlier = u.way.messages;
+        parted = refl;
+        messages = u.way.messages;
+        spelled = same_all u.way.messages;
+        upto = upto;
+        records = u.put.records;
+        sent = u.put.is.sent;
+        more = more;
+        left_is = left_is;
+      })
+
+  pub newest_passed : ((s : SourceState) → source_model.stands src s → (m : Message) × Spells bytes m × HasState source_model.stands src2 (HasReadOneMore m s)) → ((s t : SourceState) → source_model.stands src2 s → source_model.stands src2 t → s ≡ t)
+      → (s t : SourceState) → at ≡ Some s → source_model.stands src2 t → HasPassed groups left b.config b.now b.held stored t
+  newest_passed took same s t first now =
+      let was = u.way.stood s first in
+      let read = took was.standing was.is in
+      at_stored b u.way.messages stored stored (rest_in u.way.ahead) before u.way.is.is (λ (x : Option Offset). HasPassed groups left b.config b.now b.held x t)
+      (λ o of upto. record {
+        stored = has_stored b.config b.held b.first o of.for_config of.of;
+        reading = record { after = b.first.lsn; messages = read.0 ∷ u.way.messages };
+        reading_is = subst (StandsAt b (read.0 ∷ u.way.messages)) (same read.2.standing t read.2.is now)
+            (took_on b u.way.messages read.0 was.standing read.2.standing was.holds read.2.holds);
+        begins_after = after_stored b.config b.now b.held b.first o (rest_in u.way.ahead) of;
+        passes = sends_up_to read.0 o of upto;
+      }) (inl refl)
 
 -- ---- in the middle of its commit, or of more of the open transaction
 

@@ -14,7 +14,7 @@ use Rattle.dbl_capture_work.specs.declared.report.Report.{Report}
 use Rattle.dbl_capture_work.specs.declared.work.SessionState.{SessionState}
 use Rattle.dbl_capture_work.specs.Works.{rest_in}
 use Rattle.dbl_capture_laws.specs.Gained.{Gains, ReportsGroups}
-use Rattle.dbl_capture_laws.specs.Tallied.{IsTallied, IsTalliedAfter}
+use Rattle.dbl_capture_laws.specs.Tallied.{HasPassed, IsTallied, IsTalliedAfter}
 use Rattle.dbl_capture_laws.specs.Carried.{Beginning}
 use Rattle.dbl_capture_laws.specs.Sources.{HasCommitted, IsUnderWay}
 use Rattle.dbl_capture_laws.specs.Puts.{HasPut}
@@ -34,7 +34,8 @@ pub record HasPutCommit {S K : Type 0} (source_model : SourceModel S) (sink_mode
   pub way : HasCommitted source_model at found b stored work report src
   pub put : HasPut sink_model.holds groups b.first.lsn way.messages (rest_in way.ahead) way.ahead.put report sink
 
--- The session stopped: what is left of the sink, and what the report counts of it, with the commits unless an append failed.
+-- The session stopped: what is left of the sink, and what the report counts of it, with the commits unless an append failed; then the sink
+-- has at least the commits that the stored offset passed.
 pub record HasHaltedPut {S K : Type 0} (source_model : SourceModel S) (sink_model : SinkModel K)
     (groups : List (List Record)) (at : Option SourceState) (config : Config) (now : ℤ) (held stored : Option Offset)
     (report : Report) (src : S) (sink : K) (h : Halt) : Type 0 where
@@ -43,3 +44,5 @@ pub record HasHaltedPut {S K : Type 0} (source_model : SourceModel S) (sink_mode
   pub tallied : (h ≡ halt.Sink → ⊥) → IsTallied sink_model.holds groups config now held stored report (source_model.told src) sink (Err h)
   pub tallied_stood : (h ≡ halt.Sink → ⊥) → (s t : SourceState) → at ≡ Some s → source_model.stands src t
       → IsTalliedAfter sink_model.holds groups config now held stored report t sink (Err h)
+  pub passed : h ≡ halt.Sink → (s t : SourceState) → at ≡ Some s → source_model.stands src t → (left : List (List Record))
+      → sink_model.may_leave sink left → HasPassed groups left config now held stored t

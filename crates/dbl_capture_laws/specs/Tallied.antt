@@ -118,3 +118,30 @@ abbrev pub IsTalliedAfter : {K : Type 0} → (K → List (List Record) → Type 
     → SourceState → K → Result Ending Halt → Type 0
 IsTalliedAfter holds groups config now old new report t sink result =
     HasPutNothing holds groups report sink ⊎ HasTallied holds groups config now old new report t sink result
+
+-- ---- what the stored offset passed
+
+-- The sink has all records of the commits that the messages up to some one state, among them all up to the stored offset, and perhaps
+-- others after them.
+pub record SendsUpTo {A : Type 0} (groups left : List (List Record)) (by : Making) (after stored : Lsn) (such : A → Message → Type 0)
+    (read : List A) : Type 0 where
+  pub newest : List A
+  pub earlier : List A
+  pub parted : read ≡ newest ++ earlier
+  pub messages : List Message
+  pub spelled : AllZip such earlier messages
+  pub upto : stored.0 ≤ (last_lsn after messages).0
+  pub records : List Record
+  pub sent : AreSent by after.0 (commits_of by.infos messages) records
+  pub more : List (List Record)
+  pub left_is : left ≡ groups ++ (cut records ++ more)
+
+-- All commits that the stored offset passed were delivered, by the source's state.
+pub record HasPassed (groups left : List (List Record)) (config : Config) (now : ℤ) (old new : Option Offset) (t : SourceState)
+    : Type 0 where
+  pub stored : HasStored config old new
+  pub reading : Reading
+  pub reading_is : t.reading ≡ Some reading
+  pub begins_after : BeginsAfter old new stored.offset.infos reading.after
+  pub passes : SendsUpTo groups left (making_of stored.offset now config.chunk) reading.after stored.offset.lsn (λ m n. m ≡ n)
+      reading.messages

@@ -29,7 +29,7 @@ use Rattle.dbl_capture_laws.specs.Nevers.{IsHonestHalt}
 use Rattle.dbl_capture_laws.specs.Owned.{IsLongBy}
 use Rattle.dbl_capture_laws.specs.Reported.{HasReadMessages, HasSettled, HasStoodAfter, IsFollowed, StoodAtLast}
 use Rattle.dbl_capture_laws.specs.Sessions.{AddsFewOrNoMarks, LeavesGoing}
-use Rattle.dbl_capture_laws.specs.Tallied.{IsTallied, IsTalliedAfter}
+use Rattle.dbl_capture_laws.specs.Tallied.{HasPassed, IsTallied, IsTalliedAfter}
 use Rattle.dbl_capture_laws.specs.Written.{AddsAtMost, EndsExactly, marks_more, AdvancesAtMost}
 
 -- Over a conforming source with the stored tables: stores that were found faithful are left faithful at every exit, and complete after
@@ -101,7 +101,7 @@ pub record CountsWithin {D : Type 0} (config : Config) (store new_store : StoreO
   pub position : new_report.position ≡ position_of store.offset new_store.offset
 
 -- What the report counts of the sink, and, unless an append failed, of the commits: those of which the sink has all records, by the
--- source's trace and by its state.
+-- source's trace and by its state. If an append failed, the sink has all records of the commits that the stored offset passed.
 pub record TalliesRecords {S K D : Type 0} (source_model : SourceModel S) (sink_model : SinkModel K) (config : Config) (now : ℤ)
     (src new_src : S) (sink new_sink : K) (store new_store : StoreOn D) (new_report : Report) (result : Result Ending Halt) : Type 0 where
   pub counted : (groups : List (List Record)) → sink_model.holds sink groups
@@ -111,6 +111,9 @@ pub record TalliesRecords {S K D : Type 0} (source_model : SourceModel S) (sink_
   pub tallied_stood : (groups : List (List Record)) → sink_model.holds sink groups → result ≢ Err halt.Sink → (s t : SourceState)
       → source_model.stands src s → source_model.stands new_src t
       → IsTalliedAfter sink_model.holds groups config now store.offset new_store.offset new_report t new_sink result
+  pub passed : (groups : List (List Record)) → sink_model.holds sink groups → result ≡ Err halt.Sink → (s t : SourceState)
+      → source_model.stands src s → source_model.stands new_src t → (left : List (List Record)) → sink_model.may_leave new_sink left
+      → HasPassed groups left config now store.offset new_store.offset t
 
 -- When the session ends normally.
 pub record EndsNormally {S D : Type 0} (source_model : SourceModel S) (config : Config) (new_src : S) (new_store : StoreOn D)

@@ -32,7 +32,7 @@ use Rattle.dbl_capture_work.specs.declared.halt.Halt.{Halt}
 use Rattle.dbl_capture_work.specs.declared.halt.Halt.TheVariants as halt
 use Rattle.dbl_capture_work.proofs.Exits.{none_taken}
 use Rattle.dbl_capture_laws.specs.Gained.{ReportsGroups}
-use Rattle.dbl_capture_laws.specs.Tallied.{IsTallied, IsTalliedAfter}
+use Rattle.dbl_capture_laws.specs.Tallied.{HasPassed, IsTallied, IsTalliedAfter}
 use Rattle.dbl_capture_laws.proofs.Tallied.{between_stood, between_tallied}
 use Rattle.dbl_capture_laws.specs.Sinks.{IsPutting}
 use Rattle.dbl_capture_laws.proofs.Sinks.{left_gains, rests_put, still_counted}
@@ -394,6 +394,7 @@ returns-in_err-work-clause-tallies g c = record {
       (reported_other g.K.Sink.holds g.K.Sink.may_leave groups _ c.args.sink.now c.open_session.new.report (λ is. c.open_session.ensures.stops.sink (c.in_err-work.was ∙ ap (λ (h : Halt). Err h) is)) (counts_nothing g.K.Sink.holds groups c.args.sink.now c.open_session.new.report held c.open_session.ensures.state.counts.0 c.open_session.ensures.state.counts.1 c.open_session.ensures.state.counts.2));
   tallied = λ groups held other. inl (c.open_session.ensures.state.uncounted.0, c.open_session.ensures.state.uncounted.1, held);
   tallied_stood = λ groups held other s t was now. inl (c.open_session.ensures.state.uncounted.0, c.open_session.ensures.state.uncounted.1, held);
+  passed = λ groups held failed. absurd (c.open_session.ensures.stops.sink (residual_is c.from_residual.result c.open_session.result _ _ c.in_err-work.was c.from_residual.ensures.1 failed));
 }
 
 pub returns-clause-gains : goal.returns-clause-gains
@@ -438,6 +439,14 @@ returns-clause-tallies g c = record {
       answer_as c.process_messages.result _ _ (λ r. (r ≡ Err halt.Sink → ⊥) → IsTalliedAfter g.K.Sink.holds groups c.args.config.now c.args.now_ms c.args.offsets.now.offset c.process_messages.new.store.offset c.process_messages.new.report t c.process_messages.new.sink r) on put
       (λ x e ok. between_stood g.S.Source g.K.Sink groups (Some s) (g.S.Source.told c.args.src.now) b c.process_messages.new.store.offset c.process_messages.new.store.offset c.process_messages.new.work c.process_messages.new.report c.process_messages.new.report c.process_messages.new.src c.process_messages.new.src c.process_messages.new.sink (rests_put g.S.Source g.K.Sink groups (Some s) (g.S.Source.told c.args.src.now) b c.process_messages.new.store.offset c.process_messages.new.work c.process_messages.new.report c.process_messages.new.src c.process_messages.new.sink x) (Ok e) refl refl refl (inl refl) (λ a z one two. ap (λ (y : SourceState). y.reading) (g.met.S.Source.one c.process_messages.new.src z a two one)) s t refl now)
       (λ h x ok. x.tallied_stood (λ is. ok (ap (λ (k : Halt). Err k) is)) s t refl now) other;
+  passed = λ groups held failed s t was now left may.
+      let way = c.in_ok-work.ensures.report.putting groups held (Some s) (at_some g.S.Source.stands c.args.src.now s was) (refl, refl, refl, refl, refl) in
+      let b = beginning_at c.args.config.now c.args.now_ms c.args.offsets.now.offset way.0 in
+      let u = subst (λ (n : ℤ). IsPutting g.S.Source g.K.Sink groups (Some s) (g.S.Source.told c.args.src.now) (beginning_at c.args.config.now n c.args.offsets.now.offset way.0) c.open_session.new.store.offset c.in_ok-work.work c.open_session.new.report c.open_session.new.src c.args.sink.now) (to_z-of_z c.ranges.now_ms) way.1 in
+      let on = c.process_messages.ensures.puts.putting groups (Some s) (g.S.Source.told c.args.src.now) b u in
+      let put = c.process_messages.ensures.puts.put groups (Some s) (g.S.Source.told c.args.src.now) b u in
+      answer_as c.process_messages.result _ _ (λ r. r ≡ Err halt.Sink → HasPassed groups left c.args.config.now c.args.now_ms c.args.offsets.now.offset c.process_messages.new.store.offset t) on put
+      (λ x e is. let wrong : Ok e ≡ Err halt.Sink = is in cc) (λ h x is. let same : h ≡ halt.Sink = cc in x.passed same s t refl now left may) failed;
 }
 
 pub returns-in_err-work-clause-own : goal.returns-in_err-work-clause-own

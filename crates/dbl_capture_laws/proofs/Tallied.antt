@@ -1,5 +1,5 @@
 -- Which commits a report counts where a session stops with an error or ends, by what the sink has gained.
-use Rattle.std.proofs.Common.{◌≡◌, ◌∙◌, ◌⊎◌, inl, inr, ◌+◌, ◌<◌, ◌≤◌, ℕ, ℤ, suc, false, Option, Some, None, List, [], ◌∷◌, ◌++◌, Result, Err, length, take, refl, sym, ap, subst, arith, append_assoc, append-nil, length-append, le_refl}
+use Rattle.std.proofs.Common.{◌≡◌, ◌∙◌, ◌⊎◌, inl, inr, ◌+◌, ◌-◌, ◌<◌, ◌≤◌, ℕ, ℤ, suc, false, Option, Some, None, List, [], ◌∷◌, ◌++◌, Result, Err, length, take, refl, sym, ap, subst, arith, append_assoc, append-nil, length-append, le_refl}
 use Rattle.std.specs.Prelude.{is_some, IsSome}
 use Rattle.std.specs.List.{AllZip}
 use Rattle.dbl_base.specs.declared.lsn.Lsn.{Lsn}
@@ -34,9 +34,10 @@ use Rattle.dbl_capture_work.specs.declared.work.SessionState.{SessionState}
 use Rattle.dbl_capture_work.specs.Groups.{HoldsPut, records_in}
 use Rattle.dbl_capture_work.specs.Takes.{IsLeftByStep, LeftOpen, WasTaken}
 use Rattle.dbl_capture_work.specs.Works.{HasOpen, head_in, IsWork, next_offset_of, open_commit, rest_in}
+use Rattle.dbl_capture_work.proofs.Delivering.{released_is}
 use Rattle.dbl_capture_laws.specs.Gained.{IsGained, Making, making_of}
 use Rattle.dbl_capture_laws.specs.Reported.{IsLeftOut}
-use Rattle.dbl_capture_laws.specs.Tallied.{HasPassed, IsLeftOutBy, IsOpenPart, IsPartOf, IsTallied, IsTalliedAfter, SendsUpTo, Tallies}
+use Rattle.dbl_capture_laws.specs.Tallied.{HasPassed, IsLeftOutBy, IsOpenPart, IsPartOf, IsReleasedPart, IsTallied, IsTalliedAfter, SendsUpTo, Tallies}
 use Rattle.dbl_capture_laws.specs.Underway.{IsOfFirst}
 use Rattle.dbl_capture_laws.specs.Carried.{Beginning, IsReadUpTo, StandsAt}
 use Rattle.dbl_capture_laws.proofs.Reported.{has_stored, read_after, read_is, same_many, taken_more}
@@ -57,7 +58,7 @@ module _ {K A : Type 0} (holds : K → List (List Record) → Type 0) (groups : 
     (after : Lsn) (ms : List Message) (work : SessionState) (records : List Record) (gained : IsGained after ms work records) (read : List A) (spelled : AllZip such read ms)
     (commits : ℕ) (followed : commits ≡ length (commits_of work.offset.infos ms)) (stored : Lsn) (upto : stored.0 ≤ (last_lsn after ms).0) where
   -- all of it is followed, and the part is of the open transaction
-  all_tallied : (part : List Record) → IsLeftOutBy result 0 → (part ≡ []) ⊎ IsOpenPart (making_at work) ms part → holds sink (groups ++ (cut records ++ cut part))
+  all_tallied : (part : List Record) → IsLeftOutBy result 0 → IsReleasedPart (making_at work) ms part → holds sink (groups ++ (cut records ++ cut part))
       → Tallies holds groups sink (making_at work) after stored such read commits result
   all_tallied part few part_is held = record {
     newest = [];
@@ -187,6 +188,27 @@ module _ (after : Lsn) (ms : List Message) (work : SessionState) (ahead : HasOpe
           ahead.is.amid.released_are in
           inr (one_held released.0 c cs some released.2)
 
+  -- what was released is all but the last record, by the follower's identity and tables, which are the offset's
+  abbrev AreAllReleased : Identity → List TableInfo → Type 0
+  AreAllReleased identity infos =
+      ahead.put ++ records_in work.batch
+      ≡ take (length (envelopes identity infos (open_commit work.offset.infos ms) work.now_ms) - 1) (envelopes identity infos (open_commit work.offset.infos ms) work.now_ms)
+
+  -- and what was appended is all batches but the one that is gathered
+  released_part : IsReleasedPart (making_at (rest_in ahead)) ms ahead.put
+  released_part = record {
+    clear = clear_so_far;
+    rest = records_in work.batch;
+    released = released_so;
+    batched = ahead.is.batched;
+  }
+    where
+      released_so : AreAllReleased work.offset.identity work.offset.infos
+      released_so =
+          subst (λ (i : Identity). AreAllReleased i work.offset.infos) is.identity
+          (subst (λ (l : List TableInfo). AreAllReleased ahead.start.identity l) is.infos
+          (released_is ahead.start work.follower (head_in (begin_of ms)) (changes_so_far work.offset.infos ms) work.now_ms (ahead.put ++ records_in work.batch) ahead.is.amid))
+
 -- the part as that beside a newest message
 pub beside_newest : {A : Type 0} (by : Making) (ms : List Message) (such : A → Message → Type 0) (newest : A) (part : List Record)
     → (part ≡ []) ⊎ IsOpenPart by ms part → IsPartOf by ms such (newest ∷ []) part
@@ -204,8 +226,8 @@ module _ {S K : Type 0} (source_model : SourceModel S) (sink_model : SinkModel K
   kept_here : (later ≡ stored) ⊎ (later ≡ Some (next_offset_of rest_here))
   kept_here = rest_kept c.way.messages stored later work c.way.ahead kept
 
-  part_here : (c.way.ahead.put ≡ []) ⊎ IsOpenPart (making_at rest_here) c.way.messages c.way.ahead.put
-  part_here = open_part b.first.lsn c.way.messages work c.way.ahead c.way.is.is
+  part_here : IsReleasedPart (making_at rest_here) c.way.messages c.way.ahead.put
+  part_here = released_part b.first.lsn c.way.messages work c.way.ahead c.way.is.is
 
   pub between_tallied : IsTakenBy [] (source_model.told src) (source_model.told src2) → IsTallied sink_model.holds groups b.config b.now b.held later report (source_model.told src2) sink result
   between_tallied none = at_stored b c.way.messages stored later rest_here before c.way.is (λ (x : Option Offset). IsTallied sink_model.holds groups b.config b.now b.held x report (source_model.told src2) sink result)

@@ -1,5 +1,5 @@
 -- The commits that a report counts: those of which the sink has all records.
-use Rattle.std.specs.Prelude.{◌≡◌, ◌⊎◌, ℕ, ℤ, ◌<◌, ◌≤◌, ◌++◌, take, Option, Some, None, IsSome, Result, Ok, Err, List, [], ◌∷◌, length}
+use Rattle.std.specs.Prelude.{◌≡◌, ◌⊎◌, ℕ, ℤ, ◌-◌, ◌<◌, ◌≤◌, ◌++◌, take, Option, Some, None, IsSome, Result, Ok, Err, List, [], ◌∷◌, length}
 use Rattle.std.specs.List.{AllZip}
 use Rattle.dbl_base.specs.declared.lsn.Lsn.{Lsn}
 use Rattle.dbl_pgmsg.specs.declared.messages.Message.{Message}
@@ -18,6 +18,7 @@ use Rattle.dbl_capture_work.specs.Offset.declared.offset.Offset.{Offset}
 use Rattle.dbl_capture_work.specs.declared.halt.Halt.{Halt}
 use Rattle.dbl_capture_work.specs.declared.report.Ending.{Ending}
 use Rattle.dbl_capture_work.specs.declared.report.Report.{Report}
+use Rattle.dbl_capture_work.specs.Groups.{IsBatched}
 use Rattle.dbl_capture_work.specs.Works.{open_commit}
 use Rattle.dbl_capture_laws.specs.Found.{HasStored}
 use Rattle.dbl_capture_laws.specs.Gained.{AreSent, IsSentFor, Making, making_of}
@@ -39,6 +40,16 @@ pub record IsOpenPart (by : Making) (messages : List Message) (part : List Recor
   pub few : count < length (envelopes by.identity by.infos (open_commit by.infos messages) by.now)
   pub part_is : part ≡ take count (envelopes by.identity by.infos (open_commit by.infos messages) by.now)
 
+-- The part is what was appended of the transaction that these messages leave open, none of whose records has a value equal to the
+-- placeholder: all batches but the newest, `rest`, of its records so far except the last one, which is held back.
+pub record IsReleasedPart (by : Making) (messages : List Message) (part : List Record) : Type 0 where
+  pub clear : clash_of by.identity by.infos (open_commit by.infos messages) ≡ None
+  pub rest : List Record
+  pub released : part ++ rest
+      ≡ take (length (envelopes by.identity by.infos (open_commit by.infos messages) by.now) - 1)
+      (envelopes by.identity by.infos (open_commit by.infos messages) by.now)
+  pub batched : IsBatched part rest
+
 -- The part is a proper prefix of the records of the transaction that the message leaves open after the earlier ones.
 pub record IsMorePart (by : Making) (earlier : List Message) (such : Message → Type 0) (part : List Record) : Type 0 where
   pub message : Message
@@ -57,10 +68,10 @@ pub record IsFirstPart (by : Making) (earlier : List Message) (such : Message �
   pub few : count < length records
   pub part_is : part ≡ take count records
 
--- The part that was appended beyond the counted commits: nothing, or a proper prefix of the records of the open transaction; or of those of
--- the commit that a newest message ends which isn't counted.
+-- The part that was appended beyond the counted commits. If no message is left out, the batches of the open transaction that were full;
+-- otherwise nothing, or a proper prefix of the records of the open transaction, or of the commit that the newest message ends.
 abbrev pub IsPartOf : {A : Type 0} → Making → List Message → (A → Message → Type 0) → List A → List Record → Type 0
-IsPartOf by earlier such [] part = (part ≡ []) ⊎ IsOpenPart by earlier part
+IsPartOf by earlier such [] part = IsReleasedPart by earlier part
 IsPartOf by earlier such (newest ∷ []) part =
     (part ≡ []) ⊎ (IsOpenPart by earlier part ⊎ (IsMorePart by earlier (such newest) part ⊎ IsFirstPart by earlier (such newest) part))
 IsPartOf by earlier such (newest ∷ (other ∷ more)) part = ⊥

@@ -6,6 +6,7 @@ use Rattle.dbl_journal.specs.declared.error.JournalError.{JournalError}
 use Rattle.dbl_journal.specs.declared.error.JournalError.TheVariants as journal
 use Rattle.dbl_journal.specs.Form.{IsJournal}
 use Rattle.dbl_journal.specs.Stored.{LeavesEntries, Lists, OnDisk}
+use Rattle.dbl_source_log.specs.declared.error.SourceError.{SourceError}
 use Rattle.dbl_source_log.specs.declared.error.SourceError.TheVariants as source
 use Rattle.dbl_demo_wal.specs.declared.entry.Entry.{Entry}
 use Rattle.dbl_demo_wal.specs.declared.entry.Entry.TheVariants.{Commits}
@@ -13,7 +14,7 @@ use Rattle.dbl_demo_wal.specs.Entries.{FitsWalEntry, EncodesEntry, entry_form}
 use Rattle.dbl_demo_wal.proofs.SizeLemmas.{few_in}
 use Rattle.dbl_demo_workload.specs.Steps.{FitAnEntry}
 use Rattle.std.proofs.Common.{true, false}
-use Rattle.std.specs.Prelude.{IsTrue}
+use Rattle.std.specs.Prelude.{IsTrue, Result, Err}
 use Rattle.dbl_journal.specs.Growth.{ExtendsJournal}
 use Rattle.dbl_demo.specs.Errors.{source_error}
 
@@ -27,6 +28,11 @@ was_failed journal.Memory is = cc
 
 pub not_failed : (e : JournalError) → source_error e ≡ source.Memory → e ≡ journal.Failed → ⊥
 not_failed e is failed = let wrong : source.Failed ≡ source.Memory = sym (ap source_error failed) ∙ is in cc
+
+-- an error that is no failure of the source's is none of the journal's
+pub failed_on : {A B : Type 0} (e : JournalError) (reported : SourceError) → reported ≡ source_error e → ◌≡◌ {A = Result A JournalError} (Err e) (Err journal.Failed)
+    → ◌≡◌ {A = Result B SourceError} (Err reported) (Err source.Failed)
+failed_on e reported is failed = let same : e ≡ journal.Failed = (let f = failed in cc) in ap (λ (x : SourceError). Err x) (is ∙ ap source_error same)
 
 -- ---- what it lists
 

@@ -1,6 +1,6 @@
 //! An entry that is built and appended to the journal.
 
-ghost use Rattle.std.specs.Prelude.{◌≡◌, ◌⊎◌, ◌+◌, ◌<◌, ◌≤◌, ◌++◌, ◌∷◌, [], ℕ, List, length};
+ghost use Rattle.std.specs.Prelude.{◌≡◌, ◌≢◌, ◌⊎◌, ◌+◌, ◌<◌, ◌≤◌, ◌++◌, ◌∷◌, [], ℕ, List, length};
 ghost use Rattle.std.specs.Prelude.{drop, slice_get, Some, Err, IsTrue, IfOk, OnErr, OnOk};
 ghost use Rattle.dbl_base.specs.Streams.{FailsOnlyIfCounted};
 ghost use Rattle.dbl_journal.specs.Growth.{ExtendsJournal};
@@ -43,7 +43,8 @@ pub(crate) fn append<D: Disk>(journal: &mut Journal<D>, entry: Vec<u8>) -> Resul
     ensures comes { ExtendsJournal D.Disk journal.old journal.new }
     ensures cause { FailsOnlyIfCounted (result ≡ Err SourceError.Failed)
         (D.faults journal.old.disk) (D.faults journal.new.disk) }
-    ensures steady { OnOk result (StaysKnown D.Disk journal.old.disk journal.new.disk) }
+    ensures steady { result ≢ Err SourceError.Failed
+        → StaysKnown D.Disk journal.old.disk journal.new.disk }
 {
     match journal.append_built(entry) {
         Ok(()) => Ok(()),
@@ -69,7 +70,8 @@ pub(crate) fn entry<D: Disk>(
         → D.may_leave journal.old.disk crashed }
     ensures cause { FailsOnlyIfCounted (result ≡ Err SourceError.Failed)
         (D.faults journal.old.disk) (D.faults journal.new.disk) }
-    ensures steady { OnOk result (StaysKnown D.Disk journal.old.disk journal.new.disk) }
+    ensures steady { result ≢ Err SourceError.Failed
+        → StaysKnown D.Disk journal.old.disk journal.new.disk }
 {
     match journal.entry(alloc, number) {
         Ok(bytes) => Ok(bytes),

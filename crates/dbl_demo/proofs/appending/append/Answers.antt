@@ -4,7 +4,7 @@ use Rattle.dbl_journal.specs.declared.error.JournalError.{JournalError}
 use Rattle.dbl_source_log.specs.declared.error.SourceError.TheVariants as source
 use Rattle.dbl_demo.specs.Errors.{source_error}
 use Rattle.dbl_demo_laws.proofs.KnownLemmas.{known_written}
-use Rattle.dbl_demo.proofs.AppendLemmas.{append_stays, lists_kept, not_failed, was_failed}
+use Rattle.dbl_demo.proofs.AppendLemmas.{append_stays, failed_on, lists_kept, not_failed, was_failed}
 use Rattle.dbl_demo.proofs.appending.append.Goals as goal
 
 pub returns-in-Err-clause-kept : goal.returns-in-Err-clause-kept
@@ -21,4 +21,7 @@ pub returns-in-Err-clause-cause : goal.returns-in-Err-clause-cause
 returns-in-Err-clause-cause g c = record { later = c.in-Err.ensures.puts.later; cause = λ is. let failed : source_error c.in-Err.error ≡ source.Failed = (let told = c.source_error.ensures in let t = is in cc) in c.in-Err.ensures.puts.cause (ap (λ (e : JournalError). Err e) (was_failed c.in-Err.error failed)) }
 
 pub returns-in-Ok-clause-steady : goal.returns-in-Ok-clause-steady
-returns-in-Ok-clause-steady g c = known_written g.D.Disk _ _ c.in-Ok.ensures.puts (λ failed. (let wrong = failed in cc))
+returns-in-Ok-clause-steady g c = λ not. known_written g.D.Disk _ _ c.in-Ok.ensures.puts (λ failed. (let wrong = failed in cc))
+
+pub returns-in-Err-clause-steady : goal.returns-in-Err-clause-steady
+returns-in-Err-clause-steady g c = λ not. known_written g.D.Disk _ _ c.in-Err.ensures.puts (λ failed. not (failed_on c.in-Err.error c.source_error.result c.source_error.ensures failed))

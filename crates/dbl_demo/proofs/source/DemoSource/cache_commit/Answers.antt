@@ -47,7 +47,7 @@ pub returns-then-is_some-clause-steady : goal.returns-then-is_some-clause-steady
 returns-then-is_some-clause-steady g c = known_self g.D.Disk c.args.self.now.journal.disk
 
 pub returns-in_default-clause-steady : goal.returns-in_default-clause-steady
-returns-in_default-clause-steady g c = known_from g.D.Disk c.self.view_is c.entry.new.journal.disk c.in_ok-bytes.ensures.steady
+returns-in_default-clause-steady g c = known_from g.D.Disk c.self.view_is c.entry.new.journal.disk (c.in_ok-bytes.ensures.steady (λ failed. (let wrong = failed in cc)))
 
 pub returns-clause-steady : goal.returns-clause-steady
-returns-clause-steady g c = known_from g.D.Disk c.self.view_is c.entry.new.journal.disk c.in_ok-bytes.ensures.steady
+returns-clause-steady g c = known_from g.D.Disk c.self.view_is c.entry.new.journal.disk (c.in_ok-bytes.ensures.steady (λ failed. (let wrong = failed in cc)))

@@ -83,4 +83,4 @@ returns-in_err-append-clause-cause g c =
     one_fails g.D.Disk c.self.view_is c.append.result _ c.in_err-append.field-0.0 _ c.in_err-append.was (p.1 ∙ ap Err p.2) c.append.ensures.cause
 
 pub returns-clause-steady : goal.returns-clause-steady
-returns-clause-steady g c = known_from g.D.Disk c.self.view_is c.append.new.journal.disk c.in_ok-append.ensures.steady
+returns-clause-steady g c = known_from g.D.Disk c.self.view_is c.append.new.journal.disk (c.in_ok-append.ensures.steady (λ failed. (let wrong = failed in cc)))

@@ -22,4 +22,4 @@ returns-clause-comes g c =
     comes_at g.D.Disk c.self.inside.journal c.args.self.now.journal c.append.new.journal (ap (λ (d : Demo _). d.journal) c.self.view_is) c.append.ensures.comes
 
 pub returns-clause-steady : goal.returns-clause-steady
-returns-clause-steady g c = known_from g.D.Disk c.self.view_is c.append.new.journal.disk c.in_ok-append.ensures.steady
+returns-clause-steady g c = known_from g.D.Disk c.self.view_is c.append.new.journal.disk (c.in_ok-append.ensures.steady (λ failed. (let wrong = failed in cc)))

@@ -1,17 +1,7 @@
 -- The errors of the source's parts, as the source's own.
-use Rattle.dbl_journal.specs.declared.error.JournalError.{JournalError}
 use Rattle.dbl_journal.specs.declared.error.JournalError.TheVariants as journal
-use Rattle.dbl_source_log.specs.declared.error.SourceError.{SourceError}
-use Rattle.dbl_source_log.specs.declared.error.SourceError.TheVariants as source
 use Rattle.dbl_demo_workload.specs.declared.error.DemoError.{DemoError}
 use Rattle.dbl_demo_workload.specs.declared.error.DemoError.TheVariants as demo
-
--- The error of appending an entry that isn't too long to an open journal.
-abbrev pub source_error : JournalError → SourceError
-source_error journal.Failed = source.Failed
-source_error (journal.NotAJournal at) = source.Memory
-source_error (journal.EntryTooLong len) = source.Memory
-source_error journal.Memory = source.Memory
 
 -- The errors of opening a source: a failed disk, no journal, a bad entry, or out of memory.
 abbrev pub IsOpenFault : DemoError → Type 0

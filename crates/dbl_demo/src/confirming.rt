@@ -11,8 +11,8 @@ ghost use Rattle.dbl_demo_laws.specs.Running.{StaysKnown};
 ghost use Rattle.dbl_disk.specs.Disks.{disk_limit};
 
 use crate::DemoSource;
-use crate::appending::append;
 use dbl_base::Lsn;
+use dbl_demo_journal::append;
 use dbl_demo_wal::confirm_entry;
 use dbl_disk::Disk;
 use dbl_source::SourceError;

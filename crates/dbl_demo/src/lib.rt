@@ -3,7 +3,6 @@
 #![tactic(auto)]
 
 mod answering;
-mod appending;
 mod calls;
 mod confirming;
 mod making;

@@ -17,8 +17,8 @@ ghost use Rattle.dbl_demo_laws.specs.Running.{StaysKnown};
 ghost use Rattle.dbl_disk.specs.Disks.{disk_limit};
 
 use crate::DemoSource;
-use crate::appending::entry;
 use dbl_base::Bytes;
+use dbl_demo_journal::entry;
 use dbl_demo_wal::{Entry, EntryError, decode};
 use dbl_disk::Disk;
 use dbl_source::{SourceError, next_step, remember};

@@ -19,8 +19,8 @@ ghost use Rattle.dbl_demo_workload.specs.Steps.{FitAnEntry, is_tick};
 ghost use Rattle.dbl_disk.specs.Disks.{disk_limit};
 
 use crate::DemoSource;
-use crate::appending::append;
 use dbl_base::Seq;
+use dbl_demo_journal::append;
 use dbl_demo_wal::commit_entry;
 use dbl_demo_workload::{is_tick, run_next};
 use dbl_disk::Disk;

@@ -2,10 +2,10 @@ use Rattle.std.proofs.Common.{◌≡◌, ap}
 use Rattle.std.specs.Prelude.{Err}
 use Rattle.dbl_journal.specs.declared.error.JournalError.{JournalError}
 use Rattle.dbl_source_log.specs.declared.error.SourceError.TheVariants as source
-use Rattle.dbl_demo.specs.Errors.{source_error}
+use Rattle.dbl_demo_journal.specs.Errors.{source_error}
 use Rattle.dbl_demo_laws.proofs.KnownLemmas.{known_written}
-use Rattle.dbl_demo.proofs.AppendLemmas.{append_stays, failed_on, lists_kept, not_failed, was_failed}
-use Rattle.dbl_demo.proofs.appending.append.Goals as goal
+use Rattle.dbl_demo_journal.proofs.JournalLemmas.{append_stays, failed_on, lists_kept, not_failed, was_failed}
+use Rattle.dbl_demo_journal.proofs.appending.append.Goals as goal
 
 pub returns-in-Err-clause-kept : goal.returns-in-Err-clause-kept
 returns-in-Err-clause-kept g c = λ forms lists is.

@@ -2,10 +2,10 @@ use Rattle.std.proofs.Common.{◌≡◌, ap}
 use Rattle.std.specs.Prelude.{Err}
 use Rattle.dbl_journal.specs.declared.error.JournalError.{JournalError}
 use Rattle.dbl_source_log.specs.declared.error.SourceError.TheVariants as source
-use Rattle.dbl_demo.specs.Errors.{source_error}
+use Rattle.dbl_demo_journal.specs.Errors.{source_error}
 use Rattle.dbl_demo_laws.proofs.KnownLemmas.{known_read}
-use Rattle.dbl_demo.proofs.AppendLemmas.{comes_by_read, failed_on, was_failed}
-use Rattle.dbl_demo.proofs.appending.entry.Goals as goal
+use Rattle.dbl_demo_journal.proofs.JournalLemmas.{comes_by_read, failed_on, was_failed}
+use Rattle.dbl_demo_journal.proofs.appending.entry.Goals as goal
 
 pub returns-in-Ok-clause-comes : goal.returns-in-Ok-clause-comes
 returns-in-Ok-clause-comes g c = let e = c.entry.ensures in comes_by_read g.D.Disk c.args.journal.now c.entry.new.self e.same e.seen e.lists

@@ -1,17 +1,17 @@
-//! An entry that is built and appended to the journal.
+//! An entry that is built and appended to the journal, or read from it.
 
 ghost use Rattle.std.specs.Prelude.{◌≡◌, ◌≢◌, ◌⊎◌, ◌+◌, ◌<◌, ◌≤◌, ◌++◌, ◌∷◌, [], ℕ, List, length};
 ghost use Rattle.std.specs.Prelude.{drop, slice_get, Some, Err, IsTrue, IfOk, OnErr, OnOk};
 ghost use Rattle.dbl_base.specs.Streams.{FailsOnlyIfCounted};
 ghost use Rattle.dbl_journal.specs.Growth.{ExtendsJournal};
 ghost use Rattle.dbl_journal.specs.Stored.{LeavesEntries, Lists, count_of};
-ghost use Rattle.dbl_demo.specs.Errors.{source_error};
+ghost use Rattle.dbl_demo_journal.specs.Errors.{source_error};
 ghost use Rattle.dbl_demo_laws.specs.Running.{StaysKnown};
 
 use dbl_base::Bytes;
 use dbl_disk::Disk;
 use dbl_journal::{Journal, JournalError};
-use dbl_source::SourceError;
+use dbl_source_log::SourceError;
 use std::alloc::Global;
 
 // The error of appending an entry that isn't too long to an open journal.
@@ -25,7 +25,7 @@ fn source_error(error: JournalError) -> SourceError
 }
 
 /// Appends the entry in a buffer that has room for its length in front.
-pub(crate) fn append<D: Disk>(journal: &mut Journal<D>, entry: Vec<u8>) -> Result<(), SourceError>
+pub fn append<D: Disk>(journal: &mut Journal<D>, entry: Vec<u8>) -> Result<(), SourceError>
     requires live { IsTrue journal.old.live }
     requires room { 4 ≤ length entry.items }
     ensures added { (forms : List (List ℕ)) → Lists D.Disk journal.old forms
@@ -53,7 +53,7 @@ pub(crate) fn append<D: Disk>(journal: &mut Journal<D>, entry: Vec<u8>) -> Resul
 }
 
 /// The contents of the entry with this number.
-pub(crate) fn entry<D: Disk>(
+pub fn entry<D: Disk>(
     journal: &mut Journal<D>,
     alloc: Global,
     number: u64,

@@ -43,11 +43,11 @@ begins_anew table old before v rows later altered unaltered =
     fold-append (course_after table) old before (v ∷ later)
     ∙ (ap (λ (o : Option (List RawRow)). course_from table (course_by table mid v o) later) altered ∙ goes_on table next later unaltered)
 
-infos_by : (table : ℕ) (c : Course) (v : Versioned) (o : Option (List RawRow)) → (course_by table c v o).infos ≡ v.infos
+pub infos_by : (table : ℕ) (c : Course) (v : Versioned) (o : Option (List RawRow)) → (course_by table c v o).infos ≡ v.infos
 infos_by table c v None = refl
 infos_by table c v (Some rows) = refl
 
-infos_from : (table : ℕ) (c : Course) (versions : List Versioned) → (course_from table c versions).infos ≡ infos_after c.infos versions
+pub infos_from : (table : ℕ) (c : Course) (versions : List Versioned) → (course_from table c versions).infos ≡ infos_after c.infos versions
 infos_from table c [] = refl
 infos_from table c (v ∷ versions) =
     infos_from table (course_after table c v) versions
@@ -58,13 +58,13 @@ has_infos infos versions start table = infos_from table (first_course infos star
 
 -- ---- rows of one table
 
-row_from-append : (infos : List TableInfo) (table : ℕ) (key : Key) (row : Option (List Val)) (cs ds : List Change)
+pub row_from-append : (infos : List TableInfo) (table : ℕ) (key : Key) (row : Option (List Val)) (cs ds : List Change)
     → row_from infos table key row (cs ++ ds) ≡ row_from infos table key (row_from infos table key row cs) ds
 row_from-append infos table key row [] ds = refl
 row_from-append infos table key row (c ∷ cs) ds = row_from-append infos table key (row_after (effect_of infos c table key) row) cs ds
 
 -- changes of other tables leave a row as it is
-silent_change : (infos : List TableInfo) (table : ℕ) (key : Key) (row : Option (List Val)) (c : Change) → table_of c ≢ table
+pub silent_change : (infos : List TableInfo) (table : ℕ) (key : Key) (row : Option (List Val)) (c : Change) → table_of c ≢ table
     → row_after (effect_of infos c table key) row ≡ row
 silent_change infos table key row c other = ap (λ (e : Effect). row_after e row) (effect_of-other_table infos c table key other)
 
@@ -75,10 +75,10 @@ silent_ticks infos table t key row (n ∷ ns) other =
     ap (λ (r : Option (List Val)). row_from infos table key r (map (λ m. Clear t) ns)) (silent_change infos table key row (Clear t) other)
     ∙ silent_ticks infos table t key row ns other
 
-not_same : (t u : ℕ) → (t == u) ≡ false → t ≢ u
+pub not_same : (t u : ℕ) → (t == u) ≡ false → t ≢ u
 not_same t u is same = let equal : (t == u) ≡ true = eq-eqb t u same in cc
 
-tick_row : (infos : List TableInfo) (table : ℕ) (key : Key) (row : Option (List Val)) (c : Change)
+pub tick_row : (infos : List TableInfo) (table : ℕ) (key : Key) (row : Option (List Val)) (c : Change)
     → row_from infos table key row (ticked infos table c) ≡ row_after (effect_of infos c table key) row
 tick_row infos table key row c = by (table_of c == table) refl
   where
@@ -103,7 +103,7 @@ tick_body v table key row (Changes changes) is = rw is (tick_rows v.infos table 
 tick_body v table key row (Mark value) is = rw is refl
 
 -- the row depends on the description of its own table only
-effect_same : (a b : List TableInfo) (table : ℕ) (key : Key) (c : Change) → slice_get a table ≡ slice_get b table
+pub effect_same : (a b : List TableInfo) (table : ℕ) (key : Key) (c : Change) → slice_get a table ≡ slice_get b table
     → effect_of a c table key ≡ effect_of b c table key
 effect_same a b table key c same = by (table_of c == table) refl
   where
@@ -129,7 +129,7 @@ effect_same a b table key c same = by (table_of c == table) refl
         of_own (Delete t from old) own = refl
         of_own (Clear t) own = refl
 
-row_same : (a b : List TableInfo) (table : ℕ) (key : Key) (row : Option (List Val)) (cs : List Change) → slice_get a table ≡ slice_get b table
+pub row_same : (a b : List TableInfo) (table : ℕ) (key : Key) (row : Option (List Val)) (cs : List Change) → slice_get a table ≡ slice_get b table
     → row_from a table key row cs ≡ row_from b table key row cs
 row_same a b table key row [] same = refl
 row_same a b table key row (c ∷ cs) same =
@@ -171,7 +171,7 @@ shows_anew table start v rows = record {
 shows_at : (table : ℕ) (c : Course) (a b : Rows) → Shows table c a → ((key : Key) → a table key ≡ b table key) → Shows table c b
 shows_at table c a b shows same = record { each = λ key. shows.each key ∙ same key }
 
-shows_next : (table : ℕ) (c : Course) (v : Versioned) (at : Rows) (o : Option Alteration) → v.altered ≡ o → Shows table c at
+pub shows_next : (table : ℕ) (c : Course) (v : Versioned) (at : Rows) (o : Option Alteration) → v.altered ≡ o → Shows table c at
     → FollowsInfos c.infos v o
     → Shows table (course_by table c v (alteration_of table o)) (altered_rows v.infos o (rows_from v.infos at (changes_of (plain_commit v))))
 shows_next table c v at None is shows follows = shows_more table c v at shows (ap (λ (l : List TableInfo). slice_get l table) follows)
@@ -202,7 +202,7 @@ shows_from table c (v ∷ versions) at shows follow =
     (shows_next table c v at v.altered refl shows follow.0)
     (subst (λ (l : List TableInfo). AreVersionsFrom l versions) (sym (infos_by table c v (alteration_of table v.altered))) follow.1)
 
-shows_none : (table : ℕ) (infos : List TableInfo) (start : ℕ) → Shows table (first_course infos start) no_rows
+pub shows_none : (table : ℕ) (infos : List TableInfo) (start : ℕ) → Shows table (first_course infos start) no_rows
 shows_none table infos start = record { each = λ key. refl }
 
 pub shows_rows : CoursesShowRows

@@ -2,3 +2,9 @@ pub mod SinceLemmas
 pub mod CourseLemmas
 pub mod AgeLemmas
 pub mod Example
+pub mod Kin
+pub mod FitLemmas
+pub mod Alone
+pub mod TickLemmas
+pub mod InfoMoves
+pub mod GrowthLemmas

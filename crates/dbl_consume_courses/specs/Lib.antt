@@ -3,4 +3,6 @@ pub mod Versions
 pub mod Courses
 pub mod Since
 pub mod AlteredTables
+pub mod FitVersions
+pub mod Growth
 pub mod Example

@@ -3,6 +3,8 @@
 
 mod age_laws;
 mod course_laws;
+mod fit_laws;
+mod growth_laws;
 mod since_laws;
 
 pub use age_laws::{
@@ -11,6 +13,11 @@ pub use age_laws::{
 };
 pub use course_laws::{
     altered_tables_stand, courses_begin_anew, courses_go_on, courses_have_infos, courses_show_rows,
+};
+pub use fit_laws::courses_are_fit;
+pub use growth_laws::{
+    commits_move_own_age, own_age_goes_back, own_age_stays_as_histories_grow,
+    parts_of_commits_keep_own_age, parts_of_snapshots_keep_own_age,
 };
 pub use since_laws::{
     early_records_end_all, late_logs_are_whole, late_records_are_appended, later_starts_keep_less,

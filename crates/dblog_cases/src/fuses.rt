@@ -1,11 +1,14 @@
 use crate::disks::Place;
 
-/// How many calls each disk passes before all others fail.
+/// How many calls each disk passes before all others fail, and the number of the read of the input
+/// and of the write to the output that fail, counted from 1.
 #[derive(Clone, Copy)]
 pub struct Fuses {
     pub wal: u64,
     pub topics: u64,
     pub offsets: u64,
+    pub read: u64,
+    pub write: u64,
 }
 
 impl Fuses {
@@ -15,6 +18,8 @@ impl Fuses {
             wal: u64::MAX,
             topics: u64::MAX,
             offsets: u64::MAX,
+            read: 0,
+            write: 0,
         }
     }
 

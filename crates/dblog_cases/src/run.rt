@@ -136,14 +136,6 @@ impl Run {
         Some(Reply::Nothing)
     }
 
-    /// The run makes the stores that it runs over, so that a second one of it would refuse them.
-    pub fn makes_stores(&self) -> bool {
-        match self.words.first() {
-            Some(word) => word.as_str() == "gen",
-            None => false,
-        }
-    }
-
     /// Writes what the program answers if the disks pass so many calls, and returns its status. It
     /// leaves the disks changed.
     pub fn tell<W: Write>(
@@ -168,9 +160,12 @@ impl Run {
         disks: &mut MemDisks,
         text: &mut Vec<u8>,
     ) -> Result<Status, AllocError> {
-        let input = self.input.clone()?;
-        let mut input = MemInput::make(input, self.failing_reads.clone()?);
-        let mut output = MemOutput::make(alloc, self.failing_writes.clone()?);
+        let mut reads = self.failing_reads.clone()?;
+        reads.push(fuses.read)?;
+        let mut writes = self.failing_writes.clone()?;
+        writes.push(fuses.write)?;
+        let mut input = MemInput::make(self.input.clone()?, reads);
+        let mut output = MemOutput::make(alloc, writes);
         let status = self.run_on(alloc, fuses, disks, &mut input, &mut output);
         text.extend_from_slice(output.bytes())?;
         Ok(status)

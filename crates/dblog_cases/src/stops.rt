@@ -3,10 +3,10 @@
 
 use crate::disks::{MemDisks, Place};
 use crate::run::Run;
-use crate::statuses;
+use crate::statuses::{self, Count};
 use dbl_disk::Choice;
 use dblog_run::Status;
-use std::alloc::Global;
+use std::alloc::{AllocError, Global};
 use std::io::{self, Write};
 
 // More calls than a case's session makes of a disk.
@@ -15,17 +15,26 @@ const CALLS: u64 = 10_000;
 // More runs than it takes to end the work.
 const RUNS: u64 = 10;
 
-// What the runs answered: the statuses of those that a fuse stopped or didn't, and what was applied
-// in the end, each once.
+// How many crashes each stopped run has.
+const CRASHES: u64 = 5;
+
+// What was applied in the end, and after how many crashes.
+#[derive(Drop)]
+struct Rows {
+    text: Vec<u8>,
+    crashes: u64,
+}
+
+// The statuses of the runs that a fuse stopped or didn't, and what was applied after each crash.
 #[derive(Drop)]
 struct Trace {
-    statuses: Vec<Status>,
-    rows: Vec<Vec<u8>>,
+    statuses: Vec<Count>,
+    rows: Vec<Rows>,
 }
 
 /// Makes the run with a fuse of no call, of one and so on, up to the one that stops nothing. After
-/// each, for each choice of what a crash leaves, the work is ended by further runs. Writes the
-/// statuses, and what `apply` then answers.
+/// each, for each choice of what a crash leaves, the work is ended by further runs. Writes how often
+/// each status came, and each answer of `apply` with the number of crashes after which it came.
 pub fn tell_stops<W: Write>(
     alloc: Global,
     run: &Run,
@@ -63,9 +72,9 @@ fn stop_each(
 
 fn tell<W: Write>(told: &Trace, writer: &mut W) -> io::Result<()> {
     statuses::tell(&told.statuses, writer)?;
-    writer.write_all(b"then\n")?;
-    for rows in &told.rows {
-        writer.write_all(rows.as_slice())?;
+    for Rows { text, crashes } in &told.rows {
+        writeln!(writer, "after {crashes} crashes")?;
+        writer.write_all(text.as_slice())?;
     }
     Ok(())
 }
@@ -101,62 +110,83 @@ fn stop_on(
     fuses.set(place, calls);
     let status = run.perform(alloc, fuses, left, &mut Vec::new(alloc))?;
     statuses::add(&mut told.statuses, status)?;
-    end_each(alloc, run, left, told)?;
+    end_each(alloc, left, &mut told.rows)?;
     Ok(status)
 }
 
-// Ends the work for each choice of what a crash leaves of the disks.
-fn end_each(alloc: Global, run: &Run, left: &MemDisks, told: &mut Trace) -> io::Result<()> {
-    for choice in [Choice::Old, Choice::New, Choice::Fill(1)] {
-        let mut disks = MemDisks::empty(alloc);
-        let ended = end_one(alloc, run, left, choice, &mut disks, told);
-        drop(disks);
-        ended?;
+// Ends the work for each choice of what a crash leaves of the disks. An open gate of a journal is
+// 1, and of 164 and 165 each selects another slot of an offset. Where all bytes are synced each
+// choice leaves these.
+fn end_each(alloc: Global, left: &MemDisks, rows: &mut Vec<Rows>) -> io::Result<()> {
+    if left.are_synced()? {
+        return end_one(alloc, left, Choice::New, CRASHES, rows);
+    }
+    for choice in [
+        Choice::Old,
+        Choice::New,
+        Choice::Fill(1),
+        Choice::Fill(164),
+        Choice::Fill(165),
+    ] {
+        end_one(alloc, left, choice, 1, rows)?;
     }
     Ok(())
 }
 
-// Ends the work on these disks, and adds what `apply` then answers.
+// Ends the work after so many crashes, and adds what `apply` then answers.
 fn end_one(
     alloc: Global,
-    run: &Run,
+    left: &MemDisks,
+    choice: Choice,
+    crashes: u64,
+    rows: &mut Vec<Rows>,
+) -> io::Result<()> {
+    let mut disks = MemDisks::empty(alloc);
+    let mut text = Vec::new(alloc);
+    let ended = end_on(alloc, left, choice, &mut disks, &mut text);
+    drop(disks);
+    ended?;
+    add(rows, text, crashes)?;
+    Ok(())
+}
+
+// Ends the work on these disks, and writes what `apply` then answers.
+fn end_on(
+    alloc: Global,
     left: &MemDisks,
     choice: Choice,
     disks: &mut MemDisks,
-    told: &mut Trace,
+    text: &mut Vec<u8>,
 ) -> io::Result<()> {
     disks.find(left, choice)?;
-    end_work(alloc, run, disks)?;
-    let mut rows = Vec::new(alloc);
-    perform(alloc, "apply", disks, &mut rows)?;
-    if !told.rows.contains(&rows) {
-        told.rows.push(rows)?;
-    }
-    Ok(())
-}
-
-// Resumes until a session was complete; where none has begun yet, the run is made again, or a
-// capture of the stores that it made.
-fn end_work(alloc: Global, run: &Run, disks: &mut MemDisks) -> io::Result<()> {
     for _ in 0..RUNS {
-        if go_on(alloc, run, disks)? == Status::Done {
+        if go_on(alloc, disks)? == Status::Done {
             break;
         }
     }
+    perform(alloc, "apply", disks, text)?;
     Ok(())
 }
 
-// The status of one run more.
-fn go_on(alloc: Global, run: &Run, disks: &mut MemDisks) -> io::Result<Status> {
-    let mut told = Vec::new(alloc);
-    let status = perform(alloc, "resume --every 1", disks, &mut told)?;
-    if status != Status::StartMismatch {
-        return Ok(status);
+fn add(rows: &mut Vec<Rows>, text: Vec<u8>, crashes: u64) -> Result<(), AllocError> {
+    for known in &mut *rows {
+        if known.text == text {
+            known.crashes = known.crashes.saturating_add(crashes);
+            return Ok(());
+        }
     }
-    if run.makes_stores() {
+    rows.push(Rows { text, crashes })?;
+    Ok(())
+}
+
+// The status of one run more, which resumes, or captures where no session has begun yet.
+fn go_on(alloc: Global, disks: &mut MemDisks) -> io::Result<Status> {
+    let mut told = Vec::new(alloc);
+    let status = perform(alloc, "resume", disks, &mut told)?;
+    if status == Status::StartMismatch {
         return perform(alloc, "capture", disks, &mut told);
     }
-    run.tell(alloc, run.fuses, disks, &mut told)
+    Ok(status)
 }
 
 // Adds what a run with these words answers, and returns its status.

@@ -11,25 +11,33 @@ use dblog_run::Status;
 use std::alloc::{AllocError, Global};
 use std::io::{self, Write};
 
-// How many runs there are.
+// More reads or writes than a case's run makes.
+const CALLS: u64 = 10_000;
+
+// How many runs there are at most.
 fn count(sweep: Sweep, disks: &MemDisks) -> u64 {
     match sweep {
-        Sweep::Cut { place } | Sweep::Byte { place } | Sweep::Bit { place } => {
-            disks.bytes(place).len() as u64
-        }
+        Sweep::Cut { place }
+        | Sweep::Byte { place }
+        | Sweep::Bit { place }
+        | Sweep::Fill { place, .. } => disks.bytes(place).len() as u64,
         Sweep::Fuse { place: _, most } => most.saturating_add(1),
+        Sweep::Read | Sweep::Write => CALLS,
         Sweep::Stop { .. } => 0,
     }
 }
 
-// Leaves only the first bytes of a disk, or turns the lowest bit of one.
+// Leaves only the first bytes of a disk, turns the lowest bit of one, or puts another in its place.
 fn change(bytes: &mut Vec<u8>, sweep: Sweep, number: u64) {
     if let Sweep::Cut { .. } = sweep {
         return bytes.truncate(number as usize);
     }
-    for (index, byte) in bytes.iter_mut().enumerate() {
+    for (index, old) in bytes.iter_mut().enumerate() {
         if index as u64 == number {
-            *byte ^= 1;
+            *old = match sweep {
+                Sweep::Fill { place: _, byte } => byte,
+                _ => *old ^ 1,
+            };
         }
     }
 }
@@ -44,27 +52,33 @@ fn find(
 ) -> Result<(), AllocError> {
     found.find(disks, Choice::New)?;
     match sweep {
-        Sweep::Cut { place } | Sweep::Byte { place } | Sweep::Bit { place } => {
+        Sweep::Cut { place }
+        | Sweep::Byte { place }
+        | Sweep::Bit { place }
+        | Sweep::Fill { place, .. } => {
             let mut bytes = disks.bytes(place).clone()?;
             change(&mut bytes, sweep, number);
             found.put(alloc, place, bytes.as_slice())
         }
-        Sweep::Fuse { .. } | Sweep::Stop { .. } => Ok(()),
+        Sweep::Fuse { .. } | Sweep::Stop { .. } | Sweep::Read | Sweep::Write => Ok(()),
     }
 }
 
-// How many calls of the run with this number they pass.
+// What fails in the run with this number.
 fn fuses_of(run: &Run, sweep: Sweep, number: u64) -> Fuses {
     let mut fuses = run.fuses;
-    if let Sweep::Fuse { place, most: _ } = sweep {
-        fuses.set(place, number);
+    match sweep {
+        Sweep::Fuse { place, most: _ } => fuses.set(place, number),
+        Sweep::Read => fuses.read = number.saturating_add(1),
+        Sweep::Write => fuses.write = number.saturating_add(1),
+        _ => {}
     }
     fuses
 }
 
-/// Makes the runs, each on the disks as they are, and writes what they answer: of turned bits the
-/// statuses, each once; of stopped sessions how they end; and else each answer that isn't that of
-/// the run before.
+/// Makes the runs, each on the disks as they are, and writes what they answer: of turned bits, other
+/// bytes, reads and writes how often each status came; of stopped sessions how they end; and else
+/// each answer that isn't that of the run before.
 pub fn tell_each<W: Write>(
     alloc: Global,
     run: &Run,
@@ -73,9 +87,20 @@ pub fn tell_each<W: Write>(
     writer: &mut W,
 ) -> io::Result<()> {
     match sweep {
-        Sweep::Bit { .. } => tell_statuses(alloc, run, disks, sweep, writer),
+        Sweep::Bit { .. } | Sweep::Fill { .. } | Sweep::Read | Sweep::Write => {
+            tell_statuses(alloc, run, disks, sweep, writer)
+        }
         Sweep::Stop { place } => tell_stops(alloc, run, disks, place, writer),
         _ => tell_answers(alloc, run, disks, sweep, writer),
+    }
+}
+
+// The read or the write that was to fail wasn't made.
+fn is_last(sweep: Sweep, status: Status) -> bool {
+    match sweep {
+        Sweep::Read => status != Status::StdinFailed,
+        Sweep::Write => status != Status::StdoutFailed,
+        _ => false,
     }
 }
 
@@ -91,6 +116,9 @@ fn tell_statuses<W: Write>(
         let mut told = Vec::new(alloc);
         let status = tell(alloc, run, disks, sweep, number, &mut told)?;
         statuses::add(&mut seen, status)?;
+        if is_last(sweep, status) {
+            break;
+        }
     }
     statuses::tell(&seen, writer)
 }

@@ -2,14 +2,16 @@
 
 use anyhow::{Result, bail};
 use cases_items::words;
-use dbl_pgmsg::{Message, decode, encode};
+use dbl_pgmsg::{Message, MsgError, decode, encode};
 use std::alloc::Global;
+use std::fmt::Write;
 
-/// Adds the message that bytes encode, or its bytes again.
+/// Adds the message that bytes encode, its bytes again, or how its prefixes are answered.
 pub fn show(alloc: Global, shown: &mut String, call: &str, arguments: &str) -> Result<()> {
     let bytes = bytes_of(alloc, call, arguments)?;
     match call {
         "again" => show_again(alloc, shown, &bytes),
+        "prefixes" => show_prefixes(alloc, shown, &bytes),
         _ => show_decoded(alloc, shown, &bytes),
     }
 }
@@ -45,6 +47,38 @@ fn show_again(alloc: Global, shown: &mut String, bytes: &[u8]) -> Result<()> {
     let end = show_written(alloc, shown, &message);
     drop(message);
     end
+}
+
+// How many proper prefixes of the bytes are truncated at their length, and what the bytes with a
+// zero more are.
+fn show_prefixes(alloc: Global, shown: &mut String, bytes: &[u8]) -> Result<()> {
+    let length = bytes.len();
+    let mut truncated: u64 = 0;
+    for count in 0..length {
+        if is_truncated(alloc, &bytes[..count]) {
+            truncated = truncated.saturating_add(1);
+        }
+    }
+    write!(
+        shown,
+        "{truncated} of {length} are truncated at their length; "
+    )?;
+    let mut longer = Vec::new(alloc);
+    longer.extend_from_slice(bytes)?;
+    longer.push(0)?;
+    show_decoded(alloc, shown, &longer)
+}
+
+// The bytes end too early, and the fault is reported at their length.
+fn is_truncated(alloc: Global, bytes: &[u8]) -> bool {
+    match decode(alloc, bytes) {
+        Err(MsgError::Truncated { at }) => at == bytes.len() as u64,
+        Err(_) => false,
+        Ok(message) => {
+            drop(message);
+            false
+        }
+    }
 }
 
 /// The bytes of a message, if it has an encoding.

@@ -419,9 +419,9 @@ module _ {S K : Type 0} (source_model : SourceModel S) (sink_model : SinkModel K
       });
       tallied = λ other. absurd (other same);
       tallied_stood = λ other. absurd (other same);
-      passed = λ failed first t was now there may.
+      passed = λ failed first last was now there may.
           let before_it = has_before groups (cut u.put.records) (cut (u.way.ahead.put ++ take t.count rest)) t.group there (t.left there may) in
-          newest_passed source_model sink_model groups at found b stored old before src src2 sink u bytes there before_it.more before_it.is took one first t was now;
+          newest_passed source_model sink_model groups at found b stored old before src src2 sink u bytes there before_it.more before_it.is took one first last was now;
     }
 
   -- ---- a commit

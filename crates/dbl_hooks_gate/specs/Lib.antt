@@ -1,0 +1,3 @@
+pub mod Rules
+pub mod Gates
+pub mod GateLaws

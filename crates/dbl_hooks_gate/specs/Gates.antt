@@ -1,5 +1,5 @@
 -- Sinks to which a gate appends only what its rule allows. A place is the position and the ordinal of a record.
-use Rattle.std.specs.Prelude.{◌≡◌, ◌≢◌, ◌&&◌, ◌+◌, ◌++◌, ℕ, Bool, true, false, is_none, IsTrue, Option, Some, None, List, [], ◌∷◌, Result, Err, OnOk, OnErr}
+use Rattle.std.specs.Prelude.{◌≡◌, ◌≢◌, ◌&&◌, ◌+◌, ◌-◌, ◌^◌, ◌++◌, ℕ, Bool, true, false, is_none, IsTrue, Option, Some, None, List, [], ◌∷◌, Result, Err, OnOk, OnErr}
 use Rattle.std.specs.List.{AllByRecursion}
 use Rattle.dbl_base.specs.Streams.{FailsOnlyIfCounted}
 use Rattle.dbl_record.specs.declared.record.Record.{Record}
@@ -8,11 +8,12 @@ use Rattle.dbl_topic.specs.Sinks.{IsLeftByPut}
 use Rattle.dbl_topic.specs.declared.error.SinkError.{SinkError}
 use Rattle.dbl_topic.specs.declared.error.SinkError.TheVariants.{Failed}
 use Rattle.dbl_hooks_gate.specs.declared.rule.Rule.{Rule}
-use Rattle.dbl_hooks_gate.specs.Rules.{AreAllowed, is_allowed}
+use Rattle.dbl_hooks_gate.specs.Rules.{AreAllowed, is_allowed, is_at_most}
 
 -- ---- refused records
 
--- The first record of the group that the rule doesn't allow is at this place, after the records `before`.
+-- The first record of the group that the rule doesn't allow is at this place, after the records `before`. Its value has fewer than 2^64
+-- bytes.
 pub record IsFirstRefused (rule : Rule) (group : List Record) (place : ℕ × ℕ) : Type 0 where
   pub before : List Record
   pub item : Record
@@ -20,6 +21,7 @@ pub record IsFirstRefused (rule : Rule) (group : List Record) (place : ℕ × �
   pub parted : group ≡ before ++ item ∷ after
   pub allowed : AreAllowed rule before
   pub refused : is_allowed rule item ≡ false
+  pub storable : is_at_most (2 ^ 64 - 1) item.value ≡ true
   pub place_is : place ≡ (item.position, item.ordinal)
 
 -- The groups with these records after them, as a group of their own if there are any.

@@ -1,5 +1,5 @@
-ghost use Rattle.std.specs.Prelude.{◌≡◌, ◌≢◌, ◌≤◌, ◌<◌, ◌++◌, ◌∷◌, [], ℕ, List, length, take, not};
-ghost use Rattle.std.specs.Prelude.{false, Some, None, IsTrue, IsErr, IfOk, OnOk, OnErr};
+ghost use Rattle.std.specs.Prelude.{◌≡◌, ◌≢◌, ◌≤◌, ◌<◌, ◌-◌, ◌^◌, ◌++◌, ◌∷◌, [], ℕ, List, length, take, not};
+ghost use Rattle.std.specs.Prelude.{true, false, Some, None, IsTrue, IsErr, IfOk, OnOk, OnErr};
 ghost use Rattle.std.specs.List.{position_from};
 ghost use Rattle.std.proofs.Props.{props};
 ghost use Rattle.dbl_base.specs.Streams.{FailsOnlyIfCounted};
@@ -7,7 +7,7 @@ ghost use Rattle.dbl_record.specs.declared.record.Record.{Record};
 ghost use Rattle.dbl_record.specs.Cuts.{IsHandful};
 ghost use Rattle.dbl_record.specs.Groups.{group_form};
 ghost use Rattle.dbl_topic.specs.Sinks.{IsLeftByPut, told_length, group_limit};
-ghost use Rattle.dbl_hooks_gate.specs.Rules.{is_allowed, AreAllowed};
+ghost use Rattle.dbl_hooks_gate.specs.Rules.{is_allowed, is_at_most, AreAllowed};
 ghost use Rattle.dbl_hooks_gate.specs.Gates.{Appends, ExtendsGated, HoldsUnrefused, Refuses};
 ghost use Rattle.dbl_hooks_gate.specs.Gates.{faults_with, is_open};
 
@@ -80,8 +80,24 @@ impl<K: Drop> Gate<K> {
         ensures { result ≡
             position_from (λ item. not (is_allowed self.now.rule item)) 0 group.now.items }
     {
-        group.iter().position(|item| !self.accepts(item))
+        group.iter().position(
+            |item| -> bool
+                ensures { result ≡ not (is_allowed self.entry.now.rule item.now) }
+            { !self.accepts(item) },
+        )
     }
+}
+
+// The position and the ordinal of a record. The length of its value has 64 bits.
+fn place_of(item: &Record) -> (u64, u64)
+    ensures place { result ≡ (item.now.position, item.now.ordinal) }
+    ensures storable { is_at_most (2 ^ 64 - 1) item.now.value ≡ true }
+{
+    let _length = match &item.value {
+        Some(value) => value.as_str().len(),
+        None => 0,
+    };
+    (item.position, item.ordinal)
 }
 
 // Copies the records of a group before this index.
@@ -136,9 +152,9 @@ impl<K: Sink + Drop> Sink for Gate<K> {
 
     ghost whole = { λ g groups held. K.whole g.sink groups held.0 };
 
-    ghost comes_self = { λ g. gate_self K.Sink K.only K.comes_self g.sink g.refused g.rule };
+    ghost comes_self = { λ g. gate_self _ K.only K.comes_self g.sink g.refused g.rule };
 
-    ghost comes_on = { λ a b c ab bc. gate_on K.Sink K.only K.comes_on a.sink a.refused a.rule
+    ghost comes_on = { λ a b c ab bc. gate_on _ K.only K.comes_on a.sink a.refused a.rule
         b.sink b.refused b.rule c.sink c.refused c.rule ab bc };
 
     fn put(&mut self, group: &Vec<Record>) -> Result<(), SinkError>
@@ -179,6 +195,8 @@ impl<K: Sink + Drop> Sink for Gate<K> {
         ensures refused { (place : ℕ × ℕ) → self.new.refused ≡ Some place →
             (result ≡ Err SinkError.Failed) ×
             Refuses K.Sink self.old.rule self.old.sink self.new.sink group.now.items place }
+        ensures bound { (most : ℕ) (place : ℕ × ℕ) → self.old.rule ≡ Rule.MaxValue most →
+            self.new.refused ≡ Some place → most < 2 ^ 64 - 1 }
         ensures failed { result ≡ Err SinkError.Failed → self.new.refused ≡ None →
             K.is_live self.new.sink ≡ false }
     {
@@ -186,8 +204,7 @@ impl<K: Sink + Drop> Sink for Gate<K> {
             None => self.sink.put(group),
             Some(index) => {
                 put_before(self.alloc, &mut self.sink, group, index)?;
-                let item = &group[index];
-                self.refused = Some((item.position, item.ordinal));
+                self.refused = Some(place_of(&group[index]));
                 Err(SinkError::Failed)
             }
         }

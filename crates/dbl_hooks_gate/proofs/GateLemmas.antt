@@ -1,5 +1,6 @@
 -- What an append through a gate keeps.
-use Rattle.std.proofs.Common.{◌≡◌, ◌∙◌, ℕ, zero, suc, Bool, true, false, Option, Some, None, List, [], ◌∷◌, ◌++◌, Ok, Err, Result, append-nil, take, length, get_or, ◌<◌, ◌-◌, ◌^◌, leb-false, leb-true, refl, sym, ap, subst, inl, inr, arith}
+use Rattle.std.proofs.Common.{◌≡◌, ◌∙◌, ℕ, zero, suc, Bool, true, false, Option, Some, None, List, [], ◌∷◌, ◌++◌, Ok, Err, Result}
+use Rattle.std.proofs.Common.{append-nil, take, length, get_or, ◌<◌, ◌-◌, ◌^◌, leb-false, leb-true, refl, sym, ap, subst, inl, inr, arith}
 use Rattle.std.specs.Prelude.{◌≢◌, ◌≤◌, ◌&&◌, is_none, IsTrue, OnOk, OnErr}
 use Rattle.dbl_base.specs.Streams.{FailsOnlyIfCounted}
 use Rattle.dbl_record.specs.declared.record.Record.{Record}

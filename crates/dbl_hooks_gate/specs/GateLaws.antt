@@ -1,5 +1,6 @@
 -- What the trait of sinks requires of a gate: it extends itself, and extension is transitive.
-use Rattle.std.proofs.Common.{◌≡◌, ◌∙◌, ℕ, Bool, true, false, Option, Some, None, List, [], ◌∷◌, ◌++◌, refl, sym, ap, subst, append_assoc, append-nil}
+use Rattle.std.proofs.Common.{◌≡◌, ◌∙◌, ℕ, Bool, true, false, Option, Some, None, List, []}
+use Rattle.std.proofs.Common.{◌∷◌, ◌++◌, refl, sym, ap, subst, append_assoc, append-nil}
 use Rattle.std.specs.Prelude.{◌&&◌, is_none}
 use Rattle.std.specs.List.{AllByRecursion}
 use Rattle.dbl_record.specs.declared.record.Record.{Record}
@@ -39,7 +40,8 @@ not_both false is other = cc
 
 -- ---- the properties
 
-module _ {K : Type 0} (model : SinkModel K) (only : (sink : K) (groups left : List (List Record)) → model.holds sink groups → model.may_leave sink left → left ≡ groups) where
+module _ {K : Type 0} (model : SinkModel K)
+    (only : (sink : K) (groups left : List (List Record)) → model.holds sink groups → model.may_leave sink left → left ≡ groups) where
   pub gate_self : (comes_self : (sink : K) → model.comes_of sink sink) (sink : K) (refused : Option (ℕ × ℕ)) (rule : Rule)
       → ExtendsGated model sink refused rule sink refused rule
   gate_self comes_self sink refused rule = record {
@@ -58,14 +60,16 @@ module _ {K : Type 0} (model : SinkModel K) (only : (sink : K) (groups left : Li
     by_rule : (groups left : List (List Record)) → AddsAllowed mb groups left → AddsAllowed ma groups left
     by_rule groups left adds = subst (λ (rule : Rule). AddsAllowed rule groups left) ab.same_rule adds
 
-    adds_through : (groups left : List (List Record)) → HoldsUnrefused model a ra groups → model.may_leave c left → (usable : Bool) → is_open model b rb ≡ usable
+    adds_through : (groups left : List (List Record)) → HoldsUnrefused model a ra groups → model.may_leave c left → (usable : Bool)
+        → is_open model b rb ≡ usable
         → AddsAllowed ma groups left
     adds_through groups left held may true is =
         let now = ab.opened groups held is in
         adds_more ma groups now.0 left now.2 (by_rule now.0 left (bc.adds now.0 left (now.1, unrefused (model.is_live b) rb is) may))
     adds_through groups left held may false is = ab.adds groups left held ((bc.closed is).1 left may)
 
-    opened_through : (groups : List (List Record)) → HoldsUnrefused model a ra groups → is_open model c rc ≡ true → (usable : Bool) → is_open model b rb ≡ usable
+    opened_through : (groups : List (List Record)) → HoldsUnrefused model a ra groups → is_open model c rc ≡ true → (usable : Bool)
+        → is_open model b rb ≡ usable
         → (now : List (List Record)) × model.holds c now × AddsAllowed ma groups now
     opened_through groups held shown true is =
         let now = ab.opened groups held is in
@@ -73,7 +77,8 @@ module _ {K : Type 0} (model : SinkModel K) (only : (sink : K) (groups left : Li
         (later.0, later.1, adds_more ma groups now.0 later.0 now.2 (by_rule now.0 later.0 later.2))
     opened_through groups held shown false is = not_both (is_open model c rc) shown ((bc.closed is).0)
 
-    first_through : (place : ℕ × ℕ) → ra ≡ None → rc ≡ Some place → (found : Option (ℕ × ℕ)) → rb ≡ found → (group : List Record) × IsFirstRefused ma group place
+    first_through : (place : ℕ × ℕ) → ra ≡ None → rc ≡ Some place → (found : Option (ℕ × ℕ)) → rb ≡ found
+        → (group : List Record) × IsFirstRefused ma group place
     first_through place none some None is =
         let group = bc.first place is some in
         (group.0, subst (λ (rule : Rule). IsFirstRefused rule group.0 place) ab.same_rule group.1)

@@ -1,5 +1,6 @@
 -- Sinks to which a gate appends only what its rule allows. A place is the position and the ordinal of a record.
-use Rattle.std.specs.Prelude.{◌≡◌, ◌≢◌, ◌&&◌, ◌+◌, ◌-◌, ◌^◌, ◌++◌, ℕ, Bool, true, false, is_none, IsTrue, Option, Some, None, List, [], ◌∷◌, Result, Err, OnOk, OnErr}
+use Rattle.std.specs.Prelude.{◌≡◌, ◌≢◌, ◌&&◌, ◌+◌, ◌-◌, ◌^◌, ◌++◌, ℕ, Bool, true, false, is_none}
+use Rattle.std.specs.Prelude.{IsTrue, Option, Some, None, List, [], ◌∷◌, Result, Err, OnOk, OnErr}
 use Rattle.std.specs.List.{AllByRecursion}
 use Rattle.dbl_base.specs.Streams.{FailsOnlyIfCounted}
 use Rattle.dbl_record.specs.declared.record.Record.{Record}
@@ -30,7 +31,8 @@ groups_with groups [] = groups
 groups_with groups (item ∷ items) = groups ++ (item ∷ items) ∷ []
 
 -- What an append of records leaves of a sink; nothing is appended if there are none.
-pub record Appends {K : Type 0} (model : SinkModel K) (sink new_sink : K) (items : List Record) (result : Result (Unit {0}) SinkError) : Type 0 where
+pub record Appends {K : Type 0} (model : SinkModel K) (sink new_sink : K) (items : List Record)
+    (result : Result (Unit {0}) SinkError) : Type 0 where
   pub added : (groups : List (List Record)) → model.holds sink groups → OnOk result (model.holds new_sink (groups_with groups items))
   pub kept : (groups : List (List Record)) → model.holds sink groups → OnErr result (result ≢ Err Failed → model.holds new_sink groups)
   pub left : (groups left : List (List Record)) → model.holds sink groups → model.may_leave new_sink left → IsLeftByPut groups items left
@@ -81,7 +83,8 @@ pub record ExtendsGated {K : Type 0} (model : SinkModel K) (sink : K) (refused :
   pub same_rule : new_rule ≡ rule
   pub stays : (place : ℕ × ℕ) → refused ≡ Some place → new_refused ≡ Some place
   pub closed : is_open model sink refused ≡ false
-      → (is_open model new_sink new_refused ≡ false) × ((left : List (List Record)) → model.may_leave new_sink left → model.may_leave sink left)
+      → (is_open model new_sink new_refused ≡ false)
+      × ((left : List (List Record)) → model.may_leave new_sink left → model.may_leave sink left)
   pub adds : (groups left : List (List Record)) → HoldsUnrefused model sink refused groups → model.may_leave new_sink left
       → AddsAllowed rule groups left
   pub opened : (groups : List (List Record)) → HoldsUnrefused model sink refused groups → is_open model new_sink new_refused ≡ true

@@ -1,5 +1,6 @@
-ghost use Rattle.std.specs.Prelude.{◌≡◌, ◌≢◌, ◌≤◌, ◌<◌, ◌-◌, ◌^◌, ◌++◌, ◌∷◌, [], ℕ, List, length, take, not};
-ghost use Rattle.std.specs.Prelude.{true, false, Some, None, IsTrue, IsErr, IfOk, OnOk, OnErr};
+ghost use Rattle.std.specs.Prelude.{◌≡◌, ◌≢◌, ◌≤◌, ◌<◌, ◌-◌, ◌^◌, ◌++◌, ◌∷◌, [], ℕ};
+ghost use Rattle.std.specs.Prelude.{List, length, take, not, true, false, Some};
+ghost use Rattle.std.specs.Prelude.{None, IsTrue, IsErr, IfOk, OnOk, OnErr};
 ghost use Rattle.std.specs.List.{position_from};
 ghost use Rattle.std.proofs.Props.{props};
 ghost use Rattle.dbl_base.specs.Streams.{FailsOnlyIfCounted};

@@ -59,12 +59,11 @@ returns-in_ok-put_before-in-Some-clause-refused g c =
     let rule = c.args.self.now.rule in
     let group = c.args.group.now.items in
     let at = found_at rule group c.in-Some.index (sym c.find_refused.ensures ∙ c.in-Some.is) in
-    λ place is.
-    (
+    λ place is. (
       refl,
       refuses_at g.K.Sink c.args.self.now.sink c.put_before.new.sink rule group c.in-Some.index c.put_before.result c.in_ok-put_before-in-Some.field-0
-      c.index.result.now at c.index.ensures c.place_of.ensures.storable c.put_before.ensures.appends c.in_ok-put_before-in-Some.was c.place_of.result
-      c.place_of.ensures.place place is,
+          c.index.result.now at c.index.ensures c.place_of.ensures.storable c.put_before.ensures.appends c.in_ok-put_before-in-Some.was c.place_of.result
+          c.place_of.ensures.place place is,
     )
 
 pub returns-in_ok-put_before-in-Some-clause-bound : goal.returns-in_ok-put_before-in-Some-clause-bound

@@ -144,8 +144,9 @@ abbrev pub standing_left : Contents → SourceState
 standing_left left = record { history = history_at left; confirmed = confirmed_at left; reading = None }
 
 -- The cause of a session's error over crash-consistent disks: no message or row is malformed, no log is dropped, and no watermark is
--- missing. A transaction is invalid only by its content; an invalid cell is in the source's history; a value equal to the placeholder, and
--- a record that is too long, belong to a commit of the history or to the rows of the window that it closes.
+-- missing. A transaction is invalid only by its content; an invalid cell would be one of a row in the source's history, which has none
+-- (theorem `no_cell_stops_sessions` of `dblog_laws`); a value equal to the placeholder, and a record that is too long, belong to a commit
+-- of the history or to the rows of the window that it closes.
 abbrev pub IsKeptHalt : Config → ℤ → Contents → Option Offset → Report → Contents → Halt → Type 0
 IsKeptHalt config now old stored report left (halt.Message number error) = ⊥
 IsKeptHalt config now old stored report left (halt.Chunk table row) = ⊥

@@ -111,6 +111,7 @@ pub record Guarantees (complete : Type 0) (old new : Contents) : Type 0 where
   pub tables : complete → LeavesTablesEqual old new
 
 -- The guarantees apply to these bytes of the three disks, which a crash may leave, relative to contents that were possible before the run.
+-- `IsLeft` also says that these bytes are crash-consistent contents, which only advance the old ones (Goes.antt).
 pub record GuaranteesAfterCrash (complete : Type 0) (asks : Contents → Option Config) (wals logs stores : List ℕ → Type 0)
     (w t f : List ℕ) : Type 0 where
   pub left : IsLeft asks wals logs stores w t f

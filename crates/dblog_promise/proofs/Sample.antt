@@ -1,5 +1,7 @@
 -- Three sessions, two of which stop.
-use Rattle.std.proofs.Common.{inr, ◌<◌, ◌^◌, ℕ, pos, [], ◌∷◌, Some, refl, arith, FitsSigned, w64}
+use Rattle.std.proofs.Common.{inr, ◌<◌, ◌^◌, ℕ, pos, List, [], ◌∷◌, Some, IsUtf8, refl, arith, codes, FitsSigned, w64}
+use Rattle.std.specs.List.{AllByRecursion}
+use Rattle.json.proofs.Printed.Utf8.{IsUtf8-are_ascii}
 use Rattle.jiff_core.proofs.SignedLemmas.{signed_arith, fits_between}
 use Rattle.dbl_base.specs.declared.lsn.Lsn.{Lsn}
 use Rattle.dbl_pgmsg.specs.declared.messages.Message.{Message}
@@ -7,9 +9,10 @@ use Rattle.dbl_pgmsg.specs.declared.messages.Message.TheVariants as says
 use Rattle.dbl_model_table.specs.declared.change.Body.TheVariants as body
 use Rattle.dbl_model_table.specs.declared.change.Commit.{Commit}
 use Rattle.dbl_model_history.specs.History.RawBody.{Changes, Mark}
+use Rattle.dbl_model_table.specs.declared.table.TableInfo.{TableInfo}
 use Rattle.dbl_model_history.specs.Fit.{IsFitHistory}
 use Rattle.dbl_model_history.specs.MarkTexts.{Low, mark_text}
-use Rattle.dbl_model_history.specs.Ranges.{IsRawCommitInRange}
+use Rattle.dbl_model_history.specs.Ranges.{IsEntryInRange, IsRawCommitInRange}
 use Rattle.dbl_model_history.proofs.MarkLemmas.{marks_short}
 use Rattle.dbl_source.specs.SourceModel.Standings.{CrashState}
 use Rattle.dbl_source.specs.SourceModel.Growth.{Grows}
@@ -21,7 +24,7 @@ use Rattle.dbl_capture_laws.specs.CaptureModel.Steps.{begun_at, following_of, Wa
 use Rattle.dblog_promise.specs.Runs.{IsAsked, BeginsSession, Run, begins, reads, follows, stores, confirms}
 use Rattle.dblog_promise.specs.Stops.{with_the_first_offset, at_the_source}
 use Rattle.dblog_promise.specs.Restarts.{FoundStores, restart_at, ByRules, After, nothing, others, session, IsUnused}
-use Rattle.dblog_promise.specs.Example.{example_config, example_raw_commit, one_commit, two_commits, marked, example_offset, example_first, example_last, ThreeSessionsStand}
+use Rattle.dblog_promise.specs.Example.{example_config, example_raw_commit, one_commit, two_commits, marked, example_entry, example_offset, example_first, example_last, example_table, ThreeSessionsStand}
 
 at_zero : FitsSigned w64 (pos 0)
 at_zero = fits_between w64 (pos 0) (omega (arith, signed_arith), omega (arith, signed_arith))
@@ -32,13 +35,23 @@ quiet lsn lt = record { lsn = lt; end_lsn = lt; time = at_zero; xid = omega arit
 mark : (lsn : ℕ) → lsn < 2 ^ 64 → IsRawCommitInRange (example_raw_commit lsn (Mark (mark_text 2 1 Low)))
 mark lsn lt = record { lsn = lt; end_lsn = lt; time = at_zero; xid = omega arith; body = (marks_short 2 1 Low (omega arith) (omega arith)).0 }
 
+entries : AllByRecursion IsEntryInRange (example_entry ∷ [])
+entries =
+    let text_k : IsUtf8 (codes "k") = IsUtf8-are_ascii (codes "k") refl in
+    let text_t : IsUtf8 (codes "t") = IsUtf8-are_ascii (codes "t") refl in
+    let text_public : IsUtf8 (codes "public") = IsUtf8-are_ascii (codes "public") refl in
+    (record { name = record { schema = text_public; name = text_t }; columns = (record { name = text_k; oid = omega arith }, tt); key = (text_k, tt); version = (omega arith, omega arith) }, tt)
+
+abbrev infos : List TableInfo
+infos = example_table ∷ []
+
 fit_one : IsFitHistory one_commit
-fit_one = record { ranges = record { tables = tt; commits = (quiet 1 (omega arith), tt) }; opening = tt; rising = (omega arith, tt); distinct = refl; known = (tt, tt); fit = λ infos are. tt }
+fit_one = record { ranges = record { tables = entries; commits = (quiet 1 (omega arith), tt) }; opening = (refl, tt); rising = (omega arith, tt); distinct = refl; known = (tt, tt); fit = λ infos are. tt }
 
 fit_two : IsFitHistory two_commits
 fit_two = record {
-  ranges = record { tables = tt; commits = (quiet 1 (omega arith), (quiet 2 (omega arith), tt)) };
-  opening = tt;
+  ranges = record { tables = entries; commits = (quiet 1 (omega arith), (quiet 2 (omega arith), tt)) };
+  opening = (refl, tt);
   rising = (omega arith, (omega arith, tt));
   distinct = refl;
   known = (tt, (tt, tt));
@@ -47,8 +60,8 @@ fit_two = record {
 
 fit_marked : IsFitHistory marked
 fit_marked = record {
-  ranges = record { tables = tt; commits = (quiet 1 (omega arith), (quiet 2 (omega arith), (mark 3 (omega arith), tt))) };
-  opening = tt;
+  ranges = record { tables = entries; commits = (quiet 1 (omega arith), (quiet 2 (omega arith), (mark 3 (omega arith), tt))) };
+  opening = (refl, tt);
   rising = (omega arith, (omega arith, (omega arith, tt)));
   distinct = refl;
   known = (tt, (tt, (tt, tt)));
@@ -70,9 +83,9 @@ begun = record {
   began = (
     record { identity = refl; tables = refl; start = inr (0, refl); not_before = (omega arith, tt); incarnation = refl },
     refl,
-    tt,
+    ((refl, refl), tt),
   );
-  described = record { distinct = refl; each = tt };
+  described = record { distinct = refl; each = (refl, tt) };
   incarnation_fits = omega arith;
 }
 
@@ -127,14 +140,14 @@ read_commit = record { lsn = record { 0 = 2 }; end_lsn = record { 0 = 2 }; time 
 abbrev after : Lsn
 after = record { 0 = 1 }
 
-begin_right : ReadsRight [] after (to_state [] after two_commits) (begin ∷ [])
+begin_right : ReadsRight infos after (to_state infos after two_commits) (begin ∷ [])
 begin_right = (
   λ accepted. tt,
   λ accepted. record { later = read_commit ∷ []; stated = refl; next = record { lsn = refl; time = refl; xid = refl; rest = []; stated = refl; mark = tt } },
   tt,
 )
 
-commit_right : ReadsRight [] after (to_state [] after two_commits) (commit ∷ (begin ∷ []))
+commit_right : ReadsRight infos after (to_state infos after two_commits) (commit ∷ (begin ∷ []))
 commit_right = (λ accepted. tt, λ accepted. record { later = []; stated = refl; next = tt }, begin_right)
 
 abbrev at_read : Stage

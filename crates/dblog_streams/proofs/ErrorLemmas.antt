@@ -1,5 +1,5 @@
 -- What a run's error says of the error that was translated to it.
-use Rattle.std.proofs.Common.{◌≡◌, ◌≢◌, ◌⊎◌, inl, inr, ℕ, ◌<◌, ◌≤◌, false, Some, Err, List, length, refl, sym, ap, subst, arith}
+use Rattle.std.proofs.Common.{◌≡◌, ◌≢◌, ◌∙◌, ◌⊎◌, inl, inr, ℕ, ◌<◌, ◌≤◌, false, Some, Result, Err, List, length, refl, sym, ap, subst, arith}
 use Rattle.dbl_base.specs.declared.input.InputError.{InputError}
 use Rattle.dbl_base.specs.declared.input.InputError.TheVariants.{Failed, TooLong, Memory}
 use Rattle.dbl_base.specs.Lines.{lines_of}
@@ -35,6 +35,12 @@ pub reading_failed : (error : InputError) (reason : RunError) → reason ≡ rea
 reading_failed Failed reason is failed = refl
 reading_failed TooLong reason is failed = cc
 reading_failed Memory reason is failed = cc
+
+-- a failure of reading is reported as one of the input
+pub reading_fails : {A B : Type 0} (error : InputError) (reason : RunError) → reason ≡ reading_error error
+    → ◌≡◌ {A = Result A InputError} (Err error) (Err Failed) → ◌≡◌ {A = Result B RunError} (Err reason) (Err run.InputFailed)
+reading_fails error reason is failed =
+    let same : error ≡ Failed = (let f = failed in cc) in ap (λ (r : RunError). Err r) (is ∙ ap reading_error same)
 
 -- an input within the limit isn't too long
 pub reading_within : (bytes : List ℕ) (error : InputError) (reason : RunError) → reason ≡ reading_error error → IsRight bytes error

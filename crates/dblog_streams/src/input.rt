@@ -24,6 +24,8 @@ pub(crate) fn read_input<I: Input>(alloc: Global, input: &mut I) -> Result<Bytes
         IfErr result (λ halt. (halt ≡ RunError.InputFailed) ⊎ (halt ≡ RunError.Memory)) }
     ensures failed { result ≡ Err RunError.InputFailed →
         FaultCounted (I.faults input.old) (I.faults input.new) }
+    ensures steady { (bytes : List ℕ) → I.left input.old ≡ Some bytes →
+        result ≢ Err RunError.InputFailed → I.faults input.new ≡ I.faults input.old }
     ensures kinds { IfErr result
         (λ halt. (halt ≡ RunError.InputFailed)
         ⊎ ((halt ≡ RunError.InputTooLong) ⊎ (halt ≡ RunError.Memory))) }
@@ -48,6 +50,8 @@ pub(crate) fn read_text<I: Input>(alloc: Global, input: &mut I) -> Result<LongTe
         IfErr result (HaltsApplying placeholder bytes) }
     ensures failed { result ≡ Err RunError.InputFailed →
         FaultCounted (I.faults input.old) (I.faults input.new) }
+    ensures steady { (bytes : List ℕ) → I.left input.old ≡ Some bytes →
+        result ≢ Err RunError.InputFailed → I.faults input.new ≡ I.faults input.old }
     ensures kinds { IfErr result
         (λ halt. (halt ≡ RunError.InputFailed)
         ⊎ ((halt ≡ RunError.InputTooLong) ⊎ (halt ≡ RunError.Memory))) }

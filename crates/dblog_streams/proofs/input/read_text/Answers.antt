@@ -1,5 +1,5 @@
 use Rattle.std.proofs.Common.{Err, ap}
-use Rattle.dblog_streams.proofs.ErrorLemmas.{reading_applies, reading_within, reading_failed, reading_kinds}
+use Rattle.dblog_streams.proofs.ErrorLemmas.{reading_applies, reading_within, reading_failed, reading_fails, reading_kinds}
 use Rattle.dblog_streams.proofs.input.read_text.Goals as goal
 
 pub returns-in-Err-clause-long : goal.returns-in-Err-clause-long
@@ -16,3 +16,10 @@ returns-in-Err-clause-failed g c = λ is.
 
 pub returns-in-Err-clause-kinds : goal.returns-in-Err-clause-kinds
 returns-in-Err-clause-kinds g c = reading_kinds c.in-Err.error _ c.reading_error.ensures
+
+pub returns-in-Ok-clause-steady : goal.returns-in-Ok-clause-steady
+returns-in-Ok-clause-steady g c = λ bytes told not. c.in-Ok.ensures.steady bytes told (λ failed. (let wrong = failed in cc))
+
+pub returns-in-Err-clause-steady : goal.returns-in-Err-clause-steady
+returns-in-Err-clause-steady g c = λ bytes told not.
+    c.in-Err.ensures.steady bytes told (λ failed. not (reading_fails c.in-Err.error c.reading_error.result c.reading_error.ensures failed))

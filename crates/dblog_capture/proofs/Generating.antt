@@ -20,7 +20,7 @@ use Rattle.dblog_connect.specs.Promise.Headline.{GuaranteesAfterCrash}
 use Rattle.dblog_connect.specs.Asked.{asks_in}
 use Rattle.dblog_connect.specs.Ends.{OnlyRead}
 use Rattle.dblog_capture.specs.Runs.{RunsConnected}
-use Rattle.dblog_capture.specs.InitErrors.{SaysInit}
+use Rattle.dblog_capture_text.specs.InitErrors.{SaysInit}
 use Rattle.dblog_capture.specs.Generated.{AnswersWorkload, HasMade, IsMadeShort, IsStoreShort, RunsGenerated, plainly}
 use Rattle.dblog_capture.proofs.Fresh.{fresh_promised, made_kept, promised_fresh}
 use Rattle.dblog_capture.proofs.Statuses.{stopped_failed, stopped_no_zero}

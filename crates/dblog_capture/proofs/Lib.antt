@@ -1,3 +1,4 @@
+pub use Rattle.dblog_capture_text.proofs.InitStatuses
 pub use Rattle.dblog_connect.proofs.WindowHonestLemmas
 pub use Rattle.dblog_connect.proofs.PromiseTakenLaws
 pub use Rattle.dblog_connect.proofs.PromiseKeptLaws
@@ -6,7 +7,6 @@ pub use Rattle.dblog_connect.proofs.CaptureModelEnding
 pub use Rattle.dblog_connect.proofs.CaptureLawsKeeping
 pub use Rattle.dblog_connect.proofs.CaptureLawsAwaited
 pub mod SessionLemmas
-pub mod InitStatuses
 pub mod Statuses
 pub mod Fresh
 pub mod Plain

@@ -12,22 +12,22 @@ use Rattle.dbl_capture_work.specs.declared.report.Ending.TheVariants.{Complete, 
 use Rattle.dblog_init.specs.declared.disks.Disks.{Disks}
 use Rattle.dblog_init.specs.declared.error.Store.{Store}
 use Rattle.dblog_init.specs.declared.error.Store.TheVariants.{Wal, Topics, Offsets}
-use Rattle.dblog_connect.specs.declared.error.ConnectError.{ConnectError}
-use Rattle.dblog_connect.specs.declared.error.ConnectError.TheVariants as connect
+use Rattle.dblog_connect_ends.specs.declared.error.ConnectError.{ConnectError}
+use Rattle.dblog_connect_ends.specs.declared.error.ConnectError.TheVariants as connect
 use Rattle.dblog_connect.specs.Ends.{CountsFaults, ConnectEnd, IsCompleteEnd, OnlyRead}
 use Rattle.dblog_connect.specs.Errors.{IsConnectError, IsOwnHalt, IsConnectRefusal}
 use Rattle.dbl_model_table.specs.declared.config.Config.{Config}
 use Rattle.dblog_connect.specs.Promise.Contents.{Contents}
 use Rattle.dblog_connect.specs.Promise.Goes.{Advances}
 use Rattle.dblog_connect.specs.Promise.Headline.{GuaranteesAfterCrash}
-use Rattle.dblog_capture.specs.Halts.{halt_status}
-use Rattle.dblog_capture.specs.Reports.{ending_status}
+use Rattle.dblog_capture_text.specs.Halts.{halt_status}
+use Rattle.dblog_capture_text.specs.Reports.{ending_status}
 use Rattle.dbl_lines.specs.declared.status.Status.{Status}
 use Rattle.dbl_lines.specs.declared.status.Status.TheVariants.{Done, BudgetSpent, StartMismatch, MalformedLog, Unsupported, SourceFailed, TopicsFailed}
 use Rattle.dbl_lines.specs.declared.status.Status.TheVariants.{OffsetsFailed, StdinFailed, StdoutFailed, OutOfMemory, InvalidStore, LogGone}
 use Rattle.dbl_lines.specs.Says.{IsCutShort}
 use Rattle.dblog_capture.specs.Runs.{WroteNothing}
-use Rattle.dblog_capture.specs.Ends.{IsNormalStatus, IsSessionStatus, SaysSession, connect_status, session_status, store_status}
+use Rattle.dblog_capture_text.specs.Ends.{IsNormalStatus, IsSessionStatus, SaysSession, connect_status, session_status, store_status}
 use Rattle.dbl_lines.proofs.SayLemmas.{cut_other}
 use Rattle.dbl_disk.specs.Model.{DiskModel}
 

@@ -9,10 +9,10 @@ use Rattle.dbl_lines.specs.declared.status.Status.TheVariants.{Done, StdinFailed
 use Rattle.dbl_lines.specs.declared.run_error.RunError.TheVariants.{Memory}
 use Rattle.dbl_lines.specs.Says.{IsCutShort, Says}
 use Rattle.dbl_lines.proofs.SayLemmas.{cut_other}
-use Rattle.dblog_capture.specs.Ends.{store_status}
+use Rattle.dblog_capture_text.specs.Ends.{store_status}
 use Rattle.dblog_capture.proofs.SessionLemmas.{session_no_input}
-use Rattle.dblog_capture.specs.InitErrors.{SaysInit, init_status}
-use Rattle.dblog_capture.proofs.InitStatuses.{failed_error, no_zero, said_status, store_whole}
+use Rattle.dblog_capture_text.specs.InitErrors.{SaysInit, init_status}
+use Rattle.dblog_capture_text.proofs.InitStatuses.{failed_error, no_zero, said_status, store_whole}
 use Rattle.dblog_capture.specs.Generated.{IsGeneratedStatus}
 
 cut_known : (status : Status) → IsCutShort status → IsGeneratedStatus status

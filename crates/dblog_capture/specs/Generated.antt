@@ -27,9 +27,9 @@ use Rattle.dblog_connect.specs.declared.asked.Asked.TheVariants.{First}
 use Rattle.dblog_connect.specs.Asked.{asks_in}
 use Rattle.dblog_connect.specs.Disks.{IsTrueAfterCrash}
 use Rattle.dblog_connect.specs.Ends.{OnlyRead}
-use Rattle.dblog_capture.specs.Ends.{IsNormalStatus, IsSessionStatus}
+use Rattle.dblog_capture_text.specs.Ends.{IsNormalStatus, IsSessionStatus}
 use Rattle.dblog_capture.specs.Runs.{RunsSessionOn}
-use Rattle.dblog_capture.specs.InitErrors.{SaysInit}
+use Rattle.dblog_capture_text.specs.InitErrors.{SaysInit}
 
 -- ---- the requested session
 

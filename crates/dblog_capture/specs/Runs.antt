@@ -15,7 +15,7 @@ use Rattle.dblog_connect.specs.Disks.{AreKeptDisks, IsTrueAfterCrash}
 use Rattle.dblog_connect.specs.Ends.{AddsFew, ConnectEnd, EndsBefore, GainsRecords, HasBegun}
 use Rattle.dblog_connect.specs.Ends.{HasRun, IsKeptError, IsReported, IsSpent, IsWrongSource}
 use Rattle.dblog_connect.specs.Errors.{IsConnectError, IsConnectRefusal}
-use Rattle.dblog_capture.specs.Ends.{IsNormalStatus, SaysSession}
+use Rattle.dblog_capture_text.specs.Ends.{IsNormalStatus, SaysSession}
 
 -- The answer for disks with these contents, by what a crash might leave before the run and may leave after it.
 pub record AnswersCapture (asked : Asked) (now : ℤ) (wals logs new_wals new_logs new_stores : List ℕ → Type 0) (w t f : List ℕ)

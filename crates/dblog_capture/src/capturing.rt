@@ -4,14 +4,13 @@ ghost use Rattle.dbl_base.specs.Streams.{FaultCounted};
 ghost use Rattle.dbl_gen.specs.Workload.{workload};
 ghost use Rattle.dblog_capture.specs.Generated.{IsGeneratedStatus, RunsGenerated, plain_capture};
 
-use crate::init_errors::say_init;
 use crate::sessions::run_session;
-use crate::workload_text::WorkloadText;
 use dbl_base::{Output, Seq, Text};
 use dbl_cli::CaptureOptions;
 use dbl_disk::Disk;
 use dbl_gen::script;
 use dbl_lines::{RunError, Status, say};
+use dblog_capture_text::{WorkloadText, say_init};
 use dblog_connect::Asked;
 use dblog_init::{Disks, Outcome, init};
 use std::alloc::{AllocError, Global};

@@ -51,12 +51,12 @@ use Rattle.dblog_promise.proofs.KeptLaws.{disks_are_read_once}
 use Rattle.dblog_promise.proofs.ReportLaws.{settled_reports_are_right}
 use Rattle.dblog_promise.proofs.WholeLaws.{all_is_read}
 use Rattle.dblog_connect.specs.declared.asked.Asked.{Asked}
-use Rattle.dblog_connect.specs.declared.error.ConnectError.{ConnectError}
-use Rattle.dblog_connect.specs.declared.error.ConnectError.TheVariants as error
-use Rattle.dblog_connect.specs.declared.error.ConnectError.TheVariants.{Halted}
+use Rattle.dblog_connect_ends.specs.declared.error.ConnectError.{ConnectError}
+use Rattle.dblog_connect_ends.specs.declared.error.ConnectError.TheVariants as error
+use Rattle.dblog_connect_ends.specs.declared.error.ConnectError.TheVariants.{Halted}
 use Rattle.dblog_connect.specs.Asked.{asks_in}
 use Rattle.dblog_connect.specs.Ends.{AddsFew, AreGained, EndsBefore, GainsRecords, HasBegun, HasClosedSent, EndsWithHalt, HasReadClean, HasRun, IsKeptError, IsReported, IsStoredLast, IsUngained}
-use Rattle.dblog_connect.specs.Errors.{IsExternalConnectError, IsOwnHalt, halt_error}
+use Rattle.dblog_connect_ends.specs.Errors.{IsExternalConnectError, IsOwnHalt, halt_error}
 use Rattle.dblog_connect.specs.Followed.{AreFollowed, AreTallied, ComesByReading}
 use Rattle.dblog_connect.specs.Steps.{IsLogOf, IsSourceOf, IsStoreOf}
 use Rattle.dblog_connect.proofs.Configs.{asks_budget}

@@ -23,11 +23,11 @@ use Rattle.dblog_init.specs.declared.error.Store.{Store}
 use Rattle.dblog_promise.specs.Bounds.{IsBounded, IsStoreBounded}
 use Rattle.dblog_init.specs.declared.error.Store.TheVariants as store
 use Rattle.dblog_connect.specs.declared.asked.Asked.{Asked}
-use Rattle.dblog_connect.specs.declared.error.ConnectError.{ConnectError}
-use Rattle.dblog_connect.specs.declared.error.ConnectError.TheVariants as error
+use Rattle.dblog_connect_ends.specs.declared.error.ConnectError.{ConnectError}
+use Rattle.dblog_connect_ends.specs.declared.error.ConnectError.TheVariants as error
 use Rattle.dblog_connect.specs.Ends.{CountsFaults, ConnectEnd, IsRefused, IsWrongSource, OnlyRead}
 use Rattle.dblog_connect.specs.Ends.IsRefused.{no_source, no_log, no_offset}
-use Rattle.dblog_connect.specs.Errors.{IsBeforeStore, IsAfterOpening, IsConnectError, IsExternalConnectError, IsConnectRefusal, demo_error, offset_error, topic_error}
+use Rattle.dblog_connect_ends.specs.Errors.{IsBeforeStore, IsAfterOpening, IsConnectError, IsExternalConnectError, IsConnectRefusal, demo_error, offset_error, topic_error}
 use Rattle.dblog_connect.proofs.Stays.{IsUnhalted}
 
 -- ---- a source that isn't opened

@@ -20,13 +20,13 @@ use Rattle.dblog_init.specs.declared.error.Store.TheVariants as store
 use Rattle.dblog_promise.specs.Bounds.{IsBounded, IsStoreBounded}
 use Rattle.dblog_connect.specs.declared.asked.Asked.{Asked}
 use Rattle.dblog_connect.specs.declared.asked.Asked.TheVariants.{First, Again}
-use Rattle.dblog_connect.specs.declared.error.ConnectError.{ConnectError}
-use Rattle.dblog_connect.specs.declared.error.ConnectError.TheVariants as error
+use Rattle.dblog_connect_ends.specs.declared.error.ConnectError.{ConnectError}
+use Rattle.dblog_connect_ends.specs.declared.error.ConnectError.TheVariants as error
 use Rattle.dbl_capture.specs.CaptureLaws.Found.{IsOfConfig}
 use Rattle.dblog_connect.specs.Asked.{Refuses, asks_of, config_again}
 use Rattle.dblog_connect.specs.Ends.{IsRefused, IsSpent}
 use Rattle.dblog_connect.specs.Ends.IsRefused.{not_asked}
-use Rattle.dblog_connect.specs.Errors.{IsAfterOpening, IsConnectError, IsExternalConnectError, IsOwnHalt, IsConnectRefusal, halt_error}
+use Rattle.dblog_connect_ends.specs.Errors.{IsAfterOpening, IsConnectError, IsExternalConnectError, IsOwnHalt, IsConnectRefusal, halt_error}
 use Rattle.dblog_connect.specs.Steps.{IsOpenedLog, IsOpenedSource, IsOpenedStore}
 use Rattle.dblog_connect.proofs.Answered.{own_or}
 use Rattle.dblog_connect.proofs.Opened.{bounded_by, kept_source, log_come, read_of}

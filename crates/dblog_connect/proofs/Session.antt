@@ -11,7 +11,7 @@ use Rattle.dbl_capture.specs.CaptureWork.declared.report.Ending.{Ending}
 use Rattle.dbl_capture.specs.CaptureWork.declared.report.Report.{Report}
 use Rattle.dblog_connect.specs.declared.asked.Asked.{Asked}
 use Rattle.dblog_connect.specs.Asked.{asks_in, asks_of}
-use Rattle.dblog_connect.specs.Errors.{halt_error}
+use Rattle.dblog_connect_ends.specs.Errors.{halt_error}
 use Rattle.dblog_connect.specs.Steps.{AnswersConnect, disks_of, IsLogOf, IsOpenedLog, IsOpenedSource, IsOpenedStore, IsSourceOf}
 use Rattle.dblog_connect.proofs.Answered.{ends_before, gains_of, kept_again, marks_of, never_of, report_of, run_of}
 use Rattle.dblog_connect.proofs.CrashState.{kept_of, promised_of}

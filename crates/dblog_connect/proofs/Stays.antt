@@ -16,13 +16,13 @@ use Rattle.dblog_init.specs.declared.disks.Disks.{Disks}
 use Rattle.dblog_init.specs.declared.error.Store.{Store}
 use Rattle.dblog_connect.specs.declared.asked.Asked.{Asked}
 use Rattle.dblog_connect.specs.declared.asked.Asked.TheVariants.{First, Again}
-use Rattle.dblog_connect.specs.declared.error.ConnectError.{ConnectError}
-use Rattle.dblog_connect.specs.declared.error.ConnectError.TheVariants.{AlreadyStarted, BadEntry, Failed, Halted, Memory, NotAStore, NotStarted}
+use Rattle.dblog_connect_ends.specs.declared.error.ConnectError.{ConnectError}
+use Rattle.dblog_connect_ends.specs.declared.error.ConnectError.TheVariants.{AlreadyStarted, BadEntry, Failed, Halted, Memory, NotAStore, NotStarted}
 use Rattle.dblog_connect.specs.Asked.{Refuses, asks_in}
 use Rattle.dblog_connect.specs.Disks.{AreKeptDisks}
 use Rattle.dblog_connect.specs.Ends.{ConnectEnd, EndsBefore, IsKeptError, IsRefused}
 use Rattle.dblog_connect.specs.Ends.IsRefused.{no_source, no_log, no_offset, not_asked}
-use Rattle.dblog_connect.specs.Errors.{IsExternalConnectError}
+use Rattle.dblog_connect_ends.specs.Errors.{IsExternalConnectError}
 use Rattle.dblog_connect.specs.Steps.{AnswersConnect, disks_of}
 
 -- it isn't a session's halt

@@ -11,8 +11,8 @@ use Rattle.dbl_demo.specs.DemoWal.Wals.{Wal}
 use Rattle.dblog_promise.specs.Contents.{Contents}
 use Rattle.dblog_connect.specs.declared.asked.Asked.{Asked}
 use Rattle.dblog_connect.specs.declared.asked.Asked.TheVariants.{First, Again}
-use Rattle.dblog_connect.specs.declared.error.ConnectError.{ConnectError}
-use Rattle.dblog_connect.specs.declared.error.ConnectError.TheVariants.{AlreadyStarted, NotStarted}
+use Rattle.dblog_connect_ends.specs.declared.error.ConnectError.{ConnectError}
+use Rattle.dblog_connect_ends.specs.declared.error.ConnectError.TheVariants.{AlreadyStarted, NotStarted}
 
 -- The arguments are within the limits.
 abbrev pub IsAskedWithinLimits : Asked → Type 0

@@ -37,18 +37,15 @@ use Rattle.dblog_promise.specs.Causes.{HasGained, HasRead, IsCauseOf, IsKeptHalt
 use Rattle.dblog_promise.specs.Contents.{Contents, HasOwnTables, ReadAs, confirmed_at, history_at}
 use Rattle.dblog_promise.specs.PromiseLaws.{AreCountedWhole}
 use Rattle.dblog_promise.specs.Reports.{IsReportOf, IsWatermark}
+pub use Rattle.dblog_connect_ends.specs.Ends.{ConnectEnd}
 use Rattle.dblog_connect.specs.declared.asked.Asked.{Asked}
-use Rattle.dblog_connect.specs.declared.summary.Summary.{Summary}
-use Rattle.dblog_connect.specs.declared.error.ConnectError.{ConnectError}
-use Rattle.dblog_connect.specs.declared.error.ConnectError.TheVariants.{BadEntry, Failed, Halted, NotAStore}
+use Rattle.dblog_connect_ends.specs.declared.summary.Summary.{Summary}
+use Rattle.dblog_connect_ends.specs.declared.error.ConnectError.{ConnectError}
+use Rattle.dblog_connect_ends.specs.declared.error.ConnectError.TheVariants.{BadEntry, Failed, Halted, NotAStore}
 use Rattle.dblog_connect.specs.Asked.{Refuses, asks_in, budget_of}
-use Rattle.dblog_connect.specs.Errors.{IsExternalConnectError}
+use Rattle.dblog_connect_ends.specs.Errors.{IsExternalConnectError}
 use Rattle.dblog_connect.specs.Followed.{AreFollowed, AreTallied, ComesByReading}
 use Rattle.dbl_disk.specs.Disks.{disk_limit}
-
--- The result of a command: the session's summary, or an error.
-abbrev pub ConnectEnd : Type 0
-ConnectEnd = Result Summary ConnectError
 
 -- ---- disks with which no session can begin
 

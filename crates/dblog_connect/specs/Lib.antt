@@ -3,7 +3,8 @@ pub use Rattle.dbl_capture.specs.CaptureLaws
 pub use Rattle.dbl_capture.specs.CaptureWork
 pub use Rattle.dbl_capture.specs.CaptureModel
 pub use Rattle.dbl_capture.specs.Window
-pub mod Errors
+pub use Rattle.dblog_connect_ends.specs as ConnectEnds
+pub use Rattle.dblog_connect_ends.specs.Errors
 pub mod Followed
 pub mod Asked
 pub mod Disks

@@ -11,8 +11,8 @@ ghost use Rattle.dblog_connect.specs.Disks.{AreKeptDisks, IsTrueAfterCrash, IsTr
 ghost use Rattle.dblog_connect.specs.Ends.{AddsFew, CountsFaults, EndsBefore, GainsRecords};
 ghost use Rattle.dblog_connect.specs.Ends.{HasBegun, HasRun, IsCompleteEnd, IsKeptError};
 ghost use Rattle.dblog_connect.specs.Ends.{IsReported, IsSpent, IsWrongSource, OnlyRead};
-ghost use Rattle.dblog_connect.specs.Errors.{IsBeforeStore, IsAfterOpening};
-ghost use Rattle.dblog_connect.specs.Errors.{IsConnectError, IsConnectRefusal};
+ghost use Rattle.dblog_connect_ends.specs.Errors.{IsBeforeStore, IsAfterOpening};
+ghost use Rattle.dblog_connect_ends.specs.Errors.{IsConnectError, IsConnectRefusal};
 ghost use Rattle.dblog_connect.specs.Steps.{AnswersConnect, disks_of, IsOpenedLog};
 ghost use Rattle.dblog_connect.specs.Steps.{IsOpenedSource, IsOpenedStore};
 

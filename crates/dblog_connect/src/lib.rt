@@ -4,10 +4,7 @@
 
 mod asked;
 mod connecting;
-mod error;
-mod summary;
 
 pub use asked::Asked;
 pub use connecting::connect;
-pub use error::ConnectError;
-pub use summary::Summary;
+pub use dblog_connect_ends::{ConnectError, Summary};

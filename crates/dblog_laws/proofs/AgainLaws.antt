@@ -41,7 +41,7 @@ use Rattle.dbl_cli.specs.declared.commands.Command.TheVariants.{Resume}
 use Rattle.dbl_cli.specs.declared.commands.ResumeOptions.{ResumeOptions}
 use Rattle.dblog_run.specs.Connect.Asked.{asks_of, config_again, workload_tables}
 use Rattle.dblog_run.specs.Sessions.{IsCompleteRun, asks_by}
-use Rattle.dblog_run.specs.Connect.declared.summary.Summary.{Summary}
+use Rattle.dblog_run.specs.Connect.ConnectEnds.declared.summary.Summary.{Summary}
 use Rattle.dblog_run.specs.Connect.Ends.{AddsFew, ConnectEnd, HasBegun, HasRun, IsReported}
 use Rattle.dblog_run.specs.Capture.Runs.{AnswersCapture, AnswersKept}
 use Rattle.dblog_laws.specs.Budgets.{AreAtRest, GenerousBudgetsSufficeAgain, commit_sizes, most_messages}

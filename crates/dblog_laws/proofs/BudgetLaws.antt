@@ -48,7 +48,7 @@ use Rattle.dblog_run.specs.Connect.declared.asked.Asked.TheVariants.{First}
 use Rattle.dbl_cli.specs.declared.commands.Command.TheVariants.{Capture}
 use Rattle.dblog_run.specs.Connect.Asked.{asks_in, asks_of, config_of, workload_tables}
 use Rattle.dblog_run.specs.Sessions.{IsCompleteRun}
-use Rattle.dblog_run.specs.Connect.declared.summary.Summary.{Summary}
+use Rattle.dblog_run.specs.Connect.ConnectEnds.declared.summary.Summary.{Summary}
 use Rattle.dblog_run.specs.Connect.Ends.{AddsFew, ConnectEnd, HasBegun, HasRun, IsReported}
 use Rattle.dblog_run.specs.Capture.Runs.{AnswersCapture, AnswersKept}
 use Rattle.dblog_laws.specs.Budgets.{AreUnstarted, CoverWhole, GenerousBudgetsSuffice, most_messages, most_windows}

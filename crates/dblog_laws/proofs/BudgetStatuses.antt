@@ -15,9 +15,9 @@ use Rattle.dbl_demo_wal.proofs.WalLaws.{one_wal, one_workload}
 use Rattle.dblog_run.specs.Promise.Contents.{Contents, ReadAs}
 use Rattle.dblog_run.proofs.PromiseKeptLaws.{disks_are_read_once}
 use Rattle.dblog_run.specs.Connect.declared.asked.Asked.{Asked}
-use Rattle.dblog_run.specs.Connect.declared.summary.Summary.{Summary}
-use Rattle.dblog_run.specs.Connect.declared.error.ConnectError.{ConnectError}
-use Rattle.dblog_run.specs.Connect.declared.error.ConnectError.TheVariants as connect
+use Rattle.dblog_run.specs.Connect.ConnectEnds.declared.summary.Summary.{Summary}
+use Rattle.dblog_run.specs.Connect.ConnectEnds.declared.error.ConnectError.{ConnectError}
+use Rattle.dblog_run.specs.Connect.ConnectEnds.declared.error.ConnectError.TheVariants as connect
 use Rattle.dblog_run.specs.Connect.Asked.{budget_of}
 use Rattle.dblog_run.specs.Connect.Ends.{ConnectEnd, HasRun, IsCompleteEnd, IsSpent}
 use Rattle.dblog_run.specs.Capture.Halts.{halt_status}

@@ -25,7 +25,7 @@ use Rattle.dblog_run.specs.CaptureLaws.Halted.{IsTxnFault}
 use Rattle.dblog_run.specs.Promise.Causes.{HasRead, IsCauseOf}
 use Rattle.dblog_run.specs.Promise.Contents.{Contents, confirmed_at, history_at, records_of_contents}
 use Rattle.dblog_run.specs.Promise.Kept.{IsKept}
-use Rattle.dblog_run.specs.Connect.declared.error.ConnectError.TheVariants.{Halted}
+use Rattle.dblog_run.specs.Connect.ConnectEnds.declared.error.ConnectError.TheVariants.{Halted}
 use Rattle.dblog_run.specs.Connect.Ends.{ConnectEnd, IsKeptError}
 use Rattle.dblog_laws.specs.RunLaws.{OnlyUnsentMovesStopSessions}
 use Rattle.dblog_laws.specs.Sessions.{HaveNoUnsentMove}

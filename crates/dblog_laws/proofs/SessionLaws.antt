@@ -40,9 +40,9 @@ use Rattle.dblog_run.specs.Promise.Kept.{IsKept}
 use Rattle.dblog_run.proofs.PromiseKeptLaws.{disks_are_read_once}
 use Rattle.dblog_run.specs.Connect.declared.asked.Asked.{Asked}
 use Rattle.dblog_run.specs.Connect.declared.asked.Asked.TheVariants.{First, Again}
-use Rattle.dblog_run.specs.Connect.declared.error.ConnectError.{ConnectError}
-use Rattle.dblog_run.specs.Connect.declared.error.ConnectError.TheVariants as connect
-use Rattle.dblog_run.specs.Connect.declared.error.ConnectError.TheVariants.{Halted}
+use Rattle.dblog_run.specs.Connect.ConnectEnds.declared.error.ConnectError.{ConnectError}
+use Rattle.dblog_run.specs.Connect.ConnectEnds.declared.error.ConnectError.TheVariants as connect
+use Rattle.dblog_run.specs.Connect.ConnectEnds.declared.error.ConnectError.TheVariants.{Halted}
 use Rattle.dblog_run.specs.Connect.Asked.{Refuses, asks_in, asks_of, workload_tables}
 use Rattle.dblog_run.specs.Connect.Ends.{ConnectEnd, EndsBefore, EndsWithHalt, IsKeptError, IsRefused, no_source, no_log, no_offset, not_asked}
 use Rattle.dblog_run.specs.Connect.Errors.{IsConnectError, IsExternalConnectError, IsOwnHalt}

@@ -18,8 +18,8 @@ use Rattle.dblog_run.specs.CaptureWork.declared.halt.Halt.TheVariants as halt
 use Rattle.dblog_run.specs.CaptureWork.declared.report.Ending.TheVariants.{Budget, Complete}
 use Rattle.dblog_run.specs.Promise.Kept.{AreKept}
 use Rattle.dblog_run.specs.Connect.declared.asked.Asked.{Asked}
-use Rattle.dblog_run.specs.Connect.declared.summary.Summary.{Summary}
-use Rattle.dblog_run.specs.Connect.declared.error.ConnectError.TheVariants.{Halted}
+use Rattle.dblog_run.specs.Connect.ConnectEnds.declared.summary.Summary.{Summary}
+use Rattle.dblog_run.specs.Connect.ConnectEnds.declared.error.ConnectError.TheVariants.{Halted}
 use Rattle.dblog_run.specs.Connect.Asked.{budget_of}
 use Rattle.dblog_run.specs.Connect.Disks.{AreKeptDisks}
 use Rattle.dblog_run.specs.Connect.Ends.{ConnectEnd}

@@ -5,7 +5,7 @@ use Rattle.dbl_cli.specs.declared.commands.Command.TheVariants as command
 use Rattle.dblog_capture.specs.Connect.Promise.Contents.{Contents}
 use Rattle.dblog_capture.specs.Connect.declared.asked.Asked.{Asked}
 use Rattle.dblog_capture.specs.Connect.declared.asked.Asked.TheVariants.{First, Again}
-use Rattle.dblog_capture.specs.Connect.declared.error.ConnectError.TheVariants as connect
+use Rattle.dblog_capture.specs.Connect.ConnectEnds.declared.error.ConnectError.TheVariants as connect
 use Rattle.dblog_capture.specs.Connect.Asked.{asks_in}
 use Rattle.dbl_lines.specs.declared.status.Status.{Status}
 use Rattle.dbl_lines.specs.declared.run_error.RunError.TheVariants.{Memory}

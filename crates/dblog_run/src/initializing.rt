@@ -17,7 +17,7 @@ ghost use Rattle.dblog_streams.specs.Answers.{FailsReading};
 use dbl_base::{Input, Output};
 use dbl_disk::Disk;
 use dbl_lines::Status;
-use dblog_capture::say_init;
+use dblog_capture_text::say_init;
 use dblog_init::{Disks, InitError, Outcome, init};
 use std::alloc::Global;
 

@@ -1,9 +1,9 @@
 use Rattle.std.proofs.Common.{◌≡◌, ◌∙◌, ◌⊎◌, ℤ, refl, sym, subst}
 use Rattle.std.proofs.Math.Facts.{to_z-of_z}
 use Rattle.dblog_init.specs.declared.error.Store.TheVariants as store
-use Rattle.dblog_connect.specs.declared.error.ConnectError.{ConnectError}
+use Rattle.dblog_connect_ends.specs.declared.error.ConnectError.{ConnectError}
 use Rattle.dblog_connect.specs.Ends.{IsRefused, IsWrongSource}
-use Rattle.dblog_connect.specs.Errors.{IsBeforeStore, IsAfterOpening, IsConnectError, IsExternalConnectError}
+use Rattle.dblog_connect_ends.specs.Errors.{IsBeforeStore, IsAfterOpening, IsConnectError, IsExternalConnectError}
 use Rattle.dblog_connect.specs.Steps.{AnswersConnect, disks_of}
 use Rattle.dblog_connect.proofs.ErrorKinds.{bounded_on, counts_by, counts_on, counts_same, demo_ends, demo_fails, demo_kind, demo_wrong, err_as, not_before_topics, not_wrong, only_same, read_on, steady_on}
 use Rattle.dblog_connect.proofs.Opened.{bounded_same, store_bounded_same}

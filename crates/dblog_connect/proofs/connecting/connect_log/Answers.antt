@@ -5,9 +5,9 @@ use Rattle.dbl_disk.specs.Calls.{IsSteady}
 use Rattle.dbl_offset.specs.Stores.{disk_of}
 use Rattle.dblog_init.specs.declared.error.Store.TheVariants as store
 use Rattle.dblog_promise.specs.Bounds.{IsBounded, IsStoreBounded}
-use Rattle.dblog_connect.specs.declared.error.ConnectError.{ConnectError}
+use Rattle.dblog_connect_ends.specs.declared.error.ConnectError.{ConnectError}
 use Rattle.dblog_connect.specs.Ends.{CountsFaults, IsRefused}
-use Rattle.dblog_connect.specs.Errors.{IsAfterOpening, IsConnectError, IsExternalConnectError}
+use Rattle.dblog_connect_ends.specs.Errors.{IsAfterOpening, IsConnectError, IsExternalConnectError}
 use Rattle.dblog_connect.specs.Steps.{AnswersConnect, disks_of}
 use Rattle.dblog_connect.proofs.ErrorKinds.{after_topics, counts_by, counts_same, counts_on, err_as, moved_crash, moved_to, offset_ends, offset_fails}
 use Rattle.dblog_connect.proofs.ErrorKinds.{offset_kind, only_same, read_on, read_stayed, store_bounded_on}

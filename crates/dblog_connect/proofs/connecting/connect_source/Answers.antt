@@ -1,9 +1,9 @@
 use Rattle.std.proofs.Common.{◌≡◌, ◌∙◌, ◌⊎◌, ℤ, refl, sym, ap, subst}
 use Rattle.std.proofs.Math.Facts.{to_z-of_z}
 use Rattle.dblog_init.specs.declared.error.Store.TheVariants as store
-use Rattle.dblog_connect.specs.declared.error.ConnectError.{ConnectError}
+use Rattle.dblog_connect_ends.specs.declared.error.ConnectError.{ConnectError}
 use Rattle.dblog_connect.specs.Ends.{IsRefused}
-use Rattle.dblog_connect.specs.Errors.{IsBeforeStore, IsAfterOpening, IsConnectError, IsExternalConnectError}
+use Rattle.dblog_connect_ends.specs.Errors.{IsBeforeStore, IsAfterOpening, IsConnectError, IsExternalConnectError}
 use Rattle.dblog_connect.specs.Steps.{AnswersConnect, disks_of}
 use Rattle.dblog_connect.proofs.ErrorKinds.{after_wal, bounded_on, counts_by, counts_on, counts_same, err_as, moved_crash, not_before_offsets, only_same, read_on, topic_ends, topic_fails, topic_kind}
 use Rattle.dblog_connect.proofs.Opened.{bounded_same, store_bounded_same}

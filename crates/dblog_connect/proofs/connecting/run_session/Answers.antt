@@ -9,7 +9,7 @@ use Rattle.dbl_capture.specs.CaptureWork.declared.report.Ending.{Ending}
 use Rattle.dblog_init.specs.declared.error.Store.TheVariants as store
 use Rattle.dblog_connect.specs.Asked.{budget_of}
 use Rattle.dblog_connect.specs.Ends.{CountsFaults, ConnectEnd, IsSpent}
-use Rattle.dblog_connect.specs.Errors.{IsAfterOpening, IsConnectError, IsConnectRefusal}
+use Rattle.dblog_connect_ends.specs.Errors.{IsAfterOpening, IsConnectError, IsConnectRefusal}
 use Rattle.dblog_connect.specs.Steps.{AnswersConnect, disks_of}
 use Rattle.dblog_connect.proofs.Configs.{asks_budget}
 use Rattle.dblog_connect.proofs.Exits.{asked_of, asks_same, halt_fails, halt_kind, log_bounded, refused_after, refused_ends, refused_kind, refused_unfailed, refused_unhalted, residual, source_bounded, source_steady, spent_of, store_bounded}

@@ -1,4 +1,4 @@
-use dbl_capture::{Ending, Report};
+use dbl_capture_work::{Ending, Report};
 
 /// How a session ended normally, and its report.
 #[derive(Clone, Copy)]

@@ -11,7 +11,7 @@ use Rattle.dbl_capture_work.specs.declared.halt.Halt.{Halt}
 use Rattle.dbl_capture_work.specs.declared.halt.Halt.TheVariants.{Message, Txn, Chunk, Cell, Clash, RecordTooLong}
 use Rattle.dbl_capture_work.specs.declared.halt.Halt.TheVariants.{OffsetTooLong, Model, UnknownTable, Gone, WatermarkMissing}
 use Rattle.dbl_capture_work.specs.declared.halt.Halt.TheVariants.{Exhausted, Source, Sink, Offsets, Memory}
-use Rattle.dblog_capture.specs.Reports.{count_line}
+use Rattle.dblog_capture_text.specs.Reports.{count_line}
 
 -- The exit status of a halt.
 abbrev pub halt_status : Halt → Status

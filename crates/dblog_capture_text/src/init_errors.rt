@@ -4,7 +4,7 @@ ghost use Rattle.dbl_lines.specs.declared.status.Status.TheVariants.{StdoutFaile
 ghost use Rattle.std.specs.String.{string_bytes};
 ghost use Rattle.dbl_base.specs.Lines.{lines_text};
 ghost use Rattle.dbl_base.specs.Streams.{FaultCounted};
-ghost use Rattle.dblog_capture.specs.InitErrors.{SaysInit, init_line, init_status};
+ghost use Rattle.dblog_capture_text.specs.InitErrors.{SaysInit, init_line, init_status};
 
 use dbl_base::Output;
 use dbl_lines::{OUT_OF_MEMORY, Status, write_text};

@@ -6,7 +6,7 @@ use std::marker::Model;
 
 /// The text of a workload, as the input that `init` reads. No read of it fails.
 #[derive(Drop)]
-pub(crate) struct WorkloadText {
+pub struct WorkloadText {
     text: Text,
     place: usize,
 }
@@ -23,7 +23,7 @@ impl Model for WorkloadText {
 
 impl WorkloadText {
     /// An input of this text. Takes no memory.
-    pub(crate) fn make(text: Text) -> WorkloadText
+    pub fn make(text: Text) -> WorkloadText
         ensures { result ≡ text }
     {
         WorkloadText { text, place: 0 }

@@ -9,8 +9,8 @@ use Rattle.dbl_lines.specs.declared.status.Status.TheVariants.{Done, Unsupported
 use Rattle.dbl_lines.specs.declared.status.Status.TheVariants.{StdinFailed, OutOfMemory, InvalidInput, InvalidStore}
 use Rattle.dbl_lines.specs.Says.{IsCutShort}
 use Rattle.dbl_lines.proofs.SayLemmas.{cut_other}
-use Rattle.dblog_capture.specs.Ends.{store_status}
-use Rattle.dblog_capture.specs.InitErrors.{SaysInit, init_status}
+use Rattle.dblog_capture_text.specs.Ends.{store_status}
+use Rattle.dblog_capture_text.specs.InitErrors.{SaysInit, init_status}
 
 pub said_status : (e : InitError) (status : Status) (before after : Option (List ℕ)) → SaysInit e status before after → (status ≡ init_status e) ⊎ IsCutShort status
 said_status e status before after (inl (inl said)) = inl said.0

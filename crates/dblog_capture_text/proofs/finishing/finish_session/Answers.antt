@@ -1,7 +1,7 @@
 use Rattle.std.proofs.Common.{sym, subst}
-use Rattle.dblog_connect.specs.Ends.{ConnectEnd}
-use Rattle.dblog_capture.specs.Ends.{SaysSession}
-use Rattle.dblog_capture.proofs.sessions.finish_session.Goals as goal
+use Rattle.dblog_connect_ends.specs.Ends.{ConnectEnd}
+use Rattle.dblog_capture_text.specs.Ends.{SaysSession}
+use Rattle.dblog_capture_text.proofs.finishing.finish_session.Goals as goal
 
 pub returns-in-Ok-clause-says : goal.returns-in-Ok-clause-says
 returns-in-Ok-clause-says g c =

@@ -6,13 +6,13 @@ use Rattle.dbl_offset.specs.declared.error.OffsetError.{OffsetError}
 use Rattle.dbl_offset.specs.declared.error.OffsetError.TheVariants as offset
 use Rattle.dbl_demo.specs.DemoWorkload.declared.error.DemoError.{DemoError}
 use Rattle.dbl_demo.specs.DemoWorkload.declared.error.DemoError.TheVariants as demo
-use Rattle.dbl_capture.specs.CaptureWork.declared.halt.Halt.{Halt}
-use Rattle.dbl_capture.specs.CaptureWork.declared.halt.Halt.TheVariants as halt
+use Rattle.dbl_capture_work.specs.declared.halt.Halt.{Halt}
+use Rattle.dbl_capture_work.specs.declared.halt.Halt.TheVariants as halt
 use Rattle.dblog_init.specs.declared.error.Store.{Store}
 use Rattle.dblog_init.specs.declared.error.Store.TheVariants.{Wal, Topics, Offsets}
-use Rattle.dblog_connect.specs.declared.error.ConnectError.{ConnectError}
-use Rattle.dblog_connect.specs.declared.error.ConnectError.TheVariants.{Failed, NotAStore, BadEntry, AlreadyStarted}
-use Rattle.dblog_connect.specs.declared.error.ConnectError.TheVariants.{NotStarted, Halted, Memory}
+use Rattle.dblog_connect_ends.specs.declared.error.ConnectError.{ConnectError}
+use Rattle.dblog_connect_ends.specs.declared.error.ConnectError.TheVariants.{Failed, NotAStore, BadEntry, AlreadyStarted}
+use Rattle.dblog_connect_ends.specs.declared.error.ConnectError.TheVariants.{NotStarted, Halted, Memory}
 
 -- The error of opening a source.
 abbrev pub demo_error : DemoError → ConnectError

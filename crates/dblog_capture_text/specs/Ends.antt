@@ -4,11 +4,11 @@ use Rattle.dbl_base.specs.Lines.{lines_text}
 use Rattle.dblog_init.specs.declared.error.Store.{Store}
 use Rattle.dblog_init.specs.declared.error.Store.TheVariants.{Wal, Topics, Offsets}
 use Rattle.dblog_init.specs.Errors.{store_name}
-use Rattle.dblog_connect.specs.declared.error.ConnectError.{ConnectError}
-use Rattle.dblog_connect.specs.declared.error.ConnectError.TheVariants as connect
-use Rattle.dblog_connect.specs.Ends.{ConnectEnd}
-use Rattle.dblog_capture.specs.Halts.{halt_line, halt_status}
-use Rattle.dblog_capture.specs.Reports.{ending_status, report_lines}
+use Rattle.dblog_connect_ends.specs.declared.error.ConnectError.{ConnectError}
+use Rattle.dblog_connect_ends.specs.declared.error.ConnectError.TheVariants as connect
+use Rattle.dblog_connect_ends.specs.Ends.{ConnectEnd}
+use Rattle.dblog_capture_text.specs.Halts.{halt_line, halt_status}
+use Rattle.dblog_capture_text.specs.Reports.{ending_status, report_lines}
 use Rattle.dbl_lines.specs.declared.status.Status.{Status}
 use Rattle.dbl_lines.specs.declared.status.Status.TheVariants.{Done, BudgetSpent, StartMismatch, MalformedLog, Unsupported, SourceFailed}
 use Rattle.dbl_lines.specs.declared.status.Status.TheVariants.{TopicsFailed, OffsetsFailed, OutOfMemory, InvalidStore, LogGone}

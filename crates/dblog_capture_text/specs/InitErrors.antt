@@ -14,7 +14,7 @@ use Rattle.dbl_lines.specs.declared.status.Status.TheVariants.{InvalidInput, Inv
 use Rattle.dbl_lines.specs.declared.run_error.RunError.TheVariants as error
 use Rattle.dbl_lines.specs.Faults.{fault_line}
 use Rattle.dbl_lines.specs.Says.{Writes}
-use Rattle.dblog_capture.specs.Ends.{store_status}
+use Rattle.dblog_capture_text.specs.Ends.{store_status}
 
 -- The exit status of an error of `init`.
 abbrev pub init_status : InitError → Status

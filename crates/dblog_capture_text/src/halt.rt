@@ -2,7 +2,7 @@ ghost use Rattle.std.specs.Prelude.{◌≡◌, IfOk};
 ghost use Rattle.std.specs.String.{string_bytes};
 ghost use Rattle.dblog_replay.specs.LogFaults.{log_line};
 ghost use Rattle.dbl_capture_work.specs.declared.halt.Halt.TheVariants.{Cell};
-ghost use Rattle.dblog_capture.specs.Halts.{halt_line, halt_status};
+ghost use Rattle.dblog_capture_text.specs.Halts.{halt_line, halt_status};
 
 use dbl_base::Text;
 use dbl_capture_work::Halt;

@@ -1,7 +1,7 @@
 ghost use Rattle.std.specs.Prelude.{◌≡◌, IfOk};
 ghost use Rattle.std.specs.String.{string_bytes};
 ghost use Rattle.dbl_base.specs.Lines.{lines_text};
-ghost use Rattle.dblog_capture.specs.Reports.{ending_status, ending_word, report_lines};
+ghost use Rattle.dblog_capture_text.specs.Reports.{ending_status, ending_word, report_lines};
 
 use dbl_capture_work::{Ending, Report};
 use dbl_lines::Status;

@@ -1,4 +1,4 @@
-use dbl_capture::Halt;
+use dbl_capture_work::Halt;
 use dbl_demo::DemoError;
 use dbl_journal::JournalError;
 use dbl_offset::OffsetError;
@@ -37,7 +37,7 @@ pub enum ConnectError {
 
 impl From<AllocError> for ConnectError {
     ghost use Rattle.std.specs.Prelude.{◌≡◌};
-    ghost use Rattle.dblog_connect.specs.declared.error.ConnectError.TheVariants.{Memory};
+    ghost use Rattle.dblog_connect_ends.specs.declared.error.ConnectError.TheVariants.{Memory};
 
     ghost from_gives = { λ _ e. e ≡ Memory };
 
@@ -48,7 +48,7 @@ impl From<AllocError> for ConnectError {
 
 impl From<DemoError> for ConnectError {
     ghost use Rattle.std.specs.Prelude.{◌≡◌};
-    ghost use Rattle.dblog_connect.specs.Errors.{demo_error};
+    ghost use Rattle.dblog_connect_ends.specs.Errors.{demo_error};
 
     ghost from_gives = { λ e f. f ≡ demo_error e };
 
@@ -72,7 +72,7 @@ impl From<DemoError> for ConnectError {
 
 impl From<TopicError> for ConnectError {
     ghost use Rattle.std.specs.Prelude.{◌≡◌};
-    ghost use Rattle.dblog_connect.specs.Errors.{topic_error};
+    ghost use Rattle.dblog_connect_ends.specs.Errors.{topic_error};
 
     ghost from_gives = { λ e f. f ≡ topic_error e };
 
@@ -93,7 +93,7 @@ impl From<TopicError> for ConnectError {
 
 impl From<OffsetError> for ConnectError {
     ghost use Rattle.std.specs.Prelude.{◌≡◌};
-    ghost use Rattle.dblog_connect.specs.Errors.{offset_error};
+    ghost use Rattle.dblog_connect_ends.specs.Errors.{offset_error};
 
     ghost from_gives = { λ e f. f ≡ offset_error e };
 
@@ -111,7 +111,7 @@ impl From<OffsetError> for ConnectError {
 
 impl From<Halt> for ConnectError {
     ghost use Rattle.std.specs.Prelude.{◌≡◌};
-    ghost use Rattle.dblog_connect.specs.Errors.{halt_error};
+    ghost use Rattle.dblog_connect_ends.specs.Errors.{halt_error};
 
     ghost from_gives = { λ h f. f ≡ halt_error h };
 

@@ -1,0 +1,4 @@
+pub mod Halts
+pub mod Reports
+pub mod Ends
+pub mod InitErrors

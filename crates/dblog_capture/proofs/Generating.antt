@@ -213,7 +213,11 @@ module _ {W T F : Type 0} (wal_model : DiskModel W) (topics_model : DiskModel T)
         topics_made = record { empty = topics_empty; stored = topics_made };
         offsets_made = record { empty = offsets_empty; stored = offsets_made };
         runs = ran.runs;
-        wal_steady = λ normal. steady_made wal_model store.Wal (IsFreshWal workload) old.wal mid.wal new.wal wal_left wal_empty wal_made (ran.wal_steady normal);
+        steady = λ normal. record {
+          wal = steady_made wal_model store.Wal (IsFreshWal workload) old.wal mid.wal new.wal wal_left wal_empty wal_made (ran.steady normal).wal;
+          topics = steady_made topics_model store.Topics IsEmptyLog old.topics mid.topics new.topics topics_left topics_empty topics_made (ran.steady normal).topics;
+          offsets = steady_made offsets_model store.Offsets IsEmptyStore old.offsets mid.offsets new.offsets offsets_left offsets_empty offsets_made (ran.steady normal).offsets;
+        };
         headline = went_promised;
       });
       headline = λ made. went_promised made.wal_empty.told made.topics_empty.told made.offsets_empty.told;

@@ -5,7 +5,6 @@ use Rattle.dbl_lines.specs.declared.status.Status.TheVariants.{Done, SourceFaile
 use Rattle.dbl_lines.specs.declared.status.Status.TheVariants.{OffsetsFailed, InvalidInput}
 use Rattle.dbl_base.specs.Streams.{FaultCounted}
 use Rattle.dbl_disk.specs.Model.{DiskModel}
-use Rattle.dbl_disk.specs.Calls.{IsSteady}
 use Rattle.dbl_disk.specs.Disks.{IsOnly}
 use Rattle.dbl_journal.specs.Growth.{growth_room}
 use Rattle.dbl_model_table.specs.Identities.{default_placeholder}
@@ -26,7 +25,7 @@ use Rattle.dblog_connect.specs.declared.asked.Asked.{Asked}
 use Rattle.dblog_connect.specs.declared.asked.Asked.TheVariants.{First}
 use Rattle.dblog_connect.specs.Asked.{asks_in}
 use Rattle.dblog_connect.specs.Disks.{IsTrueAfterCrash}
-use Rattle.dblog_connect.specs.Ends.{OnlyRead}
+use Rattle.dblog_connect.specs.Ends.{AreSteady, OnlyRead}
 use Rattle.dblog_capture_text.specs.Ends.{IsNormalStatus, IsSessionStatus}
 use Rattle.dblog_capture.specs.Runs.{RunsSessionOn}
 use Rattle.dblog_capture_text.specs.InitErrors.{SaysInit}
@@ -103,8 +102,8 @@ pub record WasCaptured {W T F : Type 0} (wal_model : DiskModel W) (topics_model 
   pub topics_made : WasMade topics_model IsEmptyLog old.topics made.topics
   pub offsets_made : WasMade offsets_model IsEmptyStore old.offsets made.offsets
   pub runs : RunsSessionOn wal_model topics_model offsets_model plainly now made new status before after
-  -- If the session ended normally, no call of the source's disk failed.
-  pub wal_steady : IsNormalStatus status → IsSteady wal_model old.wal new.wal
+  -- If the session ended normally, no call of a disk failed.
+  pub steady : IsNormalStatus status → AreSteady wal_model topics_model offsets_model old new
   pub headline : wal_model.seen old.wal ≡ Some [] → topics_model.seen old.topics ≡ Some [] → offsets_model.seen old.offsets ≡ Some []
       → IsTrueAfterCrash wal_model topics_model offsets_model new
       (GuaranteesAfterCrash (status ≡ Done) (asks_in plainly) (IsFreshWal workload) IsEmptyLog IsEmptyStore)

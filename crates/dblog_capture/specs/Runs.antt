@@ -3,7 +3,6 @@ use Rattle.std.specs.Prelude.{◌≡◌, ℕ, ℤ, IfOk, IfErr, MatchResult, Opt
 use Rattle.dbl_lines.specs.declared.status.Status.{Status}
 use Rattle.dbl_lines.specs.declared.status.Status.TheVariants.{Done, SourceFailed, TopicsFailed, OffsetsFailed}
 use Rattle.dbl_base.specs.Streams.{FaultCounted}
-use Rattle.dbl_disk.specs.Calls.{IsSteady}
 use Rattle.dbl_disk.specs.Model.{DiskModel}
 use Rattle.dblog_init.specs.declared.disks.Disks.{Disks}
 use Rattle.dblog_connect.specs.Promise.Bounds.{IsBounded, IsStoreBounded}
@@ -12,7 +11,7 @@ use Rattle.dblog_connect.specs.Promise.Kept.{AreKept}
 use Rattle.dblog_connect.specs.declared.asked.Asked.{Asked}
 use Rattle.dblog_connect.specs.Asked.{asks_in, budget_of}
 use Rattle.dblog_connect.specs.Disks.{AreKeptDisks, IsTrueAfterCrash}
-use Rattle.dblog_connect.specs.Ends.{AddsFew, ConnectEnd, EndsBefore, GainsRecords, HasBegun}
+use Rattle.dblog_connect.specs.Ends.{AddsFew, AreSteady, ConnectEnd, EndsBefore, GainsRecords, HasBegun}
 use Rattle.dblog_connect.specs.Ends.{HasRun, IsKeptError, IsReported, IsSpent, IsWrongSource}
 use Rattle.dblog_connect.specs.Errors.{IsConnectError, IsConnectRefusal}
 use Rattle.dblog_capture_text.specs.Ends.{IsNormalStatus, SaysSession}
@@ -73,9 +72,10 @@ pub record RunsConnected {W T F : Type 0} (wal_model : DiskModel W) (topics_mode
   pub kept : AreKeptDisks wal_model topics_model offsets_model old → AreKeptDisks wal_model topics_model offsets_model new
   pub runs : RunsSessionOn wal_model topics_model offsets_model asked now old new status before after
   pub wal_failed : status ≡ SourceFailed → FaultCounted (wal_model.faults old.wal) (wal_model.faults new.wal)
-  pub wal_steady : IsNormalStatus status → IsSteady wal_model old.wal new.wal
   pub topics_failed : status ≡ TopicsFailed → FaultCounted (topics_model.faults old.topics) (topics_model.faults new.topics)
   pub offsets_failed : status ≡ OffsetsFailed → FaultCounted (offsets_model.faults old.offsets) (offsets_model.faults new.offsets)
+  -- If the session ended normally, no call of a disk failed.
+  pub steady : IsNormalStatus status → AreSteady wal_model topics_model offsets_model old new
   pub wal_bounded : IsBounded (wal_model.seen old.wal) (wal_model.seen new.wal)
   pub topics_bounded : IsBounded (topics_model.seen old.topics) (topics_model.seen new.topics)
   pub offsets_bounded : IsStoreBounded (offsets_model.seen old.offsets) (offsets_model.seen new.offsets)

@@ -3,7 +3,6 @@ use Rattle.std.proofs.Common.{◌≡◌, ◌∙◌, ◌⊎◌, inl, inr, ℕ, �
 use Rattle.std.specs.Prelude.{IfErr, OnOk}
 use Rattle.dbl_base.specs.Streams.{FaultCounted}
 use Rattle.dbl_record.specs.declared.record.Record.{Record}
-use Rattle.dbl_disk.specs.Calls.{IsSteady}
 use Rattle.dbl_disk.specs.Model.{DiskModel}
 use Rattle.dbl_journal.specs.Form.{IsFaultAt}
 use Rattle.dbl_journal.specs.declared.error.JournalError.TheVariants as journal
@@ -19,13 +18,15 @@ use Rattle.dbl_demo.specs.DemoWorkload.declared.error.DemoError.TheVariants as d
 use Rattle.dbl_demo.specs.DemoWal.Wals.{IsWal, Wal}
 use Rattle.dbl_demo.specs.DemoWal.Wals as wal_bytes
 use Rattle.dbl_capture.proofs.CaptureWorkExits.{rose_after}
+use Rattle.dblog_init.specs.declared.disks.Disks.{Disks}
 use Rattle.dblog_init.specs.declared.error.Store.{Store}
 use Rattle.dblog_promise.specs.Bounds.{IsBounded, IsStoreBounded}
 use Rattle.dblog_init.specs.declared.error.Store.TheVariants as store
 use Rattle.dblog_connect.specs.declared.asked.Asked.{Asked}
 use Rattle.dblog_connect_ends.specs.declared.error.ConnectError.{ConnectError}
 use Rattle.dblog_connect_ends.specs.declared.error.ConnectError.TheVariants as error
-use Rattle.dblog_connect.specs.Ends.{CountsFaults, ConnectEnd, IsRefused, IsWrongSource, OnlyRead}
+use Rattle.dblog_connect.specs.Steps.{disks_of}
+use Rattle.dblog_connect.specs.Ends.{AreSteady, CountsFaults, ConnectEnd, IsRefused, IsWrongSource, OnlyRead}
 use Rattle.dblog_connect.specs.Ends.IsRefused.{no_source, no_log, no_offset}
 use Rattle.dblog_connect_ends.specs.Errors.{IsBeforeStore, IsAfterOpening, IsConnectError, IsExternalConnectError, IsConnectRefusal, demo_error, offset_error, topic_error}
 use Rattle.dblog_connect.proofs.Stays.{IsUnhalted}
@@ -220,9 +221,23 @@ counts_on model s end old mid new later counts = record {
 }
 
 -- no call of a disk failed, in opening it or later
-pub steady_on : {D : Type 0} (model : DiskModel D) (end : ConnectEnd) (old mid new : D) → model.seen mid ≡ model.seen old → IsSteady model old mid → OnOk end (IsSteady model mid new) → OnOk end (IsSteady model old new)
-steady_on model (Ok x) old mid new same first second = λ bytes told. second bytes (same ∙ told) ∙ first bytes told
-steady_on model (Err e) old mid new same first second = tt
+module _ {W T F : Type 0} (wal_model : DiskModel W) (topics_model : DiskModel T) (offsets_model : DiskModel F) where
+  pub steady_on : (end : ConnectEnd) (old mid new : Disks W T F) → wal_model.seen mid.wal ≡ wal_model.seen old.wal → topics_model.seen mid.topics ≡ topics_model.seen old.topics
+      → offsets_model.seen mid.offsets ≡ offsets_model.seen old.offsets → AreSteady wal_model topics_model offsets_model old mid → OnOk end (AreSteady wal_model topics_model offsets_model mid new)
+      → OnOk end (AreSteady wal_model topics_model offsets_model old new)
+  steady_on (Ok x) old mid new same_w same_t same_f first second = record {
+    wal = λ bytes told. second.wal bytes (same_w ∙ told) ∙ first.wal bytes told;
+    topics = λ bytes told. second.topics bytes (same_t ∙ told) ∙ first.topics bytes told;
+    offsets = λ bytes told. second.offsets bytes (same_f ∙ told) ∙ first.offsets bytes told;
+  }
+  steady_on (Err e) old mid new same_w same_t same_f first second = tt
+
+  pub steady_moved : (end : ConnectEnd) (old : Disks W T F) (w w1 : W) (t t1 : T) (f f1 : F) → w1 ≡ w → t1 ≡ t → f1 ≡ f → OnOk end (AreSteady wal_model topics_model offsets_model old (disks_of w t f))
+      → OnOk end (AreSteady wal_model topics_model offsets_model old (disks_of w1 t1 f1))
+  steady_moved end old w w1 t t1 f f1 is_w is_t is_f steady =
+      subst (λ (x : W). OnOk end (AreSteady wal_model topics_model offsets_model old (disks_of x t1 f1))) (sym is_w)
+      (subst (λ (y : T). OnOk end (AreSteady wal_model topics_model offsets_model old (disks_of w y f1))) (sym is_t)
+      (subst (λ (z : F). OnOk end (AreSteady wal_model topics_model offsets_model old (disks_of w t z))) (sym is_f) steady))
 
 pub counts_same : {D : Type 0} (model : DiskModel D) (s : Store) (end : ConnectEnd) (old new : D) → new ≡ old → (end ≡ Err (error.Failed s) → ⊥) → CountsFaults model s end old new
 counts_same model s end old new same none =

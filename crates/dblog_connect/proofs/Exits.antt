@@ -7,7 +7,7 @@ use Rattle.dbl_model_table.specs.declared.config.Config.{Config}
 use Rattle.dbl_model_table.specs.declared.table.TableName.{TableName}
 use Rattle.dbl_journal.specs.Stored.{OnDisk}
 use Rattle.dbl_offset_content.specs.declared.offset.Offset.{Offset}
-use Rattle.dbl_offset.specs.Stores.{ExtendsOffsets as StoreComesOf, StoreOn, disk_of}
+use Rattle.dbl_offset.specs.Stores.{ExtendsOffsets as StoreComesOf, IsLive, StoreOn, disk_of}
 use Rattle.dbl_topic.specs.Held.{ExtendsTopics as LogComesOf}
 use Rattle.dbl_demo.specs.DemoLaws.Demo.{ExtendsDemo, Demo}
 use Rattle.dbl_capture.specs.CaptureWork.declared.halt.Halt.{Halt}
@@ -84,13 +84,20 @@ module _ {W T F : Type 0} (wal_model : DiskModel W) (topics_model : DiskModel T)
   pub source_steady : (sn : Demo W) → ExtendsDemo wal_model so sn → IsTrue sn.live → IsSteady wal_model so.journal.disk sn.journal.disk
   source_steady sn comes live bytes told = let src = opened_w bytes told in (comes src.wal.script 0 (length bytes) (wal_model.faults so.journal.disk) (kept_source wal_model bytes so src)).steady live
 
+  pub log_steady : (ln : OnDisk T) → LogComesOf topics_model lo ln → IsTrue ln.live → IsSteady topics_model lo.disk ln.disk
+  log_steady ln comes live bytes told = (comes.steady (topics_model.faults lo.disk) (λ was. ((bytes, told), refl)) live).1
+
+  pub store_steady : (fn : StoreOn F) → StoreComesOf offsets_model fo fn → IsLive fn → IsSteady offsets_model (disk_of fo) (disk_of fn)
+  store_steady fn comes live bytes told =
+      (comes (record { most = length bytes; faults = offsets_model.faults (disk_of fo) }) (record { bytes = bytes; told = told; short = omega arith; steady = λ was. refl })).steady live
+
   pub log_bounded : (ln : OnDisk T) → LogComesOf topics_model lo ln → IsBounded (topics_model.seen lo.disk) (topics_model.seen ln.disk)
   log_bounded ln comes = bounded_by topics_model lo.disk ln (λ bytes told. comes.journal 0 (length bytes) (log_come topics_model bytes lo (opened_t bytes told)))
 
   pub store_bounded : (fn : StoreOn F) → StoreComesOf offsets_model fo fn → IsStoreBounded (offsets_model.seen (disk_of fo)) (offsets_model.seen (disk_of fn))
   store_bounded fn comes = record {
     each = λ before told. (
-        let now = comes (length before) (record { bytes = before; told = told; short = omega arith }) in
+        let now = comes (record { most = length before; faults = offsets_model.faults (disk_of fo) }) (record { bytes = before; told = told; short = omega arith; steady = λ live. refl }) in
         (now.bytes, now.told, now.short));
   }
 

@@ -3,6 +3,7 @@ use Rattle.std.specs.Prelude.{Contains, IfSome, ◌≡◌, ◌⊎◌, ℕ, ℤ, 
 use Rattle.std.specs.List.{AllByRecursion}
 use Rattle.dbl_base.specs.Streams.{FailsOnlyIfCounted}
 use Rattle.dbl_record.specs.declared.record.Record.{Record}
+use Rattle.dbl_disk.specs.Calls.{IsSteady}
 use Rattle.dbl_disk.specs.Model.{DiskModel}
 use Rattle.dbl_journal.specs.Form.{IsFaultAt}
 use Rattle.dbl_model_table.specs.declared.config.Config.{Config}
@@ -29,6 +30,7 @@ use Rattle.dbl_capture.specs.CaptureLaws.Found.{HasStored, IsFirstStored}
 use Rattle.dbl_capture.specs.CaptureLaws.Gained.{Gains}
 use Rattle.dbl_capture.specs.CaptureLaws.Reported.{AllCouldBeSent, course_at}
 use Rattle.dbl_capture.specs.CaptureLaws.Written.{AddsAtMost, HaveBrought}
+use Rattle.dblog_init.specs.declared.disks.Disks.{Disks}
 use Rattle.dblog_init.specs.declared.error.Store.{Store}
 use Rattle.dblog_init.specs.declared.error.Store.TheVariants.{Wal as WalStore, Topics, Offsets}
 use Rattle.dbl_capture.specs.CaptureLaws.Captured.{IsTableHalt}
@@ -243,6 +245,13 @@ IsKeptError asked now wals logs stores w t f e = Unit {0}
 -- The count of faults of a disk never falls, and its failure is reported only if the count rose.
 abbrev pub CountsFaults : {D : Type 0} → DiskModel D → Store → ConnectEnd → D → D → Type 0
 CountsFaults model store end old new = FailsOnlyIfCounted (end ≡ Err (Failed store)) (model.faults old) (model.faults new)
+
+-- No call of a disk with known contents failed.
+pub record AreSteady {W T F : Type 0} (wal_model : DiskModel W) (topics_model : DiskModel T) (offsets_model : DiskModel F)
+    (old new : Disks W T F) : Type 0 where
+  pub wal : IsSteady wal_model old.wal new.wal
+  pub topics : IsSteady topics_model old.topics new.topics
+  pub offsets : IsSteady offsets_model old.offsets new.offsets
 
 -- A refused command has only read the disk: its contents are the same, and a crash leaves nothing that it couldn't leave before.
 pub record OnlyRead {D : Type 0} (model : DiskModel D) (old new : D) : Type 0 where

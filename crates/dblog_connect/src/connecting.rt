@@ -1,14 +1,14 @@
 //! The session over the disks.
 
 ghost use Rattle.std.specs.Prelude.{◌≡◌, ℕ, List, Some, IfOk, IfErr, MatchResult, IsTrue, OnOk};
-ghost use Rattle.dbl_disk.specs.Calls.{IsSteady};
 ghost use Rattle.dblog_promise.specs.Bounds.{IsBounded, IsStoreBounded};
 ghost use Rattle.dblog_promise.specs.Headline.{GuaranteesAfterCrash};
 ghost use Rattle.dbl_offset.specs.Stores.{IsLive, disk_of};
 ghost use Rattle.dbl_demo.specs.DemoWorkload.Ready.{AreTableNames};
 ghost use Rattle.dblog_connect.specs.Asked.{IsAskedWithinLimits, asks_in, budget_of};
 ghost use Rattle.dblog_connect.specs.Disks.{AreKeptDisks, IsTrueAfterCrash, IsTrueOfContents};
-ghost use Rattle.dblog_connect.specs.Ends.{AddsFew, CountsFaults, EndsBefore, GainsRecords};
+ghost use Rattle.dblog_connect.specs.Ends.{AddsFew, AreSteady, CountsFaults, EndsBefore};
+ghost use Rattle.dblog_connect.specs.Ends.{GainsRecords};
 ghost use Rattle.dblog_connect.specs.Ends.{HasBegun, HasRun, IsCompleteEnd, IsKeptError};
 ghost use Rattle.dblog_connect.specs.Ends.{IsReported, IsSpent, IsWrongSource, OnlyRead};
 ghost use Rattle.dblog_connect_ends.specs.Errors.{IsBeforeStore, IsAfterOpening};
@@ -90,9 +90,9 @@ pub fn connect<W: Disk, T: Disk, F: Disk>(
         OnlyRead F.Disk disks.offsets result.disks.offsets) }
 
     // A failure is reported only if the disk's count of faults rose, and a session that ended
-    // normally has met none of a source's disk with known contents; the disks' contents stay bounded.
+    // normally has met none of a disk with known contents; the disks' contents stay bounded.
     ensures wal_counts { CountsFaults W.Disk Store.Wal result.end disks.wal result.disks.wal }
-    ensures wal_steady { OnOk result.end (IsSteady W.Disk disks.wal result.disks.wal) }
+    ensures steady { OnOk result.end (AreSteady W.Disk T.Disk F.Disk disks result.disks) }
     ensures topics_count { CountsFaults T.Disk Store.Topics result.end
         disks.topics result.disks.topics }
     ensures offsets_count { CountsFaults F.Disk Store.Offsets result.end
@@ -147,8 +147,8 @@ fn connect_source<W: Disk, T: Disk, F: Disk>(
         OnlyRead F.Disk offsets result.disks.offsets) }
     ensures wal_counts { CountsFaults W.Disk Store.Wal result.end
         source.journal.disk result.disks.wal }
-    ensures wal_steady { OnOk result.end
-        (IsSteady W.Disk source.journal.disk result.disks.wal) }
+    ensures steady { OnOk result.end (AreSteady W.Disk T.Disk F.Disk
+        (disks_of source.journal.disk topics offsets) result.disks) }
     ensures topics_count { CountsFaults T.Disk Store.Topics result.end topics result.disks.topics }
     ensures offsets_count { CountsFaults F.Disk Store.Offsets result.end
         offsets result.disks.offsets }
@@ -196,8 +196,8 @@ fn connect_log<W: Disk, T: Disk, F: Disk>(
         OnlyRead F.Disk offsets result.disks.offsets) }
     ensures wal_counts { CountsFaults W.Disk Store.Wal result.end
         source.journal.disk result.disks.wal }
-    ensures wal_steady { OnOk result.end
-        (IsSteady W.Disk source.journal.disk result.disks.wal) }
+    ensures steady { OnOk result.end (AreSteady W.Disk T.Disk F.Disk
+        (disks_of source.journal.disk log.disk offsets) result.disks) }
     ensures topics_count { CountsFaults T.Disk Store.Topics result.end
         log.disk result.disks.topics }
     ensures offsets_count { CountsFaults F.Disk Store.Offsets result.end
@@ -256,8 +256,9 @@ fn run_session<W: Disk, T: Disk, F: Disk>(
     ensures store_stays { IfErr result (λ e. IsConnectRefusal e → store.new ≡ store.old) }
     ensures source_counts { CountsFaults W.Disk Store.Wal result
         source.old.journal.disk source.new.journal.disk }
-    ensures source_steady { OnOk result
-        (IsSteady W.Disk source.old.journal.disk source.new.journal.disk) }
+    ensures steady { OnOk result (AreSteady W.Disk T.Disk F.Disk
+        (disks_of source.old.journal.disk log.old.disk (disk_of store.old))
+        (disks_of source.new.journal.disk log.new.disk (disk_of store.new))) }
     ensures log_counts { CountsFaults T.Disk Store.Topics result log.old.disk log.new.disk }
     ensures store_counts { CountsFaults F.Disk Store.Offsets result
         (disk_of store.old) (disk_of store.new) }

@@ -10,7 +10,6 @@ ghost use Rattle.dblog_run.specs.Means.{HasOpenedTopics, InputFails, Runs, RunsC
 ghost use Rattle.dblog_run.specs.Means.{SpellSome, Tell, WalFails, connects, makes, reads, writes};
 ghost use Rattle.dblog_run.specs.Means.{opens_offsets, opens_topics, uses_offsets, uses_topics};
 ghost use Rattle.dblog_run.specs.Means.{StandsAlone, ReportsInputStatus, IsStatusOf};
-ghost use Rattle.dbl_disk.specs.Calls.{IsSteady};
 ghost use Rattle.dblog_init.specs.DemoLaws.Made.{IsFreshWal};
 ghost use Rattle.dblog_init.specs.declared.error.Store.TheVariants.{Wal, Topics, Offsets};
 ghost use Rattle.dblog_init.specs.Disks.{HasStoredBytes, HoldSomeBytes};
@@ -19,6 +18,7 @@ ghost use Rattle.dblog_capture.specs.Connect.declared.asked.Asked.{Asked as Spec
 ghost use Rattle.dblog_capture.specs.Connect.Promise.Bounds.{IsBounded, IsStoreBounded};
 ghost use Rattle.dblog_capture.specs.Connect.Promise.Headline.{GuaranteesAfterCrash};
 ghost use Rattle.dblog_capture.specs.Connect.Disks.{AreKeptDisks, IsTrueAfterCrash};
+ghost use Rattle.dblog_capture.specs.Connect.Ends.{AreSteady};
 ghost use Rattle.dblog_run.specs.Inits.{AreUntouched, FailsSource, IsInitLeft};
 ghost use Rattle.dblog_capture.specs.Ends.{IsNormalStatus};
 ghost use Rattle.dblog_capture.specs.Runs.{RunsConnected, RunsSessionOn};
@@ -201,10 +201,10 @@ pub fn run<I: Input, O: Output, W: Disk, T: Disk, F: Disk>(
         RunsSessionOn W.Disk T.Disk F.Disk asked now_ms disks result.disks
         result.end (O.written output.old) (O.written output.new) }
 
-    // If a session ended normally, no call of a source's disk with known contents failed.
-    ensures wal_steady { (command : Command) (asked : SpecAsked) → Spells words.now.items command →
+    // If a session ended normally, no call of a disk with known contents failed.
+    ensures steady { (command : Command) (asked : SpecAsked) → Spells words.now.items command →
         asked_by command ≡ Some asked → IsNormalStatus result.end →
-        IsSteady W.Disk disks.wal result.disks.wal }
+        AreSteady W.Disk T.Disk F.Disk disks result.disks }
 
     // After the `init` part of `gen --run` on empty disks, everything that a crash may leave
     // satisfies the connector's promise for a capture without arguments, and extends the stores of

@@ -3,10 +3,9 @@ use mir.Val.{SFits}
 use Rattle.std.proofs.Common.{◌≡◌, ℤ, refl, rules, subst}
 use Rattle.dbl_lines.specs.declared.status.Status.TheVariants.{Done}
 use Rattle.std.proofs.Math.Facts.{to_z-of_z}
-use Rattle.dbl_disk.specs.Calls.{IsSteady}
 use Rattle.dblog_init.specs.declared.error.Store.TheVariants.{Wal, Topics, Offsets}
 use Rattle.dblog_connect.specs.Asked.{asks_in}
-use Rattle.dblog_connect.specs.Ends.{IsCompleteEnd}
+use Rattle.dblog_connect.specs.Ends.{AreSteady, IsCompleteEnd}
 use Rattle.dblog_capture.specs.Runs.{AnswersCapture, AnswersKept}
 use Rattle.dblog_capture.proofs.SessionLemmas.{complete_end, failed_cause, normal_end, promised_less, refused_end, session_known, session_no_input}
 use Rattle.dblog_capture.proofs.sessions.run_session.Goals as goal
@@ -44,9 +43,9 @@ returns-clause-connected g c =
         kinds = told.kinds;
       };
       wal_failed = failed_cause g.W.Disk Wal end _ _ told.kinds status _ _ says told.wal_counts;
-      wal_steady = λ normal. normal_end {P = IsSteady g.W.Disk c.args.disks.wal connected.disks.wal} end told.kinds status _ _ says told.wal_steady normal;
       topics_failed = failed_cause g.T.Disk Topics end _ _ told.kinds status _ _ says told.topics_count;
       offsets_failed = failed_cause g.F.Disk Offsets end _ _ told.kinds status _ _ says told.offsets_count;
+      steady = λ normal. normal_end {P = AreSteady g.W.Disk g.T.Disk g.F.Disk c.args.disks connected.disks} end told.kinds status _ _ says told.steady normal;
       wal_bounded = told.wal_bounded;
       topics_bounded = told.topics_bounded;
       offsets_bounded = told.offsets_bounded;

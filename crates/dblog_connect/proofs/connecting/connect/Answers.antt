@@ -154,8 +154,10 @@ returns-in-Ok-clause-wal_read g c = read_on g.W.Disk c.connect_source.result.end
 pub returns-in-Ok-clause-wal_counts : goal.returns-in-Ok-clause-wal_counts
 returns-in-Ok-clause-wal_counts g c = counts_on g.W.Disk store.Wal c.connect_source.result.end c.args.disks.wal c.in-Ok.source.journal.disk c.connect_source.result.disks.wal c.in-Ok.ensures.later c.connect_source.ensures.wal_counts
 
-pub returns-in-Ok-clause-wal_steady : goal.returns-in-Ok-clause-wal_steady
-returns-in-Ok-clause-wal_steady g c = steady_on g.W.Disk c.connect_source.result.end c.args.disks.wal c.in-Ok.source.journal.disk c.connect_source.result.disks.wal c.in-Ok.ensures.seen c.in-Ok.ensures.steady c.connect_source.ensures.wal_steady
+pub returns-in-Ok-clause-steady : goal.returns-in-Ok-clause-steady
+returns-in-Ok-clause-steady g c =
+    steady_on g.W.Disk g.T.Disk g.F.Disk c.connect_source.result.end c.args.disks (disks_of c.in-Ok.source.journal.disk c.args.disks.topics c.args.disks.offsets) c.connect_source.result.disks
+    c.in-Ok.ensures.seen refl refl (record { wal = c.in-Ok.ensures.steady; topics = λ bytes told. refl; offsets = λ bytes told. refl }) c.connect_source.ensures.steady
 
 pub returns-in-Ok-clause-wal_bounded : goal.returns-in-Ok-clause-wal_bounded
 returns-in-Ok-clause-wal_bounded g c = bounded_on g.W.Disk c.args.disks.wal c.in-Ok.source.journal.disk c.connect_source.result.disks.wal c.in-Ok.ensures.seen c.connect_source.ensures.wal_bounded

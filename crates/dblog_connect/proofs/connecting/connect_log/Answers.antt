@@ -1,7 +1,5 @@
 use Rattle.std.proofs.Common.{◌∙◌, ◌⊎◌, ℤ, refl, sym, ap, subst}
-use Rattle.std.specs.Prelude.{OnOk}
 use Rattle.std.proofs.Math.Facts.{to_z-of_z}
-use Rattle.dbl_disk.specs.Calls.{IsSteady}
 use Rattle.dbl_offset.specs.Stores.{disk_of}
 use Rattle.dblog_init.specs.declared.error.Store.TheVariants as store
 use Rattle.dblog_promise.specs.Bounds.{IsBounded, IsStoreBounded}
@@ -10,7 +8,7 @@ use Rattle.dblog_connect.specs.Ends.{CountsFaults, IsRefused}
 use Rattle.dblog_connect_ends.specs.Errors.{IsAfterOpening, IsConnectError, IsExternalConnectError}
 use Rattle.dblog_connect.specs.Steps.{AnswersConnect, disks_of}
 use Rattle.dblog_connect.proofs.ErrorKinds.{after_topics, counts_by, counts_same, counts_on, err_as, moved_crash, moved_to, offset_ends, offset_fails}
-use Rattle.dblog_connect.proofs.ErrorKinds.{offset_kind, only_same, read_on, read_stayed, store_bounded_on}
+use Rattle.dblog_connect.proofs.ErrorKinds.{offset_kind, only_same, read_on, read_stayed, steady_moved, steady_on, store_bounded_on}
 use Rattle.dblog_connect.proofs.Opened.{bounded_same, store_bounded_same}
 use Rattle.dblog_connect.proofs.Stays.{IsUnhalted, answers_before, answers_moved, answers_stay}
 use Rattle.dblog_connect.proofs.connecting.connect_log.Goals as goal
@@ -87,8 +85,13 @@ returns-in-Ok-clause-offsets_read g c =
 pub returns-in-Ok-clause-wal_counts : goal.returns-in-Ok-clause-wal_counts
 returns-in-Ok-clause-wal_counts g c = moved_to (CountsFaults g.W.Disk store.Wal c.run_session-end.result c.args.source.journal.disk) c.run_session-end.new.source.journal.disk c.into_disk.result c.into_disk.ensures c.run_session-end.ensures.source_counts
 
-pub returns-in-Ok-clause-wal_steady : goal.returns-in-Ok-clause-wal_steady
-returns-in-Ok-clause-wal_steady g c = moved_to (λ d. OnOk c.run_session-end.result (IsSteady g.W.Disk c.args.source.journal.disk d)) c.run_session-end.new.source.journal.disk c.into_disk.result c.into_disk.ensures c.run_session-end.ensures.source_steady
+pub returns-in-Ok-clause-steady : goal.returns-in-Ok-clause-steady
+returns-in-Ok-clause-steady g c =
+    steady_on g.W.Disk g.T.Disk g.F.Disk c.run_session-end.result (disks_of c.args.source.journal.disk c.args.log.disk c.args.offsets) (disks_of c.args.source.journal.disk c.args.log.disk (disk_of c.in-Ok.store)) (disks_of c.into_disk.result c.into_disk-in-Ok.result c.into_disk-in-Ok-2.result)
+    refl refl c.in-Ok.ensures.keeps.same (record { wal = λ bytes told. refl; topics = λ bytes told. refl; offsets = c.in-Ok.ensures.keeps.steady (λ none. none) })
+    (steady_moved g.W.Disk g.T.Disk g.F.Disk c.run_session-end.result (disks_of c.args.source.journal.disk c.args.log.disk (disk_of c.in-Ok.store))
+    c.run_session-end.new.source.journal.disk c.into_disk.result c.run_session-end.new.log.disk c.into_disk-in-Ok.result (disk_of c.run_session-end.new.store) c.into_disk-in-Ok-2.result
+    c.into_disk.ensures c.into_disk-in-Ok.ensures c.into_disk-in-Ok-2.ensures c.run_session-end.ensures.steady)
 
 pub returns-in-Ok-clause-topics_count : goal.returns-in-Ok-clause-topics_count
 returns-in-Ok-clause-topics_count g c = moved_to (CountsFaults g.T.Disk store.Topics c.run_session-end.result c.args.log.disk) c.run_session-end.new.log.disk c.into_disk-in-Ok.result c.into_disk-in-Ok.ensures c.run_session-end.ensures.log_counts

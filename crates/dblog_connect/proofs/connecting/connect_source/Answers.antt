@@ -5,7 +5,7 @@ use Rattle.dblog_connect_ends.specs.declared.error.ConnectError.{ConnectError}
 use Rattle.dblog_connect.specs.Ends.{IsRefused}
 use Rattle.dblog_connect_ends.specs.Errors.{IsBeforeStore, IsAfterOpening, IsConnectError, IsExternalConnectError}
 use Rattle.dblog_connect.specs.Steps.{AnswersConnect, disks_of}
-use Rattle.dblog_connect.proofs.ErrorKinds.{after_wal, bounded_on, counts_by, counts_on, counts_same, err_as, moved_crash, not_before_offsets, only_same, read_on, topic_ends, topic_fails, topic_kind}
+use Rattle.dblog_connect.proofs.ErrorKinds.{after_wal, bounded_on, counts_by, counts_on, counts_same, err_as, moved_crash, not_before_offsets, only_same, read_on, steady_on, topic_ends, topic_fails, topic_kind}
 use Rattle.dblog_connect.proofs.Opened.{bounded_same, store_bounded_same}
 use Rattle.dblog_connect.proofs.Stays.{IsUnhalted, answers_before, answers_stay}
 use Rattle.dblog_connect.proofs.connecting.connect_source.Goals as goal
@@ -81,3 +81,8 @@ returns-in-Ok-clause-topics_count g c = counts_on g.T.Disk store.Topics c.connec
 
 pub returns-in-Ok-clause-topics_bounded : goal.returns-in-Ok-clause-topics_bounded
 returns-in-Ok-clause-topics_bounded g c = bounded_on g.T.Disk c.args.topics c.in-Ok.log.disk c.connect_log.result.disks.topics c.in-Ok.ensures.keeps.same c.connect_log.ensures.topics_bounded
+
+pub returns-in-Ok-clause-steady : goal.returns-in-Ok-clause-steady
+returns-in-Ok-clause-steady g c =
+    steady_on g.W.Disk g.T.Disk g.F.Disk c.connect_log.result.end (disks_of c.args.source.journal.disk c.args.topics c.args.offsets) (disks_of c.args.source.journal.disk c.in-Ok.log.disk c.args.offsets) c.connect_log.result.disks
+    refl c.in-Ok.ensures.keeps.same refl (record { wal = λ bytes told. refl; topics = c.in-Ok.ensures.keeps.steady (λ none. none); offsets = λ bytes told. refl }) c.connect_log.ensures.steady

@@ -1,18 +1,17 @@
 use Rattle.std.proofs.Common.{◌≡◌, ◌∙◌, Ok, Err, refl, sym, ap, subst}
 use Rattle.std.specs.Prelude.{IfErr, IfOk, OnOk}
 use Rattle.std.proofs.Math.Facts.{to_z-of_z}
-use Rattle.dbl_disk.specs.Calls.{IsSteady}
 use Rattle.dbl_offset.specs.Stores.{disk_of}
 use Rattle.dbl_demo.specs.DemoWorkload.Ready.{AreTableNames}
 use Rattle.dbl_capture.specs.CaptureWork.declared.halt.Halt.{Halt}
 use Rattle.dbl_capture.specs.CaptureWork.declared.report.Ending.{Ending}
 use Rattle.dblog_init.specs.declared.error.Store.TheVariants as store
 use Rattle.dblog_connect.specs.Asked.{budget_of}
-use Rattle.dblog_connect.specs.Ends.{CountsFaults, ConnectEnd, IsSpent}
+use Rattle.dblog_connect.specs.Ends.{AreSteady, CountsFaults, ConnectEnd, IsSpent}
 use Rattle.dblog_connect_ends.specs.Errors.{IsAfterOpening, IsConnectError, IsConnectRefusal}
 use Rattle.dblog_connect.specs.Steps.{AnswersConnect, disks_of}
 use Rattle.dblog_connect.proofs.Configs.{asks_budget}
-use Rattle.dblog_connect.proofs.Exits.{asked_of, asks_same, halt_fails, halt_kind, log_bounded, refused_after, refused_ends, refused_kind, refused_unfailed, refused_unhalted, residual, source_bounded, source_steady, spent_of, store_bounded}
+use Rattle.dblog_connect.proofs.Exits.{asked_of, asks_same, halt_fails, halt_kind, log_bounded, log_steady, refused_after, refused_ends, refused_kind, refused_unfailed, refused_unhalted, residual, source_bounded, source_steady, spent_of, store_bounded, store_steady}
 use Rattle.dblog_connect.proofs.ErrorKinds.{counts_same}
 use Rattle.dblog_connect.proofs.Opened.{bounded_same, store_bounded_same}
 use Rattle.dblog_connect.proofs.Ran.{done_by, renow}
@@ -62,8 +61,8 @@ returns-in_err-config-clause-source_counts g c =
     residual c.from_residual.result _ (λ (r : ConnectEnd). CountsFaults g.W.Disk store.Wal r c.args.source.now.journal.disk c.args.source.now.journal.disk) c.from_residual.ensures.1
     (counts_same g.W.Disk store.Wal _ c.args.source.now.journal.disk c.args.source.now.journal.disk refl (λ is. refused_unfailed store.Wal c.args.asked _ _ c.in_err-config.ensures.refused (let i = is in cc)))
 
-pub returns-in_err-config-clause-source_steady : goal.returns-in_err-config-clause-source_steady
-returns-in_err-config-clause-source_steady g c = residual c.from_residual.result _ (λ (r : ConnectEnd). OnOk r (IsSteady g.W.Disk c.args.source.now.journal.disk c.args.source.now.journal.disk)) c.from_residual.ensures.1 tt
+pub returns-in_err-config-clause-steady : goal.returns-in_err-config-clause-steady
+returns-in_err-config-clause-steady g c = residual c.from_residual.result _ (λ (r : ConnectEnd). OnOk r (AreSteady g.W.Disk g.T.Disk g.F.Disk (disks_of c.args.source.now.journal.disk c.args.log.now.disk (disk_of c.args.store.now)) (disks_of c.args.source.now.journal.disk c.args.log.now.disk (disk_of c.args.store.now)))) c.from_residual.ensures.1 tt
 
 pub returns-in_err-config-clause-log_counts : goal.returns-in_err-config-clause-log_counts
 returns-in_err-config-clause-log_counts g c =
@@ -160,8 +159,9 @@ returns-in_err-ending-clause-source_counts g c =
       cause = λ is. c.session.ensures.source.cause.cause (c.in_err-ending.was ∙ ap (λ (h : Halt). Err h) (halt_fails _ store.Wal (let i = is in cc)));
     })
 
-pub returns-in_err-ending-clause-source_steady : goal.returns-in_err-ending-clause-source_steady
-returns-in_err-ending-clause-source_steady g c = residual c.from_residual-in_err-ending.result _ (λ (r : ConnectEnd). OnOk r (IsSteady g.W.Disk c.args.source.now.journal.disk c.session.new.src.journal.disk)) c.from_residual-in_err-ending.ensures.1 tt
+pub returns-in_err-ending-clause-steady : goal.returns-in_err-ending-clause-steady
+returns-in_err-ending-clause-steady g c =
+    residual c.from_residual-in_err-ending.result _ (λ (r : ConnectEnd). OnOk r (AreSteady g.W.Disk g.T.Disk g.F.Disk (disks_of c.args.source.now.journal.disk c.args.log.now.disk (disk_of c.args.store.now)) (disks_of c.session.new.src.journal.disk c.session.new.sink.disk (disk_of c.session.new.offsets)))) c.from_residual-in_err-ending.ensures.1 tt
 
 pub returns-in_err-ending-clause-log_counts : goal.returns-in_err-ending-clause-log_counts
 returns-in_err-ending-clause-log_counts g c =
@@ -251,8 +251,12 @@ returns-clause-log_counts g c = record { later = c.session.ensures.sink.cause.la
 pub returns-clause-store_counts : goal.returns-clause-store_counts
 returns-clause-store_counts g c = record { later = c.session.ensures.store.cause.later; cause = λ is. absurd (let i = is in cc) }
 
-pub returns-clause-source_steady : goal.returns-clause-source_steady
-returns-clause-source_steady g c = source_steady g.W.Disk g.T.Disk g.F.Disk c.args.source.now c.args.log.now c.args.store.now c.requires.source_opened c.requires.log_opened c.requires.store_opened c.session.new.src c.session.ensures.source.comes c.in_ok-ending.ensures.source.live
+pub returns-clause-steady : goal.returns-clause-steady
+returns-clause-steady g c = record {
+  wal = source_steady g.W.Disk g.T.Disk g.F.Disk c.args.source.now c.args.log.now c.args.store.now c.requires.source_opened c.requires.log_opened c.requires.store_opened c.session.new.src c.session.ensures.source.comes c.in_ok-ending.ensures.source.live;
+  topics = log_steady g.W.Disk g.T.Disk g.F.Disk c.args.source.now c.args.log.now c.args.store.now c.requires.source_opened c.requires.log_opened c.requires.store_opened c.session.new.sink c.session.ensures.sink.comes c.in_ok-ending.ensures.sink.live;
+  offsets = store_steady g.W.Disk g.T.Disk g.F.Disk c.args.source.now c.args.log.now c.args.store.now c.requires.source_opened c.requires.log_opened c.requires.store_opened c.session.new.offsets c.session.ensures.store.comes c.in_ok-ending.ensures.store.live;
+}
 
 pub returns-clause-source_bounded : goal.returns-clause-source_bounded
 returns-clause-source_bounded g c = source_bounded g.W.Disk g.T.Disk g.F.Disk c.args.source.now c.args.log.now c.args.store.now c.requires.source_opened c.requires.log_opened c.requires.store_opened c.session.new.src c.session.ensures.source.comes

@@ -340,9 +340,9 @@ returns-in-Ok-clause-session g c = λ command asked spells is.
     subst (λ (m : ℤ). RunsSessionOn g.W.Disk g.T.Disk g.F.Disk asked m c.args.disks left.disks left.end (g.O.Output.written c.args.output.now) (g.O.Output.written c.run_command.new.output))
     (to_z-of_z c.ranges.now_ms) (c.run_command.ensures.connected asked mine).runs
 
-pub returns-in-Ok-clause-wal_steady : goal.returns-in-Ok-clause-wal_steady
-returns-in-Ok-clause-wal_steady g c = λ command asked spells is.
-    (c.run_command.ensures.connected asked (as_spelled _ (λ (d : Command). asked_by d ≡ Some asked) command c.in-Ok.command spells c.in-Ok.ensures.spelled is)).wal_steady
+pub returns-in-Ok-clause-steady : goal.returns-in-Ok-clause-steady
+returns-in-Ok-clause-steady g c = λ command asked spells is.
+    (c.run_command.ensures.connected asked (as_spelled _ (λ (d : Command). asked_by d ≡ Some asked) command c.in-Ok.command spells c.in-Ok.ensures.spelled is)).steady
 
 pub returns-in-Ok-clause-wal_bounded : goal.returns-in-Ok-clause-wal_bounded
 returns-in-Ok-clause-wal_bounded g c = λ none.
@@ -382,8 +382,8 @@ returns-in-Err-Usage-clause-headline g c = λ command spells. absurd (c.in-Err-U
 pub returns-in-Err-Usage-clause-session : goal.returns-in-Err-Usage-clause-session
 returns-in-Err-Usage-clause-session g c = λ command asked spells. absurd (c.in-Err-Usage.ensures.usage (ap Err c.in-Err-Usage.field-0-is) command spells)
 
-pub returns-in-Err-Usage-clause-wal_steady : goal.returns-in-Err-Usage-clause-wal_steady
-returns-in-Err-Usage-clause-wal_steady g c = λ command asked spells is normal bytes told. refl
+pub returns-in-Err-Usage-clause-steady : goal.returns-in-Err-Usage-clause-steady
+returns-in-Err-Usage-clause-steady g c = λ command asked spells is normal. record { wal = λ bytes told. refl; topics = λ bytes told. refl; offsets = λ bytes told. refl }
 
 pub returns-in-Err-Usage-clause-made : goal.returns-in-Err-Usage-clause-made
 returns-in-Err-Usage-clause-made g c = λ bytes w t f spells. absurd (c.in-Err-Usage.ensures.usage (ap Err c.in-Err-Usage.field-0-is) command.Init spells)
@@ -396,8 +396,8 @@ returns-in-Err-Memory-clause-headline g c = λ command spells.
 pub returns-in-Err-Memory-clause-session : goal.returns-in-Err-Memory-clause-session
 returns-in-Err-Memory-clause-session g c = λ command asked spells is. memory_session asked c.args.now_ms _ _ _ _ _ _ c.say-in-Err-Memory.result _ _ c.say-in-Err-Memory.ensures.says
 
-pub returns-in-Err-Memory-clause-wal_steady : goal.returns-in-Err-Memory-clause-wal_steady
-returns-in-Err-Memory-clause-wal_steady g c = λ command asked spells is normal bytes told. refl
+pub returns-in-Err-Memory-clause-steady : goal.returns-in-Err-Memory-clause-steady
+returns-in-Err-Memory-clause-steady g c = λ command asked spells is normal. record { wal = λ bytes told. refl; topics = λ bytes told. refl; offsets = λ bytes told. refl }
 
 pub returns-in-Err-Memory-clause-made : goal.returns-in-Err-Memory-clause-made
 returns-in-Err-Memory-clause-made g c = λ bytes w t f spells left wal topics offsets done.

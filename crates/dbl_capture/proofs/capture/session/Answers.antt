@@ -1,5 +1,5 @@
-use Rattle.std.proofs.Common.{◌≡◌, ◌∙◌, arith, inl, inr, ℤ, true, false, Some, None, [], Ok, Err, refl, sym, ap, subst, le_refl}
-use Rattle.std.specs.Prelude.{OnOk}
+use Rattle.std.proofs.Common.{◌≡◌, ◌∙◌, arith, inl, inr, ℤ, true, false, Some, None, [], Result, Ok, Err, refl, sym, ap, subst, le_refl}
+use Rattle.std.specs.Prelude.{IfErr, OnOk}
 use Rattle.std.proofs.Math.Facts.{to_z-of_z}
 use Rattle.dbl_model_history.specs.Ranges.{IsMomentInRange}
 use Rattle.dbl_offset_content.specs.declared.offset.Offset.{Offset}
@@ -91,6 +91,13 @@ returns-in_err-work-clause-counts g c = record {
       omega (arith, messages);
   position = c.in_err-work.ensures.state.position refl;
 }
+
+-- what is said of each error is said of the sink's failure
+sink_answer : {T : Type 0} (r : Result T Halt) (A Q : Type 0) (B : Halt → Type 0) → OnOk r A → IfErr r B → ((h : Halt) → B h → h ≡ halt.Sink → Q) → r ≡ Err halt.Sink → Q
+sink_answer (Ok x) A Q B a b f is = cc
+sink_answer (Err h) A Q B a b f is =
+    let same : h ≡ halt.Sink = cc in
+    f h b same
 
 -- it ran
 pub process_messages-requires : goal.process_messages-requires
@@ -445,8 +452,8 @@ returns-clause-tallies g c = record {
       let u = subst (λ (n : ℤ). IsPutting g.S.Source g.K.Sink groups (Some s) (g.S.Source.told c.args.src.now) (beginning_at c.args.config.now n c.args.offsets.now.offset way.0) c.open_session.new.store.offset c.in_ok-work.work c.open_session.new.report c.open_session.new.src c.args.sink.now) (to_z-of_z c.ranges.now_ms) way.1 in
       let on = c.process_messages.ensures.puts.putting groups (Some s) (g.S.Source.told c.args.src.now) b u in
       let put = c.process_messages.ensures.puts.put groups (Some s) (g.S.Source.told c.args.src.now) b u in
-      answer_as c.process_messages.result _ _ (λ r. r ≡ Err halt.Sink → HasPassed groups left c.args.config.now c.args.now_ms c.args.offsets.now.offset c.process_messages.new.store.offset t) on put
-      (λ x e is. let wrong : Ok e ≡ Err halt.Sink = is in cc) (λ h x is. let same : h ≡ halt.Sink = cc in x.passed same s t refl now left may) failed;
+      sink_answer c.process_messages.result _ (HasPassed groups left c.args.config.now c.args.now_ms c.args.offsets.now.offset c.process_messages.new.store.offset t) _ on put
+      (λ h x same. x.passed same s t refl now left may) failed;
 }
 
 pub returns-in_err-work-clause-own : goal.returns-in_err-work-clause-own

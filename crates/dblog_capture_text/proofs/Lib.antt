@@ -1,1 +1,2 @@
 pub mod InitStatuses
+pub mod EndStatuses

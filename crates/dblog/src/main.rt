@@ -6,9 +6,10 @@ use dbl_disk::FileDisk;
 use dblog_run::{Disks, RunError, run, say};
 use std::alloc::AllocError;
 use std::env;
+use std::fs::OpenOptions;
 use std::io::{self, ErrorKind};
 use std::process::ExitCode;
-use std::rt::{Clock, Env};
+use std::rt::{Clock, Env, Files};
 use std::time::{SystemTime, UNIX_EPOCH};
 
 // The arguments after the program's name, or none, which is no command, if one isn't UTF-8.
@@ -36,9 +37,20 @@ fn now_ms(rt: &impl Clock) -> i64 {
     }
 }
 
+// A file that can be neither read nor written as a stream: a folder, opened to be read.
+fn open_folder<R: Files>(rt: &R) -> io::Result<R::File> {
+    let mut options = OpenOptions::new();
+    options.read(true);
+    options.open(rt, "/")
+}
+
 // The stores are files of the current folder. A disk opens or creates its file at its first call,
 // so a command that neither reads nor writes a store leaves its file unchanged.
+//
+// If a standard stream is closed, its number is the next opened file's. The folders are opened
+// first, so that no store gets it and is read or written as that stream, which fails instead.
 fn main(rt: HostRuntime) -> ExitCode {
+    let folders = [open_folder(&rt), open_folder(&rt), open_folder(&rt)];
     let mut output = StdOutput::make(io::writer(&rt));
     let status = match words(&rt) {
         Ok(words) => {
@@ -59,5 +71,6 @@ fn main(rt: HostRuntime) -> ExitCode {
         }
         Err(AllocError) => say(rt.alloc(), RunError::Memory, &mut output),
     };
+    drop(folders);
     ExitCode::from(status.code())
 }

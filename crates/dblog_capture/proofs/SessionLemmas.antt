@@ -2,8 +2,6 @@
 use Rattle.std.proofs.Common.{◌≡◌, ◌≢◌, ◌⊎◌, inl, inr, ◌∙◌, ℕ, Option, Ok, Err, List, refl, sym, ap, subst}
 use Rattle.std.specs.Prelude.{IfErr, OnOk}
 use Rattle.dbl_base.specs.Streams.{FaultCounted}
-use Rattle.dbl_model_commit.specs.declared.txn_error.TxnError.TheVariants as txn
-use Rattle.dbl_capture_work.specs.declared.halt.Halt.TheVariants as halt
 use Rattle.dbl_capture_work.specs.declared.report.Ending.{Ending}
 use Rattle.dbl_capture_work.specs.declared.report.Ending.TheVariants.{Complete, Budget}
 use Rattle.dblog_init.specs.declared.disks.Disks.{Disks}

@@ -1,8 +1,24 @@
 -- The example of an altered table.
-use Rattle.std.proofs.Common.{◌≡◌, ◌≢◌, ℕ, zero, suc, refl}
-use Rattle.std.specs.Prelude.{slice_get}
-use Rattle.dbl_consume_courses.specs.Versions.{Alters}
-use Rattle.dbl_consume_courses.specs.Example.{old_table, new_table, old_infos, new_infos, alteration, AlteredTablesStand}
+use Rattle.std.proofs.Common.{◌≡◌, ◌≢◌, ◌<◌, ◌^◌, ℕ, zero, suc, pos, Bool, true, false, None, List, [], ◌∷◌, fold, refl, arith, FitsSigned, w64}
+use Rattle.std.specs.Prelude.{◌↔◌, IsSome, slice_get, codes}
+use Rattle.std.specs.Str.{IsUtf8}
+use Rattle.json.proofs.Printed.Utf8.{IsUtf8-are_ascii}
+use Rattle.jiff_core.proofs.SignedLemmas.{signed_arith, fits_between}
+use Rattle.dbl_value.specs.declared.column_type.PgType.TheVariants as type
+use Rattle.dbl_value.specs.declared.value.Val.{Val}
+use Rattle.dbl_value.specs.declared.value.Val.TheVariants as val
+use Rattle.dbl_value.specs.Values.{IsOf}
+use Rattle.dbl_model_table.specs.declared.table.TableInfo.{TableInfo}
+use Rattle.dbl_model_table.specs.declared.change.Body.TheVariants.{Changes}
+use Rattle.dbl_model_table.specs.declared.change.Change.TheVariants.{Insert}
+use Rattle.dbl_model_table.specs.Keys.{same_key}
+use Rattle.dbl_model_table.specs.Rows.{at_key, row_after, no_rows}
+use Rattle.dbl_model_table.specs.Rows.Effect.{Whole}
+use Rattle.dbl_model_history.specs.Ranges.{IsCommitInRange}
+use Rattle.dbl_consume_courses.specs.Versions.{Alters, plain_commit, rows_through}
+use Rattle.dbl_consume_courses.specs.FitVersions.{IsFitAlteration, AreFitVersions}
+use Rattle.dbl_consume_courses.specs.Growth.{IsVersionAmong}
+use Rattle.dbl_consume_courses.specs.Example.{old_table, new_table, old_infos, new_infos, text_row, version_at, new_rows, alteration, first_versions, last_version, example_versions, AlteredTablesStand}
 
 others_stay : (other : ℕ) → other ≢ 0 → slice_get new_infos other ≡ slice_get old_infos other
 others_stay zero apart = absurd (apart refl)
@@ -19,5 +35,61 @@ alters = record {
   silent = refl;
 }
 
+-- ---- ranges
+
+at_zero : FitsSigned w64 (pos 0)
+at_zero = fits_between w64 (pos 0) (omega (arith, signed_arith), omega (arith, signed_arith))
+
+plain_a : IsUtf8 (codes "a")
+plain_a = IsUtf8-are_ascii (codes "a") refl
+
+plain_x : IsUtf8 (codes "x")
+plain_x = IsUtf8-are_ascii (codes "x") refl
+
+plain_y : IsUtf8 (codes "y")
+plain_y = IsUtf8-are_ascii (codes "y") refl
+
+text_is : (text : List ℕ) → IsUtf8 text → IsOf type.Text (val.Text text)
+text_is text plain = record { text = text; utf8 = plain; spells = refl }
+
+insert_in_range : (lsn table : ℕ) (infos : List TableInfo) (text : List ℕ) → lsn < 2 ^ 64 → IsUtf8 text → IsCommitInRange (plain_commit (version_at lsn infos (Changes (Insert table (text_row text) ∷ []))))
+insert_in_range lsn table infos text lt plain = record { lsn = lt; end_lsn = lt; time = at_zero; xid = omega arith; body = (omega arith, ((plain, tt), tt)) }
+
+-- ---- the history is valid
+
+both_rows : (x y : List Val) (b : Bool) → IsSome (row_after (at_key true b (Whole x)) None) ↔ IsSome (row_after (at_key true b (Whole y)) None)
+both_rows x y true = (λ some. refl, λ some. refl)
+both_rows x y false = (λ some. some, λ some. some)
+
+alteration_fits : IsFitAlteration new_infos (fold rows_through no_rows (version_at 1 old_infos (Changes (Insert 0 (text_row (codes "a")) ∷ [])) ∷ version_at 2 old_infos (Changes (Insert 1 (text_row (codes "x")) ∷ [])) ∷ [])) (record { table = 0; rows = new_rows })
+alteration_fits = record {
+  rows = (record { wide = refl; key = (text_is (codes "a") plain_a, tt); absent = refl }, tt);
+  keys = λ key. both_rows (val.Text (codes "a") ∷ []) (val.Text (codes "a") ∷ val.Text (codes "1") ∷ []) (same_key (record { cells = val.Text (codes "a") ∷ [] }) key);
+  in_range = (omega arith, ((plain_a, (IsUtf8-are_ascii (codes "1") refl, tt)), tt));
+}
+
+fit_versions : AreFitVersions old_infos example_versions
+fit_versions = record {
+  follow = (refl, (refl, (alters, (refl, tt))));
+  distinct = refl;
+  rise = (omega arith, (omega arith, (omega arith, (omega arith, tt))));
+  fit = (
+    record { changes = (record { wide = refl; key = (text_is (codes "a") plain_a, tt); absent = refl }, tt); altered = tt; in_range = insert_in_range 1 0 old_infos (codes "a") (omega arith) plain_a; few = omega arith },
+    (
+      record { changes = (record { wide = refl; key = (text_is (codes "x") plain_x, tt); absent = refl }, tt); altered = tt; in_range = insert_in_range 2 1 old_infos (codes "x") (omega arith) plain_x; few = omega arith },
+      (
+        record { changes = tt; altered = alteration_fits; in_range = record { lsn = omega arith; end_lsn = omega arith; time = at_zero; xid = omega arith; body = (omega arith, tt) }; few = omega arith },
+        (
+          record { changes = (record { wide = refl; key = (text_is (codes "y") plain_y, tt); absent = refl }, tt); altered = tt; in_range = insert_in_range 4 1 new_infos (codes "y") (omega arith) plain_y; few = omega arith },
+          tt,
+        ),
+      ),
+    ),
+  );
+}
+
+last_among : IsVersionAmong old_infos example_versions 0 0 first_versions last_version []
+last_among = record { fit = fit_versions; spelled = refl; unaltered = (refl, tt); after = omega arith }
+
 pub stands : AlteredTablesStand
-stands = ((refl, (refl, (alters, (refl, tt)))), refl, refl)
+stands = ((refl, (refl, (alters, (refl, tt)))), last_among, refl, refl)

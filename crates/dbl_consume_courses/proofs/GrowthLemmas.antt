@@ -9,11 +9,13 @@ use Rattle.dbl_model_table.specs.declared.row.Key.{Key}
 use Rattle.dbl_model_table.specs.declared.table.TableInfo.{TableInfo}
 use Rattle.dbl_model_table.specs.declared.change.Body.{Body}
 use Rattle.dbl_model_table.specs.declared.change.Body.TheVariants.{Changes, Mark}
+use Rattle.dbl_model_table.specs.declared.change.Change.{Change}
 use Rattle.dbl_model_table.specs.declared.change.Commit.{Commit}
 use Rattle.dbl_model_table.specs.declared.row.Row.{Row}
 use Rattle.dbl_model_table.specs.Rows.{Rows, no_rows, changes_of, all_changes}
 use Rattle.dbl_model_history.specs.History.{AreRising}
 use Rattle.dbl_model_history.proofs.MomentLemmas.{lsns}
+use Rattle.dbl_model_history.proofs.RowLemmas.{all_changes-append}
 use Rattle.dbl_model_event.specs.Events.{Notice, numbered}
 use Rattle.dbl_model_event.specs.EventJson.{print, envelopes}
 use Rattle.dbl_model_event.specs.Snapshots.{read_records, progress_record, chunk_records}
@@ -26,11 +28,11 @@ use Rattle.dbl_model_event.specs.Clashes.{notice_clash, first_found, clash_of, r
 use Rattle.dbl_model_event.specs.SnapshotLists.{IsSnapshot}
 use Rattle.dbl_consume_laws.specs.Commits.{moment_after, AreFitCommits, IsCommitAmong}
 use Rattle.dbl_consume_laws.specs.Moments.{last_moment, span_end}
-use Rattle.dbl_consume_laws.specs.KnownKeys.{AreToldUpTo}
+use Rattle.dbl_consume_laws.specs.KnownKeys.{IsKnown, AreToldUpTo}
 use Rattle.dbl_consume_laws.specs.Windows.{IsRightWindow}
 use Rattle.dbl_consume_laws.specs.Ages.{held_cell, source_cell, IsAgedCell, IsAged}
 use Rattle.dbl_consume_laws.proofs.AgeingCells.{aged_wider}
-use Rattle.dbl_consume_laws.proofs.Spans.{stays_in_longer}
+use Rattle.dbl_consume_laws.proofs.Spans.{known_shorter, stays_in_longer}
 use Rattle.dbl_consume_laws.proofs.Lists.{all_take}
 use Rattle.dbl_consume_laws.proofs.Changes.{parts_keep_age, commits_move_age}
 use Rattle.dbl_consume_laws.proofs.Snapshot.{parts_of_snapshots_keep_age}
@@ -43,7 +45,7 @@ use Rattle.dbl_consume_courses.specs.Growth.{course_of, own_span_end, IsVersionA
 use Rattle.dbl_consume_courses.proofs.CourseLemmas.{goes_on, infos_from}
 use Rattle.dbl_consume_courses.proofs.Kin.{AreKin, kin_all, kin_distinct, same_all}
 use Rattle.dbl_consume_courses.proofs.FitLemmas.{AreTicks, IsGood, good_of, are_fit}
-use Rattle.dbl_consume_courses.proofs.InfoMoves.{own_moves, moment_at-most, moment_at-late}
+use Rattle.dbl_consume_courses.proofs.InfoMoves.{known_same, own_moves, moment_at-most, moment_at-late}
 use Rattle.dbl_consume_courses.proofs.SinceLemmas.{appended, is_since}
 use Rattle.dbl_consume_courses.proofs.Alone.{emptied_place, Own, AreLike, like_itself, like_back, like_append, like_take, told_like, last_like, OwnCell, own_like, emptied, emptied_like, whole}
 use Rattle.dbl_consume_courses.proofs.TickLemmas.{AreAlike, clash_alike, alike_take, records_like, commit_alike, chunk_same}
@@ -68,20 +70,20 @@ goes_back identity c from to table records le reached aged = record {
 
 -- ---- a course at one of its commits
 
-late_items : (start position : ℕ) (items : List Record) → start ≤ position → AllByRecursion (λ item. item.position ≡ position) items → AllByRecursion (λ item. start ≤ item.position) items
+pub late_items : (start position : ℕ) (items : List Record) → start ≤ position → AllByRecursion (λ item. item.position ≡ position) items → AllByRecursion (λ item. start ≤ item.position) items
 late_items start position [] le at = tt
 late_items start position (item ∷ items) le at = (omega (arith, le, at.0), late_items start position items le at.1)
 
-printed_at : (identity : Identity) (commit : Commit) (now : ℤ) (position ordinal : ℕ) (ns : List Notice) → AllByRecursion (λ item. item.position ≡ position) (map (print identity commit now) (numbered position ordinal ns))
+pub printed_at : (identity : Identity) (commit : Commit) (now : ℤ) (position ordinal : ℕ) (ns : List Notice) → AllByRecursion (λ item. item.position ≡ position) (map (print identity commit now) (numbered position ordinal ns))
 printed_at identity commit now position ordinal [] = tt
 printed_at identity commit now position ordinal (n ∷ ns) = (refl, printed_at identity commit now position (ordinal + 1) ns)
 
-read_at : (identity : Identity) (info : TableInfo) (mark : Commit) (now : ℤ) (ordinal : ℕ) (rows : List (Key × Row)) (last : Record) → last.position ≡ mark.lsn.0
+pub read_at : (identity : Identity) (info : TableInfo) (mark : Commit) (now : ℤ) (ordinal : ℕ) (rows : List (Key × Row)) (last : Record) → last.position ≡ mark.lsn.0
     → AllByRecursion (λ item. item.position ≡ mark.lsn.0) (read_records identity info mark now ordinal rows ++ last ∷ [])
 read_at identity info mark now ordinal [] last is = (is, tt)
 read_at identity info mark now ordinal (entry ∷ rows) last is = (refl, read_at identity info mark now (ordinal + 1) rows last is)
 
-rises_in : (low : ℕ) (front : List ℕ) (x : ℕ) (rest : List ℕ) → AreRising low (front ++ x ∷ rest) → AllByRecursion (λ y. y < x) front
+pub rises_in : (low : ℕ) (front : List ℕ) (x : ℕ) (rest : List ℕ) → AreRising low (front ++ x ∷ rest) → AllByRecursion (λ y. y < x) front
 rises_in low [] x rest rise = tt
 rises_in low (y ∷ front) x rest rise = (under y front x rest rise.1, rises_in y front x rest rise.1)
   where
@@ -92,15 +94,15 @@ rises_in low (y ∷ front) x rest rise = (under y front x rest rise.1, rises_in 
         lt_trans : (a b c : ℕ) → a < b → b < c → a < c
         lt_trans a b c one two = omega (arith, one, two)
 
-lsns_append : (xs ys : List Versioned) → lsns (map plain_commit (xs ++ ys)) ≡ lsns (map plain_commit xs) ++ lsns (map plain_commit ys)
+pub lsns_append : (xs ys : List Versioned) → lsns (map plain_commit (xs ++ ys)) ≡ lsns (map plain_commit xs) ++ lsns (map plain_commit ys)
 lsns_append [] ys = refl
 lsns_append (x ∷ xs) ys = ap (λ (l : List ℕ). x.lsn.0 ∷ l) (lsns_append xs ys)
 
-follow_left : (infos : List TableInfo) (xs ys : List Versioned) → AreVersionsFrom infos (xs ++ ys) → AreVersionsFrom infos xs
+pub follow_left : (infos : List TableInfo) (xs ys : List Versioned) → AreVersionsFrom infos (xs ++ ys) → AreVersionsFrom infos xs
 follow_left infos [] ys follow = tt
 follow_left infos (x ∷ xs) ys follow = (follow.0, follow_left x.infos xs ys follow.1)
 
-follow_right : (infos : List TableInfo) (xs ys : List Versioned) → AreVersionsFrom infos (xs ++ ys) → AreVersionsFrom (infos_after infos xs) ys
+pub follow_right : (infos : List TableInfo) (xs ys : List Versioned) → AreVersionsFrom infos (xs ++ ys) → AreVersionsFrom (infos_after infos xs) ys
 follow_right infos [] ys follow = follow
 follow_right infos (x ∷ xs) ys follow = follow_right x.infos xs ys follow.1
 
@@ -121,14 +123,14 @@ fit_versions_left infos xs ys valid = record {
     rising_front low (x ∷ l) m rise = (rise.0, rising_front x l m rise.1)
 
 -- what is so of a commit in a course
-record IsPlaced (infos : List TableInfo) (start table : ℕ) (versions earlier : List Versioned) (v : Versioned) (later : List Versioned) : Type 0 where
-  commits : (course_of infos start table versions).commits ≡ (course_of infos start table earlier).commits ++ ticked_commit table v ∷ map (ticked_commit table) later
-  kin : AreKin v.infos (course_of infos start table versions).infos
-  same : slice_get v.infos table ≡ slice_get (course_of infos start table versions).infos table
-  late : (course_of infos start table versions).start < v.lsn.0
-  begins : (course_of infos start table versions).start ≡ (course_of infos start table earlier).start
+pub record IsPlaced (infos : List TableInfo) (start table : ℕ) (versions earlier : List Versioned) (v : Versioned) (later : List Versioned) : Type 0 where
+  pub commits : (course_of infos start table versions).commits ≡ (course_of infos start table earlier).commits ++ ticked_commit table v ∷ map (ticked_commit table) later
+  pub kin : AreKin v.infos (course_of infos start table versions).infos
+  pub same : slice_get v.infos table ≡ slice_get (course_of infos start table versions).infos table
+  pub late : (course_of infos start table versions).start < v.lsn.0
+  pub begins : (course_of infos start table versions).start ≡ (course_of infos start table earlier).start
 
-placed_in : (infos : List TableInfo) (versions : List Versioned) (start table : ℕ) (earlier : List Versioned) (v : Versioned) (later : List Versioned)
+pub placed_in : (infos : List TableInfo) (versions : List Versioned) (start table : ℕ) (earlier : List Versioned) (v : Versioned) (later : List Versioned)
     → IsVersionAmong infos versions start table earlier v later → IsPlaced infos start table versions earlier v later
 placed_in infos versions start table earlier v later among =
     let mid : Course = course_of infos start table earlier in
@@ -247,7 +249,7 @@ parts_keep identity infos versions start table earlier v later from records now 
 }
 
 -- the course after one commit more
-one_more : (infos : List TableInfo) (versions : List Versioned) (start table : ℕ) (earlier : List Versioned) (v : Versioned) (later : List Versioned) → IsVersionAmong infos versions start table earlier v later
+pub one_more : (infos : List TableInfo) (versions : List Versioned) (start table : ℕ) (earlier : List Versioned) (v : Versioned) (later : List Versioned) → IsVersionAmong infos versions start table earlier v later
     → (course_of infos start table earlier).commits ++ ticked_commit table v ∷ [] ≡ (course_of infos start table (earlier ++ v ∷ [])).commits
 one_more infos versions start table earlier v later among =
     sym (ap (λ (c : Course). c.commits) (fold-append (course_after table) (first_course infos start) earlier (v ∷ []) ∙ goes_on table (course_of infos start table earlier) (v ∷ []) (among.unaltered.0, tt)))
@@ -374,7 +376,7 @@ module _ (identity : Identity) (infos : List TableInfo) (versions later : List V
   abbrev new : Course
   new = record { infos = infos_after old.infos later; commits = old.commits ++ rest; start = old.start }
 
-  goes : course_of infos start table (versions ++ later) ≡ new
+  pub goes : course_of infos start table (versions ++ later) ≡ new
   goes = fold-append (course_after table) (first_course infos start) versions later ∙ goes_on table old later unaltered
 
   old_valid : AreFitVersions infos versions
@@ -392,11 +394,25 @@ module _ (identity : Identity) (infos : List TableInfo) (versions later : List V
   kin : AreKin old.infos new.infos
   kin = kin_all old.infos later follow
 
-  same : slice_get old.infos table ≡ slice_get new.infos table
-  same = sym (same_all table old.infos later follow unaltered)
+  pub same_infos : slice_get old.infos table ≡ slice_get new.infos table
+  same_infos = sym (same_all table old.infos later follow unaltered)
 
   apart : AreDistinctTables new.infos
   apart = kin_distinct old.infos new.infos kin (are_fit infos versions start table old_valid).distinct
+
+  start_same : AllByRecursion (λ v. start < v.lsn.0) later → course_start new ≡ course_start old
+  start_same after = moment_at-late old.commits rest old.start
+      (all_ticked table old.start later (each_late table old (fold rows_through no_rows versions) start (lsns (map plain_commit versions)) good_old later 0 (subst (AreRising 0) (lsns_append versions later) valid.rise) after))
+
+  -- what is known in the longer history up to a point of the shorter one is known there
+  pub known_old : (moment : ℕ) (records : List Record) (key : Key) → AllByRecursion (λ v. start < v.lsn.0) later → moment ≤ moment_after old.commits → IsKnownIn identity new records moment table key → IsKnownIn identity old records moment table key
+  known_old moment records key after low known =
+      let here : IsKnown identity new.infos (course_changes new) (course_start old) (since old.start records) moment table key =
+      subst (λ (s : ℕ). IsKnown identity new.infos (course_changes new) s (since old.start records) moment table key) (start_same after) known in
+      let parted : IsKnown identity new.infos (all_changes old.commits ++ all_changes rest) (course_start old) (since old.start records) moment table key =
+      subst (λ (l : List Change). IsKnown identity new.infos l (course_start old) (since old.start records) moment table key) (all_changes-append old.commits rest) here in
+      known_same old.infos new.infos table kin same_infos identity (all_changes old.commits) (course_start old) moment (since old.start records) key
+      (known_shorter identity new.infos (all_changes old.commits) (all_changes rest) (course_start old) (since old.start records) moment table key low parted)
 
   pub longer : (from : ℕ) (records : List Record) → AllByRecursion (λ v. start < v.lsn.0) later → AllByRecursion (λ item. AllByRecursion (λ v. item.position < v.lsn.0) later) records
       → from ≤ moment_after old.commits → IsOwnAged identity old records from table → (info : TableInfo) → slice_get new.infos table ≡ Some info
@@ -409,11 +425,9 @@ module _ (identity : Identity) (infos : List TableInfo) (versions later : List V
       let above_S : AllByRecursion (λ item. AllByRecursion (λ v. item.position < v.lsn.0) later) S =
       items_back (λ item. AllByRecursion (λ v. item.position < v.lsn.0) later) parted.earlier S
       (subst (AllByRecursion (λ item. AllByRecursion (λ v. item.position < v.lsn.0) later)) parted.is above) in
-      let late : AllByRecursion (λ v. old.start < v.lsn.0) later =
-      each_late table old (fold rows_through no_rows versions) start (lsns (map plain_commit versions)) good_old later 0 (subst (AreRising 0) (lsns_append versions later) valid.rise) after in
-      let starts : course_start new ≡ s = moment_at-late old.commits rest old.start (all_ticked table old.start later late) in
+      let starts : course_start new ≡ s = start_same after in
       let moved : Own identity info new.infos old.commits s from table S =
-      own_moves old.infos new.infos table kin same identity info old.commits s from S good_old.ticks (λ t x k c n. aged.each t x k c n) in
+      own_moves old.infos new.infos table kin same_infos identity info old.commits s from S good_old.ticks (λ t x k c n. aged.each t x k c n) in
       let flat : IsAged identity new.infos old.commits s L from = whole identity new.infos old.commits s from table info captured apart good_old.ticks S moved in
       let grown : IsAged identity new.infos (old.commits ++ rest) s L from =
       stays_in_longer identity new.infos old.commits rest s from L (moment_at-most old.commits old.start) in_from

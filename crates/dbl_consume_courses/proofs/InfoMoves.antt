@@ -82,7 +82,7 @@ module _ (a b : List TableInfo) (table : ℕ) (kin : AreKin a b) (same : slice_g
       ap (λ (l : List Column). option_and_then (λ texts. texts column) (option_map (row_json_texts l) (rows_at b cs m table key))) (sym columns_same)
       ∙ ap (λ (r : Option (List Val)). option_and_then (λ texts. texts column) (option_map (row_json_texts (columns_of a table)) r)) rows
 
-  known_same : (identity : Identity) (cs : List Change) (start to : ℕ) (records : List Record) (key : Key) → IsKnown identity b cs start records to table key → IsKnown identity a cs start records to table key
+  pub known_same : (identity : Identity) (cs : List Change) (start to : ℕ) (records : List Record) (key : Key) → IsKnown identity b cs start records to table key → IsKnown identity a cs start records to table key
   known_same identity cs start to records key (inl told) = inl (record {
     info = told.info;
     captured = same ∙ told.captured;

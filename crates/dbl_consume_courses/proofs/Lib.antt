@@ -8,3 +8,5 @@ pub mod Alone
 pub mod TickLemmas
 pub mod InfoMoves
 pub mod GrowthLemmas
+pub mod SameLemmas
+pub mod AlteredLemmas

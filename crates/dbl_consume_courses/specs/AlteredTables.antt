@@ -85,15 +85,19 @@ pub record IsOwnAged (identity : Identity) (c : Course) (records : List Record) 
       (span_end c.infos c.commits (course_start c) (since c.start records) from)
       (held_cell identity (since c.start records) topic text column)
 
+-- Whether a consumer of a whole log has the cells that one of the log since a course's start has, at each key known at a point of the course.
+pub record HasSameCells (identity : Identity) (c : Course) (records : List Record) (moment table : ℕ) : Type 0 where
+  pub each : (topic text : List ℕ) (key : Key) (column : List ℕ) → Names identity c.infos topic text table key
+      → IsKnownIn identity c records moment table key
+      → held_cell identity records topic text column ≡ held_cell identity (since c.start records) topic text column
+
 -- The records of a log of an altered table are aged from a position on, in the table's course at the end of the span. Of the log since the
--- table's last alteration it is said in full, in the columns since then. The whole log has the same rows as the log since then at each key
+-- table's last alteration it is said in full, in the columns since then. The whole log has the same cells as the log since then at each key
 -- that is known where that span begins; and each of its rows was in the source at some point of the span of the whole log.
 pub record IsTableAged (identity : Identity) (c : Course) (versions : List Versioned) (records : List Record)
     (position table : ℕ) : Type 0 where
   pub own : IsOwnAged identity c records (moment_at c.commits (max position c.start)) table
-  pub same : (topic text : List ℕ) (key : Key) → Names identity c.infos topic text table key
-      → IsKnownIn identity c records (moment_at c.commits (max position c.start)) table key
-      → held_row identity records topic text ≡ held_row identity (since c.start records) topic text
+  pub same : HasSameCells identity c records (moment_at c.commits (max position c.start)) table
   pub there : (topic text : List ℕ) (key : Key) → Names identity c.infos topic text table key
       → IsSome (held_row identity records topic text)
       → WasThereThrough versions (position_moment versions position)

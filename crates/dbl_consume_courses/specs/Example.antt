@@ -1,5 +1,5 @@
 -- A small history with an alteration: insert a into t, insert x into u, add a column to t, insert y into u; and its log.
-use Rattle.std.specs.Prelude.{◌≡◌, ℕ, pos, true, Some, None, List, [], ◌∷◌, codes}
+use Rattle.std.specs.Prelude.{◌≡◌, ℕ, pos, true, Some, None, List, [], ◌∷◌, ◌++◌, codes}
 use Rattle.dbl_value.specs.declared.column_type.PgType.TheVariants as type
 use Rattle.dbl_value.specs.declared.value.Val.TheVariants as val
 use Rattle.dbl_record.specs.declared.record.Record.{Record}
@@ -13,6 +13,7 @@ use Rattle.dbl_model_table.specs.declared.change.Commit.{Commit}
 use Rattle.dbl_consume_courses.specs.Versions.{Versioned, AreVersionsFrom}
 use Rattle.dbl_consume_courses.specs.Courses.{course, opening}
 use Rattle.dbl_consume_courses.specs.Since.{since}
+use Rattle.dbl_consume_courses.specs.Growth.{IsVersionAmong}
 
 -- The table t, which has its key only.
 abbrev pub old_table : TableInfo
@@ -66,14 +67,20 @@ new_rows = record { cells = Some (codes "a") ∷ Some (codes "1") ∷ [] } ∷ [
 abbrev pub alteration : Versioned
 alteration = record (version_at 3 new_infos (Changes [])) { altered = Some (record { table = 0; rows = new_rows }) }
 
--- The commits of the example.
-abbrev pub example_versions : List Versioned
-example_versions =
+-- The commits up to the alteration, and the one after it.
+abbrev pub first_versions : List Versioned
+first_versions =
     version_at 1 old_infos (Changes (Insert 0 (text_row (codes "a")) ∷ []))
     ∷ version_at 2 old_infos (Changes (Insert 1 (text_row (codes "x")) ∷ []))
     ∷ alteration
-    ∷ version_at 4 new_infos (Changes (Insert 1 (text_row (codes "y")) ∷ []))
     ∷ []
+
+abbrev pub last_version : Versioned
+last_version = version_at 4 new_infos (Changes (Insert 1 (text_row (codes "y")) ∷ []))
+
+-- The commits of the example.
+abbrev pub example_versions : List Versioned
+example_versions = first_versions ++ last_version ∷ []
 
 -- A record at this position.
 abbrev pub record_at : ℕ → Record
@@ -85,10 +92,11 @@ abbrev pub last_tick : Commit
 last_tick =
     record { lsn = record { 0 = 4 }; end_lsn = record { 0 = 4 }; time = pos 0; xid = 1; body = Changes (Clear 1 ∷ []) }
 
--- The commits follow one another; the course of t begins at its alteration; and a log's records since then are those after its last record
--- before it.
+-- The commits follow one another and are those of a valid history, of which the last one is in the course of t; this course begins at the
+-- alteration of t; and a log's records since then are those after its last record before it.
 abbrev pub AlteredTablesStand : Type 0
 AlteredTablesStand = AreVersionsFrom old_infos example_versions
+    × IsVersionAmong old_infos example_versions 0 0 first_versions last_version []
     × (course old_infos example_versions 0 0 4
     ≡ record { infos = new_infos; commits = opening 0 alteration new_rows ∷ last_tick ∷ []; start = 3 })
     × (since 3 (record_at 1 ∷ record_at 4 ∷ record_at 2 ∷ record_at 4 ∷ []) ≡ record_at 4 ∷ [])

@@ -5,4 +5,6 @@ pub mod Since
 pub mod AlteredTables
 pub mod FitVersions
 pub mod Growth
+pub mod SameCells
+pub mod CourseAges
 pub mod Example

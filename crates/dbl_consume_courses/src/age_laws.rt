@@ -3,6 +3,7 @@ ghost use Rattle.dbl_consume_courses.specs.AlteredTables.{AgedCoursesAreOwn, New
 ghost use Rattle.dbl_consume_courses.specs.AlteredTables.{LateLogsAgeAsPlain};
 ghost use Rattle.dbl_consume_courses.specs.AlteredTables.{NothingIsKnownAtFirst};
 ghost use Rattle.dbl_consume_courses.specs.AlteredTables.{LateLogsHaveTheSameRows};
+ghost use Rattle.dbl_consume_courses.specs.CourseAges.{AlteredTablesAge};
 
 /// A log that is aged in a course is aged there as far as the course's table goes.
 pub fn aged_courses_are_own()
@@ -27,4 +28,10 @@ pub fn nothing_is_known_at_first()
 /// A log without a record before a course has the rows of that since its start.
 pub fn late_logs_have_the_same_rows()
     ensures { LateLogsHaveTheSameRows }
+{}
+
+/// At a known key without a whole change in the span, a consumer has the cells of the columns in
+/// force at its end, or none.
+pub fn altered_tables_age()
+    ensures { AlteredTablesAge }
 {}

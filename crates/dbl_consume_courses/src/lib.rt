@@ -5,10 +5,11 @@ mod age_laws;
 mod course_laws;
 mod fit_laws;
 mod growth_laws;
+mod same_laws;
 mod since_laws;
 
 pub use age_laws::{
-    aged_courses_are_own, late_logs_age_as_plain, late_logs_have_the_same_rows,
+    aged_courses_are_own, altered_tables_age, late_logs_age_as_plain, late_logs_have_the_same_rows,
     new_courses_are_aged, nothing_is_known_at_first,
 };
 pub use course_laws::{
@@ -18,6 +19,10 @@ pub use fit_laws::courses_are_fit;
 pub use growth_laws::{
     commits_move_own_age, own_age_goes_back, own_age_stays_as_histories_grow,
     parts_of_commits_keep_own_age, parts_of_snapshots_keep_own_age,
+};
+pub use same_laws::{
+    commits_move_same_cells, new_courses_have_same_cells, parts_of_commits_keep_same_cells,
+    parts_of_snapshots_keep_same_cells, same_cells_stay_as_histories_grow,
 };
 pub use since_laws::{
     early_records_end_all, late_logs_are_whole, late_records_are_appended, later_starts_keep_less,

@@ -10,7 +10,7 @@ use Rattle.std.proofs.lemmas.List.{drop_more}
 use Rattle.std.proofs.lemmas.Str.{len_utf8_ascii}
 use Rattle.std.proofs.lemmas.Str.Pattern.{NoCharPasses-char}
 use Rattle.dbl_model_table.specs.declared.table.TableName.{TableName}
-use Rattle.dbl_cli.specs.Values.{is_dot, is_named, masked_table_in, after_table, around_colon, around_last_colon, mask_parts, is_masked, mask_in, is_mask}
+use Rattle.dbl_cli_commands.specs.Values.{is_dot, is_named, masked_table_in, after_table, around_colon, around_last_colon, mask_parts, is_masked, mask_in, is_mask}
 
 not_here : (c : ℕ) (text : List ℕ) → (c ≡ 58 → ⊥) → around_colon c text None ≡ None
 not_here c text other =

@@ -11,13 +11,13 @@ use Rattle.dbl_model_table.specs.Identities.{default_placeholder}
 use Rattle.dbl_model_table.specs.Tables.{is_name}
 use Rattle.dbl_cli.specs.declared.verbs.Verb.{Verb}
 use Rattle.dbl_cli.specs.declared.verbs.Verb.TheVariants as verb
-use Rattle.dbl_cli.specs.declared.commands.Command.{Command}
+use Rattle.dbl_cli_commands.specs.declared.commands.Command.{Command}
 use Rattle.dbl_cli.specs.Items.{Setting, value_of}
-use Rattle.dbl_cli.specs.Values.{is_number, number_or, passes, is_placeholder, is_named, is_table, table_in, are_tables, is_comma, is_colon, is_column, is_key, key_in, tables_in, are_keys, masked_table_in, after_table, mask_parts, is_stars, is_masked, mask_in, is_mask}
+use Rattle.dbl_cli_commands.specs.Values.{is_number, number_or, passes, is_placeholder, is_named, is_table, table_in, are_tables, is_comma, is_colon, is_column, is_key, key_in, tables_in, are_keys, masked_table_in, after_table, mask_parts, is_stars, is_masked, mask_in, is_mask}
 use Rattle.dbl_cli.specs.Commands.{most_of, names_pass, pace_passes, name_or_demo, placeholder_or_own, number_in, values_pass, command_of}
 use Rattle.dbl_cli.specs.declared.error.CliError.{CliError}
 use Rattle.dbl_cli.specs.Found.{ReadsItems}
-use Rattle.dbl_cli.specs.Limits.{IsBetween, AreGoodNames, IsGoodPace, AreGoodTables, has_columns, AreGoodKeys, IsGoodMask, IsWithin}
+use Rattle.dbl_cli_commands.specs.Limits.{IsBetween, AreGoodNames, IsGoodPace, AreGoodTables, has_columns, AreGoodKeys, IsGoodMask, IsWithin}
 
 text_within : (test : List ℕ → Bool) (default : List ℕ) → test default ≡ true → (value : Option (List ℕ)) → passes test value ≡ true → test (unwrap_or value default) ≡ true
 text_within test default own None pass = own

@@ -15,7 +15,7 @@ use Rattle.clap.specs.declared.parser.matches.ArgMatches.{ArgMatches}
 use Rattle.clap.proofs.WalkLemmas.{first_value-rows, one_text-rows, raw_values-rows}
 use Rattle.dbl_cli.specs.declared.verbs.Verb.{Verb}
 use Rattle.dbl_cli.specs.declared.verbs.Verb.TheVariants as verb
-use Rattle.dbl_cli.specs.declared.commands.Command.{Command}
+use Rattle.dbl_cli_commands.specs.declared.commands.Command.{Command}
 use Rattle.dbl_cli.specs.declared.error.CliError.{CliError}
 use Rattle.dbl_cli.specs.declared.error.CliError.TheVariants.{Memory, Usage}
 use Rattle.dbl_cli.specs.Items.{Setting, Named, AreItems, has_value, value_of, is_given}

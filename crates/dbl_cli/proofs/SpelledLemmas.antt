@@ -8,7 +8,7 @@ use Rattle.clap.specs.Faults.{fault_of}
 use Rattle.clap.specs.Walk.{Text}
 use Rattle.dbl_cli.specs.declared.verbs.Verb.{Verb}
 use Rattle.dbl_cli.specs.declared.verbs.Verb.TheVariants as verb
-use Rattle.dbl_cli.specs.declared.commands.Command.{Command}
+use Rattle.dbl_cli_commands.specs.declared.commands.Command.{Command}
 use Rattle.dbl_cli.specs.Items.{Setting, AreItems, has_value, value_of, is_given}
 use Rattle.dbl_cli.specs.Commands.{Spells, name_of, names_of, least_of, most_of, form_of, values_pass, capture_passes, pace_passes, apply_passes, replay_passes, gen_passes, command_of}
 use Rattle.dbl_cli.specs.Checks.{are_items}

@@ -7,10 +7,10 @@ use Rattle.dbl_model_table.specs.Tables.{is_name}
 use Rattle.dbl_model_table.specs.Identities.{default_placeholder}
 use Rattle.dbl_cli.specs.declared.verbs.Verb.{Verb}
 use Rattle.dbl_cli.specs.declared.verbs.Verb.TheVariants as verb
-use Rattle.dbl_cli.specs.declared.commands.Command.{Command}
-use Rattle.dbl_cli.specs.declared.commands.Command.TheVariants as command
+use Rattle.dbl_cli_commands.specs.declared.commands.Command.{Command}
+use Rattle.dbl_cli_commands.specs.declared.commands.Command.TheVariants as command
 use Rattle.dbl_cli.specs.Items.{Named, Form, Setting, AreItems, value_of, is_given}
-use Rattle.dbl_cli.specs.Values.{is_number, number_or, passes, is_placeholder, table_in, are_tables, key_in, are_keys, mask_in, is_mask}
+use Rattle.dbl_cli_commands.specs.Values.{is_number, number_or, passes, is_placeholder, table_in, are_tables, key_in, are_keys, mask_in, is_mask}
 
 -- ---- the commands' names and forms
 

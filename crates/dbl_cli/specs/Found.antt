@@ -5,7 +5,7 @@ use Rattle.clap.specs.Words.{first_value, found_of, matched_of, one_text, raw_va
 use Rattle.clap.specs.Values.{bool_text}
 use Rattle.clap.specs.declared.parser.matches.ArgMatches.{ArgMatches}
 use Rattle.dbl_cli.specs.declared.verbs.Verb.{Verb}
-use Rattle.dbl_cli.specs.declared.commands.Command.{Command}
+use Rattle.dbl_cli_commands.specs.declared.commands.Command.{Command}
 use Rattle.dbl_cli.specs.declared.error.CliError.{CliError}
 use Rattle.dbl_cli.specs.declared.error.CliError.TheVariants.{Memory}
 use Rattle.dbl_cli.specs.Items.{Setting, AreItems, has_value, value_of, is_given}

@@ -1,7 +1,7 @@
+pub use Rattle.dbl_cli_commands.specs.Values
+pub use Rattle.dbl_cli_commands.specs.Limits
 pub mod Items
-pub mod Values
 pub mod Commands
-pub mod Limits
 pub mod Names
 pub mod Checks
 pub mod Parsers

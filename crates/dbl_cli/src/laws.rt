@@ -1,7 +1,7 @@
 //! Theorems about the grammar; the functions have empty bodies.
 
 ghost use Rattle.std.specs.Prelude.{◌≡◌, ◌⊎◌, ℕ, List};
-ghost use Rattle.dbl_cli.specs.declared.commands.Command.{Command};
+ghost use Rattle.dbl_cli_commands.specs.declared.commands.Command.{Command};
 ghost use Rattle.dbl_cli.specs.Commands.{Spells};
 
 /// Arguments parse as at most one command.

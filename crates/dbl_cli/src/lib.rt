@@ -1,7 +1,6 @@
 //! Command-line arguments.
 #![tactic(auto)]
 
-mod commands;
 mod error;
 mod items;
 mod laws;
@@ -12,7 +11,7 @@ mod spelling;
 mod values;
 mod verbs;
 
-pub use commands::{CaptureOptions, Command, MaskWord, ReplayOptions, ResumeOptions};
+pub use dbl_cli_commands::{CaptureOptions, Command, MaskWord, ReplayOptions, ResumeOptions};
 pub use error::CliError;
 pub use laws::{words_spell_one_command, words_spell_or_not};
 pub use spelling::command;

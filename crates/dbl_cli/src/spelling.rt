@@ -4,7 +4,7 @@ ghost use Rattle.std.specs.Prelude.{◌≡◌, IfOk};
 ghost use Rattle.dbl_cli.specs.Names.{texts};
 ghost use Rattle.dbl_cli.specs.Found.{ReadsItems};
 ghost use Rattle.dbl_cli.specs.Commands.{Spells};
-ghost use Rattle.dbl_cli.specs.Limits.{IsWithin};
+ghost use Rattle.dbl_cli_commands.specs.Limits.{IsWithin};
 
 use crate::items::are_items;
 use crate::names::{least_of, most_of, names_of};

@@ -8,11 +8,11 @@ ghost use Rattle.std.specs.Str.Parse.{digits_value};
 ghost use Rattle.dbl_model_table.specs.Tables.{is_name_byte, is_name, are_distinct, same_name};
 ghost use Rattle.dbl_model_table.specs.Identities.{default_placeholder};
 ghost use Rattle.dbl_cli.specs.Names.{texts};
-ghost use Rattle.dbl_cli.specs.Values.{is_number, number_or, passes, is_placeholder};
-ghost use Rattle.dbl_cli.specs.Values.{is_comma, table_in, is_table, are_tables};
-ghost use Rattle.dbl_cli.specs.Values.{key_in, is_column, is_key, tables_in, are_keys};
-ghost use Rattle.dbl_cli.specs.Values.{is_named, around_last_colon, mask_parts, is_stars};
-ghost use Rattle.dbl_cli.specs.Values.{is_masked, mask_in, is_mask};
+ghost use Rattle.dbl_cli_commands.specs.Values.{is_number, number_or, passes, is_placeholder};
+ghost use Rattle.dbl_cli_commands.specs.Values.{is_comma, table_in, is_table, are_tables};
+ghost use Rattle.dbl_cli_commands.specs.Values.{key_in, is_column, is_key, tables_in, are_keys};
+ghost use Rattle.dbl_cli_commands.specs.Values.{is_named, around_last_colon, mask_parts, is_stars};
+ghost use Rattle.dbl_cli_commands.specs.Values.{is_masked, mask_in, is_mask};
 ghost use Rattle.dbl_cli.specs.Reads.{Reads, ReadsBy};
 
 use crate::{CliError, MaskWord};

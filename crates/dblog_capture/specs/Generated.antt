@@ -8,7 +8,7 @@ use Rattle.dbl_disk.specs.Model.{DiskModel}
 use Rattle.dbl_disk.specs.Disks.{IsOnly}
 use Rattle.dbl_journal.specs.Growth.{growth_room}
 use Rattle.dbl_model_table.specs.Identities.{default_placeholder}
-use Rattle.dbl_cli.specs.declared.commands.CaptureOptions.{CaptureOptions}
+use Rattle.dbl_cli_commands.specs.declared.commands.CaptureOptions.{CaptureOptions}
 use Rattle.dbl_offset_content.specs.declared.offset.Offset.{Offset}
 use Rattle.dbl_offset.specs.Stores.{IsStore}
 use Rattle.dblog_init.specs.DemoLaws.Made.{IsFreshWal}

@@ -6,7 +6,7 @@ ghost use Rattle.dblog_capture.specs.Generated.{IsGeneratedStatus, RunsGenerated
 
 use crate::sessions::run_session;
 use dbl_base::{Output, Seq, Text};
-use dbl_cli::CaptureOptions;
+use dbl_cli_commands::CaptureOptions;
 use dbl_disk::Disk;
 use dbl_gen::script;
 use dbl_lines::{RunError, Status, say};

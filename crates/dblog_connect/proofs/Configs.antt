@@ -5,9 +5,9 @@ use Rattle.dbl_model_table.specs.declared.config.Config.{Config}
 use Rattle.dbl_model_table.specs.declared.table.TableInfo.{TableInfo}
 use Rattle.dbl_model_table.specs.declared.table.TableName.{TableName}
 use Rattle.dbl_model_table.specs.Configs.{IsGoodConfig}
-use Rattle.dbl_cli.specs.declared.commands.CaptureOptions.{CaptureOptions}
-use Rattle.dbl_cli.specs.declared.commands.ResumeOptions.{ResumeOptions}
-use Rattle.dbl_cli.specs.Limits.{AreGoodNames, AreGoodTables, IsGoodPace}
+use Rattle.dbl_cli_commands.specs.declared.commands.CaptureOptions.{CaptureOptions}
+use Rattle.dbl_cli_commands.specs.declared.commands.ResumeOptions.{ResumeOptions}
+use Rattle.dbl_cli_commands.specs.Limits.{AreGoodNames, AreGoodTables, IsGoodPace}
 use Rattle.dbl_offset_content.specs.declared.offset.Offset.{Offset}
 use Rattle.dbl_offset.specs.Offsets.{IsOffset}
 use Rattle.dbl_demo.specs.DemoWorkload.Ready.{AreTableNames}

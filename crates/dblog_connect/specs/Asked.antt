@@ -3,9 +3,9 @@ use Rattle.std.specs.Prelude.{◌≡◌, ℕ, Option, Some, None, List, [], ◌�
 use Rattle.dbl_model_table.specs.declared.config.Config.{Config}
 use Rattle.dbl_model_table.specs.declared.table.TableInfo.{TableInfo}
 use Rattle.dbl_model_table.specs.declared.table.TableName.{TableName}
-use Rattle.dbl_cli.specs.declared.commands.CaptureOptions.{CaptureOptions}
-use Rattle.dbl_cli.specs.declared.commands.ResumeOptions.{ResumeOptions}
-use Rattle.dbl_cli.specs.Limits.{AreGoodNames, AreGoodTables, IsGoodPace}
+use Rattle.dbl_cli_commands.specs.declared.commands.CaptureOptions.{CaptureOptions}
+use Rattle.dbl_cli_commands.specs.declared.commands.ResumeOptions.{ResumeOptions}
+use Rattle.dbl_cli_commands.specs.Limits.{AreGoodNames, AreGoodTables, IsGoodPace}
 use Rattle.dbl_offset_content.specs.declared.offset.Offset.{Offset}
 use Rattle.dbl_demo.specs.DemoWal.Wals.{Wal}
 use Rattle.dblog_promise.specs.Contents.{Contents}

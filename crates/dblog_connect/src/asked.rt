@@ -2,7 +2,7 @@
 
 ghost use Rattle.std.specs.Prelude.{◌≡◌, ◌⊎◌, Some, IfOk, IfErr, IfSome, option_map};
 ghost use Rattle.dbl_model_table.specs.Configs.{IsGoodConfig};
-ghost use Rattle.dbl_cli.specs.Limits.{AreGoodNames, AreGoodTables, IsGoodPace};
+ghost use Rattle.dbl_cli_commands.specs.Limits.{AreGoodNames, AreGoodTables, IsGoodPace};
 ghost use Rattle.dbl_offset.specs.Offsets.{IsOffset};
 ghost use Rattle.dbl_demo.specs.DemoWorkload.Ready.{AreTableNames};
 ghost use Rattle.dblog_connect.specs.Asked.{IsAskedWithinLimits, Refuses, asks_of};
@@ -10,7 +10,7 @@ ghost use Rattle.dblog_connect.specs.Asked.{config_again, config_of, names_of, t
 
 use crate::ConnectError;
 use dbl_base::{Seq, copy_items};
-use dbl_cli::{CaptureOptions, ResumeOptions};
+use dbl_cli_commands::{CaptureOptions, ResumeOptions};
 use dbl_model_table::{Config, Identity, TableInfo, TableName};
 use dbl_offset::Offset;
 use std::alloc::{AllocError, Global};

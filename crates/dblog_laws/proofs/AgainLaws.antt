@@ -37,8 +37,8 @@ use Rattle.dblog_run.specs.Promise.Reports.{read_after}
 use Rattle.dblog_run.specs.Promise.Tables.{whole_history}
 use Rattle.dblog_run.proofs.PromiseKeptLaws.{disks_are_read_once}
 use Rattle.dblog_run.specs.Connect.declared.asked.Asked.TheVariants.{Again}
-use Rattle.dbl_cli.specs.declared.commands.Command.TheVariants.{Resume}
-use Rattle.dbl_cli.specs.declared.commands.ResumeOptions.{ResumeOptions}
+use Rattle.dbl_cli_commands.specs.declared.commands.Command.TheVariants.{Resume}
+use Rattle.dbl_cli_commands.specs.declared.commands.ResumeOptions.{ResumeOptions}
 use Rattle.dblog_run.specs.Connect.Asked.{asks_of, config_again, workload_tables}
 use Rattle.dblog_run.specs.Sessions.{IsCompleteRun, asks_by}
 use Rattle.dblog_run.specs.Connect.ConnectEnds.declared.summary.Summary.{Summary}

@@ -13,7 +13,7 @@ use Rattle.dbl_model_table.specs.declared.table.TableName.{TableName}
 use Rattle.dbl_model_history.specs.Fit.{AreInfosOf}
 use Rattle.dbl_model_history.specs.History.{History, RawBody, RawCommit}
 use Rattle.dbl_model_history.specs.History.RawBody.{Changes, Mark}
-use Rattle.dbl_cli.specs.declared.commands.CaptureOptions.{CaptureOptions}
+use Rattle.dbl_cli_commands.specs.declared.commands.CaptureOptions.{CaptureOptions}
 use Rattle.dbl_source_log.specs.declared.logged.LogTable.{LogTable}
 use Rattle.dbl_source_log.specs.declared.logged.Logged.{Logged}
 use Rattle.dbl_source_log.specs.declared.logged.Logged.TheVariants.{Changes as Logs}
@@ -45,7 +45,7 @@ use Rattle.dblog_run.specs.Promise.Reports.{CountsMessages, read_after}
 use Rattle.dblog_run.specs.Promise.Tables.{whole_history}
 use Rattle.dblog_run.proofs.PromiseKeptLaws.{disks_are_read_once}
 use Rattle.dblog_run.specs.Connect.declared.asked.Asked.TheVariants.{First}
-use Rattle.dbl_cli.specs.declared.commands.Command.TheVariants.{Capture}
+use Rattle.dbl_cli_commands.specs.declared.commands.Command.TheVariants.{Capture}
 use Rattle.dblog_run.specs.Connect.Asked.{asks_in, asks_of, config_of, workload_tables}
 use Rattle.dblog_run.specs.Sessions.{IsCompleteRun}
 use Rattle.dblog_run.specs.Connect.ConnectEnds.declared.summary.Summary.{Summary}

@@ -4,8 +4,8 @@ use Rattle.dbl_base.specs.Lines.{lines_of}
 use Rattle.dbl_base.specs.Streams.{FaultCounted}
 use Rattle.dbl_consume.specs.Printing.{row_line}
 use Rattle.dbl_consume.proofs.StandLemmas.{rows_stand}
-use Rattle.dbl_cli.specs.declared.commands.Command.{Command}
-use Rattle.dbl_cli.specs.declared.commands.Command.TheVariants as command
+use Rattle.dbl_cli_commands.specs.declared.commands.Command.{Command}
+use Rattle.dbl_cli_commands.specs.declared.commands.Command.TheVariants as command
 use Rattle.dblog_run.specs.Replay.Apply.{readings_of_lines}
 use Rattle.dblog_stores.specs.Compacting.{kept_lines}
 use Rattle.dblog_stores.specs.Answers.{offset_lines, topic_lines, PrintsKept}

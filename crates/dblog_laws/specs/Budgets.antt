@@ -6,8 +6,8 @@ use Rattle.dbl_base.specs.declared.lsn.Lsn.{Lsn}
 use Rattle.dbl_pgmsg.specs.declared.messages.Message.{Message}
 use Rattle.dbl_model_table.specs.declared.row.Key.{Key}
 use Rattle.dbl_model_table.specs.declared.table.TableInfo.{TableInfo}
-use Rattle.dbl_cli.specs.declared.commands.CaptureOptions.{CaptureOptions}
-use Rattle.dbl_cli.specs.declared.commands.ResumeOptions.{ResumeOptions}
+use Rattle.dbl_cli_commands.specs.declared.commands.CaptureOptions.{CaptureOptions}
+use Rattle.dbl_cli_commands.specs.declared.commands.ResumeOptions.{ResumeOptions}
 use Rattle.dbl_source_log.specs.declared.logged.Logged.{Logged}
 use Rattle.dbl_source_log.specs.declared.logged.LogTable.{LogTable}
 use Rattle.dbl_source_log.specs.Numbers.{commits_upto}
@@ -28,7 +28,7 @@ use Rattle.dblog_run.specs.Promise.Kept.{AreKept}
 use Rattle.dblog_run.specs.Promise.Tables.{whole_history}
 use Rattle.dblog_run.specs.Connect.declared.asked.Asked.TheVariants.{Again, First}
 use Rattle.dblog_run.specs.Connect.Asked.{config_of, workload_tables, tables_or}
-use Rattle.dbl_cli.specs.declared.commands.Command.TheVariants.{Capture, Resume}
+use Rattle.dbl_cli_commands.specs.declared.commands.Command.TheVariants.{Capture, Resume}
 use Rattle.dblog_run.specs.Sessions.{IsCompleteRun, asks_by}
 use Rattle.dblog_run.specs.Connect.Ends.{ConnectEnd}
 use Rattle.dblog_run.specs.Capture.Generated.{WasCaptured, plain_capture}

@@ -7,9 +7,9 @@ use Rattle.dbl_topic.specs.Logs.{IsLog}
 use Rattle.dbl_offset_content.specs.declared.offset.Offset.{Offset}
 use Rattle.dbl_offset.specs.Stores.{IsStore}
 use Rattle.dbl_demo_wal.specs.Workloads.{IsWorkload, Workload}
-use Rattle.dbl_cli.specs.declared.commands.Command.{Command}
-use Rattle.dbl_cli.specs.declared.commands.ReplayOptions.{ReplayOptions}
-use Rattle.dbl_cli.specs.declared.commands.Command.TheVariants.{Init, Topics, Offsets, Compact, Capture, Resume, Replay, Apply, Gen}
+use Rattle.dbl_cli_commands.specs.declared.commands.Command.{Command}
+use Rattle.dbl_cli_commands.specs.declared.commands.ReplayOptions.{ReplayOptions}
+use Rattle.dbl_cli_commands.specs.declared.commands.Command.TheVariants.{Init, Topics, Offsets, Compact, Capture, Resume, Replay, Apply, Gen}
 use Rattle.dblog_run.specs.Init.Answers.{AreEmpty}
 use Rattle.dblog_run.specs.Replay.Apply.{first_line_fault}
 use Rattle.dblog_run.specs.Promise.Contents.{Contents, ReadAs}

@@ -2,7 +2,7 @@
 use Rattle.std.specs.Prelude.{ℕ, IsSome, List}
 use Rattle.dbl_lines.specs.declared.status.Status.{Status}
 use Rattle.dbl_disk.specs.Model.{DiskModel}
-use Rattle.dbl_cli.specs.declared.commands.Command.{Command}
+use Rattle.dbl_cli_commands.specs.declared.commands.Command.{Command}
 use Rattle.dbl_cli.specs.Commands.{Spells}
 use Rattle.dblog_run.specs.Init.declared.disks.Disks.{Disks}
 use Rattle.dblog_run.specs.Promise.Headline.{GuaranteesAfterCrash}

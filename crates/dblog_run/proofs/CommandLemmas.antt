@@ -2,9 +2,9 @@
 use Rattle.std.proofs.Common.{◌≡◌, ◌⊎◌, inl, inr, ◌∙◌, ℕ, ℤ, true, false, Option, List, refl, sym, ap, subst}
 use Rattle.dbl_record.specs.declared.record.Record.{Record}
 use Rattle.dbl_topic.specs.Logs.{IsLog}
-use Rattle.dbl_cli.specs.declared.commands.Command.{Command}
-use Rattle.dbl_cli.specs.declared.commands.ReplayOptions.{ReplayOptions}
-use Rattle.dbl_cli.specs.declared.commands.Command.TheVariants as command
+use Rattle.dbl_cli_commands.specs.declared.commands.Command.{Command}
+use Rattle.dbl_cli_commands.specs.declared.commands.ReplayOptions.{ReplayOptions}
+use Rattle.dbl_cli_commands.specs.declared.commands.Command.TheVariants as command
 use Rattle.dbl_cli.specs.Commands.{Spells}
 use Rattle.dbl_cli.proofs.SayLemmas.{one_command}
 use Rattle.dbl_lines.specs.declared.status.Status.{Status}

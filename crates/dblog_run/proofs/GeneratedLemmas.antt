@@ -1,8 +1,8 @@
 -- A run of `gen --run`, among the commands, and one that ended before it began.
 use Rattle.std.proofs.Common.{◌≡◌, ◌⊎◌, inl, inr, ◌∙◌, ℕ, ◌^◌, ◌≤◌, Bool, true, false, Option, Some, List, [], length, refl, sym, ap, subst, arith}
 use Rattle.std.specs.Prelude.{max}
-use Rattle.dbl_cli.specs.declared.commands.Command.{Command}
-use Rattle.dbl_cli.specs.declared.commands.Command.TheVariants as command
+use Rattle.dbl_cli_commands.specs.declared.commands.Command.{Command}
+use Rattle.dbl_cli_commands.specs.declared.commands.Command.TheVariants as command
 use Rattle.dbl_gen.specs.Workload.{workload}
 use Rattle.dbl_disk.specs.Model.{DiskModel}
 use Rattle.dblog_init.specs.declared.error.Store.TheVariants as store

@@ -6,8 +6,8 @@ use Rattle.std.specs.Prelude.{is_some}
 use Rattle.dbl_disk.specs.Model.{DiskModel}
 use Rattle.dbl_journal.specs.Form.{IsClosed, IsJournal, up_to_gate}
 use Rattle.dbl_model_table.specs.declared.config.Config.{Config}
-use Rattle.dbl_cli.specs.declared.commands.Command.{Command}
-use Rattle.dbl_cli.specs.declared.commands.Command.TheVariants as command
+use Rattle.dbl_cli_commands.specs.declared.commands.Command.{Command}
+use Rattle.dbl_cli_commands.specs.declared.commands.Command.TheVariants as command
 use Rattle.dblog_init.specs.declared.disks.Disks.{Disks}
 use Rattle.dblog_init.specs.Disks.{HoldsBytes, HoldSomeBytes}
 use Rattle.dblog_capture.specs.Connect.Promise.Bounds.{IsBounded, IsStoreBounded}

@@ -1,7 +1,7 @@
 -- The statuses 4 and 14 are answered if and only if the stores tell an error.
 use Rattle.std.proofs.Common.{◌≡◌, ◌≢◌, ◌⊎◌, inl, inr, ◌∙◌, ℕ, ℤ, true, false, Ok, Err, List, [], refl, sym, ap}
-use Rattle.dbl_cli.specs.declared.commands.Command.{Command}
-use Rattle.dbl_cli.specs.declared.commands.Command.TheVariants as command
+use Rattle.dbl_cli_commands.specs.declared.commands.Command.{Command}
+use Rattle.dbl_cli_commands.specs.declared.commands.Command.TheVariants as command
 use Rattle.dbl_cli.specs.Commands.{Spells}
 use Rattle.dblog_stores.specs.declared.error.CommandError.{CommandError}
 use Rattle.dblog_stores.specs.declared.error.CommandError.TheVariants as error
@@ -29,7 +29,7 @@ use Rattle.dblog_init.specs.Errors.{demo_error}
 use Rattle.dblog_run.specs.Inits.{init_answer, init_fault}
 use Rattle.dblog_run.specs.Laws.{AreFull, AreRefused, StoreFaultsAreTold, StoresTell}
 use Rattle.dblog_run.proofs.StoreRunLemmas.{apply_refuses, offsets_refuse, topics_refuse}
-use Rattle.dbl_cli.specs.declared.commands.ReplayOptions.{ReplayOptions}
+use Rattle.dbl_cli_commands.specs.declared.commands.ReplayOptions.{ReplayOptions}
 use Rattle.dblog_streams.specs.Applies.{Applies}
 use Rattle.dblog_streams.specs.Generates.{made}
 use Rattle.dblog_streams.specs.Replays.{Replays}

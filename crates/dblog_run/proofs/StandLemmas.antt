@@ -1,10 +1,10 @@
 -- Words and bytes have an answer at each moment.
 use Rattle.std.proofs.Common.{◌≡◌, ◌⊎◌, inl, inr, ℕ, ℤ, true, false, List, refl, subst}
 use Rattle.dbl_pgmsg.specs.Faults.{AreBytes}
-use Rattle.dbl_cli.specs.declared.commands.Command.{Command}
-use Rattle.dbl_cli.specs.declared.commands.Command.TheVariants as command
+use Rattle.dbl_cli_commands.specs.declared.commands.Command.{Command}
+use Rattle.dbl_cli_commands.specs.declared.commands.Command.TheVariants as command
 use Rattle.dbl_cli.specs.Commands.{Spells as Spelled}
-use Rattle.dbl_cli.specs.declared.commands.ReplayOptions.{ReplayOptions}
+use Rattle.dbl_cli_commands.specs.declared.commands.ReplayOptions.{ReplayOptions}
 use Rattle.dbl_cli.proofs.SpelledLemmas.{spelled_or_not}
 use Rattle.dbl_lines.specs.declared.run_error.RunError.TheVariants.{Usage}
 use Rattle.dblog_streams.specs.Answers.{RunAnswer, fault}

@@ -2,8 +2,8 @@
 use Rattle.std.specs.Prelude.{◌≡◌, ◌⊎◌, ℕ, ℤ, ◌||◌, Bool, true, false, Option, Some, List}
 use Rattle.dbl_record.specs.declared.record.Record.{Record}
 use Rattle.dbl_topic.specs.Logs.{IsLog}
-use Rattle.dbl_cli.specs.declared.commands.Command.{Command}
-use Rattle.dbl_cli.specs.declared.commands.Command.TheVariants.{Init, Topics, Offsets, Compact, Capture, Resume, Replay, Apply, Gen}
+use Rattle.dbl_cli_commands.specs.declared.commands.Command.{Command}
+use Rattle.dbl_cli_commands.specs.declared.commands.Command.TheVariants.{Init, Topics, Offsets, Compact, Capture, Resume, Replay, Apply, Gen}
 use Rattle.dbl_cli.specs.Commands.{Spells}
 use Rattle.dblog_init.specs.Answers as inits
 use Rattle.dbl_lines.specs.declared.status.Status.{Status}

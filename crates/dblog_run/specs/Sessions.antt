@@ -3,8 +3,8 @@ use Rattle.std.specs.Prelude.{◌≡◌, Option, Some, None, IsSome, option_and_
 use Rattle.dbl_lines.specs.declared.status.Status.{Status}
 use Rattle.dbl_lines.specs.declared.status.Status.TheVariants.{Done}
 use Rattle.dbl_model_table.specs.declared.config.Config.{Config}
-use Rattle.dbl_cli.specs.declared.commands.Command.{Command}
-use Rattle.dbl_cli.specs.declared.commands.Command.TheVariants.{Capture, Resume}
+use Rattle.dbl_cli_commands.specs.declared.commands.Command.{Command}
+use Rattle.dbl_cli_commands.specs.declared.commands.Command.TheVariants.{Capture, Resume}
 use Rattle.dblog_capture.specs.Connect.Promise.Contents.{Contents}
 use Rattle.dblog_capture.specs.Connect.declared.asked.Asked.{Asked}
 use Rattle.dblog_capture.specs.Connect.declared.asked.Asked.TheVariants.{First, Again}

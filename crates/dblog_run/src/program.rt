@@ -1,9 +1,9 @@
 ghost use Rattle.std.specs.Prelude.{◌≡◌, ◌⊎◌, true, false, ℕ, ◌≤◌};
 ghost use Rattle.std.specs.Prelude.{List, [], length, Some, IsSome, Err};
 ghost use Rattle.dbl_base.specs.Streams.{FaultCounted, input_limit};
-ghost use Rattle.dbl_cli.specs.declared.commands.Command.{Command};
+ghost use Rattle.dbl_cli_commands.specs.declared.commands.Command.{Command};
 ghost use Rattle.dbl_cli.specs.Commands.{Spells};
-ghost use Rattle.dbl_cli.specs.Limits.{IsWithin};
+ghost use Rattle.dbl_cli_commands.specs.Limits.{IsWithin};
 ghost use Rattle.dblog_stores.specs.Ends.{IsSynced};
 ghost use Rattle.dblog_run.specs.Means.{ReadsGivenInput, RunInput, HasOpenedOffsets};
 ghost use Rattle.dblog_run.specs.Means.{HasOpenedTopics, InputFails, Runs, RunsCommand, SpellNone};

@@ -8,7 +8,7 @@ use Rattle.dbl_base.specs.Streams.{input_limit}
 use Rattle.dbl_base.specs.Lines.{lines_of}
 use Rattle.dbl_pgmsg.specs.Faults.{AreBytes}
 use Rattle.dbl_lines.specs.declared.run_error.RunError.TheVariants.{BadLine, InputTooLong}
-use Rattle.dbl_cli.specs.declared.commands.ReplayOptions.{ReplayOptions}
+use Rattle.dbl_cli_commands.specs.declared.commands.ReplayOptions.{ReplayOptions}
 use Rattle.dblog_replay.specs.Lines.{message_bytes_in, first_bad_line}
 use Rattle.dblog_replay.proofs.CommitLaws.{replays_exist}
 use Rattle.dblog_replay.proofs.DigitLemmas.{messages_small}

@@ -6,7 +6,7 @@ use Rattle.dbl_frames.specs.Stream.{AreFramesOf, Unfinished}
 use Rattle.dbl_frames.proofs.StreamLemmas.{not_both, one_fault, one_reading}
 use Rattle.dbl_lines.specs.declared.run_error.RunError.TheVariants.{BadLine}
 use Rattle.dblog_replay.specs.declared.log_fault.LogFault.{LogFault}
-use Rattle.dbl_cli.specs.declared.commands.ReplayOptions.{ReplayOptions}
+use Rattle.dbl_cli_commands.specs.declared.commands.ReplayOptions.{ReplayOptions}
 use Rattle.dblog_replay.specs.Pieces.{Piece}
 use Rattle.dblog_replay.specs.Streams.{ReadsPieces}
 use Rattle.dblog_replay.specs.Replay.{IsReplayed}

@@ -12,7 +12,7 @@ use Rattle.dbl_lines.specs.declared.run_error.RunError.TheVariants.{Usage, BadLi
 use Rattle.dblog_replay.specs.declared.log_fault.LogFault.{LogFault}
 use Rattle.dblog_replay.specs.declared.log_fault.LogFault.TheVariants as log
 use Rattle.dblog_replay.specs.declared.options.LogOptions.{LogOptions}
-use Rattle.dbl_cli.specs.declared.commands.ReplayOptions.{ReplayOptions}
+use Rattle.dbl_cli_commands.specs.declared.commands.ReplayOptions.{ReplayOptions}
 use Rattle.dbl_lines.specs.declared.error.PrintError.TheVariants as print_error
 use Rattle.dbl_lines.specs.Faults.{status_of, fault_line}
 use Rattle.dblog_replay.specs.Pieces.{Piece, AllFitFields}

@@ -4,8 +4,8 @@ use Rattle.std.specs.Prelude.{◌≡◌, ◌⊎◌, ℕ, ℤ, Bool, true, Option
 use Rattle.dbl_lines.specs.declared.status.Status.{Status}
 use Rattle.dblog_streams.specs.Answers.{RunAnswer, Ends, IsExternalStatus}
 use Rattle.dbl_pgmsg.specs.Faults.{AreBytes}
-use Rattle.dbl_cli.specs.declared.commands.MaskWord.{MaskWord}
-use Rattle.dbl_cli.specs.declared.commands.ReplayOptions.{ReplayOptions}
+use Rattle.dbl_cli_commands.specs.declared.commands.MaskWord.{MaskWord}
+use Rattle.dbl_cli_commands.specs.declared.commands.ReplayOptions.{ReplayOptions}
 use Rattle.dbl_hooks_masks.specs.declared.mask.Mask.TheVariants.{Stars}
 use Rattle.dbl_hooks_masks.specs.declared.masking.Masking.{Masking}
 use Rattle.dblog_replay.specs.declared.log_fault.LogFault.{LogFault}

@@ -19,7 +19,7 @@ use crate::frames::read_payloads;
 use crate::input::read_input;
 use crate::unread::{Unread, say_unread};
 use dbl_base::{Bytes, Input, Output};
-use dbl_cli::{MaskWord, ReplayOptions};
+use dbl_cli_commands::{MaskWord, ReplayOptions};
 use dbl_hooks_masks::{Mask, Masking};
 use dbl_lines::{RunError, Status, say};
 use dbl_model_table::Identity;

@@ -1,7 +1,7 @@
 use Rattle.std.proofs.Common.{◌≡◌, ◌++◌, drop}
 use Rattle.std.specs.List.{list_all}
 use Rattle.dbl_cli.specs.Names.{texts}
-use Rattle.dbl_cli.specs.Values.{is_column}
+use Rattle.dbl_cli_commands.specs.Values.{is_column}
 use Rattle.dbl_cli.proofs.values.all_columns.Given as goal
 
 abbrev pub invariant-loop-word : goal.invariant-loop-word

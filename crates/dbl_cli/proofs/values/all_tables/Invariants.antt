@@ -1,7 +1,7 @@
 use Rattle.std.proofs.Common.{◌≡◌, ◌++◌, drop, map}
 use Rattle.std.specs.List.{list_all}
 use Rattle.dbl_cli.specs.Names.{texts}
-use Rattle.dbl_cli.specs.Values.{is_table, table_in}
+use Rattle.dbl_cli_commands.specs.Values.{is_table, table_in}
 use Rattle.dbl_cli.proofs.values.all_tables.Given as goal
 
 abbrev pub invariant-loop-word : goal.invariant-loop-word

@@ -1,6 +1,6 @@
 use Rattle.std.proofs.Common.{◌≡◌, drop}
 use Rattle.dbl_model_table.specs.Tables.{are_distinct, same_name}
-use Rattle.dbl_cli.specs.Values.{tables_in}
+use Rattle.dbl_cli_commands.specs.Values.{tables_in}
 use Rattle.dbl_cli.proofs.values.are_distinct_keys.Given as goal
 
 abbrev pub invariant-loop-i : goal.invariant-loop-i

@@ -1,6 +1,6 @@
 use Rattle.std.proofs.Common.{◌≡◌, ◌∙◌, ap, rules}
 use Rattle.std.specs.List.{before_first, after_first}
-use Rattle.dbl_cli.specs.Values.{is_dot}
+use Rattle.dbl_cli_commands.specs.Values.{is_dot}
 use Rattle.dbl_cli.proofs.ColonLemmas.{mask_made}
 use Rattle.dbl_cli.proofs.values.mask.Goals as goal
 

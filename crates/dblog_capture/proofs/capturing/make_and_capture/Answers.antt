@@ -1,5 +1,5 @@
 use Rattle.std.proofs.Common.{◌∙◌, ◌⊎◌, inr, ℕ, Option, Some, List, [], Err, ap, refl, sym, subst}
-use Rattle.dbl_cli.specs.declared.commands.CaptureOptions.{CaptureOptions}
+use Rattle.dbl_cli_commands.specs.declared.commands.CaptureOptions.{CaptureOptions}
 use Rattle.dblog_init.specs.declared.error.InitError.{InitError}
 use Rattle.dblog_init.specs.declared.error.Store.TheVariants as store
 use Rattle.dblog_init.specs.Answers as inits

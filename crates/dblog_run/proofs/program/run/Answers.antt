@@ -1,7 +1,7 @@
 use Rattle.std.proofs.Common.{◌≡◌, ◌⊎◌, Some, Err, ℤ, true, inl, inr, ap, arith, refl, subst}
 use Rattle.std.proofs.Math.Facts.{to_z-of_z}
-use Rattle.dbl_cli.specs.declared.commands.Command.{Command}
-use Rattle.dbl_cli.specs.declared.commands.Command.TheVariants as command
+use Rattle.dbl_cli_commands.specs.declared.commands.Command.{Command}
+use Rattle.dbl_cli_commands.specs.declared.commands.Command.TheVariants as command
 use Rattle.dbl_cli.proofs.SayLemmas.{one_command}
 use Rattle.dblog_capture.specs.Connect.Promise.Headline.{GuaranteesAfterCrash}
 use Rattle.dblog_run.specs.Inits.{FailsSource}

@@ -1,6 +1,6 @@
 use Rattle.std.proofs.Common.{◌≡◌, ◌∙◌, ℕ, List, true, false, inl, ap, refl, sym, subst}
-use Rattle.dbl_cli.specs.declared.commands.Command.{Command}
-use Rattle.dbl_cli.specs.declared.commands.Command.TheVariants as command
+use Rattle.dbl_cli_commands.specs.declared.commands.Command.{Command}
+use Rattle.dbl_cli_commands.specs.declared.commands.Command.TheVariants as command
 use Rattle.dbl_base.specs.Streams.{FaultCounted}
 use Rattle.dblog_stores.specs.Answers.{AnswersApply, AnswersCompact, AnswersOffsets, AnswersTopics}
 use Rattle.dblog_capture.specs.Connect.declared.asked.Asked.{Asked}

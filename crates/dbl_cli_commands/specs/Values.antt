@@ -8,7 +8,7 @@ use Rattle.std.specs.Str.Parse.{digits_value}
 use Rattle.dbl_model_table.specs.declared.table.TableName.{TableName}
 use Rattle.dbl_model_table.specs.Tables.{is_name, same_name, are_distinct}
 use Rattle.dbl_model_table.specs.declared.table.TableKey.{TableKey}
-use Rattle.dbl_cli.specs.declared.commands.MaskWord.{MaskWord}
+use Rattle.dbl_cli_commands.specs.declared.commands.MaskWord.{MaskWord}
 
 -- 1 to 9 decimal digits whose number is within bounds
 abbrev pub is_number : ℕ → ℕ → List ℕ → Bool

@@ -4,10 +4,10 @@ use Rattle.std.specs.List.{list_all}
 use Rattle.dbl_model_table.specs.declared.table.TableKey.{TableKey}
 use Rattle.dbl_model_table.specs.declared.table.TableName.{TableName}
 use Rattle.dbl_model_table.specs.Tables.{is_name, same_name, are_distinct}
-use Rattle.dbl_cli.specs.declared.commands.Command.{Command}
-use Rattle.dbl_cli.specs.declared.commands.MaskWord.{MaskWord}
-use Rattle.dbl_cli.specs.declared.commands.Command.TheVariants.{Init, Topics, Offsets, Compact, Capture, Resume, Apply, Replay, Gen}
-use Rattle.dbl_cli.specs.Values.{is_placeholder, is_named, is_column, tables_in}
+use Rattle.dbl_cli_commands.specs.declared.commands.Command.{Command}
+use Rattle.dbl_cli_commands.specs.declared.commands.MaskWord.{MaskWord}
+use Rattle.dbl_cli_commands.specs.declared.commands.Command.TheVariants.{Init, Topics, Offsets, Compact, Capture, Resume, Apply, Replay, Gen}
+use Rattle.dbl_cli_commands.specs.Values.{is_placeholder, is_named, is_column, tables_in}
 
 -- the number is within the bounds
 abbrev pub IsBetween : ℕ → ℕ → ℕ → Type 0

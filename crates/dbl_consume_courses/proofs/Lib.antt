@@ -10,3 +10,5 @@ pub mod InfoMoves
 pub mod GrowthLemmas
 pub mod SameLemmas
 pub mod AlteredLemmas
+pub mod Clock
+pub mod PlainLemmas

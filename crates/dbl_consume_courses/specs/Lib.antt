@@ -7,4 +7,5 @@ pub mod FitVersions
 pub mod Growth
 pub mod SameCells
 pub mod CourseAges
+pub mod PlainAges
 pub mod Example

@@ -4,6 +4,7 @@ ghost use Rattle.dbl_consume_courses.specs.AlteredTables.{LateLogsAgeAsPlain};
 ghost use Rattle.dbl_consume_courses.specs.AlteredTables.{NothingIsKnownAtFirst};
 ghost use Rattle.dbl_consume_courses.specs.AlteredTables.{LateLogsHaveTheSameRows};
 ghost use Rattle.dbl_consume_courses.specs.CourseAges.{AlteredTablesAge};
+ghost use Rattle.dbl_consume_courses.specs.PlainAges.{PlainTablesAge};
 
 /// A log that is aged in a course is aged there as far as the course's table goes.
 pub fn aged_courses_are_own()
@@ -34,4 +35,10 @@ pub fn late_logs_have_the_same_rows()
 /// force at its end, or none.
 pub fn altered_tables_age()
     ensures { AlteredTablesAge }
+{}
+
+/// If no table is altered, records are aged in the history exactly if they are so in the course of
+/// each table.
+pub fn plain_tables_age()
+    ensures { PlainTablesAge }
 {}

@@ -10,7 +10,7 @@ mod since_laws;
 
 pub use age_laws::{
     aged_courses_are_own, altered_tables_age, late_logs_age_as_plain, late_logs_have_the_same_rows,
-    new_courses_are_aged, nothing_is_known_at_first,
+    new_courses_are_aged, nothing_is_known_at_first, plain_tables_age,
 };
 pub use course_laws::{
     altered_tables_stand, courses_begin_anew, courses_go_on, courses_have_infos, courses_show_rows,

@@ -1,0 +1,2 @@
+pub use Rattle.dbl_capture.specs as Capture
+pub mod Passed

@@ -19,8 +19,9 @@
 //! - `session/1000/100/40`: a session, by the most rows of a window, after how many commits the offset is stored, and the most messages
 //!   that it reads. A fourth number is the time at which its records are made, else 0. `tables/public.users public.docs` are the
 //!   tables that it captures, one or two; `puts/1` and `disk/3` are the puts of its sink and the calls of its store's disk that fail;
+//!   `gate/300` is the greatest length in bytes of a value that its receiver accepts, else any;
 //!   `found/` and bytes in hexadecimal digits are the store that it finds. It is answered by how it ended, its report, the offset
-//!   that it stored and how far each table was read, and the lines of its records.
+//!   that it stored and how far each table was read, the record that was refused, and the lines of its records.
 #![tactic(auto)]
 
 mod asked;

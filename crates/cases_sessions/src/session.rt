@@ -1,6 +1,6 @@
 //! A session, and what it leaves.
 
-ghost use Rattle.std.specs.Prelude.{◌≡◌, IsTrue, IfOk, OnOk};
+ghost use Rattle.std.specs.Prelude.{◌≡◌, ◌&&◌, is_none, IsTrue, IfOk, OnOk};
 ghost use Rattle.dbl_model_table.specs.Configs.{IsGoodConfig};
 ghost use Rattle.dbl_offset.specs.Stores.{IsLive};
 ghost use Rattle.dbl_capture.specs.CaptureLaws.Found.{IsOfConfig};
@@ -9,8 +9,10 @@ use crate::{asked, demo, script};
 use anyhow::{Result, bail};
 use cases_items::{items, shown, words};
 use dbl_base::Lsn;
-use dbl_capture::{Ending, Halt, Report, session};
+use dbl_capture::{Ending, Halt, Report};
+use dbl_capture_gated::gated_session;
 use dbl_disk::{Choice, MemDisk};
+use dbl_hooks_gate::{Gate, Rule};
 use dbl_model_history::Cursor;
 use dbl_model_table::{Config, Key, TableInfo};
 use dbl_offset::{Offset, OffsetStore};
@@ -172,24 +174,24 @@ fn show_records(alloc: Global, answers: &mut String, records: &Vec<Record>) -> R
     Ok(())
 }
 
-// A session, of which the cases need no more than that the source is live if it ended without a halt.
+// A session over a gate, of which the cases need no more than that the source is live if it ended without a halt.
 fn run(
     alloc: Global,
     config: &Config,
     now_ms: i64,
     source: &mut ScriptedSource,
-    sink: &mut MemSink,
+    gate: &mut Gate<MemSink>,
     store: &mut OffsetStore<MemDisk>,
     report: &mut Report,
 ) -> std::result::Result<Ending, Halt>
     requires config { IsGoodConfig config.now }
     requires source { IsTrue source.old.live }
-    requires sink { IsTrue sink.old.live }
+    requires gate { IsTrue (gate.old.sink.live && is_none gate.old.refused) }
     requires store { IsLive store.old }
     requires asked { IsOfConfig config.now store.old.offset }
     ensures { OnOk result (IsTrue source.new.live) }
 {
-    session(alloc, config, now_ms, source, sink, store, report)
+    gated_session(alloc, config, now_ms, source, gate, store, report)
 }
 
 // Runs a session and adds how it ended. The configuration and the end are dropped by name: that is
@@ -198,19 +200,19 @@ fn show_run(
     alloc: Global,
     asked: &str,
     source: &mut ScriptedSource,
-    sink: &mut MemSink,
+    gate: &mut Gate<MemSink>,
     store: &mut OffsetStore<MemDisk>,
     answers: &mut String,
 ) -> Result<()>
     requires source { IsTrue source.old.live }
-    requires sink { IsTrue sink.old.live }
+    requires gate { IsTrue (gate.old.sink.live && is_none gate.old.refused) }
     requires store { IsLive store.old }
 {
     let fields = items::first_of(asked, "session/").unwrap_or("");
     let now_ms = asked::now_ms(fields)?;
     let config = asked::config(alloc, asked, fields, store.load())?;
     let mut report = unset_report();
-    let end = run(alloc, &config, now_ms, source, sink, store, &mut report);
+    let end = run(alloc, &config, now_ms, source, gate, store, &mut report);
     drop(config);
     let shown = show_end(source, &end, &report, answers);
     drop(end);
@@ -222,20 +224,28 @@ fn run_on_store(
     alloc: Global,
     asked: &str,
     source: &mut ScriptedSource,
-    sink: &mut MemSink,
+    gate: &mut Gate<MemSink>,
     answers: &mut String,
 ) -> Result<()>
     requires source { IsTrue source.old.live }
-    requires sink { IsTrue sink.old.live }
+    requires gate { IsTrue (gate.old.sink.live && is_none gate.old.refused) }
 {
     let mut store = store(alloc, asked)?;
-    let shown = show_run(alloc, asked, source, sink, &mut store, answers);
+    let shown = show_run(alloc, asked, source, gate, &mut store, answers);
     let disk = store.into_disk();
     shown?;
     show_stored(alloc, &disk, answers)
 }
 
-// Runs a session, and adds the records that its sink has.
+// What the receiver of a case accepts.
+fn rule(asked: &str) -> Result<Rule> {
+    match items::first_of(asked, "gate/") {
+        Some(most) => Ok(Rule::MaxValue(most.parse()?)),
+        None => Ok(Rule::MaxValue(u64::MAX)),
+    }
+}
+
+// Runs a session over a gate, and adds the record that it refused, and those that its sink has.
 fn run_on_sink(
     alloc: Global,
     asked: &str,
@@ -244,9 +254,15 @@ fn run_on_sink(
 ) -> Result<()>
     requires { IsTrue source.old.live }
 {
-    let mut sink = MemSink::make(alloc, script::numbers(alloc, asked, "puts/")?);
-    run_on_store(alloc, asked, source, &mut sink, answers)?;
-    show_records(alloc, answers, sink.records())
+    let sink = MemSink::make(alloc, script::numbers(alloc, asked, "puts/")?);
+    let rule = rule(asked)?;
+    let handler = Box::new(alloc, move |item: &Record| rule.allows(item))?;
+    let mut gate = Gate::make(alloc, sink, rule, handler);
+    run_on_store(alloc, asked, source, &mut gate, answers)?;
+    if let Some((position, ordinal)) = gate.refused() {
+        write!(answers, "\n  refused {ordinal} at {position}")?;
+    }
+    show_records(alloc, answers, gate.into_inner().records())
 }
 
 /// Adds what the session of a case answers.

@@ -46,16 +46,6 @@ fn holding(alloc: Global, bytes: &[u8]) -> Result<MemDisk, AllocError> {
     left
 }
 
-// Whether a crash leaves what a read returns, whatever it leaves where any byte may be.
-fn is_synced(disk: &MemDisk) -> Result<bool, AllocError> {
-    let one = disk.crash(Choice::Fill(164))?;
-    let other = disk.crash(Choice::Fill(165))?;
-    let same = one.bytes() == other.bytes();
-    drop(one);
-    drop(other);
-    Ok(same)
-}
-
 // Puts a disk in place of another, which is dropped by name: that is one call, whereas an
 // assignment drops it part by part.
 fn replace(disk: &mut MemDisk, by: MemDisk) {
@@ -81,9 +71,11 @@ impl MemDisks {
         }
     }
 
-    /// Whether each byte that was written was synced.
-    pub fn are_synced(&self) -> Result<bool, AllocError> {
-        Ok(is_synced(&self.wal)? && is_synced(&self.topics)? && is_synced(&self.offsets)?)
+    /// Whether a read of each disk returns what one of the other's does.
+    pub fn read_as(&self, other: &MemDisks) -> bool {
+        self.wal.bytes() == other.wal.bytes()
+            && self.topics.bytes() == other.topics.bytes()
+            && self.offsets.bytes() == other.offsets.bytes()
     }
 
     /// Makes these what is found of other disks after a crash.

@@ -15,9 +15,6 @@ const CALLS: u64 = 10_000;
 // More runs than it takes to end the work.
 const RUNS: u64 = 10;
 
-// How many crashes each stopped run has.
-const CRASHES: u64 = 5;
-
 // What was applied in the end, and after how many crashes.
 #[derive(Drop)]
 struct Rows {
@@ -30,6 +27,9 @@ struct Rows {
 struct Trace {
     statuses: Vec<Count>,
     rows: Vec<Rows>,
+    // What the last crash left, and what was applied after it.
+    crashed: MemDisks,
+    text: Vec<u8>,
 }
 
 /// Makes the run with a fuse of no call, of one and so on, up to the one that stops nothing. After
@@ -45,6 +45,8 @@ pub fn tell_stops<W: Write>(
     let mut told = Trace {
         statuses: Vec::new(alloc),
         rows: Vec::new(alloc),
+        crashed: MemDisks::empty(alloc),
+        text: Vec::new(alloc),
     };
     let stopped = stop_each(alloc, run, disks, place, &mut told);
     let end = match stopped {
@@ -62,6 +64,7 @@ fn stop_each(
     place: Place,
     told: &mut Trace,
 ) -> io::Result<()> {
+    told.text = end_work(alloc, &mut told.crashed)?;
     for calls in 0..CALLS {
         if stop(alloc, run, disks, place, calls, told)? == Status::Done {
             break;
@@ -110,72 +113,81 @@ fn stop_on(
     fuses.set(place, calls);
     let status = run.perform(alloc, fuses, left, &mut Vec::new(alloc))?;
     statuses::add(&mut told.statuses, status)?;
-    end_each(alloc, left, &mut told.rows)?;
+    end_each(alloc, left, place, told)?;
     Ok(status)
 }
 
-// Ends the work for each choice of what a crash leaves of the disks. An open gate of a journal is
-// 1, and of 164 and 165 each selects another slot of an offset. Where all bytes are synced each
-// choice leaves these.
-fn end_each(alloc: Global, left: &MemDisks, rows: &mut Vec<Rows>) -> io::Result<()> {
-    if left.are_synced()? {
-        return end_one(alloc, left, Choice::New, CRASHES, rows);
-    }
+// Ends the work for each choice of what a crash leaves of the disks.
+fn end_each(alloc: Global, left: &MemDisks, place: Place, told: &mut Trace) -> io::Result<()> {
+    let [one, other] = fills(place);
     for choice in [
         Choice::Old,
+        Choice::Fill(one),
+        Choice::Fill(other),
         Choice::New,
-        Choice::Fill(1),
-        Choice::Fill(164),
-        Choice::Fill(165),
     ] {
-        end_one(alloc, left, choice, 1, rows)?;
+        end_one(alloc, left, choice, told)?;
     }
     Ok(())
 }
 
-// Ends the work after so many crashes, and adds what `apply` then answers.
-fn end_one(
-    alloc: Global,
-    left: &MemDisks,
-    choice: Choice,
-    crashes: u64,
-    rows: &mut Vec<Rows>,
-) -> io::Result<()> {
+// What a crash leaves where any byte may be: 1 opens a journal's gate, and of 164 and 165 each
+// selects another slot of an offset.
+fn fills(place: Place) -> [u8; 2] {
+    match place {
+        Place::Wal | Place::Topics => [165, 1],
+        Place::Offsets => [164, 165],
+    }
+}
+
+// Ends the work after a crash, and counts what `apply` then answers.
+fn end_one(alloc: Global, left: &MemDisks, choice: Choice, told: &mut Trace) -> io::Result<()> {
     let mut disks = MemDisks::empty(alloc);
-    let mut text = Vec::new(alloc);
-    let ended = end_on(alloc, left, choice, &mut disks, &mut text);
+    let ended = end_on(alloc, left, choice, &mut disks, told);
     drop(disks);
     ended?;
-    add(rows, text, crashes)?;
+    add(&mut told.rows, &told.text)?;
     Ok(())
 }
 
-// Ends the work on these disks, and writes what `apply` then answers.
+// Ends the work on these disks. Where the last crash left the same ones, what was applied then is
+// what would be applied now.
 fn end_on(
     alloc: Global,
     left: &MemDisks,
     choice: Choice,
     disks: &mut MemDisks,
-    text: &mut Vec<u8>,
+    told: &mut Trace,
 ) -> io::Result<()> {
     disks.find(left, choice)?;
+    if !disks.read_as(&told.crashed) {
+        told.crashed.find(disks, Choice::New)?;
+        told.text = end_work(alloc, disks)?;
+    }
+    Ok(())
+}
+
+// Runs until the work has ended, and returns what `apply` then answers.
+fn end_work(alloc: Global, disks: &mut MemDisks) -> io::Result<Vec<u8>> {
     for _ in 0..RUNS {
         if go_on(alloc, disks)? == Status::Done {
             break;
         }
     }
-    perform(alloc, "apply", disks, text)?;
-    Ok(())
+    let mut text = Vec::new(alloc);
+    perform(alloc, "apply", disks, &mut text)?;
+    Ok(text)
 }
 
-fn add(rows: &mut Vec<Rows>, text: Vec<u8>, crashes: u64) -> Result<(), AllocError> {
-    for known in &mut *rows {
-        if known.text == text {
-            known.crashes = known.crashes.saturating_add(crashes);
+fn add(all: &mut Vec<Rows>, text: &Vec<u8>) -> Result<(), AllocError> {
+    for rows in &mut *all {
+        if rows.text == *text {
+            rows.crashes = rows.crashes.saturating_add(1);
             return Ok(());
         }
     }
-    rows.push(Rows { text, crashes })?;
+    let text = text.clone()?;
+    all.push(Rows { text, crashes: 1 })?;
     Ok(())
 }
 

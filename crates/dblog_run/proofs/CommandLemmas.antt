@@ -18,9 +18,9 @@ use Rattle.dblog_stores.specs.declared.listing.Listing.TheVariants.{Rows, KeptRe
 use Rattle.dblog_stores.specs.Answers.{LinesAnswer as StoreAnswer, AnswersTopics, AnswersOffsets, AnswersApply, AnswersCompact}
 use Rattle.dblog_stores.proofs.OnceLaws.{topics_once, offsets_once, listings_once}
 use Rattle.dblog_stores.specs.declared.error.Store.{Store}
-use Rattle.dblog_run.specs.Disks.{EndsOrFails, IsAnswerOf, OfDisk, RunsStores, store_answer}
+use Rattle.dblog_run_stores.specs.Disks.{EndsOrFails, IsAnswerOf, OfDisk, RunsStores, store_answer}
 use Rattle.dblog_init.proofs.AnswerLaws.{one_answer}
-use Rattle.dblog_run.specs.Inits.{FailsSource, IsInitAnswer, init_answer}
+use Rattle.dblog_run_stores.specs.Inits.{FailsSource, IsInitAnswer, init_answer}
 use Rattle.dblog_run.specs.Means.{opens_offsets, opens_topics, uses_offsets, uses_topics, makes, FindsNoLog, RunInput, given_init, Answers, Means, usage}
 use Rattle.dblog_run.specs.Means.{spelled, Runs, RunsCommand, RunsInit, InputFails, WalFails, reads, ReportsInputStatus, IsStatusOf}
 use Rattle.dblog_streams.proofs.ApplyLaws.{applies_one}
@@ -28,7 +28,7 @@ use Rattle.dblog_streams.proofs.AnswerLemmas.{memory_outside, memory_written, sa
 use Rattle.dblog_streams.proofs.ReplayRunLemmas.{outside_no_answer}
 use Rattle.dblog_streams.proofs.ReplayLaws.{replays_one}
 use Rattle.dblog_run.proofs.StatusLemmas.{switched}
-use Rattle.dblog_run.proofs.StoreRunLemmas.{both_opened}
+use Rattle.dblog_run_stores.proofs.StoreRunLemmas.{both_opened}
 use Rattle.dblog_capture.proofs.Statuses.{starved_known}
 use Rattle.dbl_lines.proofs.SayLemmas.{cut_other}
 use Rattle.dbl_lines.specs.Says.{IsCutShort, Says}

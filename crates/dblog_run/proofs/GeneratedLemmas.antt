@@ -11,9 +11,9 @@ use Rattle.dblog_init.specs.declared.disks.Disks.{Disks}
 use Rattle.dblog_init.specs.Disks.{AreAtMostMeasured, HoldSomeBytes}
 use Rattle.dblog_capture.specs.Generated.{HasMade, IsMadeShort, IsStoreShort}
 use Rattle.dblog_capture.proofs.Fresh.{nothing_is_no_store}
-use Rattle.dblog_run.specs.Inits.{AreUntouched}
+use Rattle.dblog_run_stores.specs.Inits.{AreUntouched}
 use Rattle.dblog_run.specs.Means.{makes}
-use Rattle.dblog_run.proofs.InitEndLemmas.{untouched}
+use Rattle.dblog_run_stores.proofs.InitEndLemmas.{untouched}
 use Rattle.dblog_run.proofs.StatusLemmas.{switched}
 
 -- the command is `gen --run`

@@ -21,8 +21,8 @@ use Rattle.dblog_capture.specs.Connect.declared.asked.Asked.TheVariants.{First, 
 use Rattle.dblog_capture.specs.Connect.Asked.{asks_in}
 use Rattle.dblog_capture.specs.Connect.Disks.{AreKeptDisks, IsTrueAfterCrash}
 use Rattle.dblog_capture.specs.Connect.Ends.{OnlyRead}
-use Rattle.dblog_run.specs.Disks.{IsOnlyRead}
-use Rattle.dblog_run.specs.Inits.{AreUntouched, IsDiskUntouched}
+use Rattle.dblog_run_stores.specs.Disks.{IsOnlyRead}
+use Rattle.dblog_run_stores.specs.Inits.{AreUntouched, IsDiskUntouched}
 use Rattle.dblog_run.specs.Sessions.{IsCompleteRun, asked_by, asks_by}
 use Rattle.dblog_run.specs.Means.{makes, opens_offsets, opens_topics, uses_offsets, uses_topics, writes}
 use Rattle.dblog_capture.proofs.SessionLemmas.{promised_less}

@@ -1,3 +1,8 @@
+pub use Rattle.dblog_run_stores.proofs.DiskLemmas
+pub use Rattle.dblog_run_stores.proofs.FinishLemmas
+pub use Rattle.dblog_run_stores.proofs.StoreRunLemmas
+pub use Rattle.dblog_run_stores.proofs.InitLemmas
+pub use Rattle.dblog_run_stores.proofs.InitEndLemmas
 pub use Rattle.dblog_capture.proofs.Fresh as CaptureFresh
 pub use Rattle.dblog_capture.proofs.InitStatuses as CaptureInitStatuses
 pub use Rattle.dblog_capture.proofs.SessionLemmas as CaptureSessionLemmas
@@ -14,14 +19,9 @@ pub use Rattle.dblog_streams.proofs.ReplayMaskedLemmas
 pub use Rattle.dblog_streams.proofs.ReplayPieceLemmas
 pub use Rattle.dblog_streams.proofs.ReplayStreamLemmas
 pub mod CommandLemmas
-pub mod DiskLemmas
-pub mod FinishLemmas
 pub mod GeneratedLemmas
-pub mod InitEndLemmas
-pub mod InitLemmas
 pub mod KeptLemmas
 pub mod RefusalLaws
 pub mod SessionLemmas
 pub mod StandLemmas
 pub mod StatusLemmas
-pub mod StoreRunLemmas

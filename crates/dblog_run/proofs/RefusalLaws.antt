@@ -14,7 +14,7 @@ use Rattle.dbl_lines.specs.declared.status.Status.TheVariants.{Done, InvalidArgu
 use Rattle.dbl_lines.specs.declared.status.Status.TheVariants.{InvalidStore}
 use Rattle.dbl_lines.specs.declared.run_error.RunError.TheVariants.{Usage}
 use Rattle.dblog_streams.specs.Answers.{RunAnswer, done, fault}
-use Rattle.dblog_run.specs.Disks.{store_answer, store_fault}
+use Rattle.dblog_run_stores.specs.Disks.{store_answer, store_fault}
 use Rattle.dblog_run.specs.Means.{Answers, RunInput, Means, given_init, spelled, usage}
 use Rattle.dbl_journal.specs.declared.error.JournalError.TheVariants as journal
 use Rattle.dblog_init.specs.DemoWorkload.declared.error.DemoError.{DemoError}
@@ -26,9 +26,9 @@ use Rattle.dblog_init.specs.Answers as inits
 use Rattle.dblog_init.specs.Answers.Answers.{wal_holds, topics_hold, offsets_hold, all_empty}
 use Rattle.dblog_init.specs.Answers.AnswersInput.{too_long as too_long_input, refused as refused_input, made as made_input}
 use Rattle.dblog_init.specs.Errors.{demo_error}
-use Rattle.dblog_run.specs.Inits.{init_answer, init_fault}
+use Rattle.dblog_run_stores.specs.Inits.{init_answer, init_fault}
 use Rattle.dblog_run.specs.Laws.{AreFull, AreRefused, StoreFaultsAreTold, StoresTell}
-use Rattle.dblog_run.proofs.StoreRunLemmas.{apply_refuses, offsets_refuse, topics_refuse}
+use Rattle.dblog_run_stores.proofs.StoreRunLemmas.{apply_refuses, offsets_refuse, topics_refuse}
 use Rattle.dbl_cli_commands.specs.declared.commands.ReplayOptions.{ReplayOptions}
 use Rattle.dblog_streams.specs.Applies.{Applies}
 use Rattle.dblog_streams.specs.Generates.{made}

@@ -13,9 +13,9 @@ use Rattle.dblog_streams.proofs.InputLemmas.{replay_exists, apply_exists}
 use Rattle.dblog_stores.specs.declared.listing.Listing.TheVariants.{Rows, KeptRecords}
 use Rattle.dblog_stores.specs.Answers.{LinesAnswer as StoreAnswer, AnswersTopics, AnswersOffsets, AnswersApply, AnswersCompact}
 use Rattle.dblog_stores.proofs.StandLaws.{topics_stand, offsets_stand, listings_stand}
-use Rattle.dblog_run.specs.Disks.{IsAnswerOf, store_answer}
+use Rattle.dblog_run_stores.specs.Disks.{IsAnswerOf, store_answer}
 use Rattle.dblog_init.proofs.StandLaws.{answers_stand}
-use Rattle.dblog_run.specs.Inits.{init_answer}
+use Rattle.dblog_run_stores.specs.Inits.{init_answer}
 use Rattle.dblog_streams.specs.Generates.{made}
 use Rattle.dblog_run.specs.Means.{connects, RunInput, given_init, Answers, Means, SpellNone, usage, spelled}
 use Rattle.dblog_run.proofs.StatusLemmas.{switched}

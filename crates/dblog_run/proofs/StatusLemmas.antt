@@ -9,8 +9,8 @@ use Rattle.dbl_lines.specs.declared.status.Status.TheVariants.{StdoutFailed, Out
 use Rattle.dbl_lines.specs.declared.run_error.RunError.{RunError}
 use Rattle.dbl_lines.specs.declared.run_error.RunError.TheVariants.{Usage, Memory}
 use Rattle.dbl_lines.specs.Faults.{status_of}
-use Rattle.dblog_run.specs.Inits.{IsInitStatus}
-use Rattle.dblog_run.specs.Means.{HasOpenedOffsets, HasOpenedTopics, IsOffsetsStatus, IsRowsStatus, IsStatusOf, IsTopicsStatus, opens_offsets, opens_topics}
+use Rattle.dblog_run_stores.specs.Inits.{IsInitStatus}
+use Rattle.dblog_run.specs.Means.{HasOpenedOffsets, IsStatusOf, opens_offsets, opens_topics}
 use Rattle.dblog_run.specs.Means.{reads, uses_offsets, uses_topics, writes}
 use Rattle.dblog_capture.specs.Connect.declared.asked.Asked.{Asked}
 use Rattle.dblog_capture.specs.Connect.declared.asked.Asked.TheVariants.{First, Again}
@@ -19,6 +19,7 @@ use Rattle.dblog_streams.proofs.AnswerLemmas.{says_is}
 use Rattle.dbl_lines.proofs.SayLemmas.{cut_other}
 use Rattle.dbl_lines.specs.Says.{IsCutShort, Says}
 use Rattle.dblog_streams.proofs.StatusLemmas.{replay_other, lines_other}
+use Rattle.dblog_run_stores.proofs.StoreStatuses.{offsets_other, rows_other, topics_other}
 
 -- ---- by the kind of the command
 
@@ -26,23 +27,6 @@ use Rattle.dblog_streams.proofs.StatusLemmas.{replay_other, lines_other}
 one_other : (m n status : Status) → m ≢ n → (n ≢ StdoutFailed) × (n ≢ OutOfMemory) → (status ≡ m) ⊎ IsCutShort status → status ≡ n → ⊥
 one_other m n status own other (inl is) same = own (sym is ∙ same)
 one_other m n status own other (inr cut) same = cut_other n status other cut same
-
-pub topics_other : (n status : Status) → (n ≢ Done) × (n ≢ TopicsFailed) × (n ≢ InvalidStore) → (n ≢ StdoutFailed) × (n ≢ OutOfMemory) → IsTopicsStatus status → status ≡ n → ⊥
-topics_other n status own other (inl is) same = own.0 (sym same ∙ is)
-topics_other n status own other (inr (inl is)) same = own.1 (sym same ∙ is)
-topics_other n status own other (inr (inr (inl is))) same = own.2 (sym same ∙ is)
-topics_other n status own other (inr (inr (inr cut))) same = cut_other n status other cut same
-
-pub offsets_other : (n status : Status) → (n ≢ Done) × (n ≢ StartMismatch) × (n ≢ OffsetsFailed) × (n ≢ InvalidStore) → (n ≢ StdoutFailed) × (n ≢ OutOfMemory) → IsOffsetsStatus status → status ≡ n → ⊥
-offsets_other n status own other (inl is) same = own.0 (sym same ∙ is)
-offsets_other n status own other (inr (inl is)) same = own.1 (sym same ∙ is)
-offsets_other n status own other (inr (inr (inl is))) same = own.2 (sym same ∙ is)
-offsets_other n status own other (inr (inr (inr (inl is)))) same = own.3 (sym same ∙ is)
-offsets_other n status own other (inr (inr (inr (inr cut)))) same = cut_other n status other cut same
-
-pub rows_other : (n status : Status) → n ≢ TopicsFailed → (n ≢ Done) × (n ≢ StartMismatch) × (n ≢ OffsetsFailed) × (n ≢ InvalidStore) → (n ≢ StdoutFailed) × (n ≢ OutOfMemory) → IsRowsStatus status → status ≡ n → ⊥
-rows_other n status first own other (inl is) same = first (sym same ∙ is)
-rows_other n status first own other (inr rest) same = offsets_other n status own other rest same
 
 -- the line of a fault was said
 said_other : (halt : RunError) (n status : Status) (before after : Option (List ℕ)) → status_of halt ≢ n → (n ≢ StdoutFailed) × (n ≢ OutOfMemory) → Says halt status before after → status ≡ n → ⊥
@@ -53,28 +37,6 @@ said_other halt n status before after own other says same =
 
 pub switched : true ≡ false → ⊥
 switched is = cc
-
-pub topics_running : (status : Status) → HasOpenedTopics status → status ≡ TopicsFailed → ⊥
-topics_running status (inl is) same = cc
-topics_running status (inr (inl is)) same = cc
-topics_running status (inr (inr (inl is))) same = cc
-topics_running status (inr (inr (inr is))) same = cc
-
-pub topics_whole : (status : Status) → HasOpenedTopics status → IsCutShort status → ⊥
-topics_whole status (inl is) cut = cut_other Done status (λ e. cc, λ e. cc) cut is
-topics_whole status (inr (inl is)) cut = cut_other StartMismatch status (λ e. cc, λ e. cc) cut is
-topics_whole status (inr (inr (inl is))) cut = cut_other OffsetsFailed status (λ e. cc, λ e. cc) cut is
-topics_whole status (inr (inr (inr is))) cut = cut_other InvalidStore status (λ e. cc, λ e. cc) cut is
-
-pub offsets_running : (status : Status) → (status ≡ Done) ⊎ ((status ≡ StartMismatch) ⊎ (status ≡ InvalidStore)) → status ≡ OffsetsFailed → ⊥
-offsets_running status (inl is) same = cc
-offsets_running status (inr (inl is)) same = cc
-offsets_running status (inr (inr is)) same = cc
-
-pub offsets_whole : (status : Status) → (status ≡ Done) ⊎ ((status ≡ StartMismatch) ⊎ (status ≡ InvalidStore)) → IsCutShort status → ⊥
-offsets_whole status (inl is) cut = cut_other Done status (λ e. cc, λ e. cc) cut is
-offsets_whole status (inr (inl is)) cut = cut_other StartMismatch status (λ e. cc, λ e. cc) cut is
-offsets_whole status (inr (inr is)) cut = cut_other InvalidStore status (λ e. cc, λ e. cc) cut is
 
 -- of the offset, by the command that opens it
 pub told_offsets : (c : Command) (status : Status) → HasOpenedOffsets c status → (status ≡ Done) ⊎ ((status ≡ StartMismatch) ⊎ (status ≡ InvalidStore))

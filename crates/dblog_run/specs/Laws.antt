@@ -14,8 +14,8 @@ use Rattle.dblog_init.specs.declared.error.Store.TheVariants as init
 use Rattle.dblog_init.specs.declared.error.Store.TheVariants.{Wal}
 use Rattle.dblog_streams.specs.Answers.{RunAnswer}
 use Rattle.dblog_streams.specs.Replays.{IsReadable}
-use Rattle.dblog_run.specs.Inits.{init_fault}
-use Rattle.dblog_run.specs.Disks.{store_fault}
+use Rattle.dblog_run_stores.specs.Inits.{init_fault}
+use Rattle.dblog_run_stores.specs.Disks.{store_fault}
 use Rattle.dblog_run.specs.Means.{RunInput, Means, SpellNone, connects}
 
 -- The arguments and the contents have at most one answer at a time.

@@ -1,3 +1,5 @@
+pub use Rattle.dblog_run_stores.specs.Disks
+pub use Rattle.dblog_run_stores.specs.Inits
 pub use Rattle.dblog_capture.specs as Capture
 pub use Rattle.dblog_streams.specs as Streams
 pub use Rattle.dblog_streams.specs.Replay
@@ -9,8 +11,6 @@ pub use Rattle.dblog_capture.specs.Connect.CaptureModel
 pub use Rattle.dblog_init.specs as Init
 pub use Rattle.dblog_init.specs.DemoLaws
 pub use Rattle.dblog_capture.specs.Connect.Window
-pub mod Disks
-pub mod Inits
 pub mod Laws
 pub mod Means
 pub mod Sessions

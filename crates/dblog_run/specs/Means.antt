@@ -1,4 +1,5 @@
 -- The meaning of the arguments of a command line, with the contents of the input and the disks.
+pub use Rattle.dblog_run_stores.specs.Runs.{HasOpenedTopics, IsTopicsStatus, IsOffsetsStatus, IsRowsStatus, RunsInit}
 use Rattle.std.specs.Prelude.{◌≡◌, ◌⊎◌, ℕ, ℤ, ◌||◌, Bool, true, false, Option, Some, List}
 use Rattle.dbl_record.specs.declared.record.Record.{Record}
 use Rattle.dbl_topic.specs.Logs.{IsLog}
@@ -7,14 +8,14 @@ use Rattle.dbl_cli_commands.specs.declared.commands.Command.TheVariants.{Init, T
 use Rattle.dbl_cli.specs.Commands.{Spells}
 use Rattle.dblog_init.specs.Answers as inits
 use Rattle.dbl_lines.specs.declared.status.Status.{Status}
-use Rattle.dbl_lines.specs.declared.status.Status.TheVariants.{Done, StartMismatch, TopicsFailed, OffsetsFailed, InvalidInput, InvalidStore}
+use Rattle.dbl_lines.specs.declared.status.Status.TheVariants.{Done, StartMismatch, InvalidInput, InvalidStore}
 use Rattle.dbl_lines.specs.declared.run_error.RunError.TheVariants.{Usage}
 use Rattle.dblog_stores.specs.Answers.{AnswersTopics, AnswersOffsets, AnswersApply, AnswersCompact}
 use Rattle.dblog_stores.specs.declared.error.Store.{Store}
 use Rattle.dblog_capture.specs.Ends.{IsSessionStatus}
 use Rattle.dblog_capture.specs.Generated.{IsGeneratedStatus}
-use Rattle.dblog_run.specs.Disks.{EndsOrFails, IsAnswerOf, IsDiskStatus}
-use Rattle.dblog_run.specs.Inits.{AnswersInit, FailsSource, IsInitAnswer, IsInitStatus}
+use Rattle.dblog_run_stores.specs.Disks.{EndsOrFails, IsAnswerOf, IsDiskStatus}
+use Rattle.dblog_run_stores.specs.Inits.{AnswersInit, FailsSource, IsInitAnswer, IsInitStatus}
 use Rattle.dblog_streams.specs.Answers.{RunAnswer, fault, FailsReading, IsExternalStatus}
 use Rattle.dblog_streams.specs.Replays.{Replays}
 use Rattle.dblog_streams.specs.Applies.{Applies}
@@ -107,10 +108,6 @@ uses_topics command = opens_topics command || writes command
 abbrev pub uses_offsets : Command → Bool
 uses_offsets command = opens_offsets command || writes command
 
--- The statuses with which a command that opens the disk of the topic log has opened it.
-abbrev pub HasOpenedTopics : Status → Type 0
-HasOpenedTopics status = (status ≡ Done) ⊎ ((status ≡ StartMismatch) ⊎ ((status ≡ OffsetsFailed) ⊎ (status ≡ InvalidStore)))
-
 -- The statuses with which a command that opens the disk of the offset has opened it; 14 may be of the topic log.
 abbrev pub HasOpenedOffsets : Command → Status → Type 0
 HasOpenedOffsets command status = (status ≡ Done) ⊎ ((status ≡ StartMismatch) ⊎ ((opens_topics command ≡ false) × (status ≡ InvalidStore)))
@@ -174,19 +171,6 @@ ReportsInputStatus (Apply true placeholder) status = (status ≡ Done) ⊎ (stat
 ReportsInputStatus Init status = IsInitAnswer status
 ReportsInputStatus command status = ⊥
 
--- The statuses of `topics`, for every behaviour of the disks and the output.
-abbrev pub IsTopicsStatus : Status → Type 0
-IsTopicsStatus status = (status ≡ Done) ⊎ ((status ≡ TopicsFailed) ⊎ ((status ≡ InvalidStore) ⊎ IsCutShort status))
-
--- The statuses of `offsets`, for every behaviour of the disks and the output.
-abbrev pub IsOffsetsStatus : Status → Type 0
-IsOffsetsStatus status =
-    (status ≡ Done) ⊎ ((status ≡ StartMismatch) ⊎ ((status ≡ OffsetsFailed) ⊎ ((status ≡ InvalidStore) ⊎ IsCutShort status)))
-
--- The statuses of `compact`, and of `apply` over the stores, for every behaviour of the disks and the output.
-abbrev pub IsRowsStatus : Status → Type 0
-IsRowsStatus status = (status ≡ TopicsFailed) ⊎ IsOffsetsStatus status
-
 -- The statuses of a command, for every behaviour of the streams and the disks.
 abbrev pub IsStatusOf : Command → Status → Type 0
 IsStatusOf (Replay options) status = IsReplayStatus status
@@ -200,11 +184,6 @@ IsStatusOf (Capture options) status = IsSessionStatus status
 IsStatusOf (Resume options) status = IsSessionStatus status
 IsStatusOf (Gen number rows groups false) status = (status ≡ Done) ⊎ IsCutShort status
 IsStatusOf (Gen number rows groups true) status = IsGeneratedStatus status
-
--- For private clauses: the end of a run of `init`.
-pub record RunsInit (given : inits.InitInput) (failed : Store → Type 0) (status : Status) (before after : Option (List ℕ)) : Type 0 where
-  pub ended : (answer : RunAnswer) → AnswersInit given answer → EndsOrFails failed answer status before after
-  pub meant : IsExternalStatus status ⊎ (IsDiskStatus status ⊎ ((answer : RunAnswer) × AnswersInit given answer × (answer.status ≡ status)))
 
 -- For private clauses: the end of a run of a command.
 pub record RunsCommand (command : Command) (now : ℤ) (given : RunInput) (failed : Store → Type 0) (status : Status)

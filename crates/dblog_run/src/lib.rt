@@ -1,10 +1,8 @@
 //! A run of the program `dblog` on its arguments, an input, an output and three disks.
 #![tactic(auto)]
 
-mod initializing;
 pub mod laws;
 mod program;
-mod stores;
 
 pub use dbl_lines::{RunError, Status, say};
 pub use dblog_init::{Disks, Outcome};

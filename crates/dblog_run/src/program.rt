@@ -19,7 +19,7 @@ ghost use Rattle.dblog_capture.specs.Connect.Promise.Bounds.{IsBounded, IsStoreB
 ghost use Rattle.dblog_capture.specs.Connect.Promise.Headline.{GuaranteesAfterCrash};
 ghost use Rattle.dblog_capture.specs.Connect.Disks.{AreKeptDisks, IsTrueAfterCrash};
 ghost use Rattle.dblog_capture.specs.Connect.Ends.{AreSteady};
-ghost use Rattle.dblog_run.specs.Inits.{AreUntouched, FailsSource, IsInitLeft};
+ghost use Rattle.dblog_run_stores.specs.Inits.{AreUntouched, FailsSource, IsInitLeft};
 ghost use Rattle.dblog_capture.specs.Ends.{IsNormalStatus};
 ghost use Rattle.dblog_capture.specs.Runs.{RunsConnected, RunsSessionOn};
 ghost use Rattle.dblog_capture.specs.Connect.Asked.{asks_in};
@@ -27,7 +27,7 @@ ghost use Rattle.dbl_gen.specs.Workload.{workload};
 ghost use Rattle.dblog_capture.specs.Generated.{EndsGenerated, HasMade, IsMadeShort};
 ghost use Rattle.dblog_capture.specs.Generated.{IsStoreShort, RunsGenerated, plainly};
 ghost use Rattle.dblog_run.specs.Sessions.{IsCompleteRun, asked_by, asks_by};
-ghost use Rattle.dblog_run.specs.Disks.{IsOnlyRead, OfDisk};
+ghost use Rattle.dblog_run_stores.specs.Disks.{IsOnlyRead, OfDisk};
 ghost use Rattle.dbl_record.specs.declared.record.Record.{Record};
 ghost use Rattle.dbl_topic.specs.Logs.{IsLog};
 ghost use Rattle.dblog_streams.specs.Answers.{RunAnswer, FailsReading, EndsAs};
@@ -37,14 +37,13 @@ ghost use Rattle.dbl_lines.specs.declared.status.Status.TheVariants.{StdinFailed
 ghost use Rattle.dbl_lines.specs.declared.status.Status.TheVariants.{InvalidStore};
 ghost use Rattle.dbl_lines.specs.Says.{Says};
 
-use crate::initializing::run_init;
-use crate::stores::{run_listing, run_offsets, run_topics};
 use dbl_base::{Input, Output, Text};
 use dbl_cli::{CliError, Command};
 use dbl_disk::Disk;
 use dbl_lines::{RunError, Status, say};
 use dblog_capture::{Asked, run_generated, run_session};
 use dblog_init::{Disks, Outcome};
+use dblog_run_stores::{run_init, run_listing, run_offsets, run_topics};
 use dblog_stores::Listing;
 use dblog_streams::{apply_lines, print_workload, replay_input};
 use std::alloc::Global;

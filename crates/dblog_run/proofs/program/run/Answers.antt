@@ -4,7 +4,7 @@ use Rattle.dbl_cli_commands.specs.declared.commands.Command.{Command}
 use Rattle.dbl_cli_commands.specs.declared.commands.Command.TheVariants as command
 use Rattle.dbl_cli.proofs.SayLemmas.{one_command}
 use Rattle.dblog_capture.specs.Connect.Promise.Headline.{GuaranteesAfterCrash}
-use Rattle.dblog_run.specs.Inits.{FailsSource}
+use Rattle.dblog_run_stores.specs.Inits.{FailsSource}
 use Rattle.dblog_init.specs.declared.error.InitError.TheVariants as init
 use Rattle.dbl_gen.specs.Workload.{workload}
 use Rattle.dblog_capture.specs.Runs.{RunsSessionOn}
@@ -14,16 +14,17 @@ use Rattle.dblog_run.specs.Sessions.{IsCompleteRun, asked_by, asks_by}
 use Rattle.dblog_run.specs.Means.{HasOpenedOffsets, RunsCommand, SpellSome, StandsAlone, makes, opens_offsets, opens_topics, reads, uses_offsets, uses_topics, IsStatusOf, ReportsInputStatus}
 use Rattle.dbl_base.specs.Streams.{FaultCounted}
 use Rattle.dblog_stores.specs.declared.error.Store.{Store}
-use Rattle.dblog_run.specs.Disks.{OfDisk}
+use Rattle.dblog_run_stores.specs.Disks.{OfDisk}
 use Rattle.dblog_streams.specs.Answers.{FailsReading}
 use Rattle.dblog_streams.proofs.AnswerLemmas.{starved}
 use Rattle.dblog_run.proofs.CommandLemmas.{cut_short, wider_or_fails, spelled_or_fails, usage_runs, memory_runs, as_spelled, memory_status, memory_tells}
-use Rattle.dblog_run.proofs.DiskLemmas.{not_read, read_or_not}
+use Rattle.dblog_run_stores.proofs.DiskLemmas.{not_read, read_or_not}
 use Rattle.dblog_run.proofs.GeneratedLemmas.{full_by, made_by, same_short, same_store_short, unmade}
 use Rattle.dblog_run.proofs.KeptLemmas.{before_promised, offsets_bounded, run_kept, run_promised, run_stays, topics_bounded, wal_bounded}
 use Rattle.dblog_run.proofs.SessionLemmas.{memory_session}
-use Rattle.dblog_run.proofs.StoreRunLemmas.{opened_by}
-use Rattle.dblog_run.proofs.StatusLemmas.{memory_no_offsets, memory_no_topics, memory_no_wal, no_offsets, no_topics, offsets_whole, refused_unread, told_offsets, topics_whole, unused_offsets, topics_fail, offsets_fail, unused_topics, usage_no_offsets, usage_no_topics, usage_no_wal, wal_fails}
+use Rattle.dblog_run_stores.proofs.StoreRunLemmas.{opened_by}
+use Rattle.dblog_run.proofs.StatusLemmas.{memory_no_offsets, memory_no_topics, memory_no_wal, no_offsets, no_topics, refused_unread, told_offsets, unused_offsets, topics_fail, offsets_fail, unused_topics, usage_no_offsets, usage_no_topics, usage_no_wal, wal_fails}
+use Rattle.dblog_run_stores.proofs.StoreStatuses.{offsets_whole, topics_whole}
 use Rattle.dblog_run.proofs.program.run.Goals as goal
 use Rattle.dbl_lines.specs.declared.status.Status.TheVariants.{Done}
 use Rattle.dbl_lines.proofs.SayLemmas.{cut_other}

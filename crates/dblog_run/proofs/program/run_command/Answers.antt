@@ -5,7 +5,7 @@ use Rattle.dbl_base.specs.Streams.{FaultCounted}
 use Rattle.dblog_stores.specs.Answers.{AnswersApply, AnswersCompact, AnswersOffsets, AnswersTopics}
 use Rattle.dblog_capture.specs.Connect.declared.asked.Asked.{Asked}
 use Rattle.dblog_capture.specs.Connect.declared.asked.Asked.TheVariants.{First, Again}
-use Rattle.dblog_run.specs.Disks.{OfDisk}
+use Rattle.dblog_run_stores.specs.Disks.{OfDisk}
 use Rattle.dblog_run.specs.Means.{IsStatusOf, given_init, connects, makes, opens_topics, reads, uses_offsets, uses_topics, writes}
 use Rattle.dblog_streams.specs.Generates.{made}
 use Rattle.dblog_capture.specs.Runs.{RunsConnected}
@@ -15,7 +15,7 @@ use Rattle.dblog_run.proofs.CommandLemmas.{replay_command, apply_command, alone_
 use Rattle.dblog_run.proofs.GeneratedLemmas.{generates, generating, one_generated, ungenerated}
 use Rattle.dblog_run.proofs.SessionLemmas.{one_asked, unasked}
 use Rattle.dblog_run.proofs.StatusLemmas.{switched, told_offsets, told_rows}
-use Rattle.dblog_run.proofs.StoreRunLemmas.{both_opened, only_offsets, only_topics}
+use Rattle.dblog_run_stores.proofs.StoreRunLemmas.{both_opened, only_offsets, only_topics}
 use Rattle.dblog_run.proofs.program.run_command.Goals as goal
 
 pub returns-in-Replay-clause-told : goal.returns-in-Replay-clause-told

@@ -1,8 +1,8 @@
 use Rattle.dbl_base.specs.Streams.{FaultCounted}
 use Rattle.dblog_init.specs.declared.error.Store.TheVariants.{Wal, Topics, Offsets}
-use Rattle.dblog_run.proofs.InitEndLemmas.{answered_whole, full_end, init_left, input_end, made_end, untouched}
-use Rattle.dblog_run.proofs.InitLemmas.{init_known, init_run}
-use Rattle.dblog_run.proofs.initializing.run_init.Goals as goal
+use Rattle.dblog_run_stores.proofs.InitEndLemmas.{answered_whole, full_end, init_left, input_end, made_end, untouched}
+use Rattle.dblog_run_stores.proofs.InitLemmas.{init_known, init_run}
+use Rattle.dblog_run_stores.proofs.initializing.run_init.Goals as goal
 
 pub returns-clause-told : goal.returns-clause-told
 returns-clause-told g c = λ given input wal topics offsets.

@@ -1,9 +1,9 @@
 use Rattle.std.proofs.Common.{inl, inr}
 use Rattle.dbl_base.specs.Streams.{FaultCounted}
-use Rattle.dblog_run.proofs.DiskLemmas.{only_read}
-use Rattle.dblog_run.proofs.FinishLemmas.{eight_fails, fails_eight, fails_nine, finished_output, nine_fails, opened_rows, opened_topics, rows_no_input, rows_status}
-use Rattle.dblog_run.proofs.StoreRunLemmas.{apply_run}
-use Rattle.dblog_run.proofs.stores.run_listing.Goals as goal
+use Rattle.dblog_run_stores.proofs.DiskLemmas.{only_read}
+use Rattle.dblog_run_stores.proofs.FinishLemmas.{eight_fails, fails_eight, fails_nine, finished_output, nine_fails, opened_rows, opened_topics, rows_no_input, rows_status}
+use Rattle.dblog_run_stores.proofs.StoreRunLemmas.{apply_run}
+use Rattle.dblog_run_stores.proofs.stores.run_listing.Goals as goal
 
 pub returns-clause-told : goal.returns-clause-told
 returns-clause-told g c = λ t f told other.

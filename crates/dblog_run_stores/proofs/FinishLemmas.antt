@@ -13,10 +13,10 @@ use Rattle.dbl_lines.specs.declared.status.Status.TheVariants.{Done, StartMismat
 use Rattle.dbl_lines.specs.declared.status.Status.TheVariants.{StdinFailed, StdoutFailed, InvalidStore}
 use Rattle.dbl_lines.specs.declared.run_error.RunError.TheVariants.{InputFailed}
 use Rattle.dbl_lines.specs.Faults.{status_of}
-use Rattle.dblog_run.specs.Disks.{Finishes, SaysError}
-use Rattle.dblog_run.specs.Means.{HasOpenedTopics, IsOffsetsStatus, IsRowsStatus, IsTopicsStatus}
-use Rattle.dblog_run.proofs.DiskLemmas.{rose_after, rose_before}
-use Rattle.dblog_run.proofs.StatusLemmas.{offsets_other, offsets_running, offsets_whole, rows_other, topics_other, topics_running, topics_whole}
+use Rattle.dblog_run_stores.specs.Disks.{Finishes, SaysError}
+use Rattle.dblog_run_stores.specs.Runs.{HasOpenedTopics, IsOffsetsStatus, IsRowsStatus, IsTopicsStatus}
+use Rattle.dblog_run_stores.proofs.DiskLemmas.{rose_after, rose_before}
+use Rattle.dblog_run_stores.proofs.StoreStatuses.{offsets_other, offsets_running, offsets_whole, rows_other, topics_other, topics_running, topics_whole}
 use Rattle.dbl_lines.proofs.SayLemmas.{cut_other}
 use Rattle.dbl_lines.specs.Says.{IsCutShort}
 

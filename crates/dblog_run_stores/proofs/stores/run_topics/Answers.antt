@@ -1,8 +1,8 @@
 use Rattle.dbl_base.specs.Streams.{FaultCounted}
-use Rattle.dblog_run.proofs.DiskLemmas.{only_read}
-use Rattle.dblog_run.proofs.FinishLemmas.{eight_fails, fails_eight, finished_output, opened_topics, topics_known, topics_no_input}
-use Rattle.dblog_run.proofs.StoreRunLemmas.{topics_run}
-use Rattle.dblog_run.proofs.stores.run_topics.Goals as goal
+use Rattle.dblog_run_stores.proofs.DiskLemmas.{only_read}
+use Rattle.dblog_run_stores.proofs.FinishLemmas.{eight_fails, fails_eight, finished_output, opened_topics, topics_known, topics_no_input}
+use Rattle.dblog_run_stores.proofs.StoreRunLemmas.{topics_run}
+use Rattle.dblog_run_stores.proofs.stores.run_topics.Goals as goal
 
 pub returns-clause-told : goal.returns-clause-told
 returns-clause-told g c = λ bytes told.

@@ -1,8 +1,8 @@
 use Rattle.dbl_base.specs.Streams.{FaultCounted}
-use Rattle.dblog_run.proofs.DiskLemmas.{only_read}
-use Rattle.dblog_run.proofs.FinishLemmas.{fails_nine, finished_output, nine_fails, offsets_known, offsets_no_input, opened_offsets}
-use Rattle.dblog_run.proofs.StoreRunLemmas.{offsets_run}
-use Rattle.dblog_run.proofs.stores.run_offsets.Goals as goal
+use Rattle.dblog_run_stores.proofs.DiskLemmas.{only_read}
+use Rattle.dblog_run_stores.proofs.FinishLemmas.{fails_nine, finished_output, nine_fails, offsets_known, offsets_no_input, opened_offsets}
+use Rattle.dblog_run_stores.proofs.StoreRunLemmas.{offsets_run}
+use Rattle.dblog_run_stores.proofs.stores.run_offsets.Goals as goal
 
 pub returns-clause-told : goal.returns-clause-told
 returns-clause-told g c = λ bytes told.

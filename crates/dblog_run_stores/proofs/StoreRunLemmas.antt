@@ -17,8 +17,8 @@ use Rattle.dblog_stores.proofs.OnceLaws.{listings_once, offsets_once, topics_onc
 use Rattle.dbl_lines.specs.declared.run_error.RunError.TheVariants.{Memory}
 use Rattle.dbl_lines.specs.Faults.{status_of, fault_line}
 use Rattle.dblog_streams.specs.Answers.{RunAnswer, done, out_of_memory, whole, IsExternalStatus}
-use Rattle.dblog_run.specs.Disks.{EndsOrFails, Finishes, IsDiskStatus, OfDisk, RunsStores, SaysError, store_answer, store_fault}
-use Rattle.dblog_run.proofs.FinishLemmas.{offsets_kind, other_kind}
+use Rattle.dblog_run_stores.specs.Disks.{EndsOrFails, Finishes, IsDiskStatus, OfDisk, RunsStores, SaysError, store_answer, store_fault}
+use Rattle.dblog_run_stores.proofs.FinishLemmas.{offsets_kind, other_kind}
 use Rattle.dblog_streams.proofs.AnswerLemmas.{memory_ends, memory_is_outside, written_or_outside, writes_then}
 use Rattle.dbl_lines.specs.Says.{Writes}
 

@@ -10,11 +10,11 @@ use Rattle.dblog_init.specs.declared.error.InitError.TheVariants as init
 use Rattle.dblog_init.specs.declared.error.Store.{Store}
 use Rattle.dblog_init.specs.declared.error.Store.TheVariants as store
 use Rattle.dblog_init.specs.Answers as inits
-use Rattle.dblog_capture.specs.InitErrors.{SaysInit, init_line, init_status}
+use Rattle.dblog_capture_text.specs.InitErrors.{SaysInit, init_line, init_status}
 use Rattle.dbl_lines.specs.declared.status.Status.{Status}
 use Rattle.dbl_lines.specs.declared.status.Status.TheVariants.{Done, Unsupported, SourceFailed, TopicsFailed}
 use Rattle.dbl_lines.specs.declared.status.Status.TheVariants.{OffsetsFailed, StdinFailed, InvalidInput, InvalidStore}
-use Rattle.dblog_capture.specs.Ends.{store_status}
+use Rattle.dblog_capture_text.specs.Ends.{store_status}
 use Rattle.dblog_streams.specs.Answers.{RunAnswer, done}
 use Rattle.dbl_lines.specs.Says.{IsCutShort}
 

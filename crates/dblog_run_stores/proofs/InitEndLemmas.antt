@@ -8,10 +8,10 @@ use Rattle.dblog_init.specs.declared.error.Store.TheVariants as store
 use Rattle.dblog_init.specs.Answers as inits
 use Rattle.dblog_init.specs.Disks.{IsAtMostMeasured, LeavesDisk}
 use Rattle.dblog_init.specs.Disks as disks
-use Rattle.dblog_run.specs.Inits.{FinishesInit, IsInitAnswer, IsInitLeft, IsUnmade, IsUnwritten, IsDiskUntouched}
-use Rattle.dblog_capture.proofs.InitStatuses.{failed_error, no_zero, not_store, store_whole}
-use Rattle.dblog_run.proofs.InitLemmas.{end_status, finished_status}
-use Rattle.dblog_capture.specs.Ends.{store_status}
+use Rattle.dblog_run_stores.specs.Inits.{FinishesInit, IsInitAnswer, IsInitLeft, IsUnmade, IsUnwritten, IsDiskUntouched}
+use Rattle.dblog_capture_text.proofs.InitStatuses.{failed_error, no_zero, not_store, store_whole}
+use Rattle.dblog_run_stores.proofs.InitLemmas.{end_status, finished_status}
+use Rattle.dblog_capture_text.specs.Ends.{store_status}
 use Rattle.dbl_lines.specs.declared.status.Status.{Status}
 use Rattle.dbl_lines.specs.declared.status.Status.TheVariants.{Done, Unsupported, SourceFailed, TopicsFailed, OffsetsFailed}
 use Rattle.dbl_lines.specs.declared.status.Status.TheVariants.{StdinFailed, OutOfMemory, InvalidInput, InvalidStore}

@@ -1,8 +1,8 @@
 use Rattle.std.proofs.Common.{refl, sym, subst}
 use Rattle.dbl_lines.specs.declared.status.Status.TheVariants.{Done}
 use Rattle.dblog_init.specs.Answers.{InitEnd}
-use Rattle.dblog_run.specs.Inits.{FinishesInit}
-use Rattle.dblog_run.proofs.initializing.finish_init.Goals as goal
+use Rattle.dblog_run_stores.specs.Inits.{FinishesInit}
+use Rattle.dblog_run_stores.proofs.initializing.finish_init.Goals as goal
 
 pub returns-in-Ok-clause-finishes : goal.returns-in-Ok-clause-finishes
 returns-in-Ok-clause-finishes g c =

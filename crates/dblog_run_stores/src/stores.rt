@@ -10,9 +10,9 @@ ghost use Rattle.dbl_record.specs.declared.record.Record.{Record};
 ghost use Rattle.dbl_topic.specs.Logs.{IsLog};
 ghost use Rattle.dblog_stores.specs.Answers.{AnswersListing, AnswersOffsets, AnswersTopics};
 ghost use Rattle.dblog_stores.specs.Ends.{IsSynced};
-ghost use Rattle.dblog_run.specs.Disks.{Finishes, IsOnlyRead, OfDisk, RunsStores, SaysError};
-ghost use Rattle.dblog_run.specs.Means.{HasOpenedTopics, IsOffsetsStatus};
-ghost use Rattle.dblog_run.specs.Means.{IsRowsStatus, IsTopicsStatus};
+ghost use Rattle.dblog_run_stores.specs.Disks.{Finishes, IsOnlyRead, OfDisk, RunsStores, SaysError};
+ghost use Rattle.dblog_run_stores.specs.Runs.{HasOpenedTopics, IsOffsetsStatus};
+ghost use Rattle.dblog_run_stores.specs.Runs.{IsRowsStatus, IsTopicsStatus};
 
 use dbl_base::Output;
 use dbl_disk::Disk;
@@ -24,7 +24,7 @@ use dblog_stores::{
 use std::alloc::Global;
 
 /// Writes the lines of the topic log's records.
-pub(crate) fn run_topics<O: Output, W, T: Disk, F>(
+pub fn run_topics<O: Output, W, T: Disk, F>(
     alloc: Global,
     output: &mut O,
     disks: Disks<W, T, F>,
@@ -62,7 +62,7 @@ pub(crate) fn run_topics<O: Output, W, T: Disk, F>(
 }
 
 /// Writes the text of the stored offset.
-pub(crate) fn run_offsets<O: Output, W, T, F: Disk>(
+pub fn run_offsets<O: Output, W, T, F: Disk>(
     alloc: Global,
     output: &mut O,
     disks: Disks<W, T, F>,
@@ -101,7 +101,7 @@ pub(crate) fn run_offsets<O: Output, W, T, F: Disk>(
 }
 
 /// Writes a listing of the topic log, with the stored placeholder.
-pub(crate) fn run_listing<O: Output, W, T: Disk, F: Disk>(
+pub fn run_listing<O: Output, W, T: Disk, F: Disk>(
     alloc: Global,
     listing: Listing,
     output: &mut O,

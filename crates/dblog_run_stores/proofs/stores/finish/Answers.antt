@@ -1,8 +1,8 @@
 use Rattle.std.proofs.Common.{◌∙◌, Err, inl, inr, refl, sym, ap, subst}
 use Rattle.dbl_lines.specs.declared.status.Status.TheVariants.{Done}
 use Rattle.dblog_stores.specs.Ends.{CommandEnd}
-use Rattle.dblog_run.specs.Disks.{Finishes}
-use Rattle.dblog_run.proofs.stores.finish.Goals as goal
+use Rattle.dblog_run_stores.specs.Disks.{Finishes}
+use Rattle.dblog_run_stores.proofs.stores.finish.Goals as goal
 
 pub returns-in-Ok-clause-finishes : goal.returns-in-Ok-clause-finishes
 returns-in-Ok-clause-finishes g c =

@@ -8,10 +8,10 @@ ghost use Rattle.dblog_init.specs.declared.error.Store.TheVariants.{Wal, Topics,
 ghost use Rattle.dblog_init.specs.Answers.{AnswersInput, InitInput};
 ghost use Rattle.dblog_init.specs.Disks.{HasStoredBytes, HoldSomeBytes};
 ghost use Rattle.dblog_init.specs.Fresh.{IsEmptyLog, IsEmptyStore};
-ghost use Rattle.dblog_run.specs.Disks.{OfDisk};
-ghost use Rattle.dblog_run.specs.Inits.{FailsSource, FinishesInit, IsInitAnswer};
-ghost use Rattle.dblog_run.specs.Inits.{IsInitLeft, IsInitStatus, AreUntouched};
-ghost use Rattle.dblog_run.specs.Means.{RunsInit};
+ghost use Rattle.dblog_run_stores.specs.Disks.{OfDisk};
+ghost use Rattle.dblog_run_stores.specs.Inits.{FailsSource, FinishesInit, IsInitAnswer};
+ghost use Rattle.dblog_run_stores.specs.Inits.{IsInitLeft, IsInitStatus, AreUntouched};
+ghost use Rattle.dblog_run_stores.specs.Runs.{RunsInit};
 ghost use Rattle.dblog_streams.specs.Answers.{FailsReading};
 
 use dbl_base::{Input, Output};
@@ -22,7 +22,7 @@ use dblog_init::{Disks, InitError, Outcome, init};
 use std::alloc::Global;
 
 /// Makes the stores of the input's workload, and writes nothing; or writes the line of the error.
-pub(crate) fn run_init<I: Input, O: Output, W: Disk, T: Disk, F: Disk>(
+pub fn run_init<I: Input, O: Output, W: Disk, T: Disk, F: Disk>(
     alloc: Global,
     input: &mut I,
     output: &mut O,

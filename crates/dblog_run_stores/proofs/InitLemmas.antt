@@ -13,12 +13,12 @@ use Rattle.dblog_init.proofs.AnswerLaws.{one_answer}
 use Rattle.dbl_lines.specs.declared.status.Status.{Status}
 use Rattle.dbl_lines.specs.declared.status.Status.TheVariants.{Done}
 use Rattle.dbl_lines.specs.declared.run_error.RunError.TheVariants.{Memory}
-use Rattle.dblog_run.specs.Disks.{DiskFails, IsDiskStatus, OfDisk}
+use Rattle.dblog_run_stores.specs.Disks.{DiskFails, IsDiskStatus, OfDisk}
 use Rattle.dbl_lines.specs.Faults.{fault_line, status_of}
-use Rattle.dblog_capture.specs.InitErrors.{SaysInit, init_line, init_status}
-use Rattle.dblog_capture.proofs.InitStatuses.{said_status}
-use Rattle.dblog_run.specs.Inits.{FailsSource, FinishesInit, IsInitStatus, init_answer, init_fault}
-use Rattle.dblog_run.specs.Means.{RunsInit}
+use Rattle.dblog_capture_text.specs.InitErrors.{SaysInit, init_line, init_status}
+use Rattle.dblog_capture_text.proofs.InitStatuses.{said_status}
+use Rattle.dblog_run_stores.specs.Inits.{FailsSource, FinishesInit, IsInitStatus, init_answer, init_fault}
+use Rattle.dblog_run_stores.specs.Runs.{RunsInit}
 use Rattle.dblog_streams.specs.Answers.{RunAnswer, Ends, FailsReading, IsExternalStatus, whole}
 use Rattle.dblog_streams.proofs.AnswerLemmas.{memory_ends, memory_is_outside, written_or_outside}
 use Rattle.dbl_lines.specs.Says.{IsCutShort, Writes}

@@ -1,5 +1,5 @@
-use Rattle.dblog_run.proofs.FinishLemmas.{error_finishes, output_finishes}
-use Rattle.dblog_run.proofs.stores.end_with.Goals as goal
+use Rattle.dblog_run_stores.proofs.FinishLemmas.{error_finishes, output_finishes}
+use Rattle.dblog_run_stores.proofs.stores.end_with.Goals as goal
 
 pub returns-in-OutputFailed-clause-finishes : goal.returns-in-OutputFailed-clause-finishes
 returns-in-OutputFailed-clause-finishes g c = output_finishes c.args.error _ c.in-OutputFailed.is

@@ -1,7 +1,7 @@
 -- What a run leaves of its disks.
 use Rattle.std.proofs.Common.{◌≡◌, ◌⊎◌, inl, inr, ℕ, ◌≤◌, Bool, true, false, Option, List, refl, sym, subst, arith}
 use Rattle.dbl_base.specs.Streams.{FaultCounted}
-use Rattle.dblog_run.specs.Disks.{IsOnlyRead}
+use Rattle.dblog_run_stores.specs.Disks.{IsOnlyRead}
 use Rattle.dbl_lines.specs.declared.status.Status.{Status}
 use Rattle.dbl_lines.specs.Says.{IsCutShort}
 use Rattle.dbl_disk.specs.Model.{DiskModel}

@@ -84,6 +84,7 @@ module _ {K : Type 0} (model : SinkModel K) (sink sink2 : K) (refused : Option (
   pub passes_on : ExtendsGated model sink refused rule sink2 refused rule
   passes_on = record {
     comes = a.comes;
+    later = a.cause.later;
     same_rule = refl;
     stays = λ place is. is;
     closed = λ closed. shut (is_open model sink refused) live closed;
@@ -96,6 +97,7 @@ module _ {K : Type 0} (model : SinkModel K) (sink sink2 : K) (refused : Option (
   pub refuses_on : (place : ℕ × ℕ) (group : List Record) → IsFirstRefused rule group place → ExtendsGated model sink refused rule sink2 (Some place) rule
   refuses_on place group first = record {
     comes = a.comes;
+    later = a.cause.later;
     same_rule = refl;
     stays = λ other is. none_some refused other (unrefused (model.is_live sink) refused live) is;
     closed = λ closed. shut (is_open model sink refused) live closed;

@@ -1,6 +1,6 @@
 -- What the trait of sinks requires of a gate: it extends itself, and extension is transitive.
 use Rattle.std.proofs.Common.{◌≡◌, ◌∙◌, ℕ, Bool, true, false, Option, Some, None, List, []}
-use Rattle.std.proofs.Common.{◌∷◌, ◌++◌, refl, sym, ap, subst, append_assoc, append-nil}
+use Rattle.std.proofs.Common.{◌∷◌, ◌++◌, refl, sym, ap, subst, append_assoc, append-nil, arith}
 use Rattle.std.specs.Prelude.{◌&&◌, is_none}
 use Rattle.std.specs.List.{AllByRecursion}
 use Rattle.dbl_record.specs.declared.record.Record.{Record}
@@ -46,6 +46,7 @@ module _ {K : Type 0} (model : SinkModel K)
       → ExtendsGated model sink refused rule sink refused rule
   gate_self comes_self sink refused rule = record {
     comes = comes_self sink;
+    later = omega arith;
     same_rule = refl;
     stays = λ place is. is;
     closed = λ shut. (shut, λ left may. may);
@@ -89,6 +90,7 @@ module _ {K : Type 0} (model : SinkModel K)
     pub gate_on : ExtendsGated model a ra ma c rc mc
     gate_on = record {
       comes = comes_on a b c ab.comes bc.comes;
+      later = omega (arith, ab.later, bc.later);
       same_rule = bc.same_rule ∙ ab.same_rule;
       stays = λ place is. bc.stays place (ab.stays place is);
       closed = λ shut. ((bc.closed (ab.closed shut).0).0, λ left may. (ab.closed shut).1 left ((bc.closed (ab.closed shut).0).1 left may));

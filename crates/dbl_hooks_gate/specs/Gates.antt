@@ -1,5 +1,5 @@
 -- Sinks to which a gate appends only what its rule allows. A place is the position and the ordinal of a record.
-use Rattle.std.specs.Prelude.{◌≡◌, ◌≢◌, ◌&&◌, ◌+◌, ◌-◌, ◌^◌, ◌++◌, ℕ, Bool, true, false, is_none}
+use Rattle.std.specs.Prelude.{◌≡◌, ◌≢◌, ◌≤◌, ◌&&◌, ◌+◌, ◌-◌, ◌^◌, ◌++◌, ℕ, Bool, true, false, is_none}
 use Rattle.std.specs.Prelude.{IsTrue, Option, Some, None, List, [], ◌∷◌, Result, Err, OnOk, OnErr}
 use Rattle.std.specs.List.{AllByRecursion}
 use Rattle.dbl_base.specs.Streams.{FailsOnlyIfCounted}
@@ -76,10 +76,12 @@ pub record AddsAllowed (rule : Rule) (groups left : List (List Record)) : Type 0
   pub allowed : AllByRecursion (AreAllowed rule) more
 
 -- What a gate keeps, from before any appends to after them: its rule; a refusal; and that no record was appended but those that the rule
--- allows, and none after a refusal or a failure. A record that was refused is the first of a group that the rule doesn't allow.
+-- allows, and none after a refusal or a failure. A record that was refused is the first of a group that the rule doesn't allow. The inner
+-- sink's count of faults never falls.
 pub record ExtendsGated {K : Type 0} (model : SinkModel K) (sink : K) (refused : Option (ℕ × ℕ)) (rule : Rule)
     (new_sink : K) (new_refused : Option (ℕ × ℕ)) (new_rule : Rule) : Type 0 where
   pub comes : model.comes_of sink new_sink
+  pub later : model.faults sink ≤ model.faults new_sink
   pub same_rule : new_rule ≡ rule
   pub stays : (place : ℕ × ℕ) → refused ≡ Some place → new_refused ≡ Some place
   pub closed : is_open model sink refused ≡ false

@@ -1,11 +1,21 @@
-ghost use Rattle.std.specs.Prelude.{◌≡◌, ◌⊎◌, ℕ, List, Some, IsErr, IsTrue};
+ghost use Rattle.std.specs.Prelude.{◌≡◌, ◌⊎◌, ℕ, List, Some, IfErr, IsErr, IsTrue};
 ghost use Rattle.dbl_record.specs.declared.record.Record.{Record};
 ghost use Rattle.dbl_hooks_gate.specs.Gates.{AddsAllowed, IsFirstRefused, is_open};
 ghost use Rattle.dbl_model_table.specs.Configs.{IsGoodConfig};
 ghost use Rattle.dbl_source.specs.SourceModel.Standings.{SourceState};
 ghost use Rattle.dbl_offset.specs.Stores.{IsLive};
-ghost use Rattle.dbl_capture.specs.CaptureLaws.Found.{IsOfConfig};
-ghost use Rattle.dbl_capture.specs.SessionEnds.{LeavesStores};
+ghost use Rattle.dbl_offset.specs.Keeps.{KeepsStore};
+ghost use Rattle.dbl_source.specs.Keeps.{KeepsSource};
+ghost use Rattle.dbl_capture.specs.CaptureModel.Entries.{SessionStart, WasFaithful};
+ghost use Rattle.dbl_capture.specs.CaptureLaws.Closed.{HasClosedRead};
+ghost use Rattle.dbl_capture.specs.CaptureLaws.Found.{Found, IsEntryOf, IsOfConfig};
+ghost use Rattle.dbl_capture.specs.CaptureLaws.Nevers.{IsFaithfulHalt};
+ghost use Rattle.dbl_capture.specs.Gone.{TellsIfGone};
+ghost use Rattle.dbl_capture.specs.SessionEnds.{LeavesStores, MayStoreOffset, AddsMarks};
+ghost use Rattle.dbl_capture.specs.SessionEnds.{AddsRecords, ReportsByTrace, ReportsByState};
+ghost use Rattle.dbl_capture.specs.SessionEnds.{CountsWithin, TalliesRecords, EndsNormally};
+ghost use Rattle.dbl_capture.specs.SessionEnds.{HaltsByTrace, HaltsByState, NeverHalts};
+ghost use Rattle.dbl_capture_gated.specs.Inner.{KeepsInner};
 ghost use Rattle.dbl_capture_gated.specs.Passed.{PassesAllowed};
 
 use dbl_capture::{Ending, Halt, Report, session};
@@ -17,8 +27,8 @@ use dbl_source::Source;
 use dbl_topic::Sink;
 use std::alloc::Global;
 
-/// A session over a gate: `session`, of which all clauses are true with the gate as its sink, and
-/// what they amount to. The offset moves only past records that the receiver accepted.
+/// A session over a gate: `session` with the gate as its sink. The offset moves only past records
+/// that the receiver accepted. A refusal stops the session with an error.
 pub fn gated_session<S: Source, K: Sink + Drop, D: Disk>(
     alloc: Global,
     config: &Config,
@@ -46,9 +56,49 @@ pub fn gated_session<S: Source, K: Sink + Drop, D: Disk>(
         K.may_leave gate.new.sink left → (s t : SourceState) → S.stands src.old s →
         S.stands src.new t → (report.new.messages ≡ 0) ⊎
         PassesAllowed config.now now_ms gate.old.rule offsets.old.offset offsets.new.offset t }
-    // The inner sink is left as by any session.
+
+    // The clauses of `session`, of the inner sink: what is left, at every exit.
     ensures faithful { LeavesStores S.Source K.Sink D.Disk config.now now_ms src.old src.new
         gate.old.sink gate.new.sink offsets.old offsets.new result }
+    ensures stores { MayStoreOffset S.Source D.Disk config.now src.old offsets.old offsets.new
+        result }
+    ensures marks { AddsMarks S.Source config.now now_ms src.old src.new offsets.old offsets.new
+        report.new result }
+    ensures gains { AddsRecords K.Sink config.now now_ms gate.old.sink gate.new.sink offsets.old
+        offsets.new }
+
+    // What is reported.
+    ensures by_trace { ReportsByTrace S.Source config.now now_ms src.old src.new offsets.old
+        offsets.new report.new result }
+    ensures by_state { ReportsByState S.Source config.now now_ms src.old src.new offsets.old
+        offsets.new report.new result }
+    ensures counts { CountsWithin config.now offsets.old offsets.new report.new }
+    ensures tallies { TalliesRecords S.Source K.Sink config.now now_ms src.old src.new
+        gate.old.sink gate.new.sink offsets.old offsets.new report.new result }
+    ensures unclosed { (entry : SessionStart) → IsEntryOf config.now now_ms entry →
+        Found S.stands K.holds D.Disk entry src.old gate.old.sink offsets.old →
+        S.honest src.new → WasFaithful entry → (t : SourceState) → S.stands src.new t →
+        HasClosedRead offsets.new.offset report.new t }
+
+    // Why it stops.
+    ensures ends { EndsNormally S.Source config.now src.new offsets.new report.new result }
+    ensures halt { HaltsByTrace S.Source config.now now_ms src.new offsets.old offsets.new
+        report.new result }
+    ensures halt_by_state { HaltsByState S.Source config.now now_ms src.old src.new offsets.old
+        offsets.new report.new result }
+    ensures gone { TellsIfGone S.Source src.old offsets.old result }
+    ensures own { NeverHalts S.Source config.now now_ms src.old src.new offsets.old result }
+    ensures content { (entry : SessionStart) → IsEntryOf config.now now_ms entry →
+        Found S.stands K.holds D.Disk entry src.old gate.old.sink offsets.old →
+        S.honest src.new → WasFaithful entry → IfErr result
+        (IsFaithfulHalt entry offsets.new.offset report.new (S.stands src.new)
+        (K.holds gate.new.sink)) }
+
+    // What every call keeps, and that a device fails only if its count of faults rose.
+    ensures source { KeepsSource S.Source src.old src.new result Halt.Source }
+    ensures sink { KeepsInner K.Sink gate.old.sink gate.new.sink gate.new.refused result
+        Halt.Sink }
+    ensures store { KeepsStore D.Disk offsets.old offsets.new result Halt.Offsets }
 {
     session(alloc, config, now_ms, src, gate, offsets, report)
 }

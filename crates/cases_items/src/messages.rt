@@ -5,7 +5,8 @@
 //!   type modifier). `I/1/1 Ann`: an Insert. `U/1/K/1 ~/2 Ann`: an Update (`U/1/-//2 Ann` with no old row). `D/1/O/1 Ann`: a
 //!   Delete. `T/1 2`: a Truncate. `O`, `Y` and `M`: an Origin, a Type and a Logical.
 //!
-//! A cell is null (`~`), unchanged (`?`), or its text, which is written as a JSON string where it holds a space or a slash.
+//! A cell is null (`~`), unchanged (`?`), so many control characters (`*15200000`), or its text, which is written as a JSON
+//! string where it holds a space or a slash.
 
 use crate::items::field;
 use crate::words::{self, Spelled};
@@ -14,12 +15,20 @@ use dbl_base::{Lsn, Seq, Text};
 use dbl_pgmsg::{Message, OldTuple, RelationColumn, Tuple, TupleCell};
 use std::alloc::Global;
 
+// A text that is so many times U+0001, which JSON writes as six bytes, or that is written as it is.
+fn text(alloc: Global, word: &str) -> Result<Text> {
+    match word.strip_prefix("*") {
+        Some(count) => Ok(Text::of(alloc, "\u{1}".repeat(alloc, count.parse()?)?.as_str())?),
+        None => words::text(alloc, word),
+    }
+}
+
 impl Spelled for TupleCell {
     fn read(alloc: Global, word: &str) -> Result<TupleCell> {
         match word {
             "~" => Ok(TupleCell::Null),
             "?" => Ok(TupleCell::Unchanged),
-            _ => Ok(TupleCell::Text(words::text(alloc, word)?)),
+            _ => Ok(TupleCell::Text(text(alloc, word)?)),
         }
     }
 }

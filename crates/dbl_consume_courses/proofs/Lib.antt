@@ -12,3 +12,5 @@ pub mod SameLemmas
 pub mod AlteredLemmas
 pub mod Clock
 pub mod PlainLemmas
+pub mod Presence
+pub mod ThereLemmas

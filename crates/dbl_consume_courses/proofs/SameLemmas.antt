@@ -226,7 +226,7 @@ last_infos : (infos : List TableInfo) (earlier : List Versioned) (v : Versioned)
 last_infos infos [] v = refl
 last_infos infos (x ∷ earlier) v = last_infos x.infos earlier v
 
-infos_distinct : (infos : List TableInfo) (earlier : List Versioned) (v : Versioned) (later : List Versioned) → AreFitVersions infos (earlier ++ v ∷ later) → AreDistinctTables v.infos
+pub infos_distinct : (infos : List TableInfo) (earlier : List Versioned) (v : Versioned) (later : List Versioned) → AreFitVersions infos (earlier ++ v ∷ later) → AreDistinctTables v.infos
 infos_distinct infos earlier v later valid =
     subst AreDistinctTables (last_infos infos earlier v)
     (kin_distinct infos (infos_after infos (earlier ++ v ∷ [])) (kin_all infos (earlier ++ v ∷ []) (follow_one infos earlier v later valid.follow)) valid.distinct)

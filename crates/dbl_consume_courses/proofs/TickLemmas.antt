@@ -35,7 +35,7 @@ use Rattle.dbl_consume_courses.proofs.Alone.{IsLike, AreLike, topics_apart, not_
 
 -- ---- the events of a change
 
-abbrev AreOf : TableName → List Notice → Type 0
+abbrev pub AreOf : TableName → List Notice → Type 0
 AreOf name ns = AllByRecursion (λ n. n.info.name ≡ name) ns
 
 of_update : (info : TableInfo) (t : ℕ) (from to : Key) (old : Option Row) (cells : List Cell) (stays : Bool)
@@ -43,7 +43,7 @@ of_update : (info : TableInfo) (t : ℕ) (from to : Key) (old : Option Row) (cel
 of_update info t from to old cells true = (refl, tt)
 of_update info t from to old cells false = (refl, (refl, (refl, tt)))
 
-of_change : (info : TableInfo) (t : ℕ) (c : Change) → AreOf info.name (change_notices t info c)
+pub of_change : (info : TableInfo) (t : ℕ) (c : Change) → AreOf info.name (change_notices t info c)
 of_change info t (Insert u row) = (refl, tt)
 of_change info t (Update u from old cells) = of_update info t from (new_key_of info cells) old cells (same_key from (new_key_of info cells))
 of_change info t (Delete u from old) = (refl, (refl, tt))
@@ -56,6 +56,9 @@ no_cells placeholder (name ∷ names) = refl
 
 no_clash : (t : ℕ) (y : TableInfo) (placeholder : List ℕ) → notice_clash placeholder (notice t y None Truncated) ≡ None
 no_clash t y placeholder = ap (λ (o : Option (List ℕ)). clash_at y (option_or o o)) (no_cells placeholder (column_names y.columns))
+
+pub topic_by : (identity : Identity) (x y : TableInfo) → x.name ≡ y.name → topic_of identity x ≡ topic_of identity y
+topic_by identity x y name = ap (λ (n : TableName). identity.prefix ++ codes "." ++ full_name n) name
 
 module _ (identity : Identity) (a b : List TableInfo) (table : ℕ) (info : TableInfo) (kin : AreKin a b) (same : slice_get a table ≡ slice_get b table) (captured : slice_get b table ≡ Some info) (apart : AreDistinctTables b) where
   -- an event in the course and that of the commit: one and the same, or both of another table

@@ -8,4 +8,5 @@ pub mod Growth
 pub mod SameCells
 pub mod CourseAges
 pub mod PlainAges
+pub mod RowsThere
 pub mod Example

@@ -7,6 +7,7 @@ mod fit_laws;
 mod growth_laws;
 mod same_laws;
 mod since_laws;
+mod there_laws;
 
 pub use age_laws::{
     aged_courses_are_own, altered_tables_age, late_logs_age_as_plain, late_logs_have_the_same_rows,
@@ -27,4 +28,7 @@ pub use same_laws::{
 pub use since_laws::{
     early_records_end_all, late_logs_are_whole, late_records_are_appended, later_starts_keep_less,
     since_is_one, since_is_since,
+};
+pub use there_laws::{
+    commits_move_rows_there, no_records_have_rows, parts_of_commits_keep_rows_there,
 };

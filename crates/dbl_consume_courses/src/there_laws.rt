@@ -1,0 +1,19 @@
+//! The rows of a consumer of a whole log, and those of the source within a span.
+ghost use Rattle.dbl_consume_courses.specs.RowsThere.{NoRecordsHaveRows};
+ghost use Rattle.dbl_consume_courses.specs.RowsThere.{PartsOfCommitsKeepRowsThere};
+ghost use Rattle.dbl_consume_courses.specs.RowsThere.{CommitsMoveRowsThere};
+
+/// A consumer of no records has no row.
+pub fn no_records_have_rows()
+    ensures { NoRecordsHaveRows }
+{}
+
+/// A prefix of a commit's records leaves each row of a consumer one that was in the source.
+pub fn parts_of_commits_keep_rows_there()
+    ensures { PartsOfCommitsKeepRowsThere }
+{}
+
+/// With all records of a commit, each row of a consumer was in the source from after the commit on.
+pub fn commits_move_rows_there()
+    ensures { CommitsMoveRowsThere }
+{}

@@ -272,7 +272,7 @@ module _ (identity : Identity) (info : TableInfo) where
       ap (λ (h : Option HeldCells). fold (reading_after identity.placeholder other text) h (map reading_of (map as_line (map emptied records)))) (step_other text other item of_table of_report of_none)
       ∙ none_fold text other records of_table of_report of_none
 
-  flip_apart : (a b : List ℕ) → bytes_eq a b ≡ false → bytes_eq b a ≡ false
+  pub flip_apart : (a b : List ℕ) → bytes_eq a b ≡ false → bytes_eq b a ≡ false
   flip_apart a b other = apart_texts b a (λ same. differ a b other (sym same))
 
   pub none_held : (infos : List TableInfo) (t u : ℕ) (y : TableInfo) (records : List Record) (text : List ℕ) → AreDistinctTables infos → slice_get infos t ≡ Some info → slice_get infos u ≡ Some y → t ≢ u

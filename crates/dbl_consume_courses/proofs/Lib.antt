@@ -14,3 +14,4 @@ pub mod Clock
 pub mod PlainLemmas
 pub mod Presence
 pub mod ThereLemmas
+pub mod ThereWindows

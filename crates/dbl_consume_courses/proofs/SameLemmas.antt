@@ -214,7 +214,7 @@ module _ (identity : Identity) (infos : List TableInfo) (commit : Commit) (now :
 
 -- ---- the commit of a course
 
-fit_at : (at : Rows) (earlier : List Versioned) (v : Versioned) (later : List Versioned) → AreFitFrom at (earlier ++ v ∷ later) → IsFitVersion (fold rows_through at earlier) v
+pub fit_at : (at : Rows) (earlier : List Versioned) (v : Versioned) (later : List Versioned) → AreFitFrom at (earlier ++ v ∷ later) → IsFitVersion (fold rows_through at earlier) v
 fit_at at [] v later fit = fit.0
 fit_at at (x ∷ earlier) v later fit = fit_at (rows_through at x) earlier v later fit.1
 

@@ -227,7 +227,7 @@ module _ (identity : Identity) (infos : List TableInfo) (earlier : List Versione
   abbrev Aged : List Record → ℕ → Type 0
   Aged records from = IsAgedCell ⊥ life from (end_of records from) (Held records)
 
-  held_more : (records more : List Record) → held_row identity (records ++ more) topic text ≡ fold (reading_after identity.placeholder topic text) (held_row identity records topic text) (map reading_of (map as_line more))
+  pub held_more : (records more : List Record) → held_row identity (records ++ more) topic text ≡ fold (reading_after identity.placeholder topic text) (held_row identity records topic text) (map reading_of (map as_line more))
   held_more records more =
       ap (λ (l : List _). fold (reading_after identity.placeholder topic text) None (map reading_of l)) (map-append as_line records more)
       ∙ (ap (fold (reading_after identity.placeholder topic text) None) (map-append reading_of (map as_line records) (map as_line more))
@@ -255,7 +255,7 @@ module _ (identity : Identity) (infos : List TableInfo) (earlier : List Versione
   end_later (item ∷ records) from to le =
       end_later records (max from (version_moment (earlier ++ v ∷ later) (place_of item))) (max to (version_moment (earlier ++ v ∷ later) (place_of item))) (far_from from to (version_moment (earlier ++ v ∷ later) (place_of item)) le)
 
-  end_wider : (records more : List Record) (from to : ℕ) → from ≤ to → end_of records from ≤ end_of (records ++ more) to
+  pub end_wider : (records more : List Record) (from to : ℕ) → from ≤ to → end_of records from ≤ end_of (records ++ more) to
   end_wider records more from to le =
       let parted : end_of (records ++ more) to ≡ end_of more (end_of records to) = fold-append (λ (far : ℕ) (x : Record). max far (version_moment (earlier ++ v ∷ later) (place_of x))) to records more in
       subst (λ (e : ℕ). end_of records from ≤ e) (sym parted) (le_then (end_of records from) (end_of records to) (end_of more (end_of records to)) (end_later records from to le) (end_starts more (end_of records to)))
@@ -492,7 +492,7 @@ changes_end (x ∷ earlier) v =
 
 -- ---- rows that are held, and those that were there
 
-marked : (o : Option (List Val)) → IsSome o → row_mark o ≡ Some []
+pub marked : (o : Option (List Val)) → IsSome o → row_mark o ≡ Some []
 marked None some = cc
 marked (Some row) some = refl
 
@@ -513,7 +513,7 @@ from_aged versions from end table key (Some cells) aged some =
 
 module _ (identity : Identity) (infos : List TableInfo) (earlier : List Versioned) (v : Versioned) (later : List Versioned) (valid : AreFitVersions infos (earlier ++ v ∷ later)) (now : ℤ) (in_time : IsMomentInRange now) (table : ℕ) where
   -- what is so at the topic and text of each key is so where it is named
-  named : (from : ℕ) (records : List Record) → ((info : TableInfo) (captured : slice_get v.infos table ≡ Some info) (key : Key) (is_key : IsKeyOf info key)
+  pub named : (from : ℕ) (records : List Record) → ((info : TableInfo) (captured : slice_get v.infos table ≡ Some info) (key : Key) (is_key : IsKeyOf info key)
       → IsAgedCell ⊥ (λ m. row_mark (rows_upto no_rows (earlier ++ v ∷ later) m table key)) from (version_span_end (earlier ++ v ∷ later) records from) (held_mark (held_row identity records (topic_of identity info) (key_text info key))))
       → HasRowsThere identity infos (earlier ++ v ∷ later) records from table
   named from records aged = record {
@@ -526,7 +526,7 @@ module _ (identity : Identity) (infos : List TableInfo) (earlier : List Versione
   }
 
   -- the other way round
-  unnamed : (from : ℕ) (records : List Record) → HasRowsThere identity infos (earlier ++ v ∷ later) records from table → (info : TableInfo) (captured : slice_get v.infos table ≡ Some info) (key : Key) (is_key : IsKeyOf info key)
+  pub unnamed : (from : ℕ) (records : List Record) → HasRowsThere identity infos (earlier ++ v ∷ later) records from table → (info : TableInfo) (captured : slice_get v.infos table ≡ Some info) (key : Key) (is_key : IsKeyOf info key)
       → IsAgedCell ⊥ (λ m. row_mark (rows_upto no_rows (earlier ++ v ∷ later) m table key)) from (version_span_end (earlier ++ v ∷ later) records from) (held_mark (held_row identity records (topic_of identity info) (key_text info key)))
   unnamed from records there info captured key is_key =
       let own : Names identity v.infos (topic_of identity info) (key_text info key) table key = record { info = info; captured = captured; is_key = is_key; topic_is = refl; text_is = refl } in

@@ -1,15 +1,19 @@
 -- That each row of a consumer of a whole log was in the source within a span, in whatever columns, as records are delivered.
 use Rattle.std.specs.Prelude.{◌≡◌, ℕ, ℤ, ◌≤◌, IsSome, List, [], ◌∷◌, ◌++◌, take, map}
+use Rattle.std.specs.List.{AllByRecursion}
 use Rattle.dbl_record.specs.declared.record.Record.{Record}
 use Rattle.dbl_model_table.specs.declared.identity.Identity.{Identity}
 use Rattle.dbl_model_table.specs.declared.row.Key.{Key}
 use Rattle.dbl_model_table.specs.declared.table.TableInfo.{TableInfo}
+use Rattle.dbl_model_table.specs.Rows.{no_rows}
 use Rattle.dbl_model_history.specs.Image.{Names}
 use Rattle.dbl_model_history.specs.Ranges.{IsMomentInRange}
+use Rattle.dbl_model_event.specs.declared.closed.Closed.{Closed}
 use Rattle.dbl_model_event.specs.EventJson.{envelopes}
+use Rattle.dbl_model_event.specs.SnapshotLists.{IsSnapshot}
 use Rattle.dbl_consume_laws.specs.Ages.{held_row}
 use Rattle.dbl_consume_laws.specs.Commits.{moment_after}
-use Rattle.dbl_consume_courses.specs.Versions.{Versioned, plain_commit}
+use Rattle.dbl_consume_courses.specs.Versions.{Versioned, plain_commit, rows_upto}
 use Rattle.dbl_consume_courses.specs.AlteredTables.{version_span_end, WasThereThrough}
 use Rattle.dbl_consume_courses.specs.FitVersions.{AreFitVersions}
 
@@ -46,3 +50,19 @@ PartsOfCommitsKeepRowsThere = (identity : Identity) (infos : List TableInfo) (ve
     → from ≤ changes_in earlier → changes_in earlier ≤ version_span_end versions records from
     → HasRowsThere identity infos versions records from table
     → HasRowsThere identity infos versions (records ++ take n (envelopes identity v.infos (plain_commit v) now)) from table
+
+-- With any prefix of the records of a window whose rows are in the source at its high watermark it stays so from there on.
+abbrev pub PartsOfSnapshotsKeepRowsThere : Type 0
+PartsOfSnapshotsKeepRowsThere = (identity : Identity) (infos : List TableInfo) (versions earlier : List Versioned) (mark : Versioned)
+    (later : List Versioned) (closed : Closed) (records snapshot : List Record) (now : ℤ) (n : ℕ)
+    → AreFitVersions infos versions → versions ≡ earlier ++ mark ∷ later → IsMomentInRange now
+    → IsSnapshot identity mark.infos closed (plain_commit mark) now snapshot
+    → AllByRecursion (λ entry. IsSome (rows_upto no_rows versions (changes_in earlier) closed.table entry.0)) closed.rows
+    → HasRowsThere identity infos versions records (changes_in earlier) closed.table
+    → HasRowsThere identity infos versions (records ++ take n snapshot) (changes_in earlier) closed.table
+
+-- Rows that were in the source within the span from a point on, which the records reach, were so from each earlier point on.
+abbrev pub RowsThereGoBack : Type 0
+RowsThereGoBack = (identity : Identity) (infos : List TableInfo) (versions : List Versioned) (records : List Record) (from to table : ℕ)
+    → from ≤ to → to ≤ version_span_end versions records from
+    → HasRowsThere identity infos versions records to table → HasRowsThere identity infos versions records from table

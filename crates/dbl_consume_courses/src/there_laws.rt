@@ -2,6 +2,8 @@
 ghost use Rattle.dbl_consume_courses.specs.RowsThere.{NoRecordsHaveRows};
 ghost use Rattle.dbl_consume_courses.specs.RowsThere.{PartsOfCommitsKeepRowsThere};
 ghost use Rattle.dbl_consume_courses.specs.RowsThere.{CommitsMoveRowsThere};
+ghost use Rattle.dbl_consume_courses.specs.RowsThere.{PartsOfSnapshotsKeepRowsThere};
+ghost use Rattle.dbl_consume_courses.specs.RowsThere.{RowsThereGoBack};
 
 /// A consumer of no records has no row.
 pub fn no_records_have_rows()
@@ -16,4 +18,15 @@ pub fn parts_of_commits_keep_rows_there()
 /// With all records of a commit, each row of a consumer was in the source from after the commit on.
 pub fn commits_move_rows_there()
     ensures { CommitsMoveRowsThere }
+{}
+
+/// A prefix of a window's records leaves each row of a consumer one that was in the source, if the
+/// window's rows are there at its high watermark.
+pub fn parts_of_snapshots_keep_rows_there()
+    ensures { PartsOfSnapshotsKeepRowsThere }
+{}
+
+/// Rows that were in the source from a point on were so from each earlier one on.
+pub fn rows_there_go_back()
+    ensures { RowsThereGoBack }
 {}

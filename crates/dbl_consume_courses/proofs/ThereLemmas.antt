@@ -72,7 +72,7 @@ minus a b = omega arith
 
 -- ---- the rows after numbers of changes
 
-changes_more : (x : Versioned) (earlier : List Versioned) → changes_in (x ∷ earlier) ≡ length (changes_of (plain_commit x)) + changes_in earlier
+pub changes_more : (x : Versioned) (earlier : List Versioned) → changes_in (x ∷ earlier) ≡ length (changes_of (plain_commit x)) + changes_in earlier
 changes_more x earlier = length-append (changes_of (plain_commit x)) (all_changes (map plain_commit earlier))
 
 -- past some commits
@@ -112,7 +112,7 @@ altered_mark v (Some alteration) rows table key fit = by (alteration.table == ta
     by false other = ap (λ (b : Bool). row_mark (if b then rows_from v.infos no_rows (inserts v.infos table alteration.rows) table key else rows table key)) other
 
 -- no change more, but for alterations
-upto_none : (rows : Rows) (later : List Versioned) (table : ℕ) (key : Key) → AreFitFrom rows later → row_mark (rows_upto rows later 0 table key) ≡ row_mark (rows table key)
+pub upto_none : (rows : Rows) (later : List Versioned) (table : ℕ) (key : Key) → AreFitFrom rows later → row_mark (rows_upto rows later 0 table key) ≡ row_mark (rows table key)
 upto_none rows [] table key fit = refl
 upto_none rows (x ∷ later) table key fit = by (upto_none (rows_through rows x) later table key fit.1) (changes_of (plain_commit x)) refl
   where

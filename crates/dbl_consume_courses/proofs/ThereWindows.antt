@@ -1,14 +1,16 @@
 -- The rows of a window were in the source; earlier points.
-use Rattle.std.proofs.Common.{◌≡◌, ◌∙◌, ◌⊎◌, inl, inr, ℕ, ℤ, zero, suc, ◌+◌, ◌≤◌, max, Bool, Option, Some, None, List, [], ◌∷◌, ◌++◌, fold, length, map, take, refl, sym, ap, subst, arith, append-nil, append_assoc}
+use Rattle.std.proofs.Common.{true, false, ◌≡◌, ◌∙◌, ◌⊎◌, inl, inr, ℕ, ℤ, zero, suc, ◌+◌, ◌-◌, ◌≤◌, ◌<◌, max, Bool, Option, Some, None, List, [], ◌∷◌, ◌++◌, fold, length, map, take, refl, sym, ap, subst, arith, append-nil, append_assoc}
 use Rattle.std.proofs.lemmas.List.{map-append}
 use Rattle.std.proofs.lemmas.List.Sums.{fold-append}
-use Rattle.std.specs.Prelude.{if◌then◌else◌, IsSome, option_map, unwrap_or}
+use Rattle.std.proofs.lemmas.Bool.Decides.{nat_tests}
+use Rattle.std.specs.Prelude.{if◌then◌else◌, IsSome, option_map, unwrap_or, ◌==◌, nat_lt}
 use Rattle.std.specs.List.{AllByRecursion}
 use Rattle.std.specs.Str.{bytes_eq}
+use Rattle.dbl_value.specs.declared.value.Val.{Val}
 use Rattle.dbl_record.specs.declared.record.Record.{Record}
 use Rattle.dbl_record.specs.Acts.{act_of, reading_of, cells_of}
 use Rattle.dbl_record.specs.Consumers.{HeldCells, row_of, row_after_result, row_after as reading_after}
-use Rattle.dbl_record.specs.Places.{place_of}
+use Rattle.dbl_record.specs.Places.{Place, place_of}
 use Rattle.dbl_record.specs.Reading.{as_line}
 use Rattle.dbl_model_table.specs.declared.identity.Identity.{Identity}
 use Rattle.dbl_model_table.specs.declared.row.Key.{Key}
@@ -18,7 +20,7 @@ use Rattle.dbl_model_table.specs.declared.change.Commit.{Commit}
 use Rattle.dbl_model_table.specs.Tables.{column_names}
 use Rattle.dbl_model_table.specs.Infos.{column_types, topic_of}
 use Rattle.dbl_model_table.specs.Keys.{key_of}
-use Rattle.dbl_model_table.specs.Rows.{no_rows}
+use Rattle.dbl_model_table.specs.Rows.{Rows, no_rows, rows_from, changes_of}
 use Rattle.dbl_model_table.proofs.Lists.{bool_case, text_itself, same_text}
 use Rattle.dbl_model_history.specs.Fit.{IsKeyOf}
 use Rattle.dbl_model_history.specs.FitsInfos.{AreCellsOf}
@@ -29,19 +31,21 @@ use Rattle.dbl_model_event.specs.declared.closed.Closed.{Closed}
 use Rattle.dbl_model_event.specs.Snapshots.{progress_topic, read_record, read_records, progress_record, chunk_records}
 use Rattle.dbl_model_event.specs.SnapshotLists.{IsSnapshot}
 use Rattle.dbl_consume_laws.specs.Ages.{held_row, IsAgedCell}
+use Rattle.dbl_consume_laws.specs.Moments.{changes_through}
+use Rattle.dbl_consume_laws.proofs.Moments.{changes_through-most}
 use Rattle.dbl_consume_laws.proofs.Acts.{act_read}
 use Rattle.dbl_consume_laws.proofs.AgeingCells.{aged_wider}
 use Rattle.dbl_consume_laws.proofs.Prints.{through_in_range}
 use Rattle.dbl_consume_laws.proofs.Snapshot.{cells_in_range}
 use Rattle.dbl_consume_laws.proofs.Wholes.{AllFit, all_fit_in_range}
-use Rattle.dbl_consume_courses.specs.Versions.{Versioned, plain_commit, rows_upto}
+use Rattle.dbl_consume_courses.specs.Versions.{Versioned, plain_commit, rows_through, rows_upto}
 use Rattle.dbl_consume_courses.specs.AlteredTables.{version_moment, version_span_end, WasThereThrough}
-use Rattle.dbl_consume_courses.specs.FitVersions.{AreFitVersions}
-use Rattle.dbl_consume_courses.specs.RowsThere.{changes_in, HasRowsThere, PartsOfSnapshotsKeepRowsThere, RowsThereGoBack}
+use Rattle.dbl_consume_courses.specs.FitVersions.{AreFitFrom, AreFitVersions}
+use Rattle.dbl_consume_courses.specs.RowsThere.{changes_in, HasRowsThere, PartsOfSnapshotsKeepRowsThere, RowsThereGoBack, RowsThereStayAsHistoriesGrow}
 use Rattle.dbl_consume_courses.proofs.Alone.{not_of_table, flip_apart}
 use Rattle.dbl_consume_courses.proofs.Presence.{held_mark, row_mark}
 use Rattle.dbl_consume_courses.proofs.SameLemmas.{fit_at}
-use Rattle.dbl_consume_courses.proofs.ThereLemmas.{named, unnamed, marked}
+use Rattle.dbl_consume_courses.proofs.ThereLemmas.{changes_more, upto_none, named, unnamed, marked}
 
 -- ---- earlier points
 
@@ -182,3 +186,83 @@ snapshots_keep_there identity infos versions earlier mark later closed records l
     (window_there identity infos earlier mark later closed records listed now n (subst (AreFitVersions infos) spelled valid) in_time is
     (subst (λ (l : List Versioned). AllByRecursion (λ entry. IsSome (rows_upto no_rows l (changes_in earlier) closed.table entry.0)) closed.rows) spelled rows)
     (subst (λ (l : List Versioned). HasRowsThere identity infos l records (changes_in earlier) closed.table) spelled there))
+
+-- ---- a longer history
+
+not_lt : (a b : ℕ) → b ≤ a → nat_lt a b ≡ false
+not_lt a b le = grind (arith, nat_tests)
+
+not_eq : (a b : ℕ) → b < a → (a == b) ≡ false
+not_eq a b lt = grind (arith, nat_tests)
+
+place_longer : (versions later : List Versioned) (place : Place) → AllByRecursion (λ v. place.0 < v.lsn.0) later → version_moment (versions ++ later) place ≡ version_moment versions place
+place_longer [] [] place late = refl
+place_longer [] (v ∷ later) place late =
+    ap (λ (b : Bool). if b then length (changes_of (plain_commit v)) + version_moment later place else (if v.lsn.0 == place.0 then changes_through v.infos (changes_of (plain_commit v)) place.1 else 0)) (not_lt v.lsn.0 place.0 (lt_le place.0 v.lsn.0 late.0))
+    ∙ ap (λ (b : Bool). if b then changes_through v.infos (changes_of (plain_commit v)) place.1 else 0) (not_eq v.lsn.0 place.0 late.0)
+  where
+    lt_le : (a b : ℕ) → a < b → a ≤ b
+    lt_le a b lt = omega (arith, lt)
+place_longer (x ∷ versions) later place late =
+    ap (λ (m : ℕ). if nat_lt x.lsn.0 place.0 then length (changes_of (plain_commit x)) + m else (if x.lsn.0 == place.0 then changes_through x.infos (changes_of (plain_commit x)) place.1 else 0)) (place_longer versions later place late)
+
+span_longer : (versions later : List Versioned) (records : List Record) (from : ℕ) → AllByRecursion (λ item. AllByRecursion (λ v. item.position < v.lsn.0) later) records → version_span_end (versions ++ later) records from ≡ version_span_end versions records from
+span_longer versions later [] from late = refl
+span_longer versions later (item ∷ records) from late =
+    span_longer versions later records (max from (version_moment (versions ++ later) (place_of item))) late.1
+    ∙ ap (λ (m : ℕ). version_span_end versions records (max from m)) (place_longer versions later (place_of item) late.0)
+
+pick_most : (x y : Bool) (a b w : ℕ) → a ≤ w → b ≤ w → (if x then a else (if y then b else 0)) ≤ w
+pick_most true y a b w one two = one
+pick_most false true a b w one two = two
+pick_most false false a b w one two = omega arith
+
+place_most : (versions : List Versioned) (place : Place) → version_moment versions place ≤ changes_in versions
+place_most [] place = omega arith
+place_most (x ∷ versions) place =
+    let size : changes_in (x ∷ versions) ≡ length (changes_of (plain_commit x)) + changes_in versions = changes_more x versions in
+    let rest : version_moment versions place ≤ changes_in versions = place_most versions place in
+    let through : changes_through x.infos (changes_of (plain_commit x)) place.1 ≤ length (changes_of (plain_commit x)) = changes_through-most x.infos (changes_of (plain_commit x)) place.1 in
+    pick_most (nat_lt x.lsn.0 place.0) (x.lsn.0 == place.0) (length (changes_of (plain_commit x)) + version_moment versions place) (changes_through x.infos (changes_of (plain_commit x)) place.1) (changes_in (x ∷ versions))
+    (omega (arith, size, rest)) (omega (arith, size, through))
+
+span_most : (versions : List Versioned) (records : List Record) (from : ℕ) → from ≤ changes_in versions → version_span_end versions records from ≤ changes_in versions
+span_most versions [] from le = le
+span_most versions (item ∷ records) from le = span_most versions records (max from (version_moment versions (place_of item))) (least from (version_moment versions (place_of item)) (changes_in versions) le (place_most versions (place_of item)))
+  where
+    least : (a b n : ℕ) → a ≤ n → b ≤ n → max a b ≤ n
+    least a b n one two = omega (arith, one, two)
+
+rows_longer : (rows : Rows) (versions later : List Versioned) (m table : ℕ) (key : Key) → m ≤ changes_in versions → AreFitFrom rows (versions ++ later) → row_mark (rows_upto rows (versions ++ later) m table key) ≡ row_mark (rows_upto rows versions m table key)
+rows_longer rows [] later m table key le fit =
+    let none : m ≡ 0 = zero_of m le in
+    ap (λ (n : ℕ). row_mark (rows_upto rows later n table key)) none ∙ upto_none rows later table key fit
+  where
+    zero_of : (n : ℕ) → n ≤ 0 → n ≡ 0
+    zero_of n le = omega (arith, le)
+rows_longer rows (x ∷ versions) later m table key le fit =
+    let size : changes_in (x ∷ versions) ≡ length (changes_of (plain_commit x)) + changes_in versions = changes_more x versions in
+    let rest : m - length (changes_of (plain_commit x)) ≤ changes_in versions = omega (arith, le, size) in
+    by (nat_lt m (length (changes_of (plain_commit x)))) (rows_longer (rows_through rows x) versions later (m - length (changes_of (plain_commit x))) table key rest fit.1)
+  where
+    by : (b : Bool) → row_mark (rows_upto (rows_through rows x) (versions ++ later) (m - length (changes_of (plain_commit x))) table key) ≡ row_mark (rows_upto (rows_through rows x) versions (m - length (changes_of (plain_commit x))) table key)
+        → row_mark ((if b then rows_from x.infos rows (take m (changes_of (plain_commit x))) else rows_upto (rows_through rows x) (versions ++ later) (m - length (changes_of (plain_commit x)))) table key)
+        ≡ row_mark ((if b then rows_from x.infos rows (take m (changes_of (plain_commit x))) else rows_upto (rows_through rows x) versions (m - length (changes_of (plain_commit x)))) table key)
+    by true before = refl
+    by false before = before
+
+some_by_mark : (a b : Option (List Val)) → row_mark a ≡ row_mark b → IsSome b → IsSome a
+some_by_mark None None same some = some
+some_by_mark None (Some y) same some = cc
+some_by_mark (Some x) b same some = refl
+
+pub there_stays : RowsThereStayAsHistoriesGrow
+there_stays identity infos versions later records from table valid above low there = record {
+  each = λ topic text key names some. (
+      let w : WasThereThrough versions from (version_span_end versions records from) table key = there.each topic text key names some in
+      let end : version_span_end (versions ++ later) records from ≡ version_span_end versions records from = span_longer versions later records from above in
+      let most : version_span_end versions records from ≤ changes_in versions = span_most versions records from low in
+      let same : row_mark (rows_upto no_rows (versions ++ later) w.moment table key) ≡ row_mark (rows_upto no_rows versions w.moment table key) =
+      rows_longer no_rows versions later w.moment table key (omega (arith, w.not_after, most)) valid.fit in
+      record { moment = w.moment; not_before = w.not_before; not_after = subst (λ (e : ℕ). w.moment ≤ e) (sym end) w.not_after; present = some_by_mark (rows_upto no_rows (versions ++ later) w.moment table key) (rows_upto no_rows versions w.moment table key) same w.present });
+}

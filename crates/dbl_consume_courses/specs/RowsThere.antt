@@ -1,5 +1,5 @@
 -- That each row of a consumer of a whole log was in the source within a span, in whatever columns, as records are delivered.
-use Rattle.std.specs.Prelude.{◌≡◌, ℕ, ℤ, ◌≤◌, IsSome, List, [], ◌∷◌, ◌++◌, take, map}
+use Rattle.std.specs.Prelude.{◌≡◌, ℕ, ℤ, ◌<◌, ◌≤◌, IsSome, List, [], ◌∷◌, ◌++◌, take, map}
 use Rattle.std.specs.List.{AllByRecursion}
 use Rattle.dbl_record.specs.declared.record.Record.{Record}
 use Rattle.dbl_model_table.specs.declared.identity.Identity.{Identity}
@@ -66,3 +66,12 @@ abbrev pub RowsThereGoBack : Type 0
 RowsThereGoBack = (identity : Identity) (infos : List TableInfo) (versions : List Versioned) (records : List Record) (from to table : ℕ)
     → from ≤ to → to ≤ version_span_end versions records from
     → HasRowsThere identity infos versions records to table → HasRowsThere identity infos versions records from table
+
+-- Later commits, after every record, leave it so; they may alter tables.
+abbrev pub RowsThereStayAsHistoriesGrow : Type 0
+RowsThereStayAsHistoriesGrow = (identity : Identity) (infos : List TableInfo) (versions later : List Versioned) (records : List Record)
+    (from table : ℕ)
+    → AreFitVersions infos (versions ++ later)
+    → AllByRecursion (λ item. AllByRecursion (λ v. item.position < v.lsn.0) later) records
+    → from ≤ changes_in versions
+    → HasRowsThere identity infos versions records from table → HasRowsThere identity infos (versions ++ later) records from table

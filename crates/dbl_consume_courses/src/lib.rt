@@ -31,5 +31,5 @@ pub use since_laws::{
 };
 pub use there_laws::{
     commits_move_rows_there, no_records_have_rows, parts_of_commits_keep_rows_there,
-    parts_of_snapshots_keep_rows_there, rows_there_go_back,
+    parts_of_snapshots_keep_rows_there, rows_there_go_back, rows_there_stay_as_histories_grow,
 };

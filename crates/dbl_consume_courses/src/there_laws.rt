@@ -4,6 +4,7 @@ ghost use Rattle.dbl_consume_courses.specs.RowsThere.{PartsOfCommitsKeepRowsTher
 ghost use Rattle.dbl_consume_courses.specs.RowsThere.{CommitsMoveRowsThere};
 ghost use Rattle.dbl_consume_courses.specs.RowsThere.{PartsOfSnapshotsKeepRowsThere};
 ghost use Rattle.dbl_consume_courses.specs.RowsThere.{RowsThereGoBack};
+ghost use Rattle.dbl_consume_courses.specs.RowsThere.{RowsThereStayAsHistoriesGrow};
 
 /// A consumer of no records has no row.
 pub fn no_records_have_rows()
@@ -29,4 +30,9 @@ pub fn parts_of_snapshots_keep_rows_there()
 /// Rows that were in the source from a point on were so from each earlier one on.
 pub fn rows_there_go_back()
     ensures { RowsThereGoBack }
+{}
+
+/// Later commits leave each row of a consumer one that was in the source.
+pub fn rows_there_stay_as_histories_grow()
+    ensures { RowsThereStayAsHistoriesGrow }
 {}

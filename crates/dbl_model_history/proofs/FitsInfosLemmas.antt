@@ -160,6 +160,7 @@ read_body : (infos : List TableInfo) (c : RawCommit) (b : RawBody) → IsRawBody
 read_body infos c (raw.Changes changes) ranges readable =
     filtered (typed_change infos) (λ x. IsRawChangeInRange x × IsReadableChange infos x) (IsTyped infos) changes (read_change infos) (both IsRawChangeInRange (IsReadableChange infos) changes ranges.1 readable)
 read_body infos c (raw.Mark value) ranges readable = tt
+read_body infos c (raw.Alter name columns rows) ranges readable = tt
 
 read_commits : (infos : List TableInfo) (cs : List RawCommit) → AllByRecursion IsRawCommitInRange cs → AllByRecursion (λ commit. AllByRecursion (IsReadableChange infos) (raw_changes_of commit.body)) cs
     → AllByRecursion (IsTyped infos) (all_changes (map (typed_commit infos) cs))

@@ -10,3 +10,4 @@ pub mod FitChangeLemmas
 pub mod KeyFitLemmas
 pub mod MarkLemmas
 pub mod WholeLemmas
+pub mod InForceLemmas

@@ -144,6 +144,7 @@ body_in_range infos (raw.Changes changes) h =
     let few : length (filter_map (typed_change infos) changes) ≤ length changes = length-filter_map (typed_change infos) changes in
     (omega (arith, h.0), filtered (typed_change infos) IsRawChangeInRange IsChangeInRange changes (change_in_range infos) h.1)
 body_in_range infos (raw.Mark value) h = h
+body_in_range infos (raw.Alter name columns rows) h = (omega arith, tt)
 
 commit_in_range : (infos : List TableInfo) (c : RawCommit) → IsRawCommitInRange c → IsCommitInRange (typed_commit infos c)
 commit_in_range infos c h = record { lsn = h.lsn; end_lsn = h.end_lsn; time = h.time; xid = h.xid; body = body_in_range infos c.body h.body }

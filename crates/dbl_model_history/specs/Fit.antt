@@ -14,7 +14,8 @@ use Rattle.dbl_model_table.specs.Tables.{same_name, are_distinct}
 use Rattle.dbl_model_table.specs.Infos.{IsInfoOf, key_types, width}
 use Rattle.dbl_model_table.specs.Keys.{key_of, new_key_of}
 use Rattle.dbl_model_table.specs.Rows.{Rows, no_rows, rows_after, all_given, all_changes}
-use Rattle.dbl_model_history.specs.History.{History, name_of, raw_changes_of, entry_of, IsRising}
+use Rattle.dbl_model_history.specs.History.{RawBody, History, name_of, raw_changes_of, entry_of, IsRising}
+use Rattle.dbl_model_history.specs.History.RawBody.{Changes, Mark, Alter}
 use Rattle.dbl_model_history.specs.Ranges.{HasRanges}
 use Rattle.dbl_model_history.specs.Typed.{typed}
 
@@ -77,6 +78,12 @@ pub record AreInfosOf (history : History) (infos : List TableInfo) : Type 0 wher
   pub distinct : IsTrue (are_distinct same_name (map (λ info. info.name) infos))
   pub each : AllByRecursion (λ info. IsSomeAnd (entry_of history info.name) (λ raw. IsInfoOf raw info)) infos
 
+-- Whether a commit's contents alter no table.
+abbrev pub AltersNone : RawBody → Type 0
+AltersNone (Changes changes) = Unit {0}
+AltersNone (Mark value) = Unit {0}
+AltersNone (Alter name columns rows) = ⊥
+
 -- A valid history: the changes of a source that could have made them, whichever tables are captured.
 pub record IsFitHistory (history : History) : Type 0 where
   -- Numbers and texts are in PostgreSQL's ranges.
@@ -87,6 +94,8 @@ pub record IsFitHistory (history : History) : Type 0 where
   pub distinct : IsTrue (are_distinct same_name (map (λ raw. raw.name) history.tables))
   -- No table's definition changes, so that each has version 1.
   pub opening : AllByRecursion (λ raw. raw.version ≡ 1) history.tables
+  -- No commit alters a table.
+  pub unaltered : AllByRecursion (λ commit. AltersNone commit.body) history.commits
   -- Each change is of a table of the catalogue.
   pub known : AllByRecursion (λ commit. AllByRecursion (λ change. IsSome (entry_of history (name_of change))) (raw_changes_of commit.body))
       history.commits

@@ -2,6 +2,7 @@
 use Rattle.std.specs.Prelude.{ℕ, ℤ, ◌<◌, Option, List, [], ◌∷◌, map, find}
 use Rattle.dbl_base.specs.declared.lsn.Lsn.{Lsn}
 use Rattle.dbl_model_table.specs.declared.table.TableName.{TableName}
+use Rattle.dbl_model_table.specs.declared.table.RawColumn.{RawColumn}
 use Rattle.dbl_model_table.specs.declared.table.RawTable.{RawTable}
 use Rattle.dbl_model_table.specs.declared.table.RawRow.{RawRow}
 use Rattle.dbl_model_table.specs.Tables.{same_name}
@@ -30,10 +31,11 @@ name_of (Update name key old cells) = name
 name_of (Delete name key old) = name
 name_of (Clear name) = name
 
--- The contents of a commit: changes, or the watermark's new value.
+-- The contents of a commit: changes, the watermark's new value, or an alteration: the table, and its columns and rows from there on.
 pub data RawBody : Type 0 where
   Changes : List RawChange → RawBody
   Mark : List ℕ → RawBody
+  Alter : TableName → List RawColumn → List RawRow → RawBody
 
 -- A commit of the source's log.
 pub record RawCommit : Type 0 where
@@ -43,12 +45,13 @@ pub record RawCommit : Type 0 where
   pub xid : ℕ
   pub body : RawBody
 
--- The changes of a commit's contents; a watermark's commit has none.
+-- The changes of a commit's contents; a watermark's commit has none, nor has an alteration's.
 abbrev pub raw_changes_of : RawBody → List RawChange
 raw_changes_of (Changes changes) = changes
 raw_changes_of (Mark value) = []
+raw_changes_of (Alter name columns rows) = []
 
--- A source's history: the catalogue's entry of each table, and the commits.
+-- A source's history: the catalogue's entry of each table before all commits, and the commits.
 pub record History : Type 0 where
   pub tables : List RawTable
   pub commits : List RawCommit

@@ -4,6 +4,7 @@ pub mod Typed
 pub mod Fit
 pub mod Cursors
 pub mod FitsInfos
+pub mod InForce
 pub mod Image
 pub mod Laws
 pub mod PlainRows

@@ -1,6 +1,6 @@
 -- The ranges of numbers and texts in PostgreSQL's types and protocol (PostgreSQL "Logical Replication Message Formats"). An LSN is unsigned
 -- of 64 bits, a time signed of 64 bits, a transaction id and an OID unsigned of 32 bits, and each text is UTF-8.
-use Rattle.std.specs.Prelude.{ℕ, ℤ, ◌<◌, ◌≤◌, ◌^◌, FitsSigned, Option, IfSome, List, length}
+use Rattle.std.specs.Prelude.{ℕ, ℤ, ◌<◌, ◌≤◌, ◌^◌, FitsSigned, IsTrue, Option, IfSome, List, length, map, bytes_eq}
 use Rattle.std.specs.List.{AllByRecursion}
 use Rattle.std.specs.Str.{IsUtf8}
 use Rattle.std.specs.Int.{w32, w64}
@@ -12,6 +12,7 @@ use Rattle.dbl_model_table.specs.declared.table.RawColumn.{RawColumn}
 use Rattle.dbl_model_table.specs.declared.table.RawTable.{RawTable}
 use Rattle.dbl_model_table.specs.declared.table.RawRow.{RawRow}
 use Rattle.dbl_model_table.specs.declared.table.TableInfo.{TableInfo}
+use Rattle.dbl_model_table.specs.Tables.{are_distinct}
 use Rattle.dbl_model_table.specs.declared.row.Key.{Key}
 use Rattle.dbl_model_table.specs.declared.row.Row.{Row}
 use Rattle.dbl_model_table.specs.declared.change.Cell.{Cell}
@@ -66,11 +67,20 @@ IsRawChangeInRange (raw.Update name key old cells) = IsRawUpdateInRange name key
 IsRawChangeInRange (raw.Delete name key old) = IsNameInRange name × AreTextsInRange key × AreTextsInRange old.cells
 IsRawChangeInRange (raw.Clear name) = IsNameInRange name
 
+-- Whether the parts of an alteration are in range. No two of the new columns have one name.
+pub record IsAlterInRange (table : TableName) (new_columns : List RawColumn) (new_rows : List RawRow) : Type 0 where
+  pub name : IsNameInRange table
+  pub columns : AllByRecursion IsColumnInRange new_columns
+  pub distinct : IsTrue (are_distinct bytes_eq (map (λ column. column.name) new_columns))
+  pub rows : AllByRecursion (λ row. AreTextsInRange row.cells) new_rows
+  pub few : length new_rows < 2 ^ 62
+
 -- Whether the contents of a commit are in range. It has fewer than 2^62 changes, as each takes more than four bytes of a log whose
 -- positions are LSNs, so that the numbers of its records have 64 bits.
 abbrev pub IsRawBodyInRange : RawBody → Type 0
 IsRawBodyInRange (raw.Changes changes) = (length changes < 2 ^ 62) × AllByRecursion IsRawChangeInRange changes
 IsRawBodyInRange (raw.Mark value) = IsUtf8 value
+IsRawBodyInRange (raw.Alter name columns rows) = IsAlterInRange name columns rows
 
 -- Whether the numbers and contents of a commit are in range.
 pub record IsRawCommitInRange (commit : RawCommit) : Type 0 where

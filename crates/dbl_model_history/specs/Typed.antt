@@ -66,10 +66,11 @@ typed_change infos (raw.Delete name key old) =
     option_map (λ table. change.Delete table (typed_key infos table key) (typed_row infos table old)) (number_of infos name)
 typed_change infos (raw.Clear name) = option_map (λ table. change.Clear table) (number_of infos name)
 
--- The contents of a commit with only the changes of captured tables, typed.
+-- The contents of a commit with only the changes of captured tables, typed. An alteration has no change.
 abbrev pub typed_body : List TableInfo → RawBody → Body
 typed_body infos (raw.Changes changes) = body.Changes (filter_map (typed_change infos) changes)
 typed_body infos (raw.Mark value) = body.Mark value
+typed_body infos (raw.Alter name columns rows) = body.Changes []
 
 -- A commit with only the changes of captured tables, typed. A commit without such changes is kept.
 abbrev pub typed_commit : List TableInfo → RawCommit → Commit

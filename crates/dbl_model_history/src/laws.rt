@@ -2,6 +2,7 @@ ghost use Rattle.dbl_model_history.specs.Laws.{PositionsAreMoments, MomentsAreCh
 ghost use Rattle.dbl_model_history.specs.Laws.{KeyTextsNameKeys, RowsHaveOneImage};
 ghost use Rattle.dbl_model_history.specs.Laws.{FitRowsAreRows, TypedCommitsAreInRange};
 ghost use Rattle.dbl_model_history.specs.Laws.{InfosAreInRange, FitChangesFitInfos};
+ghost use Rattle.dbl_model_history.specs.InForce.{UnalteredEntriesStay, PlainVersionsAreTyped};
 
 /// If LSNs rise, the LSN of a commit is the position of the point after it, and 0 that of the
 /// history's start.
@@ -43,4 +44,14 @@ pub fn infos_are_in_range()
 /// The changes of a valid history match the captured tables if their cells are readable.
 pub fn fit_changes_fit_infos()
     ensures { FitChangesFitInfos }
+{}
+
+/// Without alterations the catalogue's entry of a table stays its first one.
+pub fn unaltered_entries_stay()
+    ensures { UnalteredEntriesStay }
+{}
+
+/// Without alterations the commits are those of the typed history, each with the captured tables.
+pub fn plain_versions_are_typed()
+    ensures { PlainVersionsAreTyped }
 {}

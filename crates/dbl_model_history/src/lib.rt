@@ -16,7 +16,8 @@ pub use fitting_keys::key_fits;
 pub use keys::{given_or_nulls, is_same, key_at};
 pub use laws::{
     fit_changes_fit_infos, fit_rows_are_rows, infos_are_in_range, key_texts_name_keys,
-    moments_are_changes, positions_are_moments, rows_have_one_image, typed_commits_are_in_range,
+    moments_are_changes, plain_versions_are_typed, positions_are_moments, rows_have_one_image,
+    typed_commits_are_in_range, unaltered_entries_stay,
 };
 pub use window_laws::{
     first_rows_are_one, fit_changes_fit_one_by_one, left_rows_are_rows, lost_rows_were_touched,

@@ -149,7 +149,7 @@ entry_has_key info =
     (key_names_distinct info)
 
 -- the places of the key's names
-places_again : (columns : List Column) (places : List ℕ) → are_distinct bytes_eq (column_names columns) ≡ true → list_all (λ place. nat_lt place (length columns)) places ≡ true
+pub places_again : (columns : List Column) (places : List ℕ) → are_distinct bytes_eq (column_names columns) ≡ true → list_all (λ place. nat_lt place (length columns)) places ≡ true
     → map (place_of (column_names columns)) (map (name_at columns) places) ≡ map Some places
 places_again columns [] apart within = refl
 places_again columns (place ∷ places) apart within =

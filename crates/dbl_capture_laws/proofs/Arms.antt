@@ -14,7 +14,7 @@ use Rattle.dbl_capture_work.specs.ModelHistory.declared.cursor.Cursor.{Cursor}
 use Rattle.dbl_capture_work.specs.ModelHistory.Cursors.{AreCursorsOf}
 use Rattle.dbl_capture_work.specs.ModelHistory.Fit.{IsFitHistory}
 use Rattle.dbl_capture_work.specs.ModelHistory.History.{RawBody, RawCommit}
-use Rattle.dbl_capture_work.specs.ModelHistory.History.RawBody.{Changes, Mark}
+use Rattle.dbl_capture_work.specs.ModelHistory.History.RawBody.{Changes, Mark, Alter}
 use Rattle.dbl_capture_work.specs.ModelHistory.MarkTexts.Side.{Low, High}
 use Rattle.dbl_capture_work.specs.ModelEvent.Snapshots.{AreInKeyOrder}
 use Rattle.dbl_capture_work.specs.SourceModel.Standings.{Reading, SourceState, CrashState}
@@ -125,6 +125,7 @@ bodies_marked greatest plan more le small all = all_weaker (λ (c : RawCommit). 
   where
     by : (body : RawBody) → IsBodyOf plan body → IsMarkedBy greatest body
     by (Changes changes) is = tt
+    by (Alter name columns rows) is = tt
     by (Mark value) (inl low) = record { incarnation = plan.incarnation; number = plan.number; side = Low; is = low; not_above = le; small = small }
     by (Mark value) (inr high) = record { incarnation = plan.incarnation; number = plan.number; side = High; is = high; not_above = le; small = small }
 

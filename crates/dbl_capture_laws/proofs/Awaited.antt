@@ -394,6 +394,7 @@ module _ {S : Type 0} (source_model : SourceModel S) where
             by : (body : RawBody) → mark_of (typed_commit [] (record c { body = body })) ≡ raw_mark_in body
             by (raw.Changes changes) = refl
             by (raw.Mark value) = refl
+            by (raw.Alter name columns rows) = refl
 
         parted_told : watermarks_since a.reading.after t.history.commits ≡ marks_of (commits_of old.offset.infos (m ∷ a.reading.messages)) ++ marks_of some.later
         parted_told =

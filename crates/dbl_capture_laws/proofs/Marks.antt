@@ -2,7 +2,7 @@
 use Rattle.std.proofs.Common.{◌≡◌, ◌⊎◌, inl, inr, ◌≤◌, ℕ, zero, suc, List, [], ◌∷◌, ◌++◌, length, take, refl, sym, subst, arith}
 use Rattle.std.specs.List.{AllByRecursion}
 use Rattle.dbl_capture_work.specs.ModelHistory.History.{RawBody, RawCommit}
-use Rattle.dbl_capture_work.specs.ModelHistory.History.RawBody.{Changes, Mark}
+use Rattle.dbl_capture_work.specs.ModelHistory.History.RawBody.{Changes, Mark, Alter}
 use Rattle.dbl_capture_work.specs.SourceModel.Growth.{mark_in_body, marks_in}
 use Rattle.dbl_capture_work.specs.Window.Plans.{Plan, high_text, low_text}
 use Rattle.dbl_capture_work.specs.Windowed.{own_marks}
@@ -11,6 +11,7 @@ use Rattle.dbl_capture_work.specs.Windowed.{own_marks}
 abbrev pub IsBodyOf : Plan → RawBody → Type 0
 IsBodyOf plan (Changes changes) = Unit {0}
 IsBodyOf plan (Mark value) = (value ≡ low_text plan) ⊎ (value ≡ high_text plan)
+IsBodyOf plan (Alter name columns rows) = Unit {0}
 
 abbrev IsOwnMark : Plan → List ℕ → Type 0
 IsOwnMark plan value = (value ≡ low_text plan) ⊎ (value ≡ high_text plan)
@@ -24,6 +25,7 @@ some_own plan (suc (suc (suc n))) = (omega arith, (inl refl, (inr refl, tt)))
 first_own : (plan : Plan) (body : RawBody) (values : List (List ℕ)) → AllByRecursion (IsOwnMark plan) (mark_in_body body ++ values) → IsBodyOf plan body × AllByRecursion (IsOwnMark plan) values
 first_own plan (Changes changes) values own = (tt, own)
 first_own plan (Mark value) values own = own
+first_own plan (Alter name columns rows) values own = (tt, own)
 
 bodies_of : (plan : Plan) (more : List RawCommit) → AllByRecursion (IsOwnMark plan) (marks_in more) → AllByRecursion (λ (c : RawCommit). IsBodyOf plan c.body) more
 bodies_of plan [] own = tt

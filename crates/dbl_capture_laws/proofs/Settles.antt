@@ -8,7 +8,7 @@ use Rattle.dbl_capture_work.specs.Source.Model.{SourceModel}
 use Rattle.dbl_capture_work.specs.Disk.Model.{DiskModel}
 use Rattle.dbl_capture_work.specs.ModelHistory.Fit.{IsFitHistory}
 use Rattle.dbl_capture_work.specs.ModelHistory.History.{RawBody, RawCommit}
-use Rattle.dbl_capture_work.specs.ModelHistory.History.RawBody.{Changes, Mark}
+use Rattle.dbl_capture_work.specs.ModelHistory.History.RawBody.{Changes, Mark, Alter}
 use Rattle.dbl_capture_work.specs.SourceModel.Calls.{IsConfirmed}
 use Rattle.dbl_capture_work.specs.SourceModel.Growth.{HasChanges, AreOthers, Grows, mark_in_body, marks_in}
 use Rattle.dbl_capture_work.specs.SourceModel.Leaves.{MayFollow, MayFollowConfirm}
@@ -39,6 +39,7 @@ others_none (c ∷ commits) others = by c.body others.0 (others_none commits oth
     by : (body : RawBody) → HasChanges body → length (marks_in commits) ≡ 0 → length (mark_in_body body ++ marks_in commits) ≡ 0
     by (Changes changes) has rest = rest
     by (Mark value) has rest = absurd has
+    by (Alter name columns rows) has rest = rest
 
 module _ {S K D : Type 0} {tell : Bool} {source_model : SourceModel S} {sink_model : SinkModel K} {model : DiskModel D} {entry : SessionStart} {work : SessionState} {src : S} {sink : K} {store : StoreOn D}
     (s : InSession tell source_model sink_model model entry work src sink store) where

@@ -4,7 +4,7 @@ use Rattle.std.specs.Prelude.{not}
 use Rattle.std.specs.List.{position}
 use Rattle.dbl_capture_work.specs.ModelHistory.declared.cursor.Cursor.{Cursor}
 use Rattle.dbl_capture_work.specs.ModelHistory.History.{RawBody, RawCommit}
-use Rattle.dbl_capture_work.specs.ModelHistory.History.RawBody.{Changes, Mark}
+use Rattle.dbl_capture_work.specs.ModelHistory.History.RawBody.{Changes, Mark, Alter}
 use Rattle.dbl_capture_work.specs.SourceModel.Growth.{AreOthers, HasChanges, mark_in_body, marks_in}
 use Rattle.dbl_capture_work.specs.Follow.declared.window.Window.{Window}
 use Rattle.dbl_capture_work.specs.Follow.declared.window.Window.TheVariants.{Absent, Armed, Open}
@@ -28,6 +28,7 @@ no_marks (c ∷ commits) others = by c.body others.0 (no_marks commits others.1)
     by : (body : RawBody) → HasChanges body → marks_in commits ≡ [] → mark_in_body body ++ marks_in commits ≡ []
     by (Changes changes) has rest = rest
     by (Mark value) has rest = absurd has
+    by (Alter name columns rows) has rest = rest
 
 pub others_add_no_marks : OthersAddNoMarks
 others_add_no_marks old new g =

@@ -3,7 +3,7 @@ use Rattle.std.specs.Prelude.{◌≡◌, ◌⊎◌, ℕ, ◌≤◌, ◌++◌, ma
 use Rattle.dbl_base.specs.declared.lsn.Lsn.{Lsn}
 use Rattle.dbl_model_table.specs.declared.change.Commit.{Commit}
 use Rattle.dbl_capture_work.specs.ModelHistory.History.{RawBody, RawCommit, History, IsRising}
-use Rattle.dbl_capture_work.specs.ModelHistory.History.RawBody.{Changes, Mark}
+use Rattle.dbl_capture_work.specs.ModelHistory.History.RawBody.{Changes, Mark, Alter}
 use Rattle.dbl_capture_work.specs.ModelCommit.Stated.{commits_of}
 use Rattle.dbl_capture_work.specs.SourceModel.Calls.{head_of}
 use Rattle.dbl_capture_work.specs.SourceModel.Standings.{Reading, SourceState}
@@ -30,10 +30,11 @@ pub record HasPositionInLog (lsn : Lsn) (history : History) : Type 0 where
 
 -- ---- watermarks
 
--- The text of a watermark, and None for changes.
+-- The text of a watermark, and None for changes and for an alteration.
 abbrev pub raw_mark_in : RawBody → Option (List ℕ)
 raw_mark_in (Changes changes) = None
 raw_mark_in (Mark value) = Some value
+raw_mark_in (Alter name columns rows) = None
 
 -- The watermark texts of a history's commits, in order.
 abbrev pub marks_at : List RawCommit → List (Option (List ℕ))

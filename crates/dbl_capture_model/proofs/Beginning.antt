@@ -5,7 +5,7 @@ use Rattle.dbl_base.specs.declared.lsn.Lsn.{Lsn}
 use Rattle.dbl_record.specs.declared.record.Record.{Record}
 use Rattle.dbl_record.specs.Cuts.{joined}
 use Rattle.dbl_faithful.specs.ModelHistory.History.{RawBody, RawCommit, History, IsRising}
-use Rattle.dbl_faithful.specs.ModelHistory.History.RawBody.{Changes, Mark}
+use Rattle.dbl_faithful.specs.ModelHistory.History.RawBody.{Changes, Mark, Alter}
 use Rattle.dbl_faithful.specs.ModelHistory.Fit.{AreInfosOf, IsFitHistory}
 use Rattle.dbl_follow.specs.SourceModel.Growth.{HasChanges, AreOthers, Grows}
 use Rattle.dbl_follow.specs.SourceModel.Standings.{CrashState}
@@ -38,6 +38,8 @@ others_new offset commits others = all_weaker (λ (c : RawCommit). HasChanges c.
     by (Some o) (Changes changes) has = tt
     by None (Mark value) has = absurd has
     by (Some o) (Mark value) has = absurd has
+    by None (Alter name columns rows) has = tt
+    by (Some o) (Alter name columns rows) has = tt
 
 zero_le : (n : ℕ) → 0 ≤ n
 zero_le n = omega arith

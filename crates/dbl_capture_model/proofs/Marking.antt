@@ -10,7 +10,7 @@ use Rattle.dbl_model_table.specs.declared.change.Commit.{Commit}
 use Rattle.dbl_model_table.specs.Rows.{Rows, all_changes}
 use Rattle.dbl_faithful.specs.ModelHistory.declared.cursor.Cursor.{Cursor}
 use Rattle.dbl_faithful.specs.ModelHistory.History.{RawBody, RawCommit, History}
-use Rattle.dbl_faithful.specs.ModelHistory.History.RawBody.{Changes, Mark}
+use Rattle.dbl_faithful.specs.ModelHistory.History.RawBody.{Changes, Mark, Alter}
 use Rattle.dbl_faithful.specs.ModelHistory.MarkTexts.{mark_text}
 use Rattle.dbl_faithful.specs.ModelHistory.Typed.{typed_commit, typed}
 use Rattle.dbl_follow.specs.SourceModel.Growth.{HasChanges, AreOthers, Grows}
@@ -43,10 +43,12 @@ others_marked greatest commits others = all_weaker (λ (c : RawCommit). HasChang
     by : (body : RawBody) → HasChanges body → IsMarkedBy greatest body
     by (Changes changes) has = tt
     by (Mark value) has = absurd has
+    by (Alter name columns rows) has = tt
 
 pub no_mark : (body : RawBody) (value : List ℕ) → HasChanges body → body ≡ Mark value → ⊥
 no_mark (Changes changes) value has is = cc
 no_mark (Mark v) value has is = absurd has
+no_mark (Alter name columns rows) value has is = cc
 
 module _ (old new : History) (g : Grows old new) where
   pub mark_stays : (value : List ℕ) (place : ℕ) → IsMarkAt old value place → IsMarkAt new value place

@@ -84,6 +84,7 @@ below a b c d le is lt = omega (arith, le, is, lt)
 -- watermarks up to an incarnation are none of the next one's
 not_own : (greatest incarnation n : ℕ) (side : Side) (body : RawBody) → incarnation ≡ greatest + 1 → incarnation < 2 ^ 64 → n < 2 ^ 64 → IsMarkedBy greatest body → body ≡ raw.Mark (mark_text incarnation n side) → ⊥
 not_own greatest incarnation n side (raw.Changes changes) later small number by is = cc
+not_own greatest incarnation n side (raw.Alter name columns rows) later small number by is = cc
 not_own greatest incarnation n side (raw.Mark value) later small number by is =
     let text : value ≡ mark_text incarnation n side = cc in
     let same = marks_tell incarnation by.incarnation n by.number side by.side small (below by.incarnation greatest incarnation (2 ^ 64) by.not_above later small) number by.small (sym text ∙ by.is) in
@@ -92,6 +93,7 @@ not_own greatest incarnation n side (raw.Mark value) later small number by is =
 no_mark_own : (incarnation n : ℕ) (side : Side) (body : RawBody) → HasNoMark body → body ≡ raw.Mark (mark_text incarnation n side) → ⊥
 no_mark_own incarnation n side (raw.Changes changes) none is = cc
 no_mark_own incarnation n side (raw.Mark value) none is = absurd none
+no_mark_own incarnation n side (raw.Alter name columns rows) none is = cc
 
 -- each watermark of the history is an earlier session's
 pub earlier_marks : (entry : SessionStart) (history : History) (first : Offset) (old : Option Offset) → Grows entry.history history → first.incarnation < 2 ^ 64 → IsFirstOf entry history first old → IsFaithful entry.history entry.confirmed (joined entry.groups) old
@@ -105,6 +107,7 @@ earlier_marks entry history first None grows small began is place n side commit 
     unmarked : (body : RawBody) → HasChanges body → HasNoMark body
     unmarked (raw.Changes changes) has = tt
     unmarked (raw.Mark value) has = has
+    unmarked (raw.Alter name columns rows) has = tt
 earlier_marks entry history first (Some old) grows small began is place n side commit less at mark =
     not_own old.incarnation first.incarnation n side commit.body began.1 small less
     (at_all (λ (c : RawCommit). IsMarkedBy old.incarnation c.body) (entry.history.commits ++ grows.others) place commit
@@ -114,6 +117,7 @@ earlier_marks entry history first (Some old) grows small began is place n side c
     marked : (body : RawBody) → HasChanges body → IsMarkedBy old.incarnation body
     marked (raw.Changes changes) has = tt
     marked (raw.Mark value) has = absurd has
+    marked (raw.Alter name columns rows) has = tt
 
 -- ---- what it keeps
 

@@ -31,6 +31,7 @@ use Rattle.dbl_capture_model.specs.Marked.{IsMarkAt, AreOwnMarks, IsAwaited, IsA
 -- a body that is read as a watermark is one
 pub raw_mark : (infos : List TableInfo) (body : RawBody) (value : List ℕ) → typed_body infos body ≡ Mark value → body ≡ raw.Mark value
 raw_mark infos (raw.Changes changes) value is = cc
+raw_mark infos (raw.Alter name columns rows) value is = cc
 raw_mark infos (raw.Mark v) value is = let same : v ≡ value = cc in ap (λ (l : List ℕ). raw.Mark l) same
 
 both_le : (a b : ℕ) → a ≤ b → b ≤ a → a ≡ b

@@ -6,7 +6,7 @@ use Rattle.dbl_model_table.specs.declared.row.Row.{Row}
 use Rattle.dbl_model_table.specs.declared.table.TableInfo.{TableInfo}
 use Rattle.dbl_envelope.specs.ModelEvent.Snapshots.{AreInKeyOrder}
 use Rattle.dbl_model_history.specs.History.{RawBody, RawCommit, History}
-use Rattle.dbl_model_history.specs.History.RawBody.{Changes, Mark}
+use Rattle.dbl_model_history.specs.History.RawBody.{Changes, Mark, Alter}
 use Rattle.dbl_source_model.specs.Calls.{Moved, IsMarked}
 use Rattle.dbl_source_model.specs.Growth.{AreOthers, Grows, HasChanges, Marks, mark_in_body, marks_in}
 use Rattle.dbl_source_model.specs.Leaves.{MayFollow}
@@ -58,6 +58,7 @@ marks_append (x ∷ xs) ys = ap (λ (l : List (List ℕ)). mark_in_body x.body +
 no_mark : (body : RawBody) → HasChanges body → mark_in_body body ≡ []
 no_mark (Changes changes) has = refl
 no_mark (Mark value) has = absurd has
+no_mark (Alter name columns rows) has = refl
 
 no_marks : (xs : List RawCommit) → AreOthers xs → marks_in xs ≡ []
 no_marks [] others = refl

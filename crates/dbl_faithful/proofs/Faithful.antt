@@ -11,7 +11,7 @@ use Rattle.dbl_model_table.proofs.Lists.{bool_case}
 use Rattle.dbl_consume_laws.specs.ModelHistory.declared.cursor.Cursor.{Cursor}
 use Rattle.dbl_consume_laws.specs.ModelHistory.KeyBounds.{IsUpTo}
 use Rattle.dbl_consume_laws.specs.ModelHistory.History.{AreRising, RawBody, RawCommit, History}
-use Rattle.dbl_consume_laws.specs.ModelHistory.History.RawBody.{Changes, Mark}
+use Rattle.dbl_consume_laws.specs.ModelHistory.History.RawBody.{Changes, Mark, Alter}
 use Rattle.dbl_consume_laws.proofs.ModelHistoryMomentLemmas.{lsns}
 use Rattle.dbl_offset_content.specs.declared.offset.Offset.{Offset}
 use Rattle.dbl_consume_laws.specs.Commits.{moment_after, AreFitCommits}
@@ -147,6 +147,7 @@ caught_up_stores_are_faithful history confirmed records offset before later far 
 unmarked : (greatest : ℕ) (body : RawBody) → HasNoMark body → IsMarkedBy greatest body
 unmarked greatest (Changes changes) none = tt
 unmarked greatest (Mark value) none = absurd none
+unmarked greatest (Alter name columns rows) none = tt
 
 all_unmarked : (greatest : ℕ) (commits : List RawCommit) → AllByRecursion (λ commit. HasNoMark commit.body) commits → AllByRecursion (λ commit. IsMarkedBy greatest commit.body) commits
 all_unmarked greatest [] none = tt

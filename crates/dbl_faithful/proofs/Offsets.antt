@@ -7,7 +7,7 @@ use Rattle.dbl_record.specs.declared.record.Record.{Record}
 use Rattle.dbl_model_table.specs.declared.change.Commit.{Commit}
 use Rattle.dbl_model_table.specs.declared.identity.Identity.{Identity}
 use Rattle.dbl_model_table.specs.declared.table.TableInfo.{TableInfo}
-use Rattle.dbl_consume_laws.specs.ModelHistory.History.RawBody.{Changes, Mark}
+use Rattle.dbl_consume_laws.specs.ModelHistory.History.RawBody.{Changes, Mark, Alter}
 use Rattle.dbl_consume_laws.specs.ModelHistory.History.{RawBody, RawCommit, History}
 use Rattle.dbl_consume_laws.specs.ModelHistory.declared.cursor.Cursor.{Cursor}
 use Rattle.dbl_offset_content.specs.declared.offset.Offset.{Offset}
@@ -93,6 +93,7 @@ is_raised old new over =
 later_mark : (low most : ℕ) (body : RawBody) → low ≤ most → IsMarkedBy low body → IsMarkedBy most body
 later_mark low most (Changes changes) le is = tt
 later_mark low most (Mark value) le is = record { incarnation = is.incarnation; number = is.number; side = is.side; is = is.is; not_above = le_trans is.not_above le; small = is.small }
+later_mark low most (Alter name columns rows) le is = tt
 
 module _ (history : History) (confirmed : Lsn) (records : List Record) (old : Offset) (incarnation : ℕ) (end : Lsn) (le : old.incarnation ≤ incarnation) where
   raised_offset : IsOffsetOf history confirmed records old → IsOffsetOf history confirmed records (raised old incarnation end)

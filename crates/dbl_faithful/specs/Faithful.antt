@@ -6,7 +6,7 @@ use Rattle.dbl_record.specs.declared.record.Record.{Record}
 use Rattle.dbl_model_table.specs.declared.change.Commit.{Commit}
 use Rattle.dbl_model_table.specs.Rows.{moment_at}
 use Rattle.dbl_consume_laws.specs.ModelHistory.History.{RawBody, History}
-use Rattle.dbl_consume_laws.specs.ModelHistory.History.RawBody.{Changes, Mark}
+use Rattle.dbl_consume_laws.specs.ModelHistory.History.RawBody.{Changes, Mark, Alter}
 use Rattle.dbl_consume_laws.specs.ModelHistory.Typed.{typed}
 use Rattle.dbl_offset_content.specs.declared.offset.Offset.{Offset}
 use Rattle.dbl_consume_laws.specs.Ages.{IsAged, HasNamedRows}
@@ -39,6 +39,7 @@ pub record IsFaithfulTo (history : History) (confirmed : Lsn) (records : List Re
 abbrev pub HasNoMark : RawBody → Type 0
 HasNoMark (Changes changes) = Unit {0}
 HasNoMark (Mark value) = ⊥
+HasNoMark (Alter name columns rows) = Unit {0}
 
 -- Stores without an offset, on which no session has done anything: the log is empty, no watermark was written and nothing was confirmed.
 pub record IsUntouched (history : History) (confirmed : Lsn) (records : List Record) : Type 0 where

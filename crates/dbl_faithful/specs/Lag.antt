@@ -7,7 +7,7 @@ use Rattle.dbl_model_table.specs.declared.identity.Identity.{Identity}
 use Rattle.dbl_model_table.specs.declared.table.TableInfo.{TableInfo}
 use Rattle.dbl_consume_laws.specs.ModelHistory.declared.cursor.Cursor.{Cursor}
 use Rattle.dbl_consume_laws.specs.ModelHistory.History.{RawBody, History}
-use Rattle.dbl_consume_laws.specs.ModelHistory.History.RawBody.{Changes, Mark}
+use Rattle.dbl_consume_laws.specs.ModelHistory.History.RawBody.{Changes, Mark, Alter}
 use Rattle.dbl_consume_laws.specs.ModelHistory.Typed.{typed}
 use Rattle.dbl_consume_laws.specs.ModelHistory.Fit.{AreInfosOf}
 use Rattle.dbl_consume_laws.specs.ModelHistory.MarkTexts.{Side, mark_text}
@@ -50,6 +50,7 @@ pub record IsMarkOf (greatest : ℕ) (value : List ℕ) : Type 0 where
 abbrev pub IsMarkedBy : ℕ → RawBody → Type 0
 IsMarkedBy greatest (Changes changes) = Unit {0}
 IsMarkedBy greatest (Mark value) = IsMarkOf greatest value
+IsMarkedBy greatest (Alter name columns rows) = Unit {0}
 
 -- Whether each watermark of a history is this connector's, of an incarnation up to this one.
 abbrev pub AreMarksOf : ℕ → History → Type 0

@@ -15,7 +15,7 @@ use Rattle.dbl_model_table.specs.Rows.{Rows, no_rows, all_changes}
 use Rattle.dbl_source_model.specs.ModelHistory.History.{RawChange, RawCommit, History, IsRising, name_of, raw_changes_of, entry_of}
 use Rattle.dbl_source_model.specs.ModelHistory.Ranges.{IsRawCommitInRange}
 use Rattle.dbl_source_model.specs.ModelHistory.Typed.{typed, typed_commit}
-use Rattle.dbl_source_model.specs.ModelHistory.Fit.{AreFit, AreInfosOf, IsFitHistory}
+use Rattle.dbl_source_model.specs.ModelHistory.Fit.{AltersNone, AreFit, AreInfosOf, IsFitHistory}
 use Rattle.dbl_source_model.proofs.ModelHistoryRowLemmas.{all_changes-append}
 use Rattle.dbl_source_model.specs.Selected.{AreFirstOf, AreRowsAt, AreAnswered}
 use Rattle.dbl_source_model.proofs.FitLemmas.{rows_front}
@@ -71,6 +71,7 @@ module _ (tables : List LogTable) (log : List Logged) (value : List ℕ) where
         rising = subst IsRising marked_is (is_rising tables marked_log);
         distinct = fit.distinct;
         opening = fit.opening;
+        unaltered = all_since (λ (commit : RawCommit). AltersNone commit.body) commits mark fit.unaltered tt;
         known = all_since (λ (commit : RawCommit). AllByRecursion (λ (change : RawChange). IsSome (entry_of (history_of tables log) (name_of change))) (raw_changes_of commit.body)) commits mark fit.known tt;
         fit = λ infos captured. subst (AreFit infos no_rows) (sym (same_changes infos)) (fit.fit infos (captured_before infos captured));
       })

@@ -15,7 +15,7 @@ use Rattle.dbl_model_commit.specs.ModelTable.Rows.{Rows, no_rows, rows_from, all
 use Rattle.dbl_model_commit.specs.ModelHistory.History.{RawCommit, RawChange, History, AreRising, name_of, raw_changes_of, entry_of}
 use Rattle.dbl_model_commit.specs.ModelHistory.Ranges.{IsRawCommitInRange}
 use Rattle.dbl_model_commit.specs.ModelHistory.Typed.{typed, typed_commit}
-use Rattle.dbl_model_commit.specs.ModelHistory.Fit.{AreFit, AreInfosOf, IsFitHistory}
+use Rattle.dbl_model_commit.specs.ModelHistory.Fit.{AltersNone, AreFit, AreInfosOf, IsFitHistory}
 use Rattle.dbl_model_commit.proofs.ModelHistoryRowLemmas.{all_changes-append, AreFit-before}
 use Rattle.dbl_source_model.specs.Selected.{rows_up_to, AreFirstOf, AreRowsAt, AreAnswered}
 
@@ -47,6 +47,7 @@ module _ (tables : List RawTable) (xs ys : List RawCommit) where
     opening = fit.opening;
     rising = rising_front 0 xs ys fit.rising;
     distinct = fit.distinct;
+    unaltered = all_front (λ (commit : RawCommit). AltersNone commit.body) xs ys fit.unaltered;
     known = all_front (λ (commit : RawCommit). AllByRecursion (λ (change : RawChange). IsSome (entry_of old (name_of change))) (raw_changes_of commit.body)) xs ys fit.known;
     fit = λ infos captured. AreFit-before infos no_rows (all_changes (typed infos old)) (all_changes (map (typed_commit infos) ys)) (subst (AreFit infos no_rows) (parts infos) (fit.fit infos (captured_too infos captured)));
   }

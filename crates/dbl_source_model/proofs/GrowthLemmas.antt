@@ -5,7 +5,7 @@ use Rattle.dbl_model_commit.specs.ModelTable.declared.table.TableInfo.{TableInfo
 use Rattle.dbl_model_commit.specs.ModelTable.declared.change.Commit.{Commit}
 use Rattle.dbl_model_commit.specs.ModelTable.Rows.{no_rows, rows_from, all_changes}
 use Rattle.dbl_model_commit.specs.ModelHistory.History.{RawBody, RawCommit, History, IsRising}
-use Rattle.dbl_model_commit.specs.ModelHistory.History.RawBody.{Changes, Mark}
+use Rattle.dbl_model_commit.specs.ModelHistory.History.RawBody.{Changes, Mark, Alter}
 use Rattle.dbl_model_commit.specs.ModelHistory.Typed.{typed, typed_commit}
 use Rattle.dbl_model_commit.proofs.ModelHistoryRowLemmas.{all_changes-append, take-length-append}
 use Rattle.dbl_source_model.specs.Growth.{HasChanges, AreOthers, Grows, Marks, mark_in_body, marks_in}
@@ -71,6 +71,7 @@ marks_in-append (x ∷ xs) ys = ap (λ (l : List (List ℕ)). mark_in_body x.bod
 no_mark : (body : RawBody) → HasChanges body → mark_in_body body ≡ []
 no_mark (Changes changes) has = refl
 no_mark (Mark value) has = absurd has
+no_mark (Alter name columns rows) has = refl
 
 no_marks : (xs : List RawCommit) → AreOthers xs → marks_in xs ≡ []
 no_marks [] others = refl

@@ -2,12 +2,13 @@
 use Rattle.std.specs.Prelude.{◌≡◌, ℕ, List, [], ◌∷◌, ◌++◌}
 use Rattle.std.specs.List.{AllByRecursion}
 use Rattle.dbl_model_commit.specs.ModelHistory.History.{RawBody, RawCommit, History, IsRising}
-use Rattle.dbl_model_commit.specs.ModelHistory.History.RawBody.{Changes, Mark}
+use Rattle.dbl_model_commit.specs.ModelHistory.History.RawBody.{Changes, Mark, Alter}
 
--- Whether a commit has changes and is no watermark's.
+-- Whether a commit has changes or alters a table, and is no watermark's.
 abbrev pub HasChanges : RawBody → Type 0
 HasChanges (Changes changes) = Unit {0}
 HasChanges (Mark value) = ⊥
+HasChanges (Alter name columns rows) = Unit {0}
 
 -- Whether commits are those of other sessions: none is a watermark's.
 abbrev pub AreOthers : List RawCommit → Type 0
@@ -38,6 +39,7 @@ pub record Marks (value : List ℕ) (old new : History) : Type 0 where
 abbrev pub mark_in_body : RawBody → List (List ℕ)
 mark_in_body (Changes changes) = []
 mark_in_body (Mark value) = value ∷ []
+mark_in_body (Alter name columns rows) = []
 
 -- The values of all watermarks, in order.
 abbrev pub marks_in : List RawCommit → List (List ℕ)

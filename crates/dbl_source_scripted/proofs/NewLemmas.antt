@@ -37,6 +37,7 @@ new_fair raws moves rows fails versions ranges named relations =
         opening = opening_of raws versions;
         rising = tt;
         distinct = catalogue_distinct tables named.distinct;
+        unaltered = tt;
         known = tt;
         fit = λ infos captured. tt;
       };

@@ -12,7 +12,7 @@ use Rattle.dbl_model_table.specs.declared.table.TableInfo.{TableInfo}
 use Rattle.dbl_model_table.specs.declared.table.TableName.{TableName}
 use Rattle.dbl_model_history.specs.Fit.{AreInfosOf}
 use Rattle.dbl_model_history.specs.History.{History, RawBody, RawCommit}
-use Rattle.dbl_model_history.specs.History.RawBody.{Changes, Mark}
+use Rattle.dbl_model_history.specs.History.RawBody.{Changes, Mark, Alter}
 use Rattle.dbl_cli_commands.specs.declared.commands.CaptureOptions.{CaptureOptions}
 use Rattle.dbl_source_log.specs.declared.logged.LogTable.{LogTable}
 use Rattle.dbl_source_log.specs.declared.logged.Logged.{Logged}
@@ -70,6 +70,7 @@ no_marks (commit ∷ commits) all = by commit.body all.0 (no_marks commits all.1
     by : (body : RawBody) → HasNoMark body → length (marks_in commits) ≡ 0 → length (mark_in_body body ++ marks_in commits) ≡ 0
     by (Changes changes) none rest = rest
     by (Mark value) none rest = absurd none
+    by (Alter name columns rows) none rest = rest
 
 unmarked : (held : Contents) → IsKept held → held.offset ≡ None → length (marks_in (history_at held).commits) ≡ 0
 unmarked held kept none =

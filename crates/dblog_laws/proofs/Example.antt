@@ -80,6 +80,7 @@ fit = record {
   opening = (refl, tt);
   rising = (omega arith, tt);
   distinct = refl;
+  unaltered = (tt, tt);
   known = ((refl, tt), tt);
   fit = λ infos of. fit_each infos of.distinct of.each;
 }

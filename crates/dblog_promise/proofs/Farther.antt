@@ -6,7 +6,7 @@ use Rattle.dbl_record.specs.declared.record.Record.{Record}
 use Rattle.dbl_model_table.specs.declared.config.Config.{Config}
 use Rattle.dbl_model_table.specs.declared.table.TableInfo.{TableInfo}
 use Rattle.dbl_model_history.specs.History.{RawBody, RawCommit, History, IsRising}
-use Rattle.dbl_model_history.specs.History.RawBody.{Changes, Mark}
+use Rattle.dbl_model_history.specs.History.RawBody.{Changes, Mark, Alter}
 use Rattle.dbl_model_history.specs.Fit.{IsFitHistory}
 use Rattle.dbl_capture_laws.proofs.ConsumeLawsConsumers.{all_left}
 use Rattle.dbl_capture_laws.proofs.ConsumeLawsNotices.{all_append}
@@ -177,6 +177,8 @@ others_new offset commits others = all_weaker (λ (c : RawCommit). HasChanges c.
     by (Some o) (Changes changes) has = tt
     by None (Mark value) has = absurd has
     by (Some o) (Mark value) has = absurd has
+    by None (Alter name columns rows) has = tt
+    by (Some o) (Alter name columns rows) has = tt
 
 pub lag_grown : (last history : History) (confirmed : Lsn) (records : List Record) (offset : Option Offset) → IsFitHistory last → IsFitHistory history → (grows : Grows last history) → IsFaithful last confirmed records offset
     → lag history records offset ≤ lag last records offset

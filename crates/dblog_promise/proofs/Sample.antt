@@ -46,7 +46,7 @@ abbrev infos : List TableInfo
 infos = example_table ∷ []
 
 fit_one : IsFitHistory one_commit
-fit_one = record { ranges = record { tables = entries; commits = (quiet 1 (omega arith), tt) }; opening = (refl, tt); rising = (omega arith, tt); distinct = refl; known = (tt, tt); fit = λ infos are. tt }
+fit_one = record { ranges = record { tables = entries; commits = (quiet 1 (omega arith), tt) }; opening = (refl, tt); rising = (omega arith, tt); distinct = refl; unaltered = (tt, tt); known = (tt, tt); fit = λ infos are. tt }
 
 fit_two : IsFitHistory two_commits
 fit_two = record {
@@ -54,6 +54,7 @@ fit_two = record {
   opening = (refl, tt);
   rising = (omega arith, (omega arith, tt));
   distinct = refl;
+  unaltered = (tt, (tt, tt));
   known = (tt, (tt, tt));
   fit = λ infos are. tt;
 }
@@ -64,6 +65,7 @@ fit_marked = record {
   opening = (refl, tt);
   rising = (omega arith, (omega arith, (omega arith, tt)));
   distinct = refl;
+  unaltered = (tt, (tt, (tt, tt)));
   known = (tt, (tt, (tt, tt)));
   fit = λ infos are. tt;
 }

@@ -10,7 +10,7 @@ use Rattle.dbl_model_commit.specs.Blocks.{AreWithoutFault}
 use Rattle.dbl_model_commit.specs.Past.{last_lsn}
 use Rattle.dbl_model_commit.specs.Stated.{commits_of}
 use Rattle.dbl_model_history.specs.History.{History, RawBody, RawCommit}
-use Rattle.dbl_model_history.specs.History.RawBody.{Changes, Mark}
+use Rattle.dbl_model_history.specs.History.RawBody.{Changes, Mark, Alter}
 use Rattle.dbl_source.specs.SourceModel.Stated.{commits_after}
 use Rattle.dbl_capture_laws.specs.Offset.declared.offset.Offset.{Offset}
 use Rattle.dbl_demo_laws.specs.DemoWal.Standings.{messages_sent}
@@ -53,6 +53,7 @@ CountsMessages Budget budget ms messages = (messages ≡ length ms) × (messages
 abbrev pub IsWatermark : RawBody → Type 0
 IsWatermark (Changes changes) = ⊥
 IsWatermark (Mark value) = Unit {0}
+IsWatermark (Alter name columns rows) = ⊥
 
 -- The parameters from which the records of the commits are made.
 abbrev pub course : Offset → ℤ → Lsn → Course

@@ -12,3 +12,4 @@ pub mod ChangeFits
 pub mod BegunLemmas
 pub mod MarkedLemmas
 pub mod PieceLemmas
+pub mod ShapeLemmas

@@ -29,7 +29,7 @@ use std::alloc::Global;
 
 /// A session over a gate: `session` with the gate as its sink. The offset moves only past records
 /// that the receiver accepted. A refusal stops the session with an error.
-pub fn gated_session<S: Source, K: Sink + Drop, D: Disk>(
+pub fn gated_session<S: Source, K: Sink, D: Disk>(
     alloc: Global,
     config: &Config,
     now_ms: i64,

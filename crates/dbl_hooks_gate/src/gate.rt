@@ -24,7 +24,7 @@ pub type Handler = Box<dyn Fn(&Record) -> bool>;
 /// A sink that appends to another one exactly the records that its handler accepts. The first one
 /// that is refused ends its use: it and the records after it aren't appended.
 #[derive(Drop)]
-pub struct Gate<K: Drop> {
+pub struct Gate<K> {
     alloc: Global,
     pub sink: K,
     pub rule: Rule,
@@ -36,7 +36,7 @@ pub struct Gate<K: Drop> {
         accepted ≡ is_allowed rule item.now } by { Prim.hlevel props },
 }
 
-impl<K: Drop> Gate<K> {
+impl<K> Gate<K> {
     /// Makes a gate before a sink, with a handler that accepts exactly the records that the rule
     /// allows. Takes no memory; `put` uses the allocator.
     pub fn make(alloc: Global, sink: K, rule: Rule, handler: Handler) -> Gate<K>
@@ -129,7 +129,7 @@ fn put_before<K: Sink>(
     sink.put(&before)
 }
 
-impl<K: Sink + Drop> Sink for Gate<K> {
+impl<K: Sink> Sink for Gate<K> {
     ghost use Rattle.dbl_hooks_gate.specs.Gates.{ExtendsGated, HoldsUnrefused};
     ghost use Rattle.dbl_hooks_gate.specs.Gates.{faults_with, is_open};
     ghost use Rattle.dbl_hooks_gate.specs.GateLaws.{gate_self, gate_on};

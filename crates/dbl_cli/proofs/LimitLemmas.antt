@@ -14,7 +14,7 @@ use Rattle.dbl_cli.specs.declared.verbs.Verb.TheVariants as verb
 use Rattle.dbl_cli_commands.specs.declared.commands.Command.{Command}
 use Rattle.dbl_cli.specs.Items.{Setting, value_of}
 use Rattle.dbl_cli_commands.specs.Values.{is_number, number_or, passes, is_placeholder, is_named, is_table, table_in, are_tables, is_comma, is_colon, is_column, is_key, key_in, tables_in, are_keys, masked_table_in, after_table, mask_parts, is_stars, is_masked, mask_in, is_mask}
-use Rattle.dbl_cli.specs.Commands.{most_of, names_pass, pace_passes, name_or_demo, placeholder_or_own, number_in, values_pass, command_of}
+use Rattle.dbl_cli.specs.Commands.{most_of, names_pass, pace_passes, limit_passes, name_or_demo, placeholder_or_own, number_in, values_pass, command_of}
 use Rattle.dbl_cli.specs.declared.error.CliError.{CliError}
 use Rattle.dbl_cli.specs.Found.{ReadsItems}
 use Rattle.dbl_cli_commands.specs.Limits.{IsBetween, AreGoodNames, IsGoodPace, AreGoodTables, has_columns, AreGoodKeys, IsGoodMask, IsWithin}
@@ -116,9 +116,11 @@ command_within verb.Capture settings texts pass few =
     let inner = and_parts (pace_passes (value_of (codes "chunk") settings) (value_of (codes "every") settings) (value_of (codes "messages") settings)) _ outer.1 in (
       names_within (value_of (codes "prefix") settings) (value_of (codes "db") settings) (value_of (codes "placeholder") settings) outer.0,
       pace_within (value_of (codes "chunk") settings) (value_of (codes "every") settings) (value_of (codes "messages") settings) inner.0,
-      tables_within texts few inner.1,
+      tables_within texts few (and_parts (limit_passes (value_of (codes "max-value") settings)) _ inner.1).1,
     )
-command_within verb.Resume settings texts pass few = pace_within (value_of (codes "chunk") settings) (value_of (codes "every") settings) (value_of (codes "messages") settings) pass
+command_within verb.Resume settings texts pass few =
+    let both = and_parts (pace_passes (value_of (codes "chunk") settings) (value_of (codes "every") settings) (value_of (codes "messages") settings)) _ pass in
+    pace_within (value_of (codes "chunk") settings) (value_of (codes "every") settings) (value_of (codes "messages") settings) both.0
 command_within verb.Apply settings texts pass few =
     text_within is_placeholder default_placeholder refl (value_of (codes "placeholder") settings) (and_parts _ (passes is_placeholder (value_of (codes "placeholder") settings)) pass).1
 command_within verb.Replay settings texts pass few =

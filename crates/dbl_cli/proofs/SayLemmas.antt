@@ -230,8 +230,8 @@ module _ (words : List Text) (front : List Setting) (texts : List Text) (back fr
       go verb.Offsets options flags same = refl
       go verb.Compact options flags same = refl
       go verb.Capture options flags same =
-          (λ i. capture_of (options (codes "prefix") refl i) (options (codes "db") refl i) (options (codes "placeholder") refl i) (options (codes "chunk") refl i) (options (codes "every") refl i) (options (codes "messages") refl i) (same i))
-      go verb.Resume options flags same = (λ i. resume_of (options (codes "chunk") refl i) (options (codes "every") refl i) (options (codes "messages") refl i))
+          (λ i. capture_of (options (codes "prefix") refl i) (options (codes "db") refl i) (options (codes "placeholder") refl i) (options (codes "chunk") refl i) (options (codes "every") refl i) (options (codes "messages") refl i) (options (codes "max-value") refl i) (same i))
+      go verb.Resume options flags same = (λ i. resume_of (options (codes "chunk") refl i) (options (codes "every") refl i) (options (codes "messages") refl i) (options (codes "max-value") refl i))
       go verb.Apply options flags same = (λ i. apply_of (flags (codes "lines") refl i) (options (codes "placeholder") refl i))
       go verb.Replay options flags same =
           (λ i. replay_of (options (codes "prefix") refl i) (options (codes "db") refl i) (options (codes "placeholder") refl i) (flags (codes "raw") refl i) (flags (codes "stream") refl i)

@@ -10,7 +10,7 @@ use Rattle.dbl_cli.specs.declared.verbs.Verb.{Verb}
 use Rattle.dbl_cli.specs.declared.verbs.Verb.TheVariants as verb
 use Rattle.dbl_cli_commands.specs.declared.commands.Command.{Command}
 use Rattle.dbl_cli.specs.Items.{Setting, AreItems, has_value, value_of, is_given}
-use Rattle.dbl_cli.specs.Commands.{Spells, name_of, names_of, least_of, most_of, form_of, values_pass, capture_passes, pace_passes, apply_passes, replay_passes, gen_passes, command_of}
+use Rattle.dbl_cli.specs.Commands.{Spells, name_of, names_of, least_of, most_of, form_of, values_pass, capture_passes, resume_passes, apply_passes, replay_passes, gen_passes, command_of}
 use Rattle.dbl_cli.specs.Checks.{are_items}
 use Rattle.dbl_cli.specs.Parsers.{app}
 use Rattle.dbl_cli.specs.Found.{SaysItems}
@@ -59,8 +59,8 @@ module _ (words : List Text) (front : List Setting) (texts : List Text) (back fr
       go verb.Offsets options flags same = refl
       go verb.Compact options flags same = refl
       go verb.Capture options flags same =
-          (λ i. capture_passes (options (codes "prefix") refl i) (options (codes "db") refl i) (options (codes "placeholder") refl i) (options (codes "chunk") refl i) (options (codes "every") refl i) (options (codes "messages") refl i) (same i))
-      go verb.Resume options flags same = (λ i. pace_passes (options (codes "chunk") refl i) (options (codes "every") refl i) (options (codes "messages") refl i))
+          (λ i. capture_passes (options (codes "prefix") refl i) (options (codes "db") refl i) (options (codes "placeholder") refl i) (options (codes "chunk") refl i) (options (codes "every") refl i) (options (codes "messages") refl i) (options (codes "max-value") refl i) (same i))
+      go verb.Resume options flags same = (λ i. resume_passes (options (codes "chunk") refl i) (options (codes "every") refl i) (options (codes "messages") refl i) (options (codes "max-value") refl i))
       go verb.Apply options flags same = (λ i. apply_passes (flags (codes "lines") refl i) (options (codes "placeholder") refl i))
       go verb.Replay options flags same = (λ i. replay_passes (options (codes "prefix") refl i) (options (codes "db") refl i) (options (codes "placeholder") refl i)
           (options (codes "mask") refl i) (same i))

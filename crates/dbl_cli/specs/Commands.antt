@@ -10,7 +10,7 @@ use Rattle.dbl_cli.specs.declared.verbs.Verb.TheVariants as verb
 use Rattle.dbl_cli_commands.specs.declared.commands.Command.{Command}
 use Rattle.dbl_cli_commands.specs.declared.commands.Command.TheVariants as command
 use Rattle.dbl_cli.specs.Items.{Named, Form, Setting, AreItems, value_of, is_given}
-use Rattle.dbl_cli_commands.specs.Values.{is_number, number_or, passes, is_placeholder, table_in, are_tables, key_in, are_keys, mask_in, is_mask}
+use Rattle.dbl_cli_commands.specs.Values.{is_number, number_or, number_if, passes, is_placeholder, table_in, are_tables, key_in, are_keys, mask_in, is_mask}
 
 -- ---- the commands' names and forms
 
@@ -42,14 +42,18 @@ naming = option (codes "prefix") ∷ option (codes "db") ∷ option (codes "plac
 abbrev pub pacing : List Named
 pacing = option (codes "chunk") ∷ option (codes "every") ∷ option (codes "messages") ∷ []
 
+-- the options of what receives the records of a capture
+abbrev pub receiving : List Named
+receiving = option (codes "max-value") ∷ []
+
 -- the flags and options of a command
 abbrev pub names_of : Verb → List Named
 names_of verb.Init = []
 names_of verb.Topics = []
 names_of verb.Offsets = []
 names_of verb.Compact = []
-names_of verb.Capture = naming ++ pacing
-names_of verb.Resume = pacing
+names_of verb.Capture = naming ++ (pacing ++ receiving)
+names_of verb.Resume = pacing ++ receiving
 names_of verb.Apply = flag (codes "lines") ∷ option (codes "placeholder") ∷ []
 names_of verb.Replay = naming ++ (flag (codes "raw") ∷ flag (codes "stream") ∷ option (codes "mask") ∷ [])
 names_of verb.Gen = option (codes "rows") ∷ option (codes "groups") ∷ flag (codes "run") ∷ []
@@ -81,6 +85,14 @@ abbrev pub pace_passes : Option (List ℕ) → Option (List ℕ) → Option (Lis
 pace_passes chunk every messages =
     passes (is_number 1 100000) chunk && (passes (is_number 1 10000) every && passes (is_number 1 999999999) messages)
 
+-- the value of `--max-value` is valid
+abbrev pub limit_passes : Option (List ℕ) → Bool
+limit_passes limit = passes (is_number 0 999999999) limit
+
+-- the options of `resume` are valid
+abbrev pub resume_passes : Option (List ℕ) → Option (List ℕ) → Option (List ℕ) → Option (List ℕ) → Bool
+resume_passes chunk every messages limit = pace_passes chunk every messages && limit_passes limit
+
 -- `--lines` and `--placeholder` are valid: the latter requires `--lines`
 abbrev pub apply_passes : Bool → Option (List ℕ) → Bool
 apply_passes lines placeholder = (lines || not (is_some placeholder)) && passes is_placeholder placeholder
@@ -92,9 +104,9 @@ gen_passes texts rows groups =
 
 -- the options and positional arguments of `capture` are valid
 abbrev pub capture_passes : Option (List ℕ) → Option (List ℕ) → Option (List ℕ) → Option (List ℕ) → Option (List ℕ) → Option (List ℕ)
-    → List (List ℕ) → Bool
-capture_passes prefix db placeholder chunk every messages texts =
-    names_pass prefix db placeholder && (pace_passes chunk every messages && are_tables texts)
+    → Option (List ℕ) → List (List ℕ) → Bool
+capture_passes prefix db placeholder chunk every messages limit texts =
+    names_pass prefix db placeholder && (pace_passes chunk every messages && (limit_passes limit && are_tables texts))
 
 -- the options and positional arguments of `replay` are valid
 abbrev pub replay_passes : Option (List ℕ) → Option (List ℕ) → Option (List ℕ) → Option (List ℕ) → List (List ℕ) → Bool
@@ -108,9 +120,11 @@ values_pass verb.Offsets settings texts = true
 values_pass verb.Compact settings texts = true
 values_pass verb.Capture settings texts =
     capture_passes (value_of (codes "prefix") settings) (value_of (codes "db") settings) (value_of (codes "placeholder") settings)
-    (value_of (codes "chunk") settings) (value_of (codes "every") settings) (value_of (codes "messages") settings) texts
+    (value_of (codes "chunk") settings) (value_of (codes "every") settings) (value_of (codes "messages") settings)
+    (value_of (codes "max-value") settings) texts
 values_pass verb.Resume settings texts =
-    pace_passes (value_of (codes "chunk") settings) (value_of (codes "every") settings) (value_of (codes "messages") settings)
+    resume_passes (value_of (codes "chunk") settings) (value_of (codes "every") settings) (value_of (codes "messages") settings)
+    (value_of (codes "max-value") settings)
 values_pass verb.Apply settings texts = apply_passes (is_given (codes "lines") settings) (value_of (codes "placeholder") settings)
 values_pass verb.Replay settings texts =
     replay_passes (value_of (codes "prefix") settings) (value_of (codes "db") settings) (value_of (codes "placeholder") settings)
@@ -134,8 +148,8 @@ number_in (text ∷ texts) = digits_value 10 text
 
 -- the command of `capture` with these values
 abbrev pub capture_of : Option (List ℕ) → Option (List ℕ) → Option (List ℕ) → Option (List ℕ) → Option (List ℕ) → Option (List ℕ)
-    → List (List ℕ) → Command
-capture_of prefix db placeholder chunk every messages texts =
+    → Option (List ℕ) → List (List ℕ) → Command
+capture_of prefix db placeholder chunk every messages limit texts =
     command.Capture (record {
       prefix = name_or_demo prefix;
       db = name_or_demo db;
@@ -143,13 +157,19 @@ capture_of prefix db placeholder chunk every messages texts =
       chunk = number_or 1000 chunk;
       every = number_or 100 every;
       messages = number_or 999999999 messages;
+      max_value = number_if limit;
       tables = map table_in texts;
     })
 
 -- the command of `resume` with these values
-abbrev pub resume_of : Option (List ℕ) → Option (List ℕ) → Option (List ℕ) → Command
-resume_of chunk every messages =
-    command.Resume (record { chunk = number_or 1000 chunk; every = number_or 100 every; messages = number_or 999999999 messages })
+abbrev pub resume_of : Option (List ℕ) → Option (List ℕ) → Option (List ℕ) → Option (List ℕ) → Command
+resume_of chunk every messages limit =
+    command.Resume (record {
+      chunk = number_or 1000 chunk;
+      every = number_or 100 every;
+      messages = number_or 999999999 messages;
+      max_value = number_if limit;
+    })
 
 -- the command of `apply` with these values
 abbrev pub apply_of : Bool → Option (List ℕ) → Command
@@ -180,9 +200,11 @@ command_of verb.Offsets settings texts = command.Offsets
 command_of verb.Compact settings texts = command.Compact
 command_of verb.Capture settings texts =
     capture_of (value_of (codes "prefix") settings) (value_of (codes "db") settings) (value_of (codes "placeholder") settings)
-    (value_of (codes "chunk") settings) (value_of (codes "every") settings) (value_of (codes "messages") settings) texts
+    (value_of (codes "chunk") settings) (value_of (codes "every") settings) (value_of (codes "messages") settings)
+    (value_of (codes "max-value") settings) texts
 command_of verb.Resume settings texts =
     resume_of (value_of (codes "chunk") settings) (value_of (codes "every") settings) (value_of (codes "messages") settings)
+    (value_of (codes "max-value") settings)
 command_of verb.Apply settings texts = apply_of (is_given (codes "lines") settings) (value_of (codes "placeholder") settings)
 command_of verb.Replay settings texts =
     replay_of (value_of (codes "prefix") settings) (value_of (codes "db") settings) (value_of (codes "placeholder") settings)

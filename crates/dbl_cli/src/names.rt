@@ -14,7 +14,7 @@ pub struct Name {
 
 static NONE: [Name; 0] = [];
 
-static CAPTURE: [Name; 6] = [
+static CAPTURE: [Name; 7] = [
     Name {
         text: "prefix",
         has_value: true,
@@ -39,9 +39,13 @@ static CAPTURE: [Name; 6] = [
         text: "messages",
         has_value: true,
     },
+    Name {
+        text: "max-value",
+        has_value: true,
+    },
 ];
 
-static RESUME: [Name; 3] = [
+static RESUME: [Name; 4] = [
     Name {
         text: "chunk",
         has_value: true,
@@ -52,6 +56,10 @@ static RESUME: [Name; 3] = [
     },
     Name {
         text: "messages",
+        has_value: true,
+    },
+    Name {
+        text: "max-value",
         has_value: true,
     },
 ];

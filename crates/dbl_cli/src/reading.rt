@@ -5,9 +5,10 @@ ghost use Rattle.std.specs.List.{list_all};
 ghost use Rattle.clap.specs.Words.{one_text, found_of};
 ghost use Rattle.clap.specs.Values.{bool_text};
 ghost use Rattle.dbl_cli.specs.Items.{Setting};
-ghost use Rattle.dbl_cli_commands.specs.Values.{number_or, are_tables, are_keys};
+ghost use Rattle.dbl_cli_commands.specs.Values.{number_or, number_if, are_tables, are_keys};
 ghost use Rattle.dbl_cli_commands.specs.Values.{table_in, key_in, is_number};
-ghost use Rattle.dbl_cli.specs.Commands.{names_pass, pace_passes, name_or_demo, placeholder_or_own};
+ghost use Rattle.dbl_cli.specs.Commands.{names_pass, pace_passes, limit_passes, resume_passes};
+ghost use Rattle.dbl_cli.specs.Commands.{name_or_demo, placeholder_or_own};
 ghost use Rattle.dbl_cli.specs.Commands.{number_in, capture_passes, capture_of, resume_of};
 ghost use Rattle.dbl_cli.specs.Commands.{apply_passes, apply_of, replay_passes, replay_of};
 ghost use Rattle.dbl_cli.specs.Commands.{gen_passes, gen_of, values_pass, command_of};
@@ -16,7 +17,8 @@ ghost use Rattle.dbl_cli.specs.Found.{option_in, places_in, SaysFlag, Finds};
 
 use crate::parser::PLACE;
 use crate::values::{
-    keys, mask_or_none, name_or_demo, number, number_or, placeholder_or_own, tables,
+    keys, mask_or_none, name_or_demo, number, number_or, number_or_none, placeholder_or_own,
+    tables,
 };
 use crate::verbs::Verb;
 use crate::{CaptureOptions, CliError, Command, ReplayOptions, ResumeOptions};
@@ -77,6 +79,16 @@ fn pacing(found: &ArgMatches<'_>) -> Result<Pace, CliError>
     })
 }
 
+fn limit(found: &ArgMatches<'_>) -> Result<Option<u64>, CliError>
+    ensures { Reads (limit_passes (option_in found.now (codes "max-value")))
+        (number_if (option_in found.now (codes "max-value"))) result }
+{
+    match number_or_none(found.get_str("max-value"), 0, 999_999_999)? {
+        Some(most) => Ok(Some(u64::from(most))),
+        None => Ok(None),
+    }
+}
+
 fn tables_in(alloc: Global, found: &ArgMatches<'_>) -> Result<Seq<TableName>, CliError>
     ensures { Reads (are_tables (places_in found.now)) (map table_in (places_in found.now)) result }
 {
@@ -100,11 +112,13 @@ fn capture(alloc: Global, found: &ArgMatches<'_>) -> Result<Command, CliError>
         (capture_passes (option_in found.now (codes "prefix")) (option_in found.now (codes "db"))
         (option_in found.now (codes "placeholder"))
         (option_in found.now (codes "chunk")) (option_in found.now (codes "every"))
-        (option_in found.now (codes "messages")) (places_in found.now))
+        (option_in found.now (codes "messages")) (option_in found.now (codes "max-value"))
+        (places_in found.now))
         (capture_of (option_in found.now (codes "prefix")) (option_in found.now (codes "db"))
         (option_in found.now (codes "placeholder"))
         (option_in found.now (codes "chunk")) (option_in found.now (codes "every"))
-        (option_in found.now (codes "messages")) (places_in found.now)) result }
+        (option_in found.now (codes "messages")) (option_in found.now (codes "max-value"))
+        (places_in found.now)) result }
 {
     let Names {
         prefix,
@@ -112,6 +126,7 @@ fn capture(alloc: Global, found: &ArgMatches<'_>) -> Result<Command, CliError>
         placeholder,
     } = naming(alloc, found)?;
     let pacing = pacing(found)?;
+    let max_value = limit(found)?;
     let tables = tables_in(alloc, found)?;
     Ok(Command::Capture {
         options: CaptureOptions {
@@ -121,23 +136,28 @@ fn capture(alloc: Global, found: &ArgMatches<'_>) -> Result<Command, CliError>
             chunk: pacing.chunk,
             every: pacing.every,
             messages: u64::from(pacing.messages),
+            max_value,
             tables,
         },
     })
 }
 
 fn resume(found: &ArgMatches<'_>) -> Result<Command, CliError>
-    ensures { Reads (pace_passes (option_in found.now (codes "chunk"))
-        (option_in found.now (codes "every")) (option_in found.now (codes "messages")))
+    ensures { Reads (resume_passes (option_in found.now (codes "chunk"))
+        (option_in found.now (codes "every")) (option_in found.now (codes "messages"))
+        (option_in found.now (codes "max-value")))
         (resume_of (option_in found.now (codes "chunk")) (option_in found.now (codes "every"))
-        (option_in found.now (codes "messages"))) result }
+        (option_in found.now (codes "messages")) (option_in found.now (codes "max-value")))
+        result }
 {
     let pacing = pacing(found)?;
+    let max_value = limit(found)?;
     Ok(Command::Resume {
         options: ResumeOptions {
             chunk: pacing.chunk,
             every: pacing.every,
             messages: u64::from(pacing.messages),
+            max_value,
         },
     })
 }

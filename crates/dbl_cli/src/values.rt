@@ -8,7 +8,7 @@ ghost use Rattle.std.specs.Str.Parse.{digits_value};
 ghost use Rattle.dbl_model_table.specs.Tables.{is_name_byte, is_name, are_distinct, same_name};
 ghost use Rattle.dbl_model_table.specs.Identities.{default_placeholder};
 ghost use Rattle.dbl_cli.specs.Names.{texts};
-ghost use Rattle.dbl_cli_commands.specs.Values.{is_number, number_or, passes, is_placeholder};
+ghost use Rattle.dbl_cli_commands.specs.Values.{is_number, number_or, number_if, passes, is_placeholder};
 ghost use Rattle.dbl_cli_commands.specs.Values.{is_comma, table_in, is_table, are_tables};
 ghost use Rattle.dbl_cli_commands.specs.Values.{key_in, is_column, is_key, tables_in, are_keys};
 ghost use Rattle.dbl_cli_commands.specs.Values.{is_named, around_last_colon, mask_parts, is_stars};
@@ -59,6 +59,17 @@ pub fn number_or(text: Option<&str>, default: u32, least: u32, most: u32) -> Res
     match text {
         None => Ok(default),
         Some(text) => number(text, least, most),
+    }
+}
+
+/// The number of an option, if it is there.
+pub fn number_or_none(text: Option<&str>, least: u32, most: u32) -> Result<Option<u32>, CliError>
+    ensures { Reads (passes (is_number least most) (option_copied text.entry))
+        (number_if (option_copied text.entry)) result }
+{
+    match text {
+        None => Ok(None),
+        Some(text) => Ok(Some(number(text, least, most)?)),
     }
 }
 

@@ -1,6 +1,6 @@
 -- The values of options, and the positional arguments.
 use Rattle.std.specs.Prelude.{ℕ, ◌==◌, ◌&&◌, nat_lt, nat_le, Bool, true, if◌then◌else◌, Option, Some, None, unwrap_or}
-use Rattle.std.specs.Prelude.{List, [], ◌∷◌, length, map}
+use Rattle.std.specs.Prelude.{List, [], ◌∷◌, length, map, option_map}
 use Rattle.std.specs.Char.{is_ascii_digit}
 use Rattle.std.specs.List.{list_all, before_first, after_first, slice_split}
 use Rattle.std.specs.Option.{option_map_or}
@@ -18,6 +18,10 @@ is_number least most text = nat_lt 0 (length text) && nat_le (length text) 9 && 
 -- the number of an option, or the default if it is absent
 abbrev pub number_or : ℕ → Option (List ℕ) → ℕ
 number_or default value = option_map_or (digits_value 10) value default
+
+-- the number of an option, if it is given
+abbrev pub number_if : Option (List ℕ) → Option ℕ
+number_if value = option_map (digits_value 10) value
 
 -- the option is absent or its value passes the test
 abbrev pub passes : (List ℕ → Bool) → Option (List ℕ) → Bool

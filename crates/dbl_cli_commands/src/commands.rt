@@ -10,6 +10,8 @@ pub struct CaptureOptions {
     pub chunk: u32,
     pub every: u32,
     pub messages: u64,
+    /// The maximum length in bytes of a record's value: a longer one is refused.
+    pub max_value: Option<u64>,
     pub tables: Seq<TableName>,
 }
 
@@ -19,6 +21,8 @@ pub struct ResumeOptions {
     pub chunk: u32,
     pub every: u32,
     pub messages: u64,
+    /// The maximum length in bytes of a record's value: a longer one is refused.
+    pub max_value: Option<u64>,
 }
 
 /// A column whose texts are masked: each character of a text as an asterisk, at most so many.

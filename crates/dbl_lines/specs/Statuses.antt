@@ -3,7 +3,7 @@ use Rattle.std.specs.Prelude.{ℕ}
 use Rattle.dbl_lines.specs.declared.status.Status.{Status}
 use Rattle.dbl_lines.specs.declared.status.Status.TheVariants.{Done, InvalidArguments, BudgetSpent, StartMismatch, MalformedLog}
 use Rattle.dbl_lines.specs.declared.status.Status.TheVariants.{Unsupported, SourceFailed, TopicsFailed, OffsetsFailed, StdinFailed}
-use Rattle.dbl_lines.specs.declared.status.Status.TheVariants.{StdoutFailed, OutOfMemory, InvalidInput, InvalidStore, LogGone}
+use Rattle.dbl_lines.specs.declared.status.Status.TheVariants.{StdoutFailed, OutOfMemory, InvalidInput, InvalidStore, LogGone, RecordRefused}
 
 -- the exit status with which the process ends
 abbrev pub code_of : Status → ℕ
@@ -22,3 +22,4 @@ code_of OutOfMemory = 12
 code_of InvalidInput = 13
 code_of InvalidStore = 14
 code_of LogGone = 15
+code_of RecordRefused = 17

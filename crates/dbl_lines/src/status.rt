@@ -28,6 +28,8 @@ pub enum Status {
     InvalidStore,
     /// The source's log lacks what the session requires.
     LogGone,
+    /// A record has a longer value than the session's receiver accepts.
+    RecordRefused,
 }
 
 impl Status {
@@ -51,6 +53,7 @@ impl Status {
             Status::InvalidInput => 13,
             Status::InvalidStore => 14,
             Status::LogGone => 15,
+            Status::RecordRefused => 17,
         }
     }
 }

@@ -100,6 +100,7 @@ error_no_output (connect.BadEntry store index) is = cc
 error_no_output connect.AlreadyStarted is = cc
 error_no_output connect.NotStarted is = cc
 error_no_output (connect.Halted h) is = halt_no_output h is
+error_no_output (connect.Refused position ordinal) is = cc
 error_no_output connect.Memory is = cc
 
 pub ending_no_output : (ending : Ending) → ending_status ending ≢ StdoutFailed

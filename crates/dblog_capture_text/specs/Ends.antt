@@ -11,7 +11,7 @@ use Rattle.dblog_capture_text.specs.Halts.{halt_line, halt_status}
 use Rattle.dblog_capture_text.specs.Reports.{ending_status, report_lines}
 use Rattle.dbl_lines.specs.declared.status.Status.{Status}
 use Rattle.dbl_lines.specs.declared.status.Status.TheVariants.{Done, BudgetSpent, StartMismatch, MalformedLog, Unsupported, SourceFailed}
-use Rattle.dbl_lines.specs.declared.status.Status.TheVariants.{TopicsFailed, OffsetsFailed, OutOfMemory, InvalidStore, LogGone}
+use Rattle.dbl_lines.specs.declared.status.Status.TheVariants.{TopicsFailed, OffsetsFailed, OutOfMemory, InvalidStore, LogGone, RecordRefused}
 use Rattle.dbl_lines.specs.declared.run_error.RunError.TheVariants.{Memory}
 use Rattle.dbl_lines.specs.Faults.{fault_line}
 use Rattle.dbl_lines.specs.Says.{IsCutShort, Writes}
@@ -30,6 +30,7 @@ connect_status (connect.BadEntry store index) = InvalidStore
 connect_status connect.AlreadyStarted = StartMismatch
 connect_status connect.NotStarted = StartMismatch
 connect_status (connect.Halted halt) = halt_status halt
+connect_status (connect.Refused position ordinal) = RecordRefused
 connect_status connect.Memory = OutOfMemory
 
 -- The line of an error of the connector, without its newline.
@@ -41,6 +42,8 @@ connect_line (connect.BadEntry store index) = codes "dblog: bad entry " ++ (deci
 connect_line connect.AlreadyStarted = codes "dblog: already started"
 connect_line connect.NotStarted = codes "dblog: not started"
 connect_line (connect.Halted halt) = halt_line halt
+connect_line (connect.Refused position ordinal) =
+    codes "dblog: record refused at " ++ (decimal position ++ (codes " " ++ decimal ordinal))
 connect_line connect.Memory = fault_line Memory
 
 -- The exit status of a session.
@@ -63,7 +66,7 @@ SaysSession end status before after =
 abbrev pub IsSessionStatus : Status → Type 0
 IsSessionStatus status = (status ≡ Done) ⊎ ((status ≡ BudgetSpent) ⊎ ((status ≡ StartMismatch) ⊎ ((status ≡ MalformedLog)
     ⊎ ((status ≡ Unsupported) ⊎ ((status ≡ InvalidStore) ⊎ ((status ≡ LogGone)
-    ⊎ ((status ≡ SourceFailed) ⊎ (((status ≡ TopicsFailed) ⊎ (status ≡ OffsetsFailed)) ⊎ IsCutShort status))))))))
+    ⊎ ((status ≡ SourceFailed) ⊎ (((status ≡ TopicsFailed) ⊎ ((status ≡ OffsetsFailed) ⊎ (status ≡ RecordRefused))) ⊎ IsCutShort status))))))))
 
 -- The statuses of a session that ended normally.
 abbrev pub IsNormalStatus : Status → Type 0

@@ -67,6 +67,7 @@ fn error_status(error: &ConnectError) -> Status
         ConnectError::NotAStore { .. } | ConnectError::BadEntry { .. } => Status::InvalidStore,
         ConnectError::AlreadyStarted | ConnectError::NotStarted => Status::StartMismatch,
         ConnectError::Halted { halt } => halt_status(halt),
+        ConnectError::Refused { .. } => Status::RecordRefused,
         ConnectError::Memory => Status::OutOfMemory,
     }
 }
@@ -94,6 +95,9 @@ fn error_line(alloc: Global, error: ConnectError) -> Result<String, AllocError>
         ConnectError::AlreadyStarted => "dblog: already started",
         ConnectError::NotStarted => "dblog: not started",
         ConnectError::Halted { halt } => return halt_line(alloc, halt),
+        ConnectError::Refused { position, ordinal } => {
+            return format!(in alloc; "dblog: record refused at {position} {ordinal}");
+        }
         ConnectError::Memory => "dblog: out of memory",
     };
     String::from_str(alloc, line)

@@ -12,7 +12,7 @@ use Rattle.dblog_init.specs.declared.error.Store.{Store}
 use Rattle.dblog_init.specs.declared.error.Store.TheVariants.{Wal, Topics, Offsets}
 use Rattle.dblog_connect_ends.specs.declared.error.ConnectError.{ConnectError}
 use Rattle.dblog_connect_ends.specs.declared.error.ConnectError.TheVariants.{Failed, NotAStore, BadEntry, AlreadyStarted}
-use Rattle.dblog_connect_ends.specs.declared.error.ConnectError.TheVariants.{NotStarted, Halted, Memory}
+use Rattle.dblog_connect_ends.specs.declared.error.ConnectError.TheVariants.{NotStarted, Halted, Refused, Memory}
 
 -- The error of opening a source.
 abbrev pub demo_error : DemoError → ConnectError
@@ -52,9 +52,10 @@ halt_error h = Halted h
 
 -- ---- kinds of errors
 
--- A disk failed, or memory ran out.
+-- A disk failed, memory ran out, or a record was refused.
 abbrev pub IsExternalConnectError : ConnectError → Type 0
 IsExternalConnectError (Failed store) = Unit {0}
+IsExternalConnectError (Refused position ordinal) = Unit {0}
 IsExternalConnectError Memory = Unit {0}
 IsExternalConnectError e = ⊥
 

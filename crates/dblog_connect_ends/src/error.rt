@@ -31,6 +31,9 @@ pub enum ConnectError {
     /// The session halted. The halt is never `Source`, `Sink`, `Offsets` or `Memory`.
     #[error("{halt}")]
     Halted { halt: Halt },
+    /// The session's receiver refused the record at this position, with this index in its commit.
+    #[error("record refused at {position} {ordinal}")]
+    Refused { position: u64, ordinal: u64 },
     #[error("out of memory")]
     Memory,
 }

@@ -1,5 +1,7 @@
 -- The session that the arguments of `capture` and `resume` request.
-use Rattle.std.specs.Prelude.{◌≡◌, ℕ, Option, Some, None, List, [], ◌∷◌, map}
+use Rattle.std.specs.Prelude.{◌≡◌, ◌-◌, ◌^◌, ℕ, Option, Some, None, unwrap_or, List, [], ◌∷◌, map}
+use Rattle.dbl_hooks_gate.specs.declared.rule.Rule.{Rule}
+use Rattle.dbl_hooks_gate.specs.declared.rule.Rule.TheVariants.{MaxValue}
 use Rattle.dbl_model_table.specs.declared.config.Config.{Config}
 use Rattle.dbl_model_table.specs.declared.table.TableInfo.{TableInfo}
 use Rattle.dbl_model_table.specs.declared.table.TableName.{TableName}
@@ -72,6 +74,15 @@ Refuses (First options) None e = ⊥
 Refuses (First options) (Some offset) e = e ≡ AlreadyStarted
 Refuses (Again options) None e = e ≡ NotStarted
 Refuses (Again options) (Some offset) e = ⊥
+
+-- The maximum length in bytes of a record's value, if the arguments name one.
+abbrev pub limit_of : Asked → Option ℕ
+limit_of (First options) = options.max_value
+limit_of (Again options) = options.max_value
+
+-- What the session's receiver accepts: any record if the arguments name no length.
+abbrev pub rule_of : Asked → Rule
+rule_of asked = MaxValue (unwrap_or (limit_of asked) (2 ^ 64 - 1))
 
 -- How many messages the session may read.
 abbrev pub budget_of : Asked → ℕ

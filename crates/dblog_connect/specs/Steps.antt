@@ -1,5 +1,5 @@
 -- For private clauses: the steps of the connector after the disks were opened.
-use Rattle.std.specs.Prelude.{◌≡◌, ℕ, ℤ, Some, None, IfOk, IfErr, MatchResult, List}
+use Rattle.std.specs.Prelude.{◌≡◌, ℕ, ℤ, Option, Some, None, Result, Ok, Err, IfOk, IfErr, MatchResult, List}
 use Rattle.dbl_record.specs.declared.record.Record.{Record}
 use Rattle.dbl_disk.specs.Model.{DiskModel}
 use Rattle.dbl_journal.specs.Stored.{OnDisk}
@@ -8,10 +8,15 @@ use Rattle.dbl_topic.specs.Logs.{IsLog}
 use Rattle.dbl_offset.specs.Stores.{HoldsOffset, IsStore, StoreOn, disk_of}
 use Rattle.dbl_demo.specs.DemoLaws.Demo.{Demo, IsDemo}
 use Rattle.dbl_demo.specs.DemoWal.Wals.{IsWal, Wal}
+use Rattle.dbl_capture.specs.CaptureWork.declared.halt.Halt.{Halt}
+use Rattle.dbl_capture.specs.CaptureWork.declared.report.Ending.{Ending}
 use Rattle.dblog_promise.specs.Headline.{GuaranteesAfterCrash}
 use Rattle.dblog_init.specs.declared.disks.Disks.{Disks}
 use Rattle.dblog_connect.specs.declared.asked.Asked.{Asked}
 use Rattle.dblog_connect.specs.Asked.{asks_in}
+use Rattle.dblog_connect_ends.specs.declared.error.ConnectError.{ConnectError}
+use Rattle.dblog_connect_ends.specs.declared.error.ConnectError.TheVariants.{Refused}
+use Rattle.dblog_connect_ends.specs.Errors.{halt_error}
 use Rattle.dblog_connect.specs.Disks.{AreKeptDisks, IsTrueAfterCrash, IsTrueOfContents}
 use Rattle.dblog_connect.specs.Ends.{AddsFew, ConnectEnd, EndsBefore, GainsRecords, HasBegun}
 use Rattle.dblog_connect.specs.Ends.{HasRun, IsCompleteEnd, IsKeptError, IsReported}
@@ -77,3 +82,9 @@ pub record AnswersConnect {W T F : Type 0} (wal_model : DiskModel W) (topics_mod
       → GainsRecords asked now (topics_model.may_leave old.topics) (topics_model.may_leave new.topics) w t f begun)
   pub marks : IsTrueOfContents wal_model topics_model offsets_model old (λ w t f.
       AddsFew asked (wal_model.may_leave old.wal) (wal_model.may_leave new.wal) w t f)
+
+-- The end of a session over a gate: a refused record is an error of its own, whatever the session's error is.
+abbrev pub session_end : Result Ending Halt → Option (ℕ × ℕ) → Result Ending ConnectError
+session_end (Ok ending) refused = Ok ending
+session_end (Err h) None = Err (halt_error h)
+session_end (Err h) (Some place) = Err (Refused place.0 place.1)

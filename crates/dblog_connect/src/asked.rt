@@ -6,7 +6,7 @@ ghost use Rattle.dbl_cli_commands.specs.Limits.{AreGoodNames, AreGoodTables, IsG
 ghost use Rattle.dbl_offset.specs.Offsets.{IsOffset};
 ghost use Rattle.dbl_demo.specs.DemoWorkload.Ready.{AreTableNames};
 ghost use Rattle.dblog_connect.specs.Asked.{IsAskedWithinLimits, Refuses, asks_of};
-ghost use Rattle.dblog_connect.specs.Asked.{config_again, config_of, names_of, tables_or};
+ghost use Rattle.dblog_connect.specs.Asked.{config_again, config_of, limit_of, names_of, tables_or};
 
 use crate::ConnectError;
 use dbl_base::{Seq, copy_items};
@@ -67,6 +67,7 @@ fn first_config(
         chunk,
         every,
         messages,
+        max_value: _,
         tables,
     } = options;
     let tables = named_or(alloc, tables, all)?;
@@ -97,6 +98,7 @@ fn later_config(
         chunk,
         every,
         messages,
+        max_value: _,
     } = options;
     Ok(Config {
         identity: offset.identity.copy(alloc)?,
@@ -105,6 +107,16 @@ fn later_config(
         every,
         messages,
     })
+}
+
+/// The maximum length in bytes of a record's value, if the arguments name one.
+pub(crate) fn limit_of(asked: &Asked) -> Option<u64>
+    ensures { result ≡ limit_of asked.now }
+{
+    match asked {
+        Asked::First { options } => options.max_value,
+        Asked::Again { options } => options.max_value,
+    }
 }
 
 /// The configuration of a session over a store with this offset, of a source with these tables, or

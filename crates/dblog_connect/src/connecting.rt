@@ -1,6 +1,6 @@
 //! The session over the disks.
 
-ghost use Rattle.std.specs.Prelude.{◌≡◌, ℕ, List, Some, IfOk, IfErr, MatchResult, IsTrue, OnOk};
+ghost use Rattle.std.specs.Prelude.{◌≡◌, ℕ, List, Some, None, IfOk, IfErr, MatchResult, IsTrue, OnOk};
 ghost use Rattle.dblog_promise.specs.Bounds.{IsBounded, IsStoreBounded};
 ghost use Rattle.dblog_promise.specs.Headline.{GuaranteesAfterCrash};
 ghost use Rattle.dbl_offset.specs.Stores.{IsLive, disk_of};
@@ -14,14 +14,17 @@ ghost use Rattle.dblog_connect.specs.Ends.{IsReported, IsSpent, IsWrongSource, O
 ghost use Rattle.dblog_connect_ends.specs.Errors.{IsBeforeStore, IsAfterOpening};
 ghost use Rattle.dblog_connect_ends.specs.Errors.{IsConnectError, IsConnectRefusal};
 ghost use Rattle.dblog_connect.specs.Steps.{AnswersConnect, disks_of, IsOpenedLog};
-ghost use Rattle.dblog_connect.specs.Steps.{IsOpenedSource, IsOpenedStore};
+ghost use Rattle.dblog_connect.specs.Steps.{IsOpenedSource, IsOpenedStore, session_end};
 
-use crate::asked::{Asked, config_for};
+use crate::asked::{Asked, config_for, limit_of};
 use crate::{ConnectError, Summary};
-use dbl_capture::{Report, session};
+use dbl_capture::{Ending, Halt, Report};
+use dbl_capture_gated::gated_session;
 use dbl_demo::DemoSource;
 use dbl_disk::{Disk, Refused};
+use dbl_hooks_gate::{Gate, Rule};
 use dbl_offset::OffsetStore;
+use dbl_record::Record;
 use dbl_topic::TopicLog;
 use dblog_init::{Disks, Outcome, Store};
 use std::alloc::Global;
@@ -174,7 +177,7 @@ fn connect_log<W: Disk, T: Disk, F: Disk>(
     asked: Asked,
     now_ms: i64,
     mut source: DemoSource<W>,
-    mut log: TopicLog<T>,
+    log: TopicLog<T>,
     offsets: F,
 ) -> Outcome<W, T, F, Result<Summary, ConnectError>>
     requires within { IsAskedWithinLimits asked }
@@ -208,7 +211,7 @@ fn connect_log<W: Disk, T: Disk, F: Disk>(
 {
     match OffsetStore::open(alloc, offsets) {
         Ok(mut store) => {
-            let end = run_session(alloc, asked, now_ms, &mut source, &mut log, &mut store);
+            let (log, end) = run_session(alloc, asked, now_ms, &mut source, log, &mut store);
             Outcome {
                 disks: Disks {
                     wal: source.into_disk(),
@@ -234,37 +237,104 @@ fn run_session<W: Disk, T: Disk, F: Disk>(
     asked: Asked,
     now_ms: i64,
     source: &mut DemoSource<W>,
-    log: &mut TopicLog<T>,
+    log: TopicLog<T>,
+    store: &mut OffsetStore<F>,
+) -> (TopicLog<T>, Result<Summary, ConnectError>)
+    requires within { IsAskedWithinLimits asked }
+    requires source_live { IsTrue source.old.live }
+    requires log_live { IsTrue log.live }
+    requires store_live { IsLive store.old }
+    requires tables { AreTableNames source.old.names }
+    requires source_opened { IsOpenedSource W.Disk source.old }
+    requires log_opened { IsOpenedLog T.Disk log }
+    requires store_opened { IsOpenedStore F.Disk store.old }
+    ensures answers { AnswersConnect W.Disk T.Disk F.Disk asked now_ms
+        (disks_of source.old.journal.disk log.disk (disk_of store.old))
+        (disks_of source.new.journal.disk result.0.disk (disk_of store.new)) result.1 }
+    ensures spent { IfOk result.1 (IsSpent (budget_of asked)) }
+    ensures kinds { IfErr result.1 IsConnectError }
+    ensures after_opening { IfErr result.1 (IsAfterOpening Store.Offsets) }
+    ensures source_stays { IfErr result.1 (λ e. IsConnectRefusal e → source.new ≡ source.old) }
+    ensures log_stays { IfErr result.1 (λ e. IsConnectRefusal e → result.0 ≡ log) }
+    ensures store_stays { IfErr result.1 (λ e. IsConnectRefusal e → store.new ≡ store.old) }
+    ensures source_counts { CountsFaults W.Disk Store.Wal result.1
+        source.old.journal.disk source.new.journal.disk }
+    ensures steady { OnOk result.1 (AreSteady W.Disk T.Disk F.Disk
+        (disks_of source.old.journal.disk log.disk (disk_of store.old))
+        (disks_of source.new.journal.disk result.0.disk (disk_of store.new))) }
+    ensures log_counts { CountsFaults T.Disk Store.Topics result.1 log.disk result.0.disk }
+    ensures store_counts { CountsFaults F.Disk Store.Offsets result.1
+        (disk_of store.old) (disk_of store.new) }
+    ensures source_bounded { IsBounded
+        (W.seen source.old.journal.disk) (W.seen source.new.journal.disk) }
+    ensures log_bounded { IsBounded (T.seen log.disk) (T.seen result.0.disk) }
+    ensures store_bounded { IsStoreBounded
+        (F.seen (disk_of store.old)) (F.seen (disk_of store.new)) }
+{
+    let rule = Rule::MaxValue(limit_of(&asked).unwrap_or(u64::MAX));
+    match Box::new(alloc, move |item: &Record| rule.allows(item)) {
+        Ok(handler) => {
+            let mut gate = Gate::make(alloc, log, rule, handler);
+            let end = run_over_gate(alloc, asked, now_ms, source, &mut gate, store);
+            (gate.into_inner(), end)
+        }
+        Err(_) => (log, Err(ConnectError::Memory)),
+    }
+}
+
+// The end of a session over a gate.
+fn end_of(
+    end: Result<Ending, Halt>,
+    refused: Option<(u64, u64)>,
+) -> Result<Ending, ConnectError>
+    ensures { result ≡ session_end end refused }
+{
+    match end {
+        Ok(ending) => Ok(ending),
+        Err(halt) => match refused {
+            Some((position, ordinal)) => Err(ConnectError::Refused { position, ordinal }),
+            None => Err(ConnectError::from(halt)),
+        },
+    }
+}
+
+fn run_over_gate<W: Disk, T: Disk, F: Disk>(
+    alloc: Global,
+    asked: Asked,
+    now_ms: i64,
+    source: &mut DemoSource<W>,
+    gate: &mut Gate<TopicLog<T>>,
     store: &mut OffsetStore<F>,
 ) -> Result<Summary, ConnectError>
     requires within { IsAskedWithinLimits asked }
     requires source_live { IsTrue source.old.live }
-    requires log_live { IsTrue log.old.live }
+    requires log_live { IsTrue gate.old.sink.live }
+    requires unrefused { gate.old.refused ≡ None }
     requires store_live { IsLive store.old }
     requires tables { AreTableNames source.old.names }
     requires source_opened { IsOpenedSource W.Disk source.old }
-    requires log_opened { IsOpenedLog T.Disk log.old }
+    requires log_opened { IsOpenedLog T.Disk gate.old.sink }
     requires store_opened { IsOpenedStore F.Disk store.old }
     ensures answers { AnswersConnect W.Disk T.Disk F.Disk asked now_ms
-        (disks_of source.old.journal.disk log.old.disk (disk_of store.old))
-        (disks_of source.new.journal.disk log.new.disk (disk_of store.new)) result }
+        (disks_of source.old.journal.disk gate.old.sink.disk (disk_of store.old))
+        (disks_of source.new.journal.disk gate.new.sink.disk (disk_of store.new)) result }
     ensures spent { IfOk result (IsSpent (budget_of asked)) }
     ensures kinds { IfErr result IsConnectError }
     ensures after_opening { IfErr result (IsAfterOpening Store.Offsets) }
     ensures source_stays { IfErr result (λ e. IsConnectRefusal e → source.new ≡ source.old) }
-    ensures log_stays { IfErr result (λ e. IsConnectRefusal e → log.new ≡ log.old) }
+    ensures log_stays { IfErr result (λ e. IsConnectRefusal e → gate.new.sink ≡ gate.old.sink) }
     ensures store_stays { IfErr result (λ e. IsConnectRefusal e → store.new ≡ store.old) }
     ensures source_counts { CountsFaults W.Disk Store.Wal result
         source.old.journal.disk source.new.journal.disk }
     ensures steady { OnOk result (AreSteady W.Disk T.Disk F.Disk
-        (disks_of source.old.journal.disk log.old.disk (disk_of store.old))
-        (disks_of source.new.journal.disk log.new.disk (disk_of store.new))) }
-    ensures log_counts { CountsFaults T.Disk Store.Topics result log.old.disk log.new.disk }
+        (disks_of source.old.journal.disk gate.old.sink.disk (disk_of store.old))
+        (disks_of source.new.journal.disk gate.new.sink.disk (disk_of store.new))) }
+    ensures log_counts { CountsFaults T.Disk Store.Topics result gate.old.sink.disk gate.new.sink.disk }
     ensures store_counts { CountsFaults F.Disk Store.Offsets result
         (disk_of store.old) (disk_of store.new) }
     ensures source_bounded { IsBounded
         (W.seen source.old.journal.disk) (W.seen source.new.journal.disk) }
-    ensures log_bounded { IsBounded (T.seen log.old.disk) (T.seen log.new.disk) }
+    ensures log_bounded { IsBounded (T.seen gate.old.sink.disk) (T.seen gate.new.sink.disk) }
     ensures store_bounded { IsStoreBounded
         (F.seen (disk_of store.old)) (F.seen (disk_of store.new)) }
 {
@@ -277,6 +347,7 @@ fn run_session<W: Disk, T: Disk, F: Disk>(
         snapshot_rows: 0,
         position: 0,
     };
-    let ending = session(alloc, &config, now_ms, source, log, store, &mut report)?;
+    let end = gated_session(alloc, &config, now_ms, source, gate, store, &mut report);
+    let ending = end_of(end, gate.refused())?;
     Ok(Summary { ending, report })
 }

@@ -110,6 +110,7 @@ outside_kind (error.BadEntry s index) outside = absurd outside
 outside_kind error.AlreadyStarted outside = absurd outside
 outside_kind error.NotStarted outside = absurd outside
 outside_kind (error.Halted h) outside = absurd outside
+outside_kind (error.Refused position ordinal) outside = (tt, tt, λ refusal. refusal)
 outside_kind error.Memory outside = (tt, tt, λ refusal. refusal)
 
 pub halt_kind : (h : Halt) → IsConnectError (halt_error h) × IsAfterOpening store.Offsets (halt_error h) × (IsConnectRefusal (halt_error h) → ⊥)

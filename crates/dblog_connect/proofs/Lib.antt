@@ -16,3 +16,4 @@ pub mod Session
 pub mod Stays
 pub mod ErrorKinds
 pub mod Exits
+pub mod Gated

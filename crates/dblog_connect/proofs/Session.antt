@@ -1,5 +1,5 @@
 -- What the session of a command amounts to, by what its contract says of it.
-use Rattle.std.proofs.Common.{◌≡◌, ◌∙◌, ℕ, ℤ, Some, List, Result, Ok, Err, ap, subst}
+use Rattle.std.proofs.Common.{◌≡◌, ◌∙◌, ℕ, ℤ, Some, List, Result, Ok, Err, Option, sym, ap, subst, inl}
 use Rattle.dbl_disk.specs.Model.{DiskModel}
 use Rattle.dbl_model_table.specs.declared.config.Config.{Config}
 use Rattle.dbl_model_table.specs.declared.table.TableName.{TableName}
@@ -11,11 +11,14 @@ use Rattle.dbl_capture.specs.CaptureWork.declared.report.Ending.{Ending}
 use Rattle.dbl_capture.specs.CaptureWork.declared.report.Report.{Report}
 use Rattle.dblog_connect.specs.declared.asked.Asked.{Asked}
 use Rattle.dblog_connect.specs.Asked.{asks_in, asks_of}
+use Rattle.dblog_connect_ends.specs.declared.error.ConnectError.{ConnectError}
+use Rattle.dblog_connect_ends.specs.declared.error.ConnectError.TheVariants.{Refused}
 use Rattle.dblog_connect_ends.specs.Errors.{halt_error}
 use Rattle.dblog_connect.specs.Steps.{AnswersConnect, disks_of, IsLogOf, IsOpenedLog, IsOpenedSource, IsOpenedStore, IsSourceOf}
 use Rattle.dblog_connect.proofs.Answered.{ends_before, gains_of, kept_again, marks_of, never_of, report_of, run_of}
 use Rattle.dblog_connect.proofs.CrashState.{kept_of, promised_of}
 use Rattle.dblog_connect.proofs.Opened.{held_by, some_of}
+use Rattle.dblog_connect.proofs.Gated.{Stopped, halted, over}
 use Rattle.dblog_connect.proofs.Ran.{Ran}
 
 module _ {W T F : Type 0} (wal_model : DiskModel W) (topics_model : DiskModel T) (offsets_model : DiskModel F)
@@ -98,3 +101,27 @@ module _ {W T F : Type 0} (wal_model : DiskModel W) (topics_model : DiskModel T)
     marks = λ w t f told_w told_t told_f. marks_of wal_model topics_model offsets_model is_w is_t is_f w t f so lo fo
         (opened_w w told_w) (opened_t t told_t) (opened_f f told_f) config now sn ln fn report result ran asked (asks_here w t (opened_w w told_w) (opened_t t told_t));
   }
+
+  -- a record was refused
+  pub answers_refused : (h : Halt) (position ordinal : ℕ) → result ≡ Err h
+      → AnswersConnect wal_model topics_model offsets_model asked now (disks_of so.journal.disk lo.disk (disk_of fo)) (disks_of sn.journal.disk ln.disk (disk_of fn)) (Err (Refused position ordinal))
+  answers_refused h position ordinal is =
+      let a = answers_err h is in
+      record {
+        headline = a.headline;
+        kept = a.kept;
+        report = λ kept w t f told_w told_t told_f. tt;
+        never = λ kept w t f told_w told_t told_f. tt;
+        told = λ w t f told_w told_t told_f. inl tt;
+        gains = a.gains;
+        marks = a.marks;
+      }
+
+  pub answers_stopped : (refused : Option (ℕ × ℕ)) (e : ConnectError) → Stopped result refused e
+      → AnswersConnect wal_model topics_model offsets_model asked now (disks_of so.journal.disk lo.disk (disk_of fo)) (disks_of sn.journal.disk ln.disk (disk_of fn)) (Err e)
+  answers_stopped refused e (halted h is none e_is) =
+      subst (λ (x : ConnectError). AnswersConnect wal_model topics_model offsets_model asked now (disks_of so.journal.disk lo.disk (disk_of fo))
+      (disks_of sn.journal.disk ln.disk (disk_of fn)) (Err x)) (sym e_is) (answers_err h is)
+  answers_stopped refused e (over h place is some e_is) =
+      subst (λ (x : ConnectError). AnswersConnect wal_model topics_model offsets_model asked now (disks_of so.journal.disk lo.disk (disk_of fo))
+      (disks_of sn.journal.disk ln.disk (disk_of fn)) (Err x)) (sym e_is) (answers_refused h place.0 place.1 is)

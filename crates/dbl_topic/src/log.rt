@@ -296,6 +296,8 @@ impl<D: Disk> Sink for TopicLog<D> {
 
     ghost faults = { λ log. D.faults log.disk };
 
+    ghost fails_at = { λ log group. Unit {0} };
+
     ghost only = { λ log groups left held may. only_held _ log groups left held may };
 
     ghost may = { λ log groups held. may_leave_held _ D.seen_may_be_left log groups held };
@@ -341,6 +343,7 @@ impl<D: Disk> Sink for TopicLog<D> {
         ensures long { group_limit < length (group_form group.now.items) → IsErr result }
         ensures cause { FailsOnlyIfCounted (result ≡ Err SinkError.Failed)
             (D.faults self.old.disk) (D.faults self.new.disk) }
+        ensures failed { result ≡ Err SinkError.Failed → Unit {0} }
 
         ensures one_of { (groups : List (List Record)) →
             HoldsGroups D.Disk self.old groups →

@@ -96,6 +96,8 @@ impl Sink for MemSink {
 
     ghost faults = { λ s. s.plan.faults };
 
+    ghost fails_at = { λ s group. Unit {0} };
+
     ghost only = { one_gathered };
 
     ghost may = { λ sink groups held. held.1 };
@@ -131,6 +133,7 @@ impl Sink for MemSink {
         ensures long { group_limit < length (group_form group.now.items) → IsErr result }
         ensures cause { FailsOnlyIfCounted (result ≡ Err SinkError.Failed)
             self.old.plan.faults self.new.plan.faults }
+        ensures failed { result ≡ Err SinkError.Failed → Unit {0} }
 
         ensures planned { (result ≡ Err SinkError.Failed) ↔
             Contains self.old.plan.planned (incremented self.old.plan.calls) }

@@ -34,6 +34,10 @@ pub trait Sink {
     /// The number of faults; it saturates at 2^64 - 1.
     ghost faults: { Self → ℕ };
 
+    /// What is known of a sink whose last append failed with `Failed`, of the group that it was
+    /// given: for a sink that can refuse a record, which one it refused.
+    ghost fails_at: { Self → List Record → Type 0 };
+
     /// Appends the group. After `Failed` some first records of it may have been appended, as a
     /// group of their own, and the sink isn't live; after the other errors nothing was appended. A
     /// group that is too long may be refused with another error that comes first.
@@ -58,7 +62,8 @@ pub trait Sink {
             (len ≡ told_length group.now.items) }
         ensures long { group_limit < length (group_form group.now.items) → IsErr result }
         ensures cause { FailsOnlyIfCounted (result ≡ Err SinkError.Failed)
-            (faults self.old) (faults self.new) };
+            (faults self.old) (faults self.new) }
+        ensures failed { result ≡ Err SinkError.Failed → fails_at self.new group.now.items };
 
     /// A crash of a sink with known groups leaves exactly those.
     ghost only: { (sink : Self) (groups left : List (List Record)) → holds sink groups

@@ -11,7 +11,7 @@ use Rattle.dbl_topic.specs.declared.error.SinkError.TheVariants.{Failed, TooLong
 use Rattle.dbl_hooks_gate.specs.declared.rule.Rule.{Rule}
 use Rattle.dbl_hooks_gate.specs.declared.rule.Rule.TheVariants.{MaxValue}
 use Rattle.dbl_hooks_gate.specs.Rules.{AreAllowed, is_allowed, is_at_most}
-use Rattle.dbl_hooks_gate.specs.Gates.{AddsAllowed, Appends, ExtendsGated, HoldsUnrefused, IsFirstRefused, Refuses, groups_with, is_open}
+use Rattle.dbl_hooks_gate.specs.Gates.{AddsAllowed, Appends, ExtendsGated, HoldsUnrefused, FailsGated, IsFirstRefused, Refuses, groups_with, is_open}
 use Rattle.dbl_hooks_gate.proofs.Fronts.{IsRefusedAt, item_at}
 
 -- ---- a gate that is open
@@ -119,6 +119,7 @@ pub record Puts {K : Type 0} (model : SinkModel K) (sink sink2 : K) (items : Lis
   pub live : result ≢ Err Failed → IsTrue (model.is_live sink2)
   pub dead : result ≡ Err Failed → model.is_live sink2 ≡ false
   pub cause : FailsOnlyIfCounted (result ≡ Err Failed) (model.faults sink) (model.faults sink2)
+  pub fails : result ≡ Err Failed → model.fails_at sink2 items
 
 with_all : (items : List Record) (groups : List (List Record)) → 1 ≤ length items → groups ++ items ∷ [] ≡ groups_with groups items
 with_all [] groups some = absurd (omega (arith, some))
@@ -136,7 +137,14 @@ appends_all model sink sink2 items result some p = record {
   live = p.live;
   dead = p.dead;
   cause = p.cause;
+  fails = p.fails;
 }
+
+-- a failure of the inner sink on first records of the group, before which none was refused
+pub fails_inner : {K : Type 0} (model : SinkModel K) (sink sink2 : K) (refused : Option (ℕ × ℕ)) (rule : Rule) (group : List Record) (count : ℕ)
+    → is_open model sink refused ≡ true → model.fails_at sink2 (take count group) → FailsGated model sink2 refused rule group
+fails_inner model sink sink2 None rule group count live fails = (count, fails)
+fails_inner model sink sink2 (Some place) rule group count live fails = refused_shut (model.is_live sink) place live
 
 pub on_any : {T E A : Type 0} (r : Result T E) → A → OnOk r A
 on_any (Ok x) a = a

@@ -1,2 +1,2 @@
 mod Fronts
-mod GateLemmas
+pub mod GateLemmas

@@ -1,6 +1,6 @@
 -- Sinks to which a gate appends only what its rule allows. A place is the position and the ordinal of a record.
 use Rattle.std.specs.Prelude.{◌≡◌, ◌≢◌, ◌≤◌, ◌&&◌, ◌+◌, ◌-◌, ◌^◌, ◌++◌, ℕ, Bool, true, false, is_none}
-use Rattle.std.specs.Prelude.{IsTrue, Option, Some, None, List, [], ◌∷◌, Result, Err, OnOk, OnErr}
+use Rattle.std.specs.Prelude.{IsTrue, Option, Some, None, List, [], ◌∷◌, Result, Err, OnOk, OnErr, take}
 use Rattle.std.specs.List.{AllByRecursion}
 use Rattle.dbl_base.specs.Streams.{FailsOnlyIfCounted}
 use Rattle.dbl_record.specs.declared.record.Record.{Record}
@@ -42,6 +42,7 @@ pub record Appends {K : Type 0} (model : SinkModel K) (sink new_sink : K) (items
   pub live : result ≢ Err Failed → IsTrue (model.is_live new_sink)
   pub dead : result ≡ Err Failed → model.is_live new_sink ≡ false
   pub cause : FailsOnlyIfCounted (result ≡ Err Failed) (model.faults sink) (model.faults new_sink)
+  pub fails : result ≡ Err Failed → model.fails_at new_sink items
 
 -- An append refused a record: it is the first of the group that the rule doesn't allow, and exactly the records before it were appended.
 pub record Refuses {K : Type 0} (model : SinkModel K) (rule : Rule) (sink new_sink : K) (group : List Record) (place : ℕ × ℕ) : Type 0 where
@@ -66,6 +67,12 @@ refusals (Some place) = 1
 -- The number of faults of the sink and of refusals.
 abbrev pub faults_with : {K : Type 0} → SinkModel K → K → Option (ℕ × ℕ) → ℕ
 faults_with model sink refused = model.faults sink + refusals refused
+
+-- An append of the group failed: the record that was refused is the first of the group that the rule doesn't allow; or none was, and the
+-- inner sink failed on first records of the group.
+abbrev pub FailsGated : {K : Type 0} → SinkModel K → K → Option (ℕ × ℕ) → Rule → List Record → Type 0
+FailsGated model sink None rule group = (count : ℕ) × model.fails_at sink (take count group)
+FailsGated model sink (Some place) rule group = IsFirstRefused rule group place
 
 -- ---- what a gate lets through
 

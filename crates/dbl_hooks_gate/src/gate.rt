@@ -9,8 +9,8 @@ ghost use Rattle.dbl_record.specs.Cuts.{IsHandful};
 ghost use Rattle.dbl_record.specs.Groups.{group_form};
 ghost use Rattle.dbl_topic.specs.Sinks.{IsLeftByPut, told_length, group_limit};
 ghost use Rattle.dbl_hooks_gate.specs.Rules.{is_allowed, is_at_most, AreAllowed};
-ghost use Rattle.dbl_hooks_gate.specs.Gates.{Appends, ExtendsGated, HoldsUnrefused, Refuses};
-ghost use Rattle.dbl_hooks_gate.specs.Gates.{faults_with, is_open};
+ghost use Rattle.dbl_hooks_gate.specs.Gates.{Appends, ExtendsGated, FailsGated, HoldsUnrefused};
+ghost use Rattle.dbl_hooks_gate.specs.Gates.{Refuses, faults_with, is_open};
 
 use crate::rule::Rule;
 use dbl_base::copy_items;
@@ -130,7 +130,7 @@ fn put_before<K: Sink>(
 }
 
 impl<K: Sink> Sink for Gate<K> {
-    ghost use Rattle.dbl_hooks_gate.specs.Gates.{ExtendsGated, HoldsUnrefused};
+    ghost use Rattle.dbl_hooks_gate.specs.Gates.{ExtendsGated, FailsGated, HoldsUnrefused};
     ghost use Rattle.dbl_hooks_gate.specs.Gates.{faults_with, is_open};
     ghost use Rattle.dbl_hooks_gate.specs.GateLaws.{gate_self, gate_on};
 
@@ -146,6 +146,8 @@ impl<K: Sink> Sink for Gate<K> {
     ghost is_live = { λ g. is_open K.Sink g.sink g.refused };
 
     ghost faults = { λ g. faults_with K.Sink g.sink g.refused };
+
+    ghost fails_at = { λ g group. FailsGated K.Sink g.sink g.refused g.rule group };
 
     ghost only = { λ g groups left held may. K.only g.sink groups left held.0 may };
 
@@ -191,6 +193,8 @@ impl<K: Sink> Sink for Gate<K> {
         ensures cause { FailsOnlyIfCounted (result ≡ Err SinkError.Failed)
             (faults_with K.Sink self.old.sink self.old.refused)
             (faults_with K.Sink self.new.sink self.new.refused) }
+        ensures failed { result ≡ Err SinkError.Failed → FailsGated K.Sink self.new.sink
+            self.new.refused self.new.rule group.now.items }
 
         ensures allowed { OnOk result (AreAllowed self.old.rule group.now.items) }
         ensures refused { (place : ℕ × ℕ) → self.new.refused ≡ Some place →
@@ -198,7 +202,7 @@ impl<K: Sink> Sink for Gate<K> {
             Refuses K.Sink self.old.rule self.old.sink self.new.sink group.now.items place }
         ensures bound { (most : ℕ) (place : ℕ × ℕ) → self.old.rule ≡ Rule.MaxValue most →
             self.new.refused ≡ Some place → most < 2 ^ 64 - 1 }
-        ensures failed { result ≡ Err SinkError.Failed → self.new.refused ≡ None →
+        ensures broken { result ≡ Err SinkError.Failed → self.new.refused ≡ None →
             K.is_live self.new.sink ≡ false }
     {
         match self.find_refused(group) {

@@ -3,7 +3,8 @@ use Rattle.std.specs.Prelude.{ℕ}
 use Rattle.dbl_lines.specs.declared.status.Status.{Status}
 use Rattle.dbl_lines.specs.declared.status.Status.TheVariants.{Done, InvalidArguments, BudgetSpent, StartMismatch, MalformedLog}
 use Rattle.dbl_lines.specs.declared.status.Status.TheVariants.{Unsupported, SourceFailed, TopicsFailed, OffsetsFailed, StdinFailed}
-use Rattle.dbl_lines.specs.declared.status.Status.TheVariants.{StdoutFailed, OutOfMemory, InvalidInput, InvalidStore, LogGone, RecordRefused}
+use Rattle.dbl_lines.specs.declared.status.Status.TheVariants.{StdoutFailed, OutOfMemory, InvalidInput, InvalidStore, LogGone}
+use Rattle.dbl_lines.specs.declared.status.Status.TheVariants.{RecordRefused}
 
 -- the exit status with which the process ends
 abbrev pub code_of : Status → ℕ

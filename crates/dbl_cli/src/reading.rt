@@ -17,8 +17,7 @@ ghost use Rattle.dbl_cli.specs.Found.{option_in, places_in, SaysFlag, Finds};
 
 use crate::parser::PLACE;
 use crate::values::{
-    keys, mask_or_none, name_or_demo, number, number_or, number_or_none, placeholder_or_own,
-    tables,
+    keys, mask_or_none, name_or_demo, number, number_or, number_or_none, placeholder_or_own, tables,
 };
 use crate::verbs::Verb;
 use crate::{CaptureOptions, CliError, Command, ReplayOptions, ResumeOptions};

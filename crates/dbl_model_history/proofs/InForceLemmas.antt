@@ -7,22 +7,20 @@ use Rattle.dbl_value.specs.declared.column_type.PgType.TheVariants as type
 use Rattle.dbl_value.specs.Values.{oid_of, type_of, is_column_type}
 use Rattle.dbl_value.proofs.TypeLemmas.{type_of-oid_of}
 use Rattle.dbl_model_table.specs.declared.table.Column.{Column}
-use Rattle.dbl_model_table.specs.declared.table.RawColumn.{RawColumn}
 use Rattle.dbl_model_table.specs.declared.table.RawTable.{RawTable}
 use Rattle.dbl_model_table.specs.declared.table.TableInfo.{TableInfo}
-use Rattle.dbl_model_table.specs.declared.table.TableName.{TableName}
 use Rattle.dbl_model_table.specs.declared.change.Commit.{Commit}
 use Rattle.dbl_model_table.specs.Tables.{column_names, are_typed, is_table}
 use Rattle.dbl_model_table.specs.Made.{place_of}
-use Rattle.dbl_model_table.specs.Infos.{raw_column, name_at, key_names, catalogue_of, IsInfoOf}
+use Rattle.dbl_model_table.specs.Infos.{raw_column, key_names, IsInfoOf}
 use Rattle.dbl_model_table.proofs.Capturable.{places_again}
 use Rattle.dbl_model_table.proofs.InfoLemmas.{distinct_columns, typed_columns, places_within, info_one}
 use Rattle.dbl_model_table.proofs.Lists.{and_left, and_right}
 use Rattle.dbl_model_history.specs.History.{RawBody, RawCommit, History, entry_of}
 use Rattle.dbl_model_history.specs.History as raw
 use Rattle.dbl_model_history.specs.Typed.{typed_commit}
-use Rattle.dbl_model_history.specs.Fit.{AltersNone, AreInfosOf}
-use Rattle.dbl_model_history.specs.InForce.{entry_after, entry_at, captured_column, places_of, table_or, reshaped, Versioned, plain_commit, infos_by, alteration_in, versioned_commit, versioned_from, opening_infos, versioned, UnalteredEntriesStay, PlainVersionsAreTyped}
+use Rattle.dbl_model_history.specs.Fit.{AltersNone}
+use Rattle.dbl_model_history.specs.InForce.{entry_after, captured_column, places_of, table_or, reshaped, plain_commit, infos_by, alteration_in, versioned_commit, versioned_from, opening_infos, UnalteredEntriesStay, PlainVersionsAreTyped}
 use Rattle.dbl_model_history.proofs.RowKeys.{some_and}
 
 -- ---- entries
@@ -47,17 +45,17 @@ unaltered_entries history place name none = by (entry_of history name)
 
 -- ---- a table in its own columns
 
-column_again : (column : Column) → is_column_type column.ty ≡ true → captured_column (raw_column column) ≡ column
+pub column_again : (column : Column) → is_column_type column.ty ≡ true → captured_column (raw_column column) ≡ column
 column_again column typed =
     let ty : unwrap_or (type_of (oid_of column.ty)) type.Text ≡ column.ty = ap (λ (o : Option PgType). unwrap_or o type.Text) (type_of-oid_of column.ty typed) in
     λ i. record { name = column.name; ty = ty i }
 
-columns_again : (columns : List Column) → are_typed columns ≡ true → map captured_column (map raw_column columns) ≡ columns
+pub columns_again : (columns : List Column) → are_typed columns ≡ true → map captured_column (map raw_column columns) ≡ columns
 columns_again [] typed = refl
 columns_again (c ∷ columns) typed =
     ap₂ (λ (x : Column) (l : List Column). x ∷ l) (column_again c (and_left (is_column_type c.ty) _ typed)) (columns_again columns (and_right (is_column_type c.ty) _ typed))
 
-kept : (f : List ℕ → Option ℕ) (names : List (List ℕ)) (places : List ℕ) → map f names ≡ map Some places → filter_map f names ≡ places
+pub kept : (f : List ℕ → Option ℕ) (names : List (List ℕ)) (places : List ℕ) → map f names ≡ map Some places → filter_map f names ≡ places
 kept f [] [] is = refl
 kept f [] (place ∷ places) is = cc
 kept f (name ∷ names) [] is = cc

@@ -11,3 +11,4 @@ pub mod KeyFitLemmas
 pub mod MarkLemmas
 pub mod WholeLemmas
 pub mod InForceLemmas
+pub mod KeptKeysLemmas

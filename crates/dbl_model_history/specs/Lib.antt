@@ -5,6 +5,7 @@ pub mod Fit
 pub mod Cursors
 pub mod FitsInfos
 pub mod InForce
+pub mod KeptKeys
 pub mod Image
 pub mod Laws
 pub mod PlainRows

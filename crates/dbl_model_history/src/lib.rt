@@ -1,6 +1,7 @@
 //! Histories: their points, the rows at each point, and valid changes.
 #![tactic(auto)]
 
+mod alteration_laws;
 mod bound_laws;
 mod cursor;
 mod fitting_keys;
@@ -8,6 +9,10 @@ mod keys;
 mod laws;
 mod window_laws;
 
+pub use alteration_laws::{
+    entries_are_in_force, infos_have_keys, shapes_are_descriptions, shapes_are_in_force,
+    versions_follow,
+};
 pub use bound_laws::{
     bounds_part_keys, keys_above_go_on, keys_up_to_go_back, marks_are_short, marks_tell_numbers,
 };

@@ -30,7 +30,7 @@ use Rattle.dbl_model_commit.specs.declared.txn_error.TxnError.{TxnError}
 use Rattle.dbl_model_commit.specs.declared.txn_error.TxnError.TheVariants as errors
 use Rattle.dbl_model_table.specs.Infos.{width, column_types}
 use Rattle.dbl_model_table.specs.Keys.{key_of, new_key_of, same_key}
-use Rattle.dbl_model_table.specs.Rows.{all_given, changes_of}
+use Rattle.dbl_model_table.specs.Rows.{all_given, changes_of, table_of}
 use Rattle.dbl_model_history.specs.Fit.{IsKeyOf}
 use Rattle.dbl_model_history.specs.FitsInfos.{AreCellsOf, FitsInsert, FitsUpdate, FitsDelete, FitsInfos}
 use Rattle.dbl_model_commit.specs.Past.{relation_of, Head, begin_of, mark_in, open_mark}
@@ -49,7 +49,7 @@ pub record Bound {A B : Type 0} (r : Result A TxnError) (f : A → Result B TxnE
   pub first : r ≡ Ok item
   pub rest : f item ≡ Ok y
 
-bound : {A B : Type 0} (r : Result A TxnError) (f : A → Result B TxnError) (y : B) → (r >>= f) ≡ Ok y → Bound r f y
+pub bound : {A B : Type 0} (r : Result A TxnError) (f : A → Result B TxnError) (y : B) → (r >>= f) ≡ Ok y → Bound r f y
 bound (Ok x) f y is = record { item = x; first = refl; rest = is }
 bound (Err e) f y is = cc
 
@@ -240,6 +240,27 @@ change_fits : (infos : List TableInfo) (table : ℕ) (info : TableInfo) (relatio
 change_fits infos table info relation (row.Insert tuple) c at fits is = insert_fits infos table info relation tuple c at fits is
 change_fits infos table info relation (row.Update before tuple) c at fits is = update_fits infos table info relation before tuple c at fits.0 fits.1 is
 change_fits infos table info relation (row.Delete before) c at fits is = delete_fits infos table info relation before c at fits is
+
+-- A row message of a table states a change of that table.
+pub change_table : (table : ℕ) (info : TableInfo) (relation : Relation) (change : RowChange) (c : Change) → change_of table info relation change ≡ Ok c → table_of c ≡ table
+unfolding change_of
+change_table table info relation (row.Insert tuple) c is =
+    let b = bound (row_of info relation true tuple.cells) (λ r. Ok (Insert table r)) c is in
+    let e : Insert table b.item ≡ c = (let h = b.rest in cc) in
+    sym (ap table_of e)
+change_table table info relation (row.Update before tuple) c is =
+    let a = bound (refuse_if (not (key_in_identity info relation)) (errors.KeyNotInIdentity info.name)) (updates_1 table info relation before tuple) c is in
+    let b = bound (refuse_if (is_full relation && not (is_whole before)) (errors.MissingOld info.name)) (updates_2 table info relation before tuple) c a.rest in
+    let was = bound (old_row_if_sent info relation before) (updates_3 table info relation before tuple) c b.rest in
+    let new = bound (new_cells info relation (is_whole before) was.item tuple.cells) (updates_4 table info was.item) c was.rest in
+    let moved = bound (all_sent_if_moved info (key_before info was.item new.item) new.item) (updates_5 table info was.item new.item) c new.rest in
+    let e : Update table (key_before info was.item new.item) was.item new.item ≡ c = (let h = moved.rest in cc) in
+    sym (ap table_of e)
+change_table table info relation (row.Delete before) c is =
+    let a = bound (refuse_if (not (key_in_identity info relation)) (errors.KeyNotInIdentity info.name)) (deletes table info relation before) c is in
+    let b = bound (old_row info relation before) (λ was. Ok (Delete table (key_of info was.cells) was)) c a.rest in
+    let e : Delete table (key_of info b.item.cells) b.item ≡ c = (let h = b.rest in cc) in
+    sym (ap table_of e)
 
 abbrev pub AllFit : List TableInfo → List Change → Type 0
 AllFit infos cs = AllByRecursion (FitsInfos infos) cs

@@ -201,7 +201,7 @@ module _ (infos : List TableInfo) (info : TableInfo) where
   abbrev fault_by : Bool → Result (List Change) TxnError → Option TxnError
   fault_by inside read = first_of (if inside then None else Some errors.OutsideTransaction) (err_of read)
 
-  said_learnt : (m : Message) (ms : List Message) → HasNoRelation info.name ms
+  pub said_learnt : (m : Message) (ms : List Message) → HasNoRelation info.name ms
       → stated_in more m ms (open_mark ms) (has_some (open_changes more ms)) ≡ stated_in infos m ms (open_mark ms) (has_some (open_changes infos ms))
   said_learnt m ms none = ap (λ (cs : List Change). stated_in more m ms (open_mark ms) (has_some cs)) (changes_learnt ms none) ∙ stated_learnt m ms (has_some (open_changes infos ms)) none
 

@@ -13,3 +13,4 @@ pub mod BegunLemmas
 pub mod MarkedLemmas
 pub mod PieceLemmas
 pub mod ShapeLemmas
+pub mod Reshaping

@@ -1,5 +1,5 @@
 -- Relations of the tables' own columns.
-use Rattle.std.proofs.Common.{◌≡◌, ◌∙◌, ℕ, suc, List, [], ◌∷◌, length, map, true, refl, sym, ap, ap₂, arith}
+use Rattle.std.proofs.Common.{◌≡◌, ◌∙◌, List, [], ◌∷◌, length, map, true, refl, sym, ap, ap₂, arith}
 use Rattle.std.proofs.lemmas.Bool.{eqb-true}
 use Rattle.std.specs.Prelude.{◌==◌, bytes_eq}
 use Rattle.std.specs.List.{list_all, zip}
@@ -7,13 +7,12 @@ use Rattle.dbl_pgmsg.specs.declared.messages.RelationColumn.{RelationColumn}
 use Rattle.dbl_value.specs.Values.{oid_of}
 use Rattle.dbl_model_table.specs.declared.table.Column.{Column}
 use Rattle.dbl_model_table.specs.declared.table.RawColumn.{RawColumn}
-use Rattle.dbl_model_table.specs.declared.table.TableInfo.{TableInfo}
 use Rattle.dbl_model_table.specs.Infos.{raw_column, catalogue_of}
 use Rattle.dbl_model_table.proofs.Lists.{and_left, and_right, same_text}
 use Rattle.dbl_model_history.specs.InForce.{reshaped}
 use Rattle.dbl_model_history.proofs.InForceLemmas.{reshaped_itself}
-use Rattle.dbl_model_commit.specs.Stated.{same_column, same_columns}
-use Rattle.dbl_model_commit.specs.Shapes.{column_in, columns_in, SameColumnsReadAlike}
+use Rattle.dbl_model_commit.specs.Stated.{same_column}
+use Rattle.dbl_model_commit.specs.Shapes.{column_in, SameColumnsReadAlike}
 
 one_column : (column : Column) (given : RelationColumn) → same_column (column, given) ≡ true → column_in given ≡ raw_column column
 one_column column given same =
@@ -30,7 +29,7 @@ all_columns (c ∷ columns) (g ∷ given) long same =
     (all_columns columns given (omega (arith, long)) (and_right (same_column (c, g)) _ same))
 
 pub read_alike : SameColumnsReadAlike
-read_alike relation info same =
+read_alike columns info same =
     ap (λ (l : List RawColumn). reshaped l info)
-    (all_columns info.columns relation.columns (eqb-true (length info.columns) (length relation.columns) (and_left _ _ same)) (and_right (length info.columns == length relation.columns) _ same))
+    (all_columns info.columns columns (eqb-true (length info.columns) (length columns) (and_left _ _ same)) (and_right (length info.columns == length columns) _ same))
     ∙ reshaped_itself (catalogue_of info) info refl

@@ -5,9 +5,9 @@ pub use Rattle.dbl_pgmsg.specs as Pgmsg
 pub mod Past
 pub mod Tuples
 pub mod Stated
-pub mod Shapes
 pub mod Blocks
 pub mod StatedFits
 pub mod BegunCommits
 pub mod StatedChanges
 pub mod Pieces
+pub mod Shapes

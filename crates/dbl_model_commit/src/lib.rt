@@ -16,7 +16,7 @@ pub use begun_laws::{
 pub use message_parts::{Relation, RowChange, Target};
 pub use piece::Piece;
 pub use piece_laws::{each_message_has_one_piece, pieces_are_joined};
-pub use shape_laws::same_columns_read_alike;
+pub use shape_laws::{same_columns_read_alike, unchanged_tables_may_be_reshaped};
 pub use state_laws::{
     accepted_are_blocks, blocks_state_one_list, faultless_are_blocks, later_tables_change_nothing,
     rests_are_one, rests_are_open, stated_changes_fit,

@@ -8,4 +8,5 @@ pub mod GrowthLemmas
 pub mod ReadLemmas
 pub mod CallLemmas
 pub mod FitLemmas
+pub mod PlainLemmas
 mod SelectLemmas

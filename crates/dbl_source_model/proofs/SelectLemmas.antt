@@ -9,28 +9,34 @@ use Rattle.dbl_model_commit.specs.ModelTable.declared.row.Row.{Row}
 use Rattle.dbl_model_commit.specs.ModelTable.declared.table.TableName.{TableName}
 use Rattle.dbl_model_commit.specs.ModelTable.declared.table.RawRow.{RawRow}
 use Rattle.dbl_model_commit.specs.ModelTable.declared.table.TableInfo.{TableInfo}
-use Rattle.dbl_model_commit.specs.ModelTable.declared.change.Commit.{Commit}
 use Rattle.dbl_model_commit.specs.ModelTable.Infos.{number_of}
-use Rattle.dbl_model_commit.specs.ModelTable.Rows.{Rows, no_rows, rows_from, all_changes}
+use Rattle.dbl_model_commit.specs.ModelTable.Rows.{Rows, no_rows}
 use Rattle.dbl_model_commit.specs.ModelHistory.History.{RawCommit, History}
-use Rattle.dbl_model_commit.specs.ModelHistory.Typed.{typed_commit}
-use Rattle.dbl_model_commit.specs.ModelHistory.Fit.{IsKeyOf, AreInfosOf}
+use Rattle.dbl_model_commit.specs.ModelHistory.Fit.{IsKeyOf, AltersNone}
+use Rattle.dbl_model_commit.specs.ModelHistory.InForce.{Versioned, versioned_from, opening_infos}
+use Rattle.dbl_source_model.specs.VersionRows.{version_rows, rows_in_force, AreInForce}
 use Rattle.dbl_model_commit.specs.ModelTable.Keys.{same_key}
 use Rattle.dbl_model_commit.proofs.ModelTableKeyLemmas.{same_key-is}
 use Rattle.dbl_model_commit.specs.ModelHistory.KeyBounds.{IsAbove, IsUpTo}
 use Rattle.dbl_model_commit.specs.ModelHistory.KeyedRows.{row_in, AreAbove, last_key, AreFirst}
 use Rattle.dbl_model_commit.proofs.ModelHistoryBoundLemmas.{above_goes_on, up_to_last, first_rows_one}
-use Rattle.dbl_source_model.specs.Selected.{rows_up_to, keyed_row, AreFirstOf, AreRowsAt}
+use Rattle.dbl_source_model.specs.Growth.{KeepsColumns}
+use Rattle.dbl_source_model.specs.Selected.{keyed_row, AreFirstOf, AreRowsAt}
+use Rattle.dbl_source_model.proofs.PlainLemmas.{captured_in_force}
 use Rattle.dbl_source_model.specs.Laws.{AnswersAtAPlaceAreOne, NoRowsBeforeTheFirstCommit, RowsOfNoPlaceAreUnanswered, StandingRowsAreAnswered}
 
 none_taken : {A : Type 0} (n : ℕ) → take {A = A} n [] ≡ []
 none_taken zero = refl
 none_taken (suc n) = refl
 
-no_rows_after : (infos : List TableInfo) (history : History) (place : ℕ) → history.commits ≡ [] → rows_up_to infos history place ≡ no_rows
+no_rows_after : (infos : List TableInfo) (history : History) (place : ℕ) → history.commits ≡ [] → rows_in_force infos history place ≡ no_rows
 no_rows_after infos history place none =
-    ap (λ (cs : List RawCommit). rows_from infos no_rows (all_changes (take place (map (typed_commit infos) cs)))) none
-    ∙ ap (λ (cs : List Commit). rows_from infos no_rows (all_changes cs)) (none_taken place)
+    ap (λ (cs : List RawCommit). version_rows (take place (versioned_from (opening_infos history infos) cs))) none
+    ∙ ap (λ (vs : List Versioned). version_rows vs) (none_taken place)
+
+-- and each table is as the catalogue has it
+none_altered : (history : History) → history.commits ≡ [] → KeepsColumns history
+none_altered history none = subst (λ (cs : List RawCommit). AllByRecursion (λ commit. AltersNone commit.body) cs) (sym none) tt
 
 -- of a table without rows there are none
 no_first : (info : TableInfo) (above : Option Key) (limit : ℕ) → AreFirst info (λ key. None) above limit []
@@ -47,29 +53,30 @@ none_answered infos table info above limit (row ∷ rows) first = first.none_abo
         cc
 
 pub no_rows_yet : NoRowsBeforeTheFirstCommit
-no_rows_yet history from upto name above limit rows infos table none captured number answered =
-    let are = answered.are infos captured in
-    let own : (info : TableInfo) × AreFirstOf infos table info (rows_up_to infos history answered.place) above limit rows =
-    subst (λ (o : Option ℕ). IfSome o (λ t. (info : TableInfo) × AreFirstOf infos t info (rows_up_to infos history answered.place) above limit rows)) number are in
+no_rows_yet history from upto name above limit answer infos table none captured number answered =
+    let rows : List RawRow = answer.rows in
+    let are = answered.are infos (captured_in_force history answered.place infos (none_altered history none) captured) in
+    let own : (info : TableInfo) × AreFirstOf infos table info (rows_in_force infos history answered.place) above limit rows =
+    subst (λ (o : Option ℕ). IfSome o (λ t. (info : TableInfo) × AreFirstOf infos t info (rows_in_force infos history answered.place) above limit rows)) number are in
     none_answered infos table own.0 above limit rows (subst (λ (at : Rows). AreFirstOf infos table own.0 at above limit rows) (no_rows_after infos history answered.place none) own.1)
 
 -- ---- one answer at a place
 
 -- of the captured table with this number and these columns
-of_table : (history : History) (place : ℕ) (name : TableName) (above : Option Key) (limit : ℕ) (rows : List RawRow) (infos : List TableInfo) (table : ℕ) (info : TableInfo) → AreInfosOf history infos → number_of infos name ≡ Some table
-    → slice_get infos table ≡ Some info → AreRowsAt history place name above limit rows → AreFirstOf infos table info (rows_up_to infos history place) above limit rows
+of_table : (history : History) (place : ℕ) (name : TableName) (above : Option Key) (limit : ℕ) (rows : List RawRow) (infos : List TableInfo) (table : ℕ) (info : TableInfo) → AreInForce history place infos → number_of infos name ≡ Some table
+    → slice_get infos table ≡ Some info → AreRowsAt history place name above limit rows → AreFirstOf infos table info (rows_in_force infos history place) above limit rows
 of_table history place name above limit rows infos table info captured number there are =
-    let own : (i : TableInfo) × AreFirstOf infos table i (rows_up_to infos history place) above limit rows =
-    subst (λ (o : Option ℕ). IfSome o (λ t. (i : TableInfo) × AreFirstOf infos t i (rows_up_to infos history place) above limit rows)) number (are infos captured) in
+    let own : (i : TableInfo) × AreFirstOf infos table i (rows_in_force infos history place) above limit rows =
+    subst (λ (o : Option ℕ). IfSome o (λ t. (i : TableInfo) × AreFirstOf infos t i (rows_in_force infos history place) above limit rows)) number (are infos captured) in
     let some : Some own.0 ≡ Some info = sym own.1.captured ∙ there in
     let same : own.0 ≡ info = cc in
-    subst (λ (i : TableInfo). AreFirstOf infos table i (rows_up_to infos history place) above limit rows) same own.1
+    subst (λ (i : TableInfo). AreFirstOf infos table i (rows_in_force infos history place) above limit rows) same own.1
 
 pub one_answer : AnswersAtAPlaceAreOne
 one_answer history place name above limit rows others infos table info captured number there first second =
     let a = of_table history place name above limit rows infos table info captured number there first in
     let b = of_table history place name above limit others infos table info captured number there second in (
-      λ is_key. first_rows_one info (rows_up_to infos history place table) above limit (map (keyed_row infos table info) rows) (map (keyed_row infos table info) others) (a.first is_key) (b.first is_key),
+      λ is_key. first_rows_one info (rows_in_force infos history place table) above limit (map (keyed_row infos table info) rows) (map (keyed_row infos table info) others) (a.first is_key) (b.first is_key),
       λ no_key. a.none_above no_key ∙ sym (b.none_above no_key),
     )
 
@@ -113,14 +120,15 @@ none_in infos table info at above limit rows key first none = by (row_in (map (k
         sym is ∙ empty
 
 pub no_place_no_row : RowsOfNoPlaceAreUnanswered
-no_place_no_row history from upto name above limit rows infos table info key captured number there answered never =
-    none_in infos table info (rows_up_to infos history answered.place) above limit rows key
-    (of_table history answered.place name above limit rows infos table info captured number there answered.are)
+no_place_no_row history from upto name above limit answer infos table info key force number there answered never =
+    none_in infos table info (rows_in_force infos history answered.place) above limit answer.rows key
+    (of_table history answered.place name above limit answer.rows infos table info (force answered.place answered.not_before answered.not_after) number there answered.are)
     (never answered.place answered.not_before answered.not_after)
 
 pub standing_row : StandingRowsAreAnswered
-standing_row history from upto name above limit rows infos table info key row captured number there answered bound is_key subsequent range stands =
-    let first = of_table history answered.place name above limit rows infos table info captured number there answered.are in
+standing_row history from upto name above limit answer infos table info key row force number there answered bound is_key subsequent range stands =
+    let rows : List RawRow = answer.rows in
+    let first = of_table history answered.place name above limit rows infos table info (force answered.place answered.not_before answered.not_after) number there answered.are in
     let within : (length (map (keyed_row infos table info) rows) < limit) ⊎ IsUpTo (last_key above (map (keyed_row infos table info) rows)) key = elim range [
       | inl fewer ↦ inl (omega (arith, fewer, length-map rows (keyed_row infos table info)))
       | inr up ↦ inr up

@@ -3,6 +3,7 @@ use Rattle.std.specs.Prelude.{◌≡◌, ℕ, List, [], ◌∷◌, ◌++◌}
 use Rattle.std.specs.List.{AllByRecursion}
 use Rattle.dbl_model_commit.specs.ModelHistory.History.{RawBody, RawCommit, History, IsRising}
 use Rattle.dbl_model_commit.specs.ModelHistory.History.RawBody.{Changes, Mark, Alter}
+use Rattle.dbl_model_commit.specs.ModelHistory.Fit.{AltersNone}
 
 -- Whether a commit has changes or alters a table, and is no watermark's.
 abbrev pub HasChanges : RawBody → Type 0
@@ -14,8 +15,12 @@ HasChanges (Alter name columns rows) = Unit {0}
 abbrev pub AreOthers : List RawCommit → Type 0
 AreOthers commits = AllByRecursion (λ commit. HasChanges commit.body) commits
 
--- Whether at most other sessions' commits were added, with rising LSNs and the same catalogue, so that a position names the same point of
--- the history as before.
+-- Whether no commit of a history alters a table.
+abbrev pub KeepsColumns : History → Type 0
+KeepsColumns history = AllByRecursion (λ commit. AltersNone commit.body) history.commits
+
+-- Whether at most other sessions' commits were added, with rising LSNs and the same catalogue before all commits, so that a position
+-- names the same point of the history as before.
 pub record Grows (old new : History) : Type 0 where
   pub tables : new.tables ≡ old.tables
   pub others : List RawCommit

@@ -1,5 +1,6 @@
 -- Theorems over the definitions of a source's history and answers.
-use Rattle.std.specs.Prelude.{◌≡◌, ◌⊎◌, ◌<◌, ◌≤◌, ℕ, is_some, not, Option, Some, None, IfSome, List, [], ◌∷◌, ◌++◌, length, map, slice_get}
+use Rattle.std.specs.Prelude.{◌≡◌, ◌↔◌, ◌⊎◌, ◌<◌, ◌≤◌, ℕ, is_some, not, Option, Some, None, IfSome}
+use Rattle.std.specs.Prelude.{List, [], ◌∷◌, ◌++◌, length, map, slice_get}
 use Rattle.std.specs.List.{AllByRecursion}
 use Rattle.dbl_base.specs.declared.lsn.Lsn.{Lsn}
 use Rattle.dbl_model_commit.specs.Value.declared.value.Val.{Val}
@@ -11,15 +12,18 @@ use Rattle.dbl_model_commit.specs.ModelTable.declared.row.Key.{Key}
 use Rattle.dbl_model_commit.specs.ModelTable.declared.change.Commit.{Commit}
 use Rattle.dbl_model_commit.specs.ModelTable.Infos.{number_of}
 use Rattle.dbl_model_commit.specs.ModelTable.Rows.{rows, moment_of}
-use Rattle.dbl_model_commit.specs.ModelHistory.History.{History, IsRising}
+use Rattle.dbl_model_commit.specs.ModelHistory.History.{History, IsRising, entry_of}
 use Rattle.dbl_model_commit.specs.ModelHistory.Typed.{typed}
-use Rattle.dbl_model_commit.specs.ModelHistory.Fit.{IsKeyOf, AreInfosOf}
+use Rattle.dbl_model_commit.specs.ModelHistory.Fit.{IsKeyOf, AreInfosOf, IsFitHistory}
+use Rattle.dbl_model_commit.specs.ModelHistory.InForce.{entry_at, version_at}
+use Rattle.dbl_source_model.specs.VersionRows.{rows_in_force, AreInForce}
 use Rattle.dbl_model_commit.specs.ModelHistory.KeyBounds.{IsAbove, IsUpTo}
 use Rattle.dbl_model_commit.specs.ModelHistory.KeyedRows.{row_in, last_key}
 use Rattle.dbl_model_commit.specs.Past.{begin_of}
 use Rattle.dbl_model_commit.specs.Stated.{is_empty, commits_of}
 use Rattle.dbl_model_commit.specs.Blocks.{onto, States, AreWithoutFault}
 use Rattle.dbl_model_commit.specs.BegunCommits.{BeginsNext}
+use Rattle.dbl_source_model.specs.declared.selected.Selected.{Selected}
 use Rattle.dbl_source_model.specs.Standings.{Reading, SourceState, CrashState}
 use Rattle.dbl_source_model.specs.Growth.{Grows, Marks, marks_in}
 use Rattle.dbl_source_model.specs.Stated.{to_state, ReadsRight, IsReadRight}
@@ -85,44 +89,58 @@ AllReadIsAllStated = (infos : List TableInfo) (s t : SourceState) (reading : Rea
     → AreWithoutFault infos reading.after reading.messages → HasReadAll s t
     → (more : List Commit) × (commits_of infos reading.messages ≡ to_state infos reading.after s.history ++ more)
 
+-- Whether at a position each table is as the catalogue has it before all commits: its entry, its version, which is 1, what is captured of
+-- it, and its rows.
+pub record HasFirstTables (history : History) (place : ℕ) : Type 0 where
+  pub entry : (name : TableName) → entry_at history place name ≡ entry_of history name
+  pub version : (name : TableName) → version_at history place name ≡ 1
+  pub in_force : (infos : List TableInfo) → AreInForce history place infos ↔ AreInfosOf history infos
+  pub rows : (infos : List TableInfo) → AreInfosOf history infos → rows_in_force infos history place ≡ rows_up_to infos history place
+
+-- A valid history alters no table.
+abbrev pub ValidHistoriesKeepTables : Type 0
+ValidHistoriesKeepTables = (history : History) (place : ℕ) → IsFitHistory history → HasFirstTables history place
+
 -- At one position, above one key of the table's key types or from the first on, and with one limit, a select has only one correct answer;
 -- above another key there is no row.
 abbrev pub AnswersAtAPlaceAreOne : Type 0
 AnswersAtAPlaceAreOne = (history : History) (place : ℕ) (name : TableName) (above : Option Key) (limit : ℕ) (rows others : List RawRow)
     (infos : List TableInfo) (table : ℕ) (info : TableInfo)
-    → AreInfosOf history infos → number_of infos name ≡ Some table → slice_get infos table ≡ Some info
+    → AreInForce history place infos → number_of infos name ≡ Some table → slice_get infos table ≡ Some info
     → AreRowsAt history place name above limit rows → AreRowsAt history place name above limit others
     → (IfSome above (IsKeyOf info) → map (keyed_row infos table info) rows ≡ map (keyed_row infos table info) others)
     × ((¬ IfSome above (IsKeyOf info)) → rows ≡ others)
 
 -- Before the first commit a captured table has no rows, so that no answer with a row is correct.
 abbrev pub NoRowsBeforeTheFirstCommit : Type 0
-NoRowsBeforeTheFirstCommit = (history : History) (from upto : ℕ) (name : TableName) (above : Option Key) (limit : ℕ) (rows : List RawRow)
+NoRowsBeforeTheFirstCommit = (history : History) (from upto : ℕ) (name : TableName) (above : Option Key) (limit : ℕ) (answer : Selected)
     (infos : List TableInfo) (table : ℕ)
     → history.commits ≡ [] → AreInfosOf history infos → number_of infos name ≡ Some table
-    → AreAnswered history from upto name above limit rows → rows ≡ []
+    → AreAnswered history from upto name above limit answer → answer.rows ≡ []
 
 -- A key without a row at any position between the call and the return has none in a correct answer: neither a row deleted before the call
--- nor one inserted after the return.
+-- nor one inserted after the return. Stated of captured tables that have the same columns all the while.
 abbrev pub RowsOfNoPlaceAreUnanswered : Type 0
-RowsOfNoPlaceAreUnanswered = (history : History) (from upto : ℕ) (name : TableName) (above : Option Key) (limit : ℕ) (rows : List RawRow)
+RowsOfNoPlaceAreUnanswered = (history : History) (from upto : ℕ) (name : TableName) (above : Option Key) (limit : ℕ) (answer : Selected)
     (infos : List TableInfo) (table : ℕ) (info : TableInfo) (key : Key)
-    → AreInfosOf history infos → number_of infos name ≡ Some table → slice_get infos table ≡ Some info
-    → AreAnswered history from upto name above limit rows
-    → ((place : ℕ) → from ≤ place → place ≤ upto → rows_up_to infos history place table key ≡ None)
-    → row_in (map (keyed_row infos table info) rows) key ≡ None
+    → ((place : ℕ) → from ≤ place → place ≤ upto → AreInForce history place infos)
+    → number_of infos name ≡ Some table → slice_get infos table ≡ Some info
+    → AreAnswered history from upto name above limit answer
+    → ((place : ℕ) → from ≤ place → place ≤ upto → rows_in_force infos history place table key ≡ None)
+    → row_in (map (keyed_row infos table info) answer.rows) key ≡ None
 
 -- A key above the bound and within the answer's range has in a correct answer the row, or none, that it has at every position between the
--- call and the return.
+-- call and the return. Stated of captured tables that have the same columns all the while.
 abbrev pub StandingRowsAreAnswered : Type 0
-StandingRowsAreAnswered = (history : History) (from upto : ℕ) (name : TableName) (above : Option Key) (limit : ℕ) (rows : List RawRow)
+StandingRowsAreAnswered = (history : History) (from upto : ℕ) (name : TableName) (above : Option Key) (limit : ℕ) (answer : Selected)
     (infos : List TableInfo) (table : ℕ) (info : TableInfo) (key : Key) (row : Option (List Val))
-    → AreInfosOf history infos → number_of infos name ≡ Some table → slice_get infos table ≡ Some info
-    → AreAnswered history from upto name above limit rows
-    → IfSome above (IsKeyOf info) → IsKeyOf info key → IsAbove above key → (length rows < limit)
-    ⊎ IsUpTo (last_key above (map (keyed_row infos table info) rows)) key
-    → ((place : ℕ) → from ≤ place → place ≤ upto → rows_up_to infos history place table key ≡ row)
-    → row_in (map (keyed_row infos table info) rows) key ≡ row
+    → ((place : ℕ) → from ≤ place → place ≤ upto → AreInForce history place infos)
+    → number_of infos name ≡ Some table → slice_get infos table ≡ Some info
+    → AreAnswered history from upto name above limit answer
+    → IfSome above (IsKeyOf info) → IsKeyOf info key → IsAbove above key → (length answer.rows < limit)
+    ⊎ IsUpTo (last_key above (map (keyed_row infos table info) answer.rows)) key
+    → ((place : ℕ) → from ≤ place → place ≤ upto → rows_in_force infos history place table key ≡ row)
+    → row_in (map (keyed_row infos table info) answer.rows) key ≡ row
 
 -- What a crash may leave of a watermark that wasn't answered: what may be left without it, possibly with the watermark, once. Calls that
 -- only read leave no watermark.

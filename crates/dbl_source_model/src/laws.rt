@@ -8,6 +8,7 @@ ghost use Rattle.dbl_source_model.specs.Laws.{ReadMessagesAreBlocks, HistoriesPa
 ghost use Rattle.dbl_source_model.specs.Laws.{ReadersGoOn, AllReadIsAllStated};
 ghost use Rattle.dbl_source_model.specs.Laws.{AnswersAtAPlaceAreOne, NoRowsBeforeTheFirstCommit};
 ghost use Rattle.dbl_source_model.specs.Laws.{RowsOfNoPlaceAreUnanswered, StandingRowsAreAnswered};
+ghost use Rattle.dbl_source_model.specs.Laws.{ValidHistoriesKeepTables};
 
 /// Growth of a history is transitive.
 pub fn grown_histories_grow()
@@ -59,6 +60,12 @@ pub fn readers_go_on()
 /// A reader that has read all has read every commit that existed at the call.
 pub fn all_read_is_all_stated()
     ensures { AllReadIsAllStated }
+{}
+
+/// In a valid history each table stays as the catalogue has it before all commits: no commit alters
+/// one.
+pub fn valid_histories_keep_tables()
+    ensures { ValidHistoriesKeepTables }
 {}
 
 /// At one position a select has only one correct answer, so that rows of two positions are none.

@@ -10,7 +10,7 @@ pub use laws::{
     grown_histories_grow, grown_histories_keep_rows, histories_part_at_an_lsn,
     marks_are_written_once, no_rows_before_the_first_commit, others_write_no_mark,
     read_messages_are_blocks, readers_go_on, rows_of_no_place_are_unanswered, rows_up_to_are_rows,
-    standing_rows_are_answered,
+    standing_rows_are_answered, valid_histories_keep_tables,
 };
 pub use selected::Selected;
 pub use started::Started;

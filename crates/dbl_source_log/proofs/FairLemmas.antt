@@ -1,15 +1,15 @@
 -- The first commits of a fair log are a fair log, and of a fit history a fit one.
-use Rattle.std.proofs.Common.{◌≡◌, ◌+◌, ◌≤◌, ℕ, List, ◌++◌, length, ap, subst, arith}
+use Rattle.std.proofs.Common.{◌≡◌, ◌+◌, ◌≤◌, ℕ, List, ◌++◌, length, sym, ap, subst, arith}
 use Rattle.std.specs.Prelude.{Option}
 use Rattle.std.specs.List.{AllByRecursion}
 use Rattle.dbl_pgmsg.specs.declared.messages.Message.{Message}
 use Rattle.dbl_model_table.specs.declared.row.Key.{Key}
 use Rattle.dbl_model_table.specs.declared.table.TableName.{TableName}
-use Rattle.dbl_model_table.specs.declared.table.RawRow.{RawRow}
 use Rattle.dbl_source_model.specs.ModelHistory.History.{RawCommit, History}
 use Rattle.dbl_source_model.specs.ModelHistory.Fit.{IsFitHistory}
+use Rattle.dbl_source_model.specs.declared.selected.Selected.{Selected}
 use Rattle.dbl_source_model.specs.Selected.{AreAnswered}
-use Rattle.dbl_source_model.proofs.FitLemmas.{all_front, fit_front, answered_front}
+use Rattle.dbl_source_model.proofs.FitLemmas.{all_front, fit_front, answered_front, answered_later}
 use Rattle.dbl_source_log.specs.declared.logged.LogTable.{LogTable}
 use Rattle.dbl_source_log.specs.declared.logged.Logged.{Logged}
 use Rattle.dbl_source_log.specs.Relations.{catalogue}
@@ -38,8 +38,14 @@ module _ (tables : List LogTable) (log more : List Logged) where
   pub fit_log_front : IsFitHistory (history_of tables (log ++ more)) → IsFitHistory (history_of tables log)
   fit_log_front fit = fit_front (catalogue tables) (history_of tables log).commits later (subst IsFitHistory longer_is fit)
 
-  pub answered_log_front : (from upto : ℕ) (name : TableName) (above : Option Key) (limit : ℕ) (rows : List RawRow) → upto ≤ length log → AreAnswered (history_of tables (log ++ more)) from upto name above limit rows
-      → AreAnswered (history_of tables log) from upto name above limit rows
-  answered_log_front from upto name above limit rows le a =
-      answered_front (catalogue tables) (history_of tables log).commits later from upto name above limit rows (omega (arith, le, length-history tables log))
-      (subst (λ (h : History). AreAnswered h from upto name above limit rows) longer_is a)
+  pub answered_log_front : (from upto : ℕ) (name : TableName) (above : Option Key) (limit : ℕ) (answer : Selected) → upto ≤ length log → AreAnswered (history_of tables (log ++ more)) from upto name above limit answer
+      → AreAnswered (history_of tables log) from upto name above limit answer
+  answered_log_front from upto name above limit answer le a =
+      answered_front (catalogue tables) (history_of tables log).commits later from upto name above limit answer (omega (arith, le, length-history tables log))
+      (subst (λ (h : History). AreAnswered h from upto name above limit answer) longer_is a)
+
+  pub answered_log_later : (from upto : ℕ) (name : TableName) (above : Option Key) (limit : ℕ) (answer : Selected) → upto ≤ length log → AreAnswered (history_of tables log) from upto name above limit answer
+      → AreAnswered (history_of tables (log ++ more)) from upto name above limit answer
+  answered_log_later from upto name above limit answer le a =
+      subst (λ (h : History). AreAnswered h from upto name above limit answer) (sym longer_is)
+      (answered_later (catalogue tables) (history_of tables log).commits later from upto name above limit answer (omega (arith, le, length-history tables log)) a)

@@ -19,7 +19,7 @@ use Rattle.dbl_model_table.proofs.InfoLemmas.{not_true}
 use Rattle.dbl_source_model.specs.ModelHistory.History.{RawChange, name_of, raw_changes_of, entry_of}
 use Rattle.dbl_source_model.specs.ModelHistory.Ranges.{IsRawChangeInRange, IsRawBodyInRange, IsRawCommitInRange}
 use Rattle.dbl_source_model.specs.ModelHistory.Typed.{typed_change, typed_commit, typed}
-use Rattle.dbl_source_model.specs.ModelHistory.Fit.{AltersNone, AreFit, AreInfosOf}
+use Rattle.dbl_source_model.specs.ModelHistory.Fit.{AreFit, AreInfosOf}
 use Rattle.dbl_model_history.proofs.RowLemmas.{rows_from-append, AreFit-append}
 use Rattle.dbl_source_log.specs.declared.logged.LogTable.{LogTable}
 use Rattle.dbl_source_log.specs.declared.logged.Logged.{Logged}
@@ -30,7 +30,7 @@ use Rattle.dbl_source_log.specs.RawChanges.{raw_changes, changes_from, text_rows
 use Rattle.dbl_source_log.specs.Histories.{body_at, raw_commit_at, text_rows_at, commits_from, text_rows_through, history_of}
 use Rattle.dbl_source_log.specs.FitLogs.{IsFitText, AreFitChanges, AreFitEntries, AreFitLog}
 use Rattle.dbl_source_log.specs.Laws.{FitLogsHaveFitHistories, FitLogsHaveTheirRows}
-use Rattle.dbl_source_log.proofs.LogLemmas.{is_rising, length-history}
+use Rattle.dbl_source_log.proofs.LogLemmas.{is_rising, keeps_columns, length-history}
 use Rattle.dbl_source_log.proofs.RowTexts.{Agree, Stepped, stepped, entry_named}
 
 -- ---- rows of messages are those of their changes
@@ -154,12 +154,6 @@ commits_in_range : (tables : List LogTable) (log : List Logged) (n : ℕ) (at : 
 commits_in_range tables [] n at few fit = tt
 commits_in_range tables (entry ∷ log) n at few fit = (commit_in_range tables at n entry (omega arith) fit.0.ranges, commits_in_range tables log (n + 1) (text_rows_at tables at entry) (omega arith) fit.1)
 
--- none of them alters a table
-unaltered_from : (tables : List LogTable) (log : List Logged) (n : ℕ) (at : TextRows) → AllByRecursion (λ commit. AltersNone commit.body) (commits_from tables at n log)
-unaltered_from tables [] n at = tt
-unaltered_from tables (Changes ms ∷ log) n at = (tt, unaltered_from tables log (n + 1) (text_rows_at tables at (Changes ms)))
-unaltered_from tables (Mark value ∷ log) n at = (tt, unaltered_from tables log (n + 1) (text_rows_at tables at (Mark value)))
-
 -- what is captured: the catalogue alone counts
 captured_of : (tables : List LogTable) (log : List Logged) (infos : List TableInfo) → AreInfosOf (history_of tables log) infos → AreInfosOf (history_of tables []) infos
 captured_of tables log infos captured = record { distinct = captured.distinct; each = captured.each }
@@ -172,7 +166,7 @@ fit_histories tables log fit =
       opening = fit.opening;
       rising = is_rising tables log;
       distinct = catalogue_distinct tables fit.distinct;
-      unaltered = unaltered_from tables log 1 no_text_rows;
+      unaltered = keeps_columns tables log;
       known = known_from tables log 1 no_text_rows fit.entries;
       fit = λ infos captured. (walk_all tables infos (captured_of tables log infos captured) log fit).fits;
     }

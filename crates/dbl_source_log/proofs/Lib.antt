@@ -1,4 +1,5 @@
 pub use Rattle.dbl_source_model.proofs.GrowthLemmas as SourceModelGrowthLemmas
+pub use Rattle.dbl_source_model.proofs.PlainLemmas as SourceModelPlainLemmas
 pub use Rattle.dbl_source_model.proofs.ModelHistoryBoundLemmas
 pub use Rattle.dbl_source_model.proofs.ModelHistoryRangeLemmas
 pub use Rattle.dbl_source_model.proofs.ModelHistoryRowKeys

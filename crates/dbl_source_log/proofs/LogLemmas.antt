@@ -1,9 +1,14 @@
 -- Logs that grow: their histories grow with them, and LSNs rise.
 use Rattle.std.proofs.Common.{◌≡◌, ◌∙◌, ◌+◌, ◌*◌, ◌<◌, ℕ, List, [], ◌∷◌, ◌++◌, length, map, refl, sym, ap, subst, arith}
+use Rattle.std.specs.List.{AllByRecursion}
 use Rattle.std.proofs.lemmas.List.{append-nil}
 use Rattle.dbl_pgmsg.specs.declared.messages.Message.{Message}
-use Rattle.dbl_source_model.specs.ModelHistory.History.{RawCommit, AreRising, IsRising}
-use Rattle.dbl_source_model.specs.Growth.{AreOthers, Grows, Marks}
+use Rattle.dbl_model_table.specs.declared.table.TableName.{TableName}
+use Rattle.dbl_source_model.specs.ModelHistory.History.{RawCommit, AreRising, IsRising, entry_of}
+use Rattle.dbl_source_model.specs.ModelHistory.Fit.{AltersNone}
+use Rattle.dbl_source_model.specs.ModelHistory.InForce.{entry_at}
+use Rattle.dbl_source_model.specs.Growth.{AreOthers, KeepsColumns, Grows, Marks}
+use Rattle.dbl_source_model.proofs.PlainLemmas.{entry_kept}
 use Rattle.dbl_source_log.specs.declared.logged.LogTable.{LogTable}
 use Rattle.dbl_source_log.specs.declared.logged.Logged.{Logged}
 use Rattle.dbl_source_log.specs.declared.logged.Logged.TheVariants.{Changes, Mark}
@@ -39,6 +44,18 @@ module _ (tables : List LogTable) where
 
   pub is_rising : (log : List Logged) → IsRising (history_of tables log)
   is_rising log = rising_from no_text_rows 0 1 log (omega arith)
+
+  -- none of them alters a table
+  unaltered_from : (log : List Logged) (n : ℕ) (at : TextRows) → AllByRecursion (λ commit. AltersNone commit.body) (commits_from tables at n log)
+  unaltered_from [] n at = tt
+  unaltered_from (Changes ms ∷ log) n at = (tt, unaltered_from log (n + 1) (text_rows_at tables at (Changes ms)))
+  unaltered_from (Mark value ∷ log) n at = (tt, unaltered_from log (n + 1) (text_rows_at tables at (Mark value)))
+
+  pub keeps_columns : (log : List Logged) → KeepsColumns (history_of tables log)
+  keeps_columns log = unaltered_from log 1 no_text_rows
+
+  pub entry_stays : (log : List Logged) (place : ℕ) (name : TableName) → entry_at (history_of tables log) place name ≡ entry_of (history_of tables []) name
+  entry_stays log place name = entry_kept (history_of tables log) place name (keeps_columns log)
 
   pub history_grown : (log more : List Logged) → (history_of tables (log ++ more)).commits ≡ (history_of tables log).commits ++ commits_from tables (text_rows_through tables no_text_rows log) (1 + length log) more
   history_grown log more = commits_from-append no_text_rows 1 log more

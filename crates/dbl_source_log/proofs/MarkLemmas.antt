@@ -1,24 +1,17 @@
 -- A watermark after a log leaves it fair and its history fit: it changes no row, and its LSN and time are in PostgreSQL's ranges.
-use Rattle.std.proofs.Common.{◌≡◌, ◌∙◌, ◌+◌, ◌<◌, ◌≤◌, ◌^◌, ℕ, List, [], ◌∷◌, ◌++◌, length, map, sym, ap, subst, arith}
-use Rattle.std.specs.Prelude.{Option, IsSome}
+use Rattle.std.proofs.Common.{◌≡◌, ◌∙◌, ◌+◌, ◌<◌, ◌^◌, ℕ, List, [], ◌∷◌, ◌++◌, length, map, sym, ap, subst, arith}
+use Rattle.std.specs.Prelude.{IsSome}
 use Rattle.std.specs.List.{AllByRecursion}
 use Rattle.std.specs.Str.{IsUtf8}
 use Rattle.std.proofs.lemmas.List.{append-nil, map-append}
-use Rattle.std.proofs.lemmas.Option.{IfSome_then}
 use Rattle.dbl_pgmsg.specs.declared.messages.Message.{Message}
-use Rattle.dbl_model_table.specs.declared.row.Key.{Key}
-use Rattle.dbl_model_table.specs.declared.table.TableName.{TableName}
-use Rattle.dbl_model_table.specs.declared.table.RawRow.{RawRow}
 use Rattle.dbl_model_table.specs.declared.table.TableInfo.{TableInfo}
-use Rattle.dbl_model_table.specs.Infos.{number_of}
-use Rattle.dbl_model_table.specs.Rows.{Rows, no_rows, all_changes}
+use Rattle.dbl_model_table.specs.Rows.{no_rows, all_changes}
 use Rattle.dbl_source_model.specs.ModelHistory.History.{RawChange, RawCommit, History, IsRising, name_of, raw_changes_of, entry_of}
 use Rattle.dbl_source_model.specs.ModelHistory.Ranges.{IsRawCommitInRange}
 use Rattle.dbl_source_model.specs.ModelHistory.Typed.{typed, typed_commit}
 use Rattle.dbl_source_model.specs.ModelHistory.Fit.{AltersNone, AreFit, AreInfosOf, IsFitHistory}
 use Rattle.dbl_source_model.proofs.ModelHistoryRowLemmas.{all_changes-append}
-use Rattle.dbl_source_model.specs.Selected.{AreFirstOf, AreRowsAt, AreAnswered}
-use Rattle.dbl_source_model.proofs.FitLemmas.{rows_front}
 use Rattle.dbl_source_log.specs.declared.logged.LogTable.{LogTable}
 use Rattle.dbl_source_log.specs.declared.logged.Logged.{Logged}
 use Rattle.dbl_source_log.specs.declared.logged.Logged.TheVariants.{Mark}
@@ -26,7 +19,7 @@ use Rattle.dbl_source_log.specs.Relations.{catalogue}
 use Rattle.dbl_source_log.specs.TextRows.{no_text_rows}
 use Rattle.dbl_source_log.specs.Histories.{raw_commit_at, text_rows_through, history_of}
 use Rattle.dbl_source_log.specs.Fair.{IsChangeOf, HasFewFaults, changes_given, IsFairLog}
-use Rattle.dbl_source_log.proofs.LogLemmas.{is_rising, history_grown, length-history}
+use Rattle.dbl_source_log.proofs.LogLemmas.{is_rising, history_grown}
 use Rattle.dbl_source_log.proofs.FitLogLemmas.{commit_in_range}
 
 all_since : {A : Type 0} (P : A → Type 0) (xs : List A) (x : A) → AllByRecursion P xs → P x → AllByRecursion P (xs ++ x ∷ [])
@@ -82,19 +75,3 @@ module _ (tables : List LogTable) (log : List Logged) (value : List ℕ) where
     relations = fair.relations;
     changes = all_since (λ (entry : Logged). AllByRecursion (λ (message : Message). IsChangeOf tables message × HasFewFaults tables message) (changes_given entry)) log (Mark value) fair.changes tt;
   }
-
-  rows_marked : (place : ℕ) (name : TableName) (above : Option Key) (limit : ℕ) (rows : List RawRow) → place ≤ length commits → AreRowsAt (history_of tables log) place name above limit rows → AreRowsAt marked place name above limit rows
-  rows_marked place name above limit rows le are infos captured =
-      IfSome_then (number_of infos name) (are infos (captured_before infos captured))
-      (λ table first. (first.0, subst (λ (at : Rows). AreFirstOf infos table first.0 at above limit rows) (sym (rows_front (catalogue tables) commits (mark ∷ []) infos place le)) first.1))
-
-  pub answered_marked : (from upto : ℕ) (name : TableName) (above : Option Key) (limit : ℕ) (rows : List RawRow) → upto ≤ length log → AreAnswered (history_of tables log) from upto name above limit rows
-      → AreAnswered (history_of tables marked_log) from upto name above limit rows
-  answered_marked from upto name above limit rows le a =
-      subst (λ (h : History). AreAnswered h from upto name above limit rows) (sym marked_is) (record {
-        absent = a.absent;
-        place = a.place;
-        not_before = a.not_before;
-        not_after = a.not_after;
-        are = rows_marked a.place name above limit rows (omega (arith, a.not_after, le, length-history tables log)) a.are;
-      })

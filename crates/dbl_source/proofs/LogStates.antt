@@ -6,10 +6,14 @@ use Rattle.std.proofs.lemmas.List.Elements.{filter-append}
 use Rattle.std.proofs.lemmas.Option.{slice_get_past, slice_get-get_or}
 use Rattle.dbl_base.specs.declared.lsn.Lsn.{Lsn}
 use Rattle.dbl_pgmsg.specs.declared.messages.Message.{Message}
-use Rattle.dbl_source_model.specs.ModelHistory.History.{RawCommit, History}
+use Rattle.dbl_model_table.specs.declared.table.RawTable.{RawTable}
+use Rattle.dbl_model_table.specs.declared.table.TableName.{TableName}
+use Rattle.dbl_source_model.specs.ModelHistory.History.{RawCommit, History, entry_of}
 use Rattle.dbl_source_model.specs.Standings.{Reading, SourceState}
 use Rattle.dbl_source_model.specs.Growth.{Grows}
+use Rattle.dbl_source_model.specs.Answered.{IsEntryBetween}
 use Rattle.dbl_source_model.specs.Calls.{Moved, IsMarked, head_after, head_of, IsHead, IsBegun, IsGone, HasReadAll}
+use Rattle.dbl_source_model.proofs.GrowthLemmas.{grown_length}
 use Rattle.dbl_source_log.specs.declared.logged.LogTable.{LogTable}
 use Rattle.dbl_source_log.specs.declared.logged.Logged.{Logged}
 use Rattle.dbl_source_log.specs.declared.logged.Logged.TheVariants.{Changes, Mark}
@@ -21,7 +25,7 @@ use Rattle.dbl_source_model.specs.Stated.{commits_after}
 use Rattle.dbl_source_log.specs.Fair.{IsFairLog}
 use Rattle.dbl_source_log.specs.Sent.{told_from, sent_after, index_of, told_at, IsPlaceIn}
 use Rattle.dbl_source_log.specs.Histories.{text_rows_at, commits_from, history_of}
-use Rattle.dbl_source_log.proofs.LogLemmas.{log_grows, log_marks, is_rising, length-history}
+use Rattle.dbl_source_log.proofs.LogLemmas.{log_grows, log_marks, is_rising, length-history, entry_stays}
 use Rattle.dbl_source_log.proofs.SentLemmas.{told_at-grown, none_left, reads_what_is_sent}
 use Rattle.dbl_source_log.proofs.ReaderLemmas.{reads_all}
 use Rattle.dbl_source_log.proofs.PlaceLemmas.{told_waiting}
@@ -102,6 +106,16 @@ module _ (tables : List LogTable) (log : List Logged) (confirmed : Lsn) where
       none_left tables place log (told_from tables (first + 1) (take place.commits subsequent) []) long ∙ ap (λ (l : List Logged). told_from tables (first + 1) l []) (take_all place.commits subsequent long) in
       let same : length (sent_after tables place.after log) ≡ length (told_at tables log place) = length-reverse (told_from tables (first + 1) subsequent []) ∙ sym (ap length told) in
       slice_get_past (sent_after tables place.after log) (length (told_at tables log place)) (omega (arith, same))
+
+  -- ---- the catalogue
+
+  pub is_entry : (s : SourceState) (name : TableName) (entry : Option RawTable) → Grows s.history (history_of tables log) → entry ≡ entry_of (history_of tables []) name → IsEntryBetween name entry s.history (history_of tables log)
+  is_entry s name entry grows is = record {
+    place = length (history_of tables log).commits;
+    not_before = grown_length s.history (history_of tables log) grows;
+    not_after = omega arith;
+    is = is ∙ sym (entry_stays tables log (length (history_of tables log).commits) name);
+  }
 
   -- ---- the head
 

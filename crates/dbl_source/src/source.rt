@@ -11,6 +11,7 @@ ghost use Rattle.dbl_source_log.specs.declared.error.SourceError.TheVariants.{Fa
 ghost use Rattle.dbl_source_model.specs.Standings.{Reading, SourceState, CrashState};
 ghost use Rattle.dbl_source_model.specs.Standings.{left_of, HasState, MovesTo};
 ghost use Rattle.dbl_source_model.specs.Answered.{IsDescribed, IsHeaded, IsSelectAnswer};
+ghost use Rattle.dbl_source_model.specs.Growth.{KeepsColumns};
 ghost use Rattle.dbl_source_model.specs.Stated.{IsReadRight};
 ghost use Rattle.dbl_source_model.specs.Calls.{Moved, IsMarked, Starts, HasReadOneMore};
 ghost use Rattle.dbl_source_model.specs.Calls.{HasReadAll, IsConfirmed, TellsLog};
@@ -34,8 +35,8 @@ pub trait Source {
     ghost stands: { Self → SourceState → Type 0 };
 
     /// Whether its answers so far conform: its history is valid, the messages that were read state
-    /// it, and each select answered version 1 and the rows of one position. A source that conforms
-    /// after a call did so before it.
+    /// it, and each select answered the version and the rows of one position. A source that
+    /// conforms after a call did so before it.
     ghost honest: { Self → Type 0 };
 
     /// What a crash now may leave.
@@ -69,8 +70,8 @@ pub trait Source {
     /// Whether the log of a source in this state begins after the LSN.
     ghost begins_at: { SourceState → Lsn → Type 0 };
 
-    /// The catalogue's entry of the table of this name, which never changes; None if there is no
-    /// such table. Its version is 1 if the source conforms.
+    /// The catalogue's entry of the table of this name at one time during the call, with the
+    /// table's columns and its version then; None if there is no such table.
     fn describe(&mut self, name: &TableName) -> Result<Option<RawTable>, SourceError>
         requires { IsTrue (is_live self.old) }
         ensures described { MovesTo stands self.old self.new result (IsDescribed name.now) }
@@ -163,9 +164,9 @@ pub trait Source {
         ensures steady { (s : SourceState) → stands self.old s
             → OnOk result (faults self.new ≡ faults self.old) };
 
-    /// The version of the table, which is 1, and its first `limit` rows with a key above `above`
-    /// (all if None), in key order, at one position between the call and the return, if the source
-    /// conforms. No row is above a key of other types, and a missing table has none.
+    /// The version of the table and its first `limit` rows with a key above `above` (all if None),
+    /// in key order, both at one position between the call and the return, if the source conforms.
+    /// No row is above a key of other types, and a missing table has version 1 and none.
     fn select(
         &mut self,
         table: &TableName,
@@ -255,6 +256,10 @@ pub trait Source {
 
     /// The LSNs of its history rise, also if it doesn't conform.
     ghost rising: { (source : Self) (s : SourceState) → stands source s → IsRising s.history };
+
+    /// No commit of its history alters a table, also if it doesn't conform.
+    ghost unaltered: { (source : Self) (s : SourceState) → stands source s
+        → KeepsColumns s.history };
 
     /// Every state that a conforming source may leave has a valid history, also after an error.
     ghost fit: { (source : Self) (l : CrashState) → may_leave source l → honest source

@@ -1,6 +1,6 @@
 -- The calls of a played source, by its states before and after.
 use Rattle.std.proofs.Common.{◌≡◌, ◌∙◌, ◌+◌, ◌<◌, ◌≤◌, ℕ, Bool, true, false, Option, Some, None, List, [], ◌∷◌, ◌++◌, length, map, max, refl, sym, ap, subst, arith, length-append}
-use Rattle.std.specs.Prelude.{IsTrue, Result, Ok, Err, OnErr, unwrap_or, nat_lt, if◌then◌else◌, option_map, find}
+use Rattle.std.specs.Prelude.{IsTrue, Result, Ok, Err, OnErr, unwrap_or, nat_lt, if◌then◌else◌, option_map}
 use Rattle.std.proofs.lemmas.List.{length-map}
 use Rattle.std.proofs.lemmas.Bool.Decides.{nat_tests}
 use Rattle.dbl_base.specs.declared.lsn.Lsn.{Lsn}
@@ -8,13 +8,12 @@ use Rattle.dbl_pgmsg.specs.declared.messages.Message.{Message}
 use Rattle.dbl_model_table.specs.declared.row.Key.{Key}
 use Rattle.dbl_model_table.specs.declared.table.TableName.{TableName}
 use Rattle.dbl_model_table.specs.declared.table.RawTable.{RawTable}
-use Rattle.dbl_model_table.specs.Tables.{same_name}
 use Rattle.dbl_source_model.specs.ModelHistory.History.{History, entry_of}
 use Rattle.dbl_source_model.specs.declared.started.Started.{Started}
 use Rattle.dbl_source_model.specs.declared.started.Started.TheVariants.{Ready, Gone}
 use Rattle.dbl_source_model.specs.Standings.{Reading, SourceState, CrashState, HasState}
 use Rattle.dbl_source_model.specs.Selected.{Selects}
-use Rattle.dbl_source_model.specs.Answered.{IsSelectAnswer}
+use Rattle.dbl_source_model.specs.Answered.{IsDescribed, IsSelectAnswer}
 use Rattle.dbl_source_model.specs.Calls.{Moved, IsMarked, IsHead, Starts, HasReadOneMore, HasReadAll, IsConfirmed}
 use Rattle.dbl_source_model.specs.Leaves.{MayFollow, MayFollowMark, MayFollowConfirm}
 use Rattle.dbl_source_model.proofs.GrowthLemmas.{grown_length}
@@ -37,7 +36,7 @@ use Rattle.dbl_source.specs.LogStates.{reading_at, log_state}
 use Rattle.dbl_source_scripted.specs.Steps.{KeepsPlayed, HasPlayedState, MayLeavePlayed, WasFair}
 use Rattle.dbl_source.proofs.LogStates.{placed_on}
 use Rattle.dbl_source_scripted.proofs.PlayLemmas.{selects_right, fair_same}
-use Rattle.dbl_source.proofs.LogStates.{IsAtPlace, moved, marked_at, gone_after, begun_after, read_all, is_head}
+use Rattle.dbl_source.proofs.LogStates.{IsAtPlace, moved, marked_at, gone_after, begun_after, read_all, is_entry, is_head}
 
 -- other clients committed, and what a reader, a confirm and a select have made of the source is as it was
 pub record WentOn (old new : Played) : Type 0 where
@@ -110,10 +109,10 @@ module _ (old mid : Played) (s : SourceState) (w : WentOn old mid) (kept : Keeps
   pub head_leads : HasState HasPlayedState (with_head mid) (λ t. Moved s t × IsHead (lsn_of (length mid.log)) s t)
   head_leads = stood (with_head mid) (λ t. Moved s t × IsHead (lsn_of (length mid.log)) s t) refl (before, is_head mid.tables mid.log mid.confirmed s mid.place before.grows (went_length mid s before))
 
-  -- the catalogue is the same as before the call
-  pub describe_leads : (what : Last) (name : TableName) (entry : Option RawTable) → entry ≡ entry_of (history_of mid.tables []) name → HasState HasPlayedState (with_answer what mid) (λ t. Moved s t × (entry ≡ entry_of s.history name))
+  -- the catalogue is the first one
+  pub describe_leads : (what : Last) (name : TableName) (entry : Option RawTable) → entry ≡ entry_of (history_of mid.tables []) name → HasState HasPlayedState (with_answer what mid) (IsDescribed name entry s)
   describe_leads what name entry is =
-      stood (with_answer what mid) (λ t. Moved s t × (entry ≡ entry_of s.history name)) refl (before, is ∙ ap (λ (tables : List RawTable). find (λ raw. same_name raw.name name) tables) before.grows.tables)
+      stood (with_answer what mid) (IsDescribed name entry s) refl (before, is_entry mid.tables mid.log mid.confirmed s name entry before.grows is)
 
   pub confirm_leads : (upto : Lsn) → HasState HasPlayedState (with_confirmed upto mid) (IsConfirmed upto s)
   confirm_leads upto = stood (with_confirmed upto mid) (IsConfirmed upto s) refl (record {
@@ -200,7 +199,7 @@ module _ (old mid : Played) (s : SourceState) (w : WentOn old mid) (kept : Keeps
         λ fair. (
             let rows = selects_right mid.tables old.log (mid.log ++ map Changes inside) mid.asked question mid.rows refl (sym log_is) fair in
             let was : history_of mid.tables old.log ≡ s.history = ap (λ (ts : List LogTable). history_of ts old.log) w.tables ∙ sym (ap (λ (t : SourceState). t.history) stands.1) in
-            (rows.0, subst (λ (h : History). Selects table above limit h (history_of mid.tables (mid.log ++ map Changes inside)) (next_selected mid).rows) was rows.1)),
+            subst (λ (h : History). Selects table above limit h (history_of mid.tables (mid.log ++ map Changes inside)) (next_selected mid)) was rows),
       )
 
   pub select_follows : (table : TableName) (above : Option Key) (limit : ℕ) (inside : List (List Message)) (l : CrashState) → MayLeavePlayed (with_select table above limit (length old.log) inside mid) l → MayFollow s l

@@ -8,7 +8,6 @@ use Rattle.dbl_model_table.specs.declared.row.Key.{Key}
 use Rattle.dbl_model_table.specs.declared.table.TableName.{TableName}
 use Rattle.dbl_model_table.specs.declared.table.RawTable.{RawTable}
 use Rattle.dbl_source_model.specs.declared.selected.Selected.{Selected}
-use Rattle.dbl_source_model.specs.ModelHistory.History.{entry_of}
 use Rattle.dbl_source_model.specs.declared.started.Started.{Started}
 use Rattle.dbl_source_model.specs.Standings.{SourceState, HasState}
 use Rattle.dbl_source_model.specs.Answered.{IsDescribed, IsHeaded, IsSelectAnswer}
@@ -43,7 +42,7 @@ describe_ends name old new entry kept a =
     let w : WentOn old mid = went_released old in
     let what : Last = answers.Described a.place in
     record {
-      leads = λ s stands. stood_to new (with_answer what mid) (λ t. Moved s t × (entry ≡ entry_of s.history name)) a.is (describe_leads old mid s w kept stands what name entry (a.there ∙ a.named));
+      leads = λ s stands. stood_to new (with_answer what mid) (IsDescribed name entry s) a.is (describe_leads old mid s w kept stands what name entry (a.there ∙ a.named));
       left = λ s l stands may. went_follows old mid s l w kept stands (subst (λ (p : Played). MayLeavePlayed p l) a.is may);
       live = ap (λ (p : Played). p.live) a.is;
       honest = λ fair. went_fair old mid w kept (subst WasFair a.is fair);

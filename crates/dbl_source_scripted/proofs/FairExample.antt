@@ -45,6 +45,8 @@ use Rattle.dbl_source_log.specs.TextRows.{TextRows, no_text_rows}
 use Rattle.dbl_source_log.specs.Histories.{text_rows_at, history_of}
 use Rattle.dbl_source_log.specs.FitLogs.{IsFitEntry, AreFitLog}
 use Rattle.dbl_source_log.specs.Fair.{IsChangeOf, HasFewFaults, IsFairLog}
+use Rattle.dbl_source_model.proofs.PlainLemmas.{version_kept, typed_rows, rows_of_typed}
+use Rattle.dbl_source_log.proofs.LogLemmas.{keeps_columns}
 use Rattle.dbl_source_log.proofs.FitLogLemmas.{fit_histories}
 use Rattle.dbl_source_scripted.specs.declared.asked.Asked.{Asked}
 use Rattle.dbl_source_scripted.specs.Played.{keyed_table, question_of}
@@ -282,24 +284,25 @@ both_rows = record {
 has_table : (rows : List RawRow) → Some example_raw_table ≡ None → rows ≡ []
 has_table rows none = cc
 
-at_place : (place : ℕ) (rows : List RawRow) → 1 ≤ place → place ≤ 3 → AreFirstOf (info_of ∷ []) 0 info_of (rows_up_to (info_of ∷ []) history place) None 10 rows → AreAnswered history 1 3 example_source_name None 10 rows
+at_place : (place : ℕ) (rows : List RawRow) → 1 ≤ place → place ≤ 3 → AreFirstOf (info_of ∷ []) 0 info_of (rows_up_to (info_of ∷ []) history place) None 10 rows → AreAnswered history 1 3 example_source_name None 10 (first_version rows)
 at_place place rows low high first = record {
   absent = has_table rows;
   place = place;
   not_before = low;
   not_after = high;
-  are = λ infos are. elim (captured log infos are) [
+  version = sym (version_kept history place example_source_name (keeps_columns tables log) (refl, tt));
+  are = rows_of_typed history place example_source_name None 10 rows (keeps_columns tables log) (λ infos are. elim (captured log infos are) [
     | inl none ↦ subst (AreRows place rows) (sym none) tt
     | inr alone ↦ subst (AreRows place rows) (sym alone) (info_of, first)
-  ];
+  ]);
 }
 
-answered : (rows : List RawRow) (later : List Selected) → AreAnswered history 1 3 example_source_name None 10 rows → (n : ℕ) (question : Asked) → slice_get read_example.asked n ≡ Some question
+answered : (rows : List RawRow) (later : List Selected) → AreAnswered history 1 3 example_source_name None 10 (first_version rows) → (n : ℕ) (question : Asked) → slice_get read_example.asked n ≡ Some question
     → IsAnswered tables log question (slice_index_or (first_version rows ∷ later) n no_rows_selected)
 answered rows later are zero question is =
     let found : Some (question_of example_source_name None 10 1 3) ≡ Some question = is in
     let same : question_of example_source_name None 10 1 3 ≡ question = cc in
-    subst (λ (q : Asked). IsAnswered tables log q (first_version rows)) same (refl, are)
+    subst (λ (q : Asked). IsAnswered tables log q (first_version rows)) same are
 answered rows later are (suc n) question is = let none : None ≡ Some question = is in cc
 
 was_fair : WasFair read_example
@@ -328,9 +331,10 @@ was_fair_last = record {
 is_stale : WasFair stale_example → ⊥
 is_stale fair =
     let infos : List TableInfo = info_of ∷ [] in
-    let rows : AreAnswered history 3 3 example_source_name None 10 (row_of (codes "a") ∷ []) = (fair.selects 1 (question_of example_source_name None 10 3 3) refl).1 in
+    let rows : AreAnswered history 3 3 example_source_name None 10 (first_version (row_of (codes "a") ∷ [])) = fair.selects 1 (question_of example_source_name None 10 3 3) refl in
     let place : rows.place ≡ 3 = omega (arith, rows.not_before, rows.not_after) in
-    let own : (info : TableInfo) × AreFirstOf infos 0 info (rows_up_to infos history rows.place) None 10 (row_of (codes "a") ∷ []) = rows.are infos itself in
+    let own : (info : TableInfo) × AreFirstOf infos 0 info (rows_up_to infos history rows.place) None 10 (row_of (codes "a") ∷ []) =
+    typed_rows history rows.place example_source_name None 10 (row_of (codes "a") ∷ []) infos (keeps_columns tables log) itself rows.are in
     let there : Some info_of ≡ Some own.0 = own.1.captured in
     let same : own.0 ≡ info_of = cc in
     let its : AreFirstOf infos 0 info_of (rows_up_to infos history rows.place) None 10 (row_of (codes "a") ∷ []) =

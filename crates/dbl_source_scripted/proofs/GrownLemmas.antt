@@ -1,29 +1,18 @@
 -- What keeps a fair script fair: other clients' commits that leave the log fit and fair, and a select that is answered right. The rows
 -- that were answered before stay right.
 use Rattle.std.proofs.Common.{◌≡◌, ◌∙◌, ◌+◌, ◌<◌, ◌≤◌, inl, inr, ℕ, List, [], ◌∷◌, ◌++◌, length, map, sym, ap, subst, arith, length-append, get_or}
-use Rattle.std.specs.Prelude.{Option, Some, slice_index_or}
+use Rattle.std.specs.Prelude.{Some, slice_index_or}
 use Rattle.std.proofs.lemmas.Bool.{cases_eq}
 use Rattle.std.proofs.lemmas.List.{length-map, get_or_at, get_or_append_left}
-use Rattle.std.proofs.lemmas.Option.{IfSome_then, slice_get_within, slice_get-get_or, get_or_from_slice_get}
-use Rattle.dbl_model_table.specs.declared.row.Key.{Key}
-use Rattle.dbl_model_table.specs.declared.table.TableName.{TableName}
-use Rattle.dbl_model_table.specs.declared.table.RawRow.{RawRow}
+use Rattle.std.proofs.lemmas.Option.{slice_get_within, slice_get-get_or, get_or_from_slice_get}
 use Rattle.dbl_source_model.specs.declared.selected.Selected.{Selected}
-use Rattle.dbl_model_table.specs.declared.table.TableInfo.{TableInfo}
-use Rattle.dbl_model_table.specs.Infos.{number_of}
-use Rattle.dbl_model_table.specs.Rows.{Rows}
-use Rattle.dbl_source_model.specs.ModelHistory.History.{RawCommit, History}
-use Rattle.dbl_source_model.specs.ModelHistory.Fit.{AreInfosOf, IsFitHistory}
-use Rattle.dbl_source_model.specs.Selected.{AreFirstOf, AreRowsAt, AreAnswered}
-use Rattle.dbl_source_model.proofs.FitLemmas.{rows_front}
+use Rattle.dbl_source_model.specs.ModelHistory.Fit.{IsFitHistory}
 use Rattle.dbl_source_log.specs.declared.logged.LogTable.{LogTable}
 use Rattle.dbl_source_log.specs.declared.logged.Logged.{Logged}
 use Rattle.dbl_source_log.specs.declared.logged.Logged.TheVariants.{Changes, Mark}
-use Rattle.dbl_source_log.specs.Relations.{catalogue}
-use Rattle.dbl_source_log.specs.TextRows.{no_text_rows}
-use Rattle.dbl_source_log.specs.Histories.{commits_from, text_rows_through, history_of}
+use Rattle.dbl_source_log.specs.Histories.{history_of}
 use Rattle.dbl_source_log.specs.Fair.{IsFairLog}
-use Rattle.dbl_source_log.proofs.LogLemmas.{history_grown, length-history}
+use Rattle.dbl_source_log.proofs.FairLemmas.{answered_log_later}
 use Rattle.dbl_source_scripted.specs.declared.asked.Asked.{Asked}
 use Rattle.dbl_source_scripted.specs.Fairness.{IsAnswered, IsFair, no_rows_selected}
 use Rattle.dbl_source_scripted.specs.Played.{question_of}
@@ -31,37 +20,8 @@ use Rattle.dbl_source_scripted.specs.Laws.{CommitsKeepFair, SelectsKeepFair, Sel
 use Rattle.dbl_source_scripted.proofs.PlayLemmas.{WereAsked, asked_more}
 
 module _ (tables : List LogTable) (log more : List Logged) where
-  abbrev commits : List RawCommit
-  commits = (history_of tables log).commits
-
-  abbrev later : List RawCommit
-  later = commits_from tables (text_rows_through tables no_text_rows log) (1 + length log) more
-
-  abbrev longer : History
-  longer = record { tables = catalogue tables; commits = commits ++ later }
-
-  longer_is : history_of tables (log ++ more) ≡ longer
-  longer_is = ap (λ (cs : List RawCommit). let h : History = record { tables = catalogue tables; commits = cs } in h) (history_grown tables log more)
-
-  captured_before : (infos : List TableInfo) → AreInfosOf longer infos → AreInfosOf (history_of tables log) infos
-  captured_before infos captured = record { distinct = captured.distinct; each = captured.each }
-
-  rows_grown : (place : ℕ) (name : TableName) (above : Option Key) (limit : ℕ) (rows : List RawRow) → place ≤ length commits → AreRowsAt (history_of tables log) place name above limit rows → AreRowsAt longer place name above limit rows
-  rows_grown place name above limit rows le are infos captured =
-      IfSome_then (number_of infos name) (are infos (captured_before infos captured))
-      (λ table first. (first.0, subst (λ (at : Rows). AreFirstOf infos table first.0 at above limit rows) (sym (rows_front (catalogue tables) commits later infos place le)) first.1))
-
   answered_grown : (question : Asked) (answer : Selected) → question.upto ≤ length log → IsAnswered tables log question answer → IsAnswered tables (log ++ more) question answer
-  answered_grown question answer le (version, a) = (
-    version,
-    subst (λ (h : History). AreAnswered h question.from question.upto question.table question.above question.limit answer.rows) (sym longer_is) (record {
-      absent = a.absent;
-      place = a.place;
-      not_before = a.not_before;
-      not_after = a.not_after;
-      are = rows_grown a.place question.table question.above question.limit answer.rows (omega (arith, a.not_after, le, length-history tables log)) a.are;
-    }),
-  )
+  answered_grown question answer le a = answered_log_later tables log more question.from question.upto question.table question.above question.limit answer le a
 
   grown_fair : (asked : List Asked) (rows : List Selected) → WereAsked asked log → IsFitHistory (history_of tables (log ++ more)) → IsFairLog tables (log ++ more) → IsFair tables log asked rows → IsFair tables (log ++ more) asked rows
   grown_fair asked rows returned fit changes fair = record {

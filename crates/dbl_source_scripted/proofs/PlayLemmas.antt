@@ -32,8 +32,8 @@ module _ (tables : List LogTable) (log more : List Logged) (asked asked_more : L
     fit = fit_log_front tables log more fair.fit;
     changes = fair_log_front tables log more fair.changes;
     selects = λ n question found. (
-        let right = fair.selects n question (found_more asked asked_more n question found) in
-        (right.0, answered_log_front tables log more question.from question.upto question.table question.above question.limit (slice_index_or rows n no_rows_selected).rows (before n question found) right.1));
+        answered_log_front tables log more question.from question.upto question.table question.above question.limit (slice_index_or rows n no_rows_selected) (before n question found)
+        (fair.selects n question (found_more asked asked_more n question found)));
   }
 
 -- the same of states whose parts are told by equations
@@ -64,16 +64,14 @@ asked_more asked question log now upto longer before n other here =
           omega (arith, before n other (slice_get-get_or asked n other inside ∙ ap Some (sym (get_or_append_left asked (question ∷ []) other n inside) ∙ read)), longer))
     ]
 
--- the rows that were answered last are right
+-- the last answer is right
 pub selects_right : (tables : List LogTable) (log now : List Logged) (asked : List Asked) (question : Asked) (rows : List Selected) → question.from ≡ length log → question.upto ≡ length now → IsFair tables now (asked ++ question ∷ []) rows
-    → ((slice_index_or rows (length asked) no_rows_selected).version ≡ 1) × Selects question.table question.above question.limit (history_of tables log) (history_of tables now) (slice_index_or rows (length asked) no_rows_selected).rows
+    → Selects question.table question.above question.limit (history_of tables log) (history_of tables now) (slice_index_or rows (length asked) no_rows_selected)
 selects_right tables log now asked question rows from upto fair =
     let there : slice_get (asked ++ question ∷ []) (length asked) ≡ Some question =
     slice_get-get_or (asked ++ question ∷ []) (length asked) question (omega (arith, length-append asked (question ∷ []))) ∙ ap Some (get_or_at asked question [] question (length asked) refl) in
-    let answer : Selected = slice_index_or rows (length asked) no_rows_selected in
-    let right : IsAnswered tables now question answer = fair.selects (length asked) question there in
-    let found = answer.rows in
-    let a : AreAnswered (history_of tables now) question.from question.upto question.table question.above question.limit found = right.1 in
+    let found : Selected = slice_index_or rows (length asked) no_rows_selected in
+    let a : IsAnswered tables now question found = fair.selects (length asked) question there in
     let b : AreAnswered (history_of tables now) (length (history_of tables log).commits) question.upto question.table question.above question.limit found =
     subst (λ (n : ℕ). AreAnswered (history_of tables now) n question.upto question.table question.above question.limit found) (from ∙ sym (length-history tables log)) a in
-    (right.0, subst (λ (n : ℕ). AreAnswered (history_of tables now) (length (history_of tables log).commits) n question.table question.above question.limit found) (upto ∙ sym (length-history tables now)) b)
+    subst (λ (n : ℕ). AreAnswered (history_of tables now) (length (history_of tables log).commits) n question.table question.above question.limit found) (upto ∙ sym (length-history tables now)) b

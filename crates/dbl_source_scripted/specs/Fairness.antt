@@ -13,11 +13,10 @@ use Rattle.dbl_source_scripted.specs.declared.asked.Asked.{Asked}
 abbrev pub no_rows_selected : Selected
 no_rows_selected = record { version = 1; rows = [] }
 
--- Whether the answer has version 1, and the rows of one position between the call and the return of the select with these arguments.
+-- Whether the answer has the version and the rows of one position between the call and the return of the select with these arguments.
 abbrev pub IsAnswered : List LogTable → List Logged → Asked → Selected → Type 0
 IsAnswered tables log question answer =
-    (answer.version ≡ 1)
-    × AreAnswered (history_of tables log) question.from question.upto question.table question.above question.limit answer.rows
+    AreAnswered (history_of tables log) question.from question.upto question.table question.above question.limit answer
 
 -- Whether what was committed so far is valid, and such as a server sends, and the script's answer to each select so far is correct. After
 -- the script's end a select has version 1 and no rows, which has to be correct too.

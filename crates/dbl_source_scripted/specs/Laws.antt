@@ -24,7 +24,8 @@ use Rattle.dbl_source_scripted.specs.Played.{Played, keyed_table, new_played, co
 use Rattle.dbl_source_scripted.specs.Steps.{WasFair, AddedFirst}
 
 -- What a fair script means for its players: the history is valid; the messages read of it state it, at any position of a reader and for any
--- captured tables; and each select so far answered the rows of one position between its call and its return.
+-- captured tables; and each select so far answered the version and the rows of one position between its call and its
+-- return.
 pub record IsConforming (s : Played) : Type 0 where
   pub fit : IsFitHistory (history_of s.tables s.log)
   pub right : (place : ReaderPosition)
@@ -67,7 +68,7 @@ CommitsKeepFair = (commits : List (List Message)) (s : Played) → HaveReturned 
     → IsFitHistory (history_of s.tables (committed commits s).log) → IsFairLog s.tables (committed commits s).log → WasFair s
     → WasFair (committed commits s)
 
--- A select keeps a source fair if its rows are those of one position between its call and its return, the commits inside of it are such as
+-- A select keeps a source fair if its answer is that of one position between its call and its return, the commits inside of it are such as
 -- a server sends, and the history stays valid.
 abbrev pub SelectsKeepFair : Type 0
 SelectsKeepFair = (table : TableName) (above : Option Key) (limit from : ℕ) (inside : List (List Message)) (s : Played) → HaveReturned s

@@ -134,7 +134,8 @@ impl Source for ScriptedSource {
     ghost use Rattle.dbl_source_scripted.specs.Played.{Played, trace_of};
     ghost use Rattle.dbl_source_scripted.specs.Steps.{HasPlayedState, MayLeavePlayed, WasFair};
     ghost use Rattle.dbl_source_scripted.specs.ScriptLaws.{one_standing, only_left, may_leave_so};
-    ghost use Rattle.dbl_source_scripted.specs.ScriptLaws.{reads_so, rising_so, fit_so, right_so};
+    ghost use Rattle.dbl_source_scripted.specs.ScriptLaws.{reads_so, rising_so, unaltered_so};
+    ghost use Rattle.dbl_source_scripted.specs.ScriptLaws.{fit_so, right_so};
 
     ghost stands = { HasPlayedState };
 
@@ -169,6 +170,8 @@ impl Source for ScriptedSource {
     ghost reads = { reads_so };
 
     ghost rising = { rising_so };
+
+    ghost unaltered = { unaltered_so };
 
     ghost fit = { fit_so };
 

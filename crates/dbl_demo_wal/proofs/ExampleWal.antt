@@ -32,7 +32,7 @@ use Rattle.dbl_demo_wal.specs.Workloads.{IsWorkload, acts_at, workload_rows, ses
 use Rattle.dbl_demo_wal.proofs.RangeLaws.{workload_in_range}
 use Rattle.dbl_demo_wal.proofs.ReleaseLaws.{logs_release}
 use Rattle.dbl_demo_wal.proofs.SizeLemmas.{commit_size}
-use Rattle.dbl_demo_wal.specs.Example.{ASelectStands, example_workload_lines, example_wal_name, example_both_rows, example_name_row}
+use Rattle.dbl_demo_wal.specs.Example.{ASelectStands, example_workload_lines, example_wal_name, example_both_rows, example_answer, example_name_row}
 use Rattle.dbl_demo_wal.specs.Shown.{AreRowsShown}
 use Rattle.dbl_demo_wal.proofs.ExampleLines.{good, lines_are, script_is}
 use Rattle.dbl_demo_wal.proofs.ExampleActs.{accepted, acts_between, acts_first, acts_last, between_is, demo, first_is, gained, info, last_is, put, released_is, removed, workload}
@@ -209,6 +209,6 @@ a_select =
         shown = shown;
         at_call = subst (Shown (example_name_row (codes "a") ∷ [])) (sym first_is) shown_first;
         at_return = subst (Shown (example_name_row (codes "b") ∷ [])) (sym last_is) shown_last;
-        answered = selects_answered bytes wal 0 4 7 example_wal_name None 10 example_both_rows silent (omega arith) (omega arith) (omega arith) is shown;
+        answered = selects_answered bytes wal 0 4 7 example_wal_name None 10 example_answer refl silent (omega arith) (omega arith) (omega arith) is shown;
       },
     )

@@ -13,7 +13,8 @@ use Rattle.dbl_tables_laws.proofs.ModelTableLists.{and_right, position_from-at}
 use Rattle.dbl_tables_laws.specs.ModelHistory.Fit.{AreInfosOf, IsKeyOf}
 use Rattle.dbl_tables_laws.specs.ModelHistory.History.{entry_of}
 use Rattle.dbl_tables_laws.specs.ModelHistory.KeyedRows.{AreFirst}
-use Rattle.dbl_tables_laws.specs.SourceModel.Selected.{AreFirstOf, AreRowsAt, rows_up_to}
+use Rattle.dbl_tables_laws.specs.SourceModel.Selected.{AreFirstOf, rows_up_to}
+use Rattle.dbl_source_log.proofs.SourceModelPlainLemmas.{AreTypedRowsAt}
 use Rattle.dbl_tables_laws.specs.SourceLog.declared.logged.LogTable.{LogTable}
 use Rattle.dbl_tables_laws.specs.SourceLog.declared.logged.Logged.{Logged}
 use Rattle.dbl_tables_laws.specs.SourceLog.FitLogs.{AreFitLog, IsTextKey}
@@ -116,7 +117,8 @@ module _ (tables : List DemoTable) (log : List Logged) (fit : AreFitLog (log_tab
         let there : slice_get infos t ≡ Some at.table.info = h.there ∙ ap (λ (i : TableInfo). Some i) info in
         (at.table.info, first_of at (ap (log_table_named logs) named ∙ own) infos captured t there above limit rows shown)
 
-  pub rows_here : (name : TableName) (above : Option Key) (limit : ℕ) (rows : List RawRow) → ShownAt (rows_of logs log) above limit (found tables name) rows → AreRowsAt (history_of logs log) (length log) name above limit rows
+  pub rows_here : (name : TableName) (above : Option Key) (limit : ℕ) (rows : List RawRow) → ShownAt (rows_of logs log) above limit (found tables name) rows
+      → (infos : List TableInfo) → AreInfosOf (history_of logs log) infos → AreTypedRowsAt (history_of logs log) (length log) name above limit rows infos
   rows_here name above limit rows shown infos captured = by (number_of infos name) refl
     where
       by : (o : Option ℕ) → number_of infos name ≡ o → IfSome o (Answers infos captured name above limit rows)

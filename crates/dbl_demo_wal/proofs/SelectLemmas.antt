@@ -11,13 +11,15 @@ use Rattle.dbl_script.specs.ModelTable.declared.table.TableName.{TableName}
 use Rattle.dbl_script.specs.ModelTable.Infos.{number_of}
 use Rattle.dbl_script.specs.ModelTable.Rows.{Rows}
 use Rattle.dbl_tables_laws.specs.ModelHistory.Fit.{AreInfosOf}
-use Rattle.dbl_tables_laws.specs.SourceModel.Selected.{AreFirstOf, AreRowsAt, Selects, rows_up_to}
+use Rattle.dbl_tables_laws.specs.SourceModel.declared.selected.Selected.{Selected}
+use Rattle.dbl_tables_laws.specs.SourceModel.Selected.{AreFirstOf, Selects, rows_up_to}
+use Rattle.dbl_source_log.proofs.SourceModelPlainLemmas.{AreTypedRowsAt, rows_of_typed, version_kept}
 use Rattle.dbl_tables_laws.proofs.SourceModelGrowthLemmas.{grown_length, same_rows}
 use Rattle.dbl_tables_laws.specs.SourceLog.declared.logged.Logged.TheVariants.{Changes}
 use Rattle.dbl_tables_laws.specs.SourceLog.FitLogs.{AreFitLog}
 use Rattle.dbl_tables_laws.specs.SourceLog.Histories.{rows_of}
 use Rattle.dbl_tables_laws.specs.SourceLog.TextRows.{TextRows, no_text_rows}
-use Rattle.dbl_tables_laws.proofs.SourceLogLogLemmas.{length-history}
+use Rattle.dbl_tables_laws.proofs.SourceLogLogLemmas.{keeps_columns, length-history}
 use Rattle.dbl_tables_laws.specs.TablesRows.Seen.{committed_rows}
 use Rattle.dbl_tables_laws.specs.TablesRows.Sending.{log_tables}
 use Rattle.dbl_tables_laws.specs.TablesRows.Steps.{FoundTable, found}
@@ -63,7 +65,8 @@ module _ (bytes : List ℕ) (wal : Wal) (more : List Entry) (is : IsWal bytes (w
 module _ (wal : Wal) (name : TableName) (above : Option Key) (limit : ℕ) (rows : List RawRow) where
   -- rows at a place stay what they were
   still : (next : Wal) (place : ℕ) → ((infos : List TableInfo) → rows_up_to infos (history_in next) place ≡ rows_up_to infos (history_in wal) place) → ((infos : List TableInfo) → AreInfosOf (history_in next) infos → AreInfosOf (history_in wal) infos)
-      → AreRowsAt (history_in wal) place name above limit rows → AreRowsAt (history_in next) place name above limit rows
+      → ((infos : List TableInfo) → AreInfosOf (history_in wal) infos → AreTypedRowsAt (history_in wal) place name above limit rows infos)
+      → (infos : List TableInfo) → AreInfosOf (history_in next) infos → AreTypedRowsAt (history_in next) place name above limit rows infos
   still next place same captures are infos captured = by (number_of infos name) (are infos (captures infos captured))
     where
       by : (o : Option ℕ) → IfSome o (λ t. (info : TableInfo) × AreFirstOf infos t info (rows_up_to infos (history_in wal) place) above limit rows)
@@ -96,14 +99,17 @@ module _ (bytes : List ℕ) (wal : Wal) (done between upto : ℕ) (silent : IsSi
       ap (λ (l : List Entry). let x : Wal = record wal { entries = l } in x)
       (ap (λ (l : List Entry). wal.entries ++ l) (append-nil (released wal.workload done upto) ∙ released_plus wal.workload done between upto first_le second_le) ∙ sym (append_assoc wal.entries first second))
 
-  module _ (is : IsWal bytes whole) (name : TableName) (above : Option Key) (limit : ℕ) (rows : List RawRow) (shown : AreRowsShown wal.workload.tables (acts_at wal.workload between) name above limit rows) where
+  module _ (is : IsWal bytes whole) (name : TableName) (above : Option Key) (limit : ℕ) (answer : Selected) (first_version : answer.version ≡ 1) (shown : AreRowsShown wal.workload.tables (acts_at wal.workload between) name above limit answer.rows) where
+    abbrev rows : List RawRow
+    rows = answer.rows
+
     fit : AreFitLog (tables_of wal) (logged_in middle.entries)
     fit = front_is_fit bytes middle second is
 
     shown_here : ShownAt (rows_of (tables_of wal) (logged_in middle.entries)) above limit (found wal.workload.tables name) rows
     shown_here = subst (λ (at : TextRows). ShownAt at above limit (found wal.workload.tables name) rows) (rows_committed middle between silent_between) shown
 
-    answered : Selects name above limit (history_in wal) (history_in whole) rows
+    answered : Selects name above limit (history_in wal) (history_in whole) answer
     answered =
         let before = history_grows wal first (released_are wal.workload done between) in
         let subsequent = history_grows middle second (released_are wal.workload between upto) in
@@ -113,13 +119,15 @@ module _ (bytes : List ℕ) (wal : Wal) (done between upto : ℕ) (silent : IsSi
           place = length (logged_in middle.entries);
           not_before = omega (arith, place, grown_length (history_in wal) (history_in middle) before);
           not_after = omega (arith, place, grown_length (history_in middle) (history_in whole) subsequent);
+          version = first_version ∙ sym (version_kept (history_in whole) (length (logged_in middle.entries)) name (keeps_columns (tables_of whole) (logged_in whole.entries)) (wal_is_fit bytes whole is).opening);
           are =
-              still middle name above limit rows whole (length (logged_in middle.entries)) (λ infos. same_rows infos (history_in middle) (history_in whole) (length (logged_in middle.entries)) subsequent (omega (arith, place)))
-              (λ infos captured. record { distinct = captured.distinct; each = captured.each }) (rows_here wal.workload.tables (logged_in middle.entries) fit name above limit rows shown_here);
+              rows_of_typed (history_in whole) (length (logged_in middle.entries)) name above limit rows (keeps_columns (tables_of whole) (logged_in whole.entries))
+              (still middle name above limit rows whole (length (logged_in middle.entries)) (λ infos. same_rows infos (history_in middle) (history_in whole) (length (logged_in middle.entries)) subsequent (omega (arith, place)))
+              (λ infos captured. record { distinct = captured.distinct; each = captured.each }) (rows_here wal.workload.tables (logged_in middle.entries) fit name above limit rows shown_here));
         }
 
 pub selects_answered : SelectsAreAnswered
-selects_answered bytes wal done between upto name above limit rows silent first_le second_le within is shown =
+selects_answered bytes wal done between upto name above limit answer first_version silent first_le second_le within is shown =
     let same = whole_is bytes wal done between upto silent first_le second_le within in
-    subst (λ (x : Wal). Selects name above limit (history_in wal) (history_in x) rows) (sym same)
-    (answered bytes wal done between upto silent first_le second_le within (subst (IsWal bytes) same is) name above limit rows shown)
+    subst (λ (x : Wal). Selects name above limit (history_in wal) (history_in x) answer) (sym same)
+    (answered bytes wal done between upto silent first_le second_le within (subst (IsWal bytes) same is) name above limit answer first_version shown)

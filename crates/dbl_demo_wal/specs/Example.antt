@@ -4,6 +4,7 @@ use Rattle.std.specs.Prelude.{◌≡◌, ℕ, None, Some, List, [], ◌∷◌, c
 use Rattle.dbl_base.specs.Lines.{lines_text}
 use Rattle.dbl_script.specs.ModelTable.declared.table.RawRow.{RawRow}
 use Rattle.dbl_script.specs.ModelTable.declared.table.TableName.{TableName}
+use Rattle.dbl_tables_laws.specs.SourceModel.declared.selected.Selected.{Selected}
 use Rattle.dbl_tables_laws.specs.SourceModel.Selected.{Selects}
 use Rattle.dbl_demo_wal.specs.Groups.{group_end}
 use Rattle.dbl_demo_wal.specs.CrashState.{added_by, with_entries}
@@ -39,6 +40,10 @@ example_name_row name = record { cells = Some name ∷ [] }
 abbrev pub example_both_rows : List RawRow
 example_both_rows = example_name_row (codes "a") ∷ example_name_row (codes "b") ∷ []
 
+-- The answer with these rows, of version 1.
+abbrev pub example_answer : Selected
+example_answer = record { version = 1; rows = example_both_rows }
+
 -- The log with the initial row that a select of the example finds, and the rows that it returns. Its groups end after four steps and seven.
 pub record IsSelectExample (bytes : List ℕ) (wal : Wal) : Type 0 where
   pub script : wal.script ≡ lines_text example_workload_lines
@@ -50,7 +55,7 @@ pub record IsSelectExample (bytes : List ℕ) (wal : Wal) : Type 0 where
   -- Other rows are committed at the call and at the return.
   pub at_call : AreRowsShown wal.workload.tables (acts_at wal.workload 0) example_wal_name None 10 (example_name_row (codes "a") ∷ [])
   pub at_return : AreRowsShown wal.workload.tables (acts_at wal.workload 7) example_wal_name None 10 (example_name_row (codes "b") ∷ [])
-  pub answered : Selects example_wal_name None 10 (history_in wal) (history_in (with_entries wal (added_by wal 0 7 []))) example_both_rows
+  pub answered : Selects example_wal_name None 10 (history_in wal) (history_in (with_entries wal (added_by wal 0 7 []))) example_answer
 
 -- The example's log and select exist.
 abbrev pub ASelectStands : Type 0

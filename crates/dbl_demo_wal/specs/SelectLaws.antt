@@ -3,6 +3,7 @@ use Rattle.std.specs.Prelude.{◌≡◌, ℕ, ◌≤◌, Option, None, Some, Lis
 use Rattle.dbl_script.specs.ModelTable.declared.row.Key.{Key}
 use Rattle.dbl_script.specs.ModelTable.declared.table.RawRow.{RawRow}
 use Rattle.dbl_script.specs.ModelTable.declared.table.TableName.{TableName}
+use Rattle.dbl_tables_laws.specs.SourceModel.declared.selected.Selected.{Selected}
 use Rattle.dbl_tables_laws.specs.SourceModel.Selected.{Selects}
 use Rattle.dbl_tables_laws.specs.TablesRows.declared.demo_table.DemoTable.{DemoTable}
 use Rattle.dbl_tables_laws.specs.TablesRows.Acts.{Accepted}
@@ -25,12 +26,12 @@ abbrev pub RowsShownAreOne : Type 0
 RowsShownAreOne = (tables : List DemoTable) (past : List Accepted) (name : TableName) (above : Option Key) (limit : ℕ) (a b : List RawRow)
     → AreRowsShown tables past name above limit a → AreRowsShown tables past name above limit b → AreOneAt (found tables name) above a b
 
--- A select runs some steps, takes the rows of the store, and runs some more: these are the rows of one position between its call and its
--- return, for every choice of captured tables.
+-- A select runs some steps, takes the rows of the store, and runs some more: version 1 and these rows are those of one position between
+-- its call and its return, for every choice of captured tables.
 abbrev pub SelectsAreAnswered : Type 0
 SelectsAreAnswered = (bytes : List ℕ) (wal : Wal) (done between upto : ℕ) (name : TableName) (above : Option Key) (limit : ℕ)
-    (rows : List RawRow)
+    (answer : Selected) → answer.version ≡ 1
     → IsSilent wal.workload wal.entries done → done ≤ between → between ≤ upto → upto ≤ length (steps_of wal.workload)
     → IsWal bytes (with_entries wal (added_by wal done upto []))
-    → AreRowsShown wal.workload.tables (acts_at wal.workload between) name above limit rows
-    → Selects name above limit (history_in wal) (history_in (with_entries wal (added_by wal done upto []))) rows
+    → AreRowsShown wal.workload.tables (acts_at wal.workload between) name above limit answer.rows
+    → Selects name above limit (history_in wal) (history_in (with_entries wal (added_by wal done upto []))) answer

@@ -22,7 +22,7 @@ use Rattle.dbl_source.specs.SourceLog.declared.reader_position.ReaderPosition.{R
 use Rattle.dbl_source.specs.SourceLog.Histories.{history_of}
 use Rattle.dbl_source.specs.SourceLog.Numbers.{lsn_of}
 use Rattle.dbl_source.proofs.SourceLogLogLemmas.{length-history}
-use Rattle.dbl_source.proofs.LogStates.{begun_after, is_head}
+use Rattle.dbl_source.proofs.LogStates.{begun_after, is_entry, is_head}
 use Rattle.dbl_demo_workload.specs.DemoWal.declared.entry.Entry.TheVariants.{Confirms}
 use Rattle.dbl_demo_workload.specs.DemoWal.Groups.{released}
 use Rattle.dbl_demo_workload.specs.DemoWal.Sound.{logged_in}
@@ -51,13 +51,6 @@ module _ {D : Type 0} (model : DiskModel D) (old new : Demo D) (wal : Wal) (of_o
     moved_on : new.place ≡ old.place → HasState (HasDemoState model) new (Moved s)
     moved_on place = leads_moved model old new wal (added_by wal old.done upto []) (commits_added wal old.done upto) of_old place s stands done.is
 
-    pub lead_entry : (name : TableName) (entry : Option RawTable) → AnswersEntry name old new entry → HasState (HasDemoState model) new (IsDescribed name entry s)
-    lead_entry name entry answer =
-        let was : s ≡ standing_in wal old.place = stood_for model old wal s of_old stands in
-        let is : entry ≡ entry_of s.history name =
-        answer.is ∙ ap (λ (tables : List LogTable). entry_of (history_of tables []) name) of_old.running.tables ∙ ap (λ (t : SourceState). entry_of t.history name) (sym was) in
-        stood_as (HasDemoState model) new (Moved s) (IsDescribed name entry s) (λ t moved. (moved, is)) (moved_on answer.reader.place)
-
     -- the wal's history has grown
     grows : length (history_in wal).commits ≤ length (logged_in next.entries)
     grows = omega (
@@ -70,6 +63,14 @@ module _ {D : Type 0} (model : DiskModel D) (old new : Demo D) (wal : Wal) (of_o
     moves place same =
         subst (λ (p : Option ReaderPosition). Moved (standing_in wal old.place) (standing_in next p)) (sym same)
         (standing_moves wal (added_by wal old.done upto []) old.place (commits_added wal old.done upto) of_old.running.reader.placed)
+
+    pub lead_entry : (name : TableName) (entry : Option RawTable) → AnswersEntry name old new entry → HasState (HasDemoState model) new (IsDescribed name entry s)
+    lead_entry name entry answer =
+        let is : entry ≡ entry_of (history_of (tables_of next) []) name = answer.is ∙ ap (λ (tables : List LogTable). entry_of (history_of tables []) name) of_old.running.tables in
+        leads model old new wal next s (IsDescribed name entry) of_old done.is stands (
+          moves new.place answer.reader.place,
+          is_entry (tables_of next) (logged_in next.entries) (confirmed_of next) (standing_in wal old.place) name entry (history_grows wal (added_by wal old.done upto []) (commits_added wal old.done upto)) is,
+        )
 
     pub lead_head : (lsn : Lsn) → AnswersHead old new lsn → HasState (HasDemoState model) new (IsHeaded lsn s)
     lead_head lsn answer =

@@ -27,18 +27,18 @@ module _ {D : Type 0} (model : DiskModel D) (old new : Demo D) (wal : Wal) (of_o
   abbrev next : Wal
   next = with_entries wal (added_by wal old.done (second_end old) [])
 
-  shows : Released model wal (second_end old) [] old new → AnswersRows model table above limit old new answered → Selects table above limit (history_in wal) (history_in next) answered.rows
+  shows : Released model wal (second_end old) [] old new → AnswersRows model table above limit old new answered → Selects table above limit (history_in wal) (history_in next) answered
   shows done answer =
       let silent = of_old.running.silent in
       let long : length old.steps ≡ length (steps_of wal.workload) = ap (λ (l : List Step). length l) of_old.running.steps in
       let there : old.done ≤ length old.steps = (let t = silent.there in omega (arith, t, long)) in
       let first : next_end old ≤ length old.steps = end_within old.steps old.done there in
       let last : second_end old ≤ length old.steps = end_within old.steps (next_end old) first in
-      selects_answered done.is.running.lists.bytes wal old.done (next_end old) (second_end old) table above limit answered.rows silent (end_later old.steps old.done) (end_later old.steps (next_end old)) (omega (arith, last, long))
+      selects_answered done.is.running.lists.bytes wal old.done (next_end old) (second_end old) table above limit answered answer.version silent (end_later old.steps old.done) (end_later old.steps (next_end old)) (omega (arith, last, long))
       (wal_of model new next done.is.running) (answer.are wal of_old)
 
   pub lead_select : (s : SourceState) → HasDemoState model old s → Released model wal (second_end old) [] old new → AnswersRows model table above limit old new answered → HasState (HasDemoState model) new (IsSelectAnswer (Unit {0}) table above limit answered s)
   lead_select s stands done answer =
       leads model old new wal next s (IsSelectAnswer (Unit {0}) table above limit answered) of_old done.is stands
       (subst (λ (p : Option ReaderPosition). IsSelectAnswer (Unit {0}) table above limit answered (standing_in wal old.place) (standing_in next p)) (sym answer.reader.place)
-      (standing_moves wal (added_by wal old.done (second_end old) []) old.place (commits_added wal old.done (second_end old)) of_old.running.reader.placed, λ honest. (answer.version, shows done answer)))
+      (standing_moves wal (added_by wal old.done (second_end old) []) old.place (commits_added wal old.done (second_end old)) of_old.running.reader.placed, λ honest. shows done answer))

@@ -4,9 +4,10 @@ use Rattle.dbl_disk.specs.Model.{DiskModel}
 use Rattle.dbl_source.specs.ModelHistory.History.{IsRising}
 use Rattle.dbl_source.specs.ModelHistory.Fit.{IsFitHistory}
 use Rattle.dbl_source.specs.SourceModel.Standings.{Reading, SourceState, CrashState, left_of}
+use Rattle.dbl_source.specs.SourceModel.Growth.{KeepsColumns}
 use Rattle.dbl_source.specs.SourceModel.Stated.{IsReadRight}
 use Rattle.dbl_source.specs.SourceLog.declared.reader_position.ReaderPosition.{ReaderPosition}
-use Rattle.dbl_source_log.proofs.LogLemmas.{is_rising}
+use Rattle.dbl_source_log.proofs.LogLemmas.{is_rising, keeps_columns}
 use Rattle.dbl_source_log.proofs.ReaderLemmas.{read_right}
 use Rattle.dbl_demo_workload.specs.DemoWal.Sound.{logged_in}
 use Rattle.dbl_demo_workload.specs.DemoWal.Wals.{Wal, IsWal, forms_of}
@@ -63,6 +64,11 @@ module _ {D : Type 0} (model : DiskModel D) where
 
   pub rising_so : (demo : Demo D) (s : SourceState) → HasDemoState model demo s → IsRising s.history
   rising_so demo s a = subst (λ (t : SourceState). IsRising t.history) (sym a.2) (is_rising (tables_of a.0) (logged_in a.0.entries))
+
+  -- No commit of the demo source's history alters a table.
+  pub unaltered_so : (demo : Demo D) (s : SourceState) → HasDemoState model demo s → KeepsColumns s.history
+  unaltered_so demo s a =
+      subst (λ (t : SourceState). KeepsColumns t.history) (sym a.2) (keeps_columns (tables_of a.0) (logged_in a.0.entries))
 
   right_at : (wal : Wal) (bytes : List ℕ) (place : Option ReaderPosition) (r : Reading) → IsWal bytes wal
       → option_map (wal_reading wal) place ≡ Some r → IsReadRight (history_in wal) r

@@ -31,8 +31,10 @@ use Rattle.dbl_model_history.specs.KeyedRows.{AreFirst, last_key}
 use Rattle.dbl_model_history.proofs.BoundLemmas.{first_is_there}
 use Rattle.dbl_model_history.proofs.ImageLemmas.{table_one}
 use Rattle.dbl_model_history.proofs.RowKeys.{fit_rows}
+use Rattle.dbl_source.specs.SourceModel.declared.selected.Selected.{Selected as SelectAnswer}
 use Rattle.dbl_source.specs.SourceModel.Selected.{rows_up_to, keyed_row, AreFirstOf, AreAnswered}
 use Rattle.dbl_source.proofs.SourceModelGrowthLemmas.{rows_are}
+use Rattle.dbl_source.proofs.SourceModelPlainLemmas.{typed_rows}
 use Rattle.dbl_window.specs.declared.error.WindowError.{WindowError}
 use Rattle.dbl_window.specs.declared.error.WindowError.TheVariants as window
 use Rattle.dbl_window.specs.Plans.{Plan, Chunk}
@@ -83,11 +85,12 @@ captured_stays s t infos same are = record {
 }
 
 -- the answered rows are the table's first ones at their place
-pub first_answered : (infos : List TableInfo) (history : History) (plan : Plan) (from upto : ℕ) (rows : List RawRow) → IsCaptured infos history plan → IfSome plan.above (IsKeyOf plan.info)
-    → (answered : AreAnswered history from upto plan.info.name plan.above plan.limit rows)
-    → AreFirst plan.info (rows_up_to infos history answered.place plan.table) plan.above plan.limit (map (keyed_row infos plan.table plan.info) rows)
-first_answered infos history plan from upto rows captured starts answered =
-    let are = answered.are infos captured.are in
+pub first_answered : (infos : List TableInfo) (history : History) (plan : Plan) (from upto : ℕ) (answer : SelectAnswer) → IsFitHistory history → IsCaptured infos history plan → IfSome plan.above (IsKeyOf plan.info)
+    → (answered : AreAnswered history from upto plan.info.name plan.above plan.limit answer)
+    → AreFirst plan.info (rows_up_to infos history answered.place plan.table) plan.above plan.limit (map (keyed_row infos plan.table plan.info) answer.rows)
+first_answered infos history plan from upto answer fit captured starts answered =
+    let rows : List RawRow = answer.rows in
+    let are = typed_rows history answered.place plan.info.name plan.above plan.limit rows infos fit.unaltered captured.are answered.are in
     let number : number_of infos plan.info.name ≡ Some plan.table = number_is history infos plan.table plan.info captured.are captured.here in
     let own : (info : TableInfo) × AreFirstOf infos plan.table info (rows_up_to infos history answered.place) plan.above plan.limit rows =
     subst (λ (o : Option ℕ). IfSome o (λ t. (info : TableInfo) × AreFirstOf infos t info (rows_up_to infos history answered.place) plan.above plan.limit rows)) number are in
@@ -320,26 +323,26 @@ wide_rows infos history plan place fit captured key cells there =
     row.wide ∙ ap width info_is
 
 -- a fault of the rows that a conforming source answered is an unreadable cell of its history
-pub honest_fault : (infos : List TableInfo) (history : History) (plan : Plan) (from upto : ℕ) (answered : List RawRow) (e : WindowError) → IsFitHistory history → IsCaptured infos history plan
-    → IfSome plan.above (IsKeyOf plan.info) → (are : AreAnswered history from upto plan.info.name plan.above plan.limit answered) → rows_read plan 0 plan.above answered ≡ Err e
+pub honest_fault : (infos : List TableInfo) (history : History) (plan : Plan) (from upto : ℕ) (answer : SelectAnswer) (e : WindowError) → IsFitHistory history → IsCaptured infos history plan
+    → IfSome plan.above (IsKeyOf plan.info) → (are : AreAnswered history from upto plan.info.name plan.above plan.limit answer) → rows_read plan 0 plan.above answer.rows ≡ Err e
     → IsUnreadable plan.info (rows_up_to infos history are.place plan.table) e
-honest_fault infos history plan from upto answered e fit captured starts are h =
-    bad_rows infos plan (rows_up_to infos history are.place plan.table) 0 plan.limit plan.above answered e captured.here
-    (wide_rows infos history plan are.place fit captured) (omega arith) (first_answered infos history plan from upto answered captured starts are) h
+honest_fault infos history plan from upto answer e fit captured starts are h =
+    bad_rows infos plan (rows_up_to infos history are.place plan.table) 0 plan.limit plan.above answer.rows e captured.here
+    (wide_rows infos history plan are.place fit captured) (omega arith) (first_answered infos history plan from upto answer fit captured starts are) h
 
 never_bad : (info : TableInfo) (at : Key → Option (List Val)) (row : ℕ) → IsUnreadable info at (window.BadChunk row) → ⊥
 never_bad info at row bad = let e : window.BadChunk row ≡ window.Cell bad.column.name (fault_of bad.column.ty bad.text) = bad.is in cc
 
-pub never_bad_chunk : (infos : List TableInfo) (history : History) (plan : Plan) (from upto : ℕ) (answered : List RawRow) (row : ℕ) → IsFitHistory history → IsCaptured infos history plan
-    → IfSome plan.above (IsKeyOf plan.info) → AreAnswered history from upto plan.info.name plan.above plan.limit answered → rows_read plan 0 plan.above answered ≡ Err (window.BadChunk row) → ⊥
-never_bad_chunk infos history plan from upto answered row fit captured starts are h =
-    never_bad plan.info (rows_up_to infos history are.place plan.table) row (honest_fault infos history plan from upto answered (window.BadChunk row) fit captured starts are h)
+pub never_bad_chunk : (infos : List TableInfo) (history : History) (plan : Plan) (from upto : ℕ) (answer : SelectAnswer) (row : ℕ) → IsFitHistory history → IsCaptured infos history plan
+    → IfSome plan.above (IsKeyOf plan.info) → AreAnswered history from upto plan.info.name plan.above plan.limit answer → rows_read plan 0 plan.above answer.rows ≡ Err (window.BadChunk row) → ⊥
+never_bad_chunk infos history plan from upto answer row fit captured starts are h =
+    never_bad plan.info (rows_up_to infos history are.place plan.table) row (honest_fault infos history plan from upto answer (window.BadChunk row) fit captured starts are h)
 
-pub unreadable_cell : (infos : List TableInfo) (history : History) (plan : Plan) (from upto : ℕ) (answered : List RawRow) (name : List ℕ) (error : ValueError) → IsFitHistory history → IsCaptured infos history plan
-    → IfSome plan.above (IsKeyOf plan.info) → AreAnswered history from upto plan.info.name plan.above plan.limit answered → rows_read plan 0 plan.above answered ≡ Err (window.Cell name error)
+pub unreadable_cell : (infos : List TableInfo) (history : History) (plan : Plan) (from upto : ℕ) (answer : SelectAnswer) (name : List ℕ) (error : ValueError) → IsFitHistory history → IsCaptured infos history plan
+    → IfSome plan.above (IsKeyOf plan.info) → AreAnswered history from upto plan.info.name plan.above plan.limit answer → rows_read plan 0 plan.above answer.rows ≡ Err (window.Cell name error)
     → HasUnreadable infos history plan name error
-unreadable_cell infos history plan from upto answered name error fit captured starts are h =
-    let bad = honest_fault infos history plan from upto answered (window.Cell name error) fit captured starts are h in
+unreadable_cell infos history plan from upto answer name error fit captured starts are h =
+    let bad = honest_fault infos history plan from upto answer (window.Cell name error) fit captured starts are h in
     let e : window.Cell name error ≡ window.Cell bad.column.name (fault_of bad.column.ty bad.text) = bad.is in
     let name_is : name ≡ bad.column.name = cc in
     let error_is : error ≡ fault_of bad.column.ty bad.text = cc in
@@ -358,16 +361,16 @@ unreadable_cell infos history plan from upto answered name error fit captured st
     }
 
 -- what was read of the rows that a conforming source answered is what was selected
-pub selected_chunk : (infos : List TableInfo) (history : History) (from upto : ℕ) (answered : List RawRow) (chunk : Chunk) → IsCaptured infos history chunk.plan
-    → IfSome chunk.plan.above (IsKeyOf chunk.plan.info) → AreAnswered history from upto chunk.plan.info.name chunk.plan.above chunk.plan.limit answered
-    → chunk_read chunk.plan answered ≡ Ok chunk.rows → chunk.through ≡ last_key chunk.plan.above chunk.rows → chunk.done ≡ nat_lt (length chunk.rows) chunk.plan.limit
+pub selected_chunk : (infos : List TableInfo) (history : History) (from upto : ℕ) (answer : SelectAnswer) (chunk : Chunk) → IsFitHistory history → IsCaptured infos history chunk.plan
+    → IfSome chunk.plan.above (IsKeyOf chunk.plan.info) → AreAnswered history from upto chunk.plan.info.name chunk.plan.above chunk.plan.limit answer
+    → chunk_read chunk.plan answer.rows ≡ Ok chunk.rows → chunk.through ≡ last_key chunk.plan.above chunk.rows → chunk.done ≡ nat_lt (length chunk.rows) chunk.plan.limit
     → IsSelected infos history from upto chunk
-selected_chunk infos history from upto answered chunk captured starts are read through done = record {
+selected_chunk infos history from upto answer chunk fit captured starts are read through done = record {
   place = are.place;
   not_before = are.not_before;
   not_after = are.not_after;
   first = subst (λ (rows : List (Key × Row)). AreFirst chunk.plan.info (rows_up_to infos history are.place chunk.plan.table) chunk.plan.above chunk.plan.limit rows)
-      (sym (read_answered infos chunk.plan answered chunk.rows captured.here read).same) (first_answered infos history chunk.plan from upto answered captured starts are);
+      (sym (read_answered infos chunk.plan answer.rows chunk.rows captured.here read).same) (first_answered infos history chunk.plan from upto answer fit captured starts are);
   through_is = through;
   done_is = done;
 }

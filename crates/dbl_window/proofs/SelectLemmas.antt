@@ -11,7 +11,6 @@ use Rattle.dbl_model_history.specs.KeyedRows.{last_key}
 use Rattle.dbl_source.specs.SourceModel.Standings.{SourceState, HasState}
 use Rattle.dbl_source.specs.SourceModel.declared.selected.Selected.{Selected as SelectAnswer}
 use Rattle.dbl_source.specs.SourceModel.Selected.{Selects}
-use Rattle.dbl_source.specs.SourceModel.Answered.{IsSelectAnswer}
 use Rattle.dbl_source.specs.SourceModel.Calls.{Moved}
 use Rattle.dbl_source.specs.SourceModel.Trace.{Trace, RowsSelected, IsTakenBy, LastAnswerIs}
 use Rattle.dbl_source.specs.SourceLog.declared.error.SourceError.{SourceError}
@@ -51,15 +50,6 @@ still_dead stands is_live source s t lives dead is =
     let contra : false ≡ true = sym dead ∙ lives t is in
     absurd (cc)
 
--- the rows of an answer, without its version
-pub with_rows : {S : Type 0} (stands : S → SourceState → Type 0) (source : S) (honest : Type 0) (name : TableName) (above : Option Key) (limit : ℕ) (s : SourceState) (answer : SelectAnswer)
-    → HasState stands source (IsSelectAnswer honest name above limit answer s) → HasState stands source (λ t. Moved s t × (honest → Selects name above limit s.history t.history answer.rows))
-with_rows stands source honest name above limit s answer stood = record {
-  standing = stood.standing;
-  is = stood.is;
-  holds = (stood.holds.0, λ conforms. (stood.holds.1 conforms).1);
-}
-
 -- what holds at any rate holds of an answer
 pub on_ok : {T E P : Type 0} (r : Result T E) → P → OnOk r P
 on_ok (Ok x) holds = holds
@@ -94,14 +84,14 @@ read_so plan told answer (Err e) tells read =
 moved_captured : (infos : List TableInfo) (plan : Plan) (s t : SourceState) → Moved s t → IsCaptured infos s.history plan → IsCaptured infos t.history plan
 moved_captured infos plan s t moved captured = record { are = captured_stays s.history t.history infos moved.grows.tables captured.are; here = captured.here }
 
-pub selects_so : (plan : Plan) (rows : List RawRow) (chunk : Chunk) (s t : SourceState) → Moved s t → IfSome plan.above (IsKeyOf plan.info)
-    → Selects plan.info.name plan.above plan.limit s.history t.history rows → chunk.plan ≡ plan → chunk_read plan rows ≡ Ok chunk.rows → chunk.through ≡ last_key plan.above chunk.rows
+pub selects_so : (plan : Plan) (answer : SelectAnswer) (chunk : Chunk) (s t : SourceState) → Moved s t → IsFitHistory t.history → IfSome plan.above (IsKeyOf plan.info)
+    → Selects plan.info.name plan.above plan.limit s.history t.history answer → chunk.plan ≡ plan → chunk_read plan answer.rows ≡ Ok chunk.rows → chunk.through ≡ last_key plan.above chunk.rows
     → chunk.done ≡ nat_lt (length chunk.rows) plan.limit → SelectsChunk plan chunk s t
-selects_so plan rows chunk s t moved starts selects plan_is read through done infos captured =
-    (subst (λ (p : Plan). IsCaptured infos t.history p → IfSome p.above (IsKeyOf p.info) → Selects p.info.name p.above p.limit s.history t.history rows → chunk_read p rows ≡ Ok chunk.rows
+selects_so plan answer chunk s t moved fit starts selects plan_is read through done infos captured =
+    (subst (λ (p : Plan). IsCaptured infos t.history p → IfSome p.above (IsKeyOf p.info) → Selects p.info.name p.above p.limit s.history t.history answer → chunk_read p answer.rows ≡ Ok chunk.rows
     → chunk.through ≡ last_key p.above chunk.rows → chunk.done ≡ nat_lt (length chunk.rows) p.limit
     → IsSelected infos t.history (length s.history.commits) (length t.history.commits) chunk)
-    plan_is (selected_chunk infos t.history (length s.history.commits) (length t.history.commits) rows chunk))
+    plan_is (selected_chunk infos t.history (length s.history.commits) (length t.history.commits) answer chunk fit))
     (moved_captured infos plan s t moved captured) starts selects read through done
 
 -- an error of the reading but out of memory is the rows' fault
@@ -116,15 +106,15 @@ fault_of_rows plan rows result e read is not_failed not_memory =
       ]
     ]
 
-pub never_so : (plan : Plan) (rows : List RawRow) (result : Result Chunk WindowError) (s t : SourceState) (infos : List TableInfo) (row : ℕ) → IsReadAs plan rows result → Moved s t → IsFitHistory t.history
-    → IfSome plan.above (IsKeyOf plan.info) → Selects plan.info.name plan.above plan.limit s.history t.history rows → IsCaptured infos s.history plan → result ≡ Err (window.BadChunk row) → ⊥
-never_so plan rows result s t infos row read moved fit starts selects captured is =
-    never_bad_chunk infos t.history plan (length s.history.commits) (length t.history.commits) rows row fit (moved_captured infos plan s t moved captured) starts selects
-    (fault_of_rows plan rows result (window.BadChunk row) read is (λ e. (let never : ⊥ = cc in never)) (λ e. (let never : ⊥ = cc in never)))
+pub never_so : (plan : Plan) (answer : SelectAnswer) (result : Result Chunk WindowError) (s t : SourceState) (infos : List TableInfo) (row : ℕ) → IsReadAs plan answer.rows result → Moved s t → IsFitHistory t.history
+    → IfSome plan.above (IsKeyOf plan.info) → Selects plan.info.name plan.above plan.limit s.history t.history answer → IsCaptured infos s.history plan → result ≡ Err (window.BadChunk row) → ⊥
+never_so plan answer result s t infos row read moved fit starts selects captured is =
+    never_bad_chunk infos t.history plan (length s.history.commits) (length t.history.commits) answer row fit (moved_captured infos plan s t moved captured) starts selects
+    (fault_of_rows plan answer.rows result (window.BadChunk row) read is (λ e. (let never : ⊥ = cc in never)) (λ e. (let never : ⊥ = cc in never)))
 
-pub cell_so : (plan : Plan) (rows : List RawRow) (result : Result Chunk WindowError) (s t : SourceState) (infos : List TableInfo) (name : List ℕ) (error : ValueError) → IsReadAs plan rows result → Moved s t
-    → IsFitHistory t.history → IfSome plan.above (IsKeyOf plan.info) → Selects plan.info.name plan.above plan.limit s.history t.history rows → IsCaptured infos s.history plan
+pub cell_so : (plan : Plan) (answer : SelectAnswer) (result : Result Chunk WindowError) (s t : SourceState) (infos : List TableInfo) (name : List ℕ) (error : ValueError) → IsReadAs plan answer.rows result → Moved s t
+    → IsFitHistory t.history → IfSome plan.above (IsKeyOf plan.info) → Selects plan.info.name plan.above plan.limit s.history t.history answer → IsCaptured infos s.history plan
     → result ≡ Err (window.Cell name error) → HasUnreadable infos t.history plan name error
-cell_so plan rows result s t infos name error read moved fit starts selects captured is =
-    unreadable_cell infos t.history plan (length s.history.commits) (length t.history.commits) rows name error fit (moved_captured infos plan s t moved captured) starts selects
-    (fault_of_rows plan rows result (window.Cell name error) read is (λ e. (let never : ⊥ = cc in never)) (λ e. (let never : ⊥ = cc in never)))
+cell_so plan answer result s t infos name error read moved fit starts selects captured is =
+    unreadable_cell infos t.history plan (length s.history.commits) (length t.history.commits) answer name error fit (moved_captured infos plan s t moved captured) starts selects
+    (fault_of_rows plan answer.rows result (window.Cell name error) read is (λ e. (let never : ⊥ = cc in never)) (λ e. (let never : ⊥ = cc in never)))

@@ -21,7 +21,7 @@ use Rattle.dbl_window.specs.declared.error.WindowError.TheVariants.{Failed, Memo
 use Rattle.dbl_window.specs.Plans.{Plan, Chunk}
 use Rattle.dbl_window.specs.Reading.{chunk_read}
 
--- Whether the window's table is captured, with this description. Stated of the catalogue, which never changes.
+-- Whether the window's table is captured, with this description. Stated of the catalogue before all commits: no table is altered.
 pub record IsCaptured (infos : List TableInfo) (history : History) (plan : Plan) : Type 0 where
   pub are : AreInfosOf history infos
   pub here : slice_get infos plan.table ≡ Some plan.info

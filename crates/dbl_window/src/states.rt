@@ -245,7 +245,7 @@ impl Marked {
         requires { IsTrue (S.is_live src.old) }
         ensures selected { MovesTo S.stands src.old src.new result (λ answer s t. Moved s t
             × (S.honest src.new → Selects self.now.info.name self.now.above self.now.limit
-            s.history t.history answer.rows)) }
+            s.history t.history answer)) }
         ensures told { IfOk result (λ answer. LastAnswerIs (S.told src.new) (RowsSelected answer)) }
         ensures starts { IfSome self.now.above (IsKeyOf self.now.info) }
         ensures errors { IfErr result (λ e. (e ≡ WindowError.Failed) ⊎ (e ≡ WindowError.Memory)) }

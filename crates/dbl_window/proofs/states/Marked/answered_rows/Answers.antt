@@ -6,17 +6,17 @@ use Rattle.dbl_source.specs.SourceModel.Calls.{Moved}
 use Rattle.dbl_source.specs.SourceModel.Selected.{Selects}
 use Rattle.std.specs.Prelude.{IfSome}
 use Rattle.dbl_window.specs.Plans.{Plan}
-use Rattle.dbl_window.proofs.SelectLemmas.{still_led, still_dead, with_rows}
+use Rattle.dbl_window.proofs.SelectLemmas.{still_led, still_dead}
 use Rattle.dbl_window.proofs.states.Marked.answered_rows.Goals as goal
 
 pub returns-clause-selected : goal.returns-clause-selected
 returns-clause-selected g c s stands =
     let src = c.select.new.self in
     let frame = c.self.inside.frame in
-    let rows = c.in_ok-select.field-0.rows in
-    subst (λ (p : Plan). HasState g.S.Source.stands src (λ t. Moved s t × (g.S.Source.honest src → Selects p.info.name p.above p.limit s.history t.history rows))) c.self.view_is
-    (subst (λ (above : Option Key). HasState g.S.Source.stands src (λ t. Moved s t × (g.S.Source.honest src → Selects frame.info.name above frame.limit s.history t.history rows))) c.bound.ensures
-    (with_rows g.S.Source.stands src (g.S.Source.honest src) frame.info.name _ frame.limit s c.in_ok-select.field-0 (c.in_ok-select.ensures.selected s stands)))
+    let answer = c.in_ok-select.field-0 in
+    subst (λ (p : Plan). HasState g.S.Source.stands src (λ t. Moved s t × (g.S.Source.honest src → Selects p.info.name p.above p.limit s.history t.history answer))) c.self.view_is
+    (subst (λ (above : Option Key). HasState g.S.Source.stands src (λ t. Moved s t × (g.S.Source.honest src → Selects frame.info.name above frame.limit s.history t.history answer))) c.bound.ensures
+    (c.in_ok-select.ensures.selected s stands))
 
 pub returns-clause-starts : goal.returns-clause-starts
 returns-clause-starts g c = subst (λ (p : Plan). IfSome p.above (IsKeyOf p.info)) c.self.view_is c.self.invariant.is.start

@@ -13,7 +13,8 @@ returns-clause-held g c s stands =
       is = stood.is;
       holds = (
         stood.holds.0,
-        λ honest. selects_so plan c.in_ok-answer.answer.rows chunk s stood.standing stood.holds.0 c.answered_rows.ensures.starts (stood.holds.1 honest) same read through done,
+        λ honest. selects_so plan c.in_ok-answer.answer chunk s stood.standing stood.holds.0
+            (g.met.S.Source.fit c.answered_rows.new.src (left_of stood.standing) (g.met.S.Source.may c.answered_rows.new.src stood.standing stood.is) honest) c.answered_rows.ensures.starts (stood.holds.1 honest) same read through done,
       );
     })
 
@@ -23,7 +24,7 @@ returns-clause-chunk g c = read_so c.args.self _ c.in_ok-answer.answer c.holding
 pub returns-clause-never : goal.returns-clause-never
 returns-clause-never g c s infos row stands honest captured is =
     let stood = c.in_ok-answer.ensures.selected s stands in
-    never_so c.args.self c.in_ok-answer.answer.rows c.holding.result s stood.standing infos row (rows_so c.args.self _ _ c.holding.result c.into_items.ensures c.holding.ensures.read) stood.holds.0
+    never_so c.args.self c.in_ok-answer.answer c.holding.result s stood.standing infos row (rows_so c.args.self _ _ c.holding.result c.into_items.ensures c.holding.ensures.read) stood.holds.0
     (g.met.S.Source.fit c.answered_rows.new.src (left_of stood.standing) (g.met.S.Source.may c.answered_rows.new.src stood.standing stood.is) honest) c.answered_rows.ensures.starts (stood.holds.1 honest) captured is
 
 pub returns-clause-cell : goal.returns-clause-cell
@@ -32,7 +33,7 @@ returns-clause-cell g c s infos column error stands honest captured is =
     record {
       standing = stood.standing;
       is = stood.is;
-      holds = cell_so c.args.self c.in_ok-answer.answer.rows c.holding.result s stood.standing infos column error (rows_so c.args.self _ _ c.holding.result c.into_items.ensures c.holding.ensures.read) stood.holds.0
+      holds = cell_so c.args.self c.in_ok-answer.answer c.holding.result s stood.standing infos column error (rows_so c.args.self _ _ c.holding.result c.into_items.ensures c.holding.ensures.read) stood.holds.0
           (g.met.S.Source.fit c.answered_rows.new.src (left_of stood.standing) (g.met.S.Source.may c.answered_rows.new.src stood.standing stood.is) honest) c.answered_rows.ensures.starts (stood.holds.1 honest) captured is;
     }
 

@@ -127,7 +127,7 @@ FirstLongOffsetsAreOwn = (entry : SessionStart) (s t : SourceState) (first : Off
     → IsFitHistory entry.history → IsFitHistory t.history → BeginsAt entry first s t → IsTooLong first h
     → IsOwnOffset entry t (joined entry.groups) h
 
--- A new connector's first offset that is too long follows from the catalogue, which never changes.
+-- A new connector's first offset that is too long follows from the catalogue, since no table is altered.
 abbrev pub FirstOffsetsAreLong : Type 0
 FirstOffsetsAreLong = (config : Config) (s t : SourceState) (first : Offset) (h : Halt)
     → Moved s t → IsFirstByCatalogue config t.history first → IsTooLong first h

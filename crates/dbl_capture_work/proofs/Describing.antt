@@ -23,17 +23,20 @@ use Rattle.dbl_model_history.specs.declared.cursor.Cursor.{Cursor}
 use Rattle.dbl_model_history.specs.Cursors.{AreCursorsOf}
 use Rattle.dbl_model_history.specs.Fit.{AreInfosOf, IsKeyOf}
 use Rattle.dbl_model_history.specs.History.{History, IsRising, entry_of}
+use Rattle.dbl_source_model.specs.Answered.{IsDescribed}
 use Rattle.dbl_source_model.specs.Calls.{IsHead, Moved}
+use Rattle.dbl_source_model.specs.Growth.{KeepsColumns}
 use Rattle.dbl_source_model.specs.Leaves.{MayFollow}
 use Rattle.dbl_source_model.specs.Standings.{SourceState, CrashState}
 use Rattle.dbl_source_model.proofs.GrowthLemmas.{grows_on}
+use Rattle.dbl_source_model.proofs.PlainLemmas.{entry_described}
 use Rattle.dbl_offset_content.specs.declared.offset.Offset.{Offset}
 use Rattle.dbl_offset.specs.Offsets.{IsOffset}
 use Rattle.dbl_capture_model.proofs.FaithfulItems.{all_weaker}
 use Rattle.dbl_capture_model.specs.Faithful.Lag.{IsUnread}
 use Rattle.dbl_capture_work.specs.declared.halt.Halt.{Halt}
 use Rattle.dbl_capture_work.specs.declared.halt.Halt.TheVariants as halt
-use Rattle.dbl_capture_work.specs.Begins.{AreCounted, AreInfosAt, AreUnread, AreVersionsAt, CanBeCaptured, IsAbsentHalt, IsFaultOf, IsFirstOffsetAtHead, IsFirstAtFault, IsInfoAt, IsOffsetFor, IsVersionAt, MayRest}
+use Rattle.dbl_capture_work.specs.Begins.{AreCounted, AreInfosAt, AreUnread, AreVersionsAt, CanBeCaptured, IsAbsentHalt, IsDescribedAs, IsFaultOf, IsFirstOffsetAtHead, IsFirstAtFault, IsInfoAt, IsOffsetFor, IsVersionAt, MayRest}
 use Rattle.dbl_capture_work.specs.Halts.{model_halt}
 
 -- ---- one table
@@ -76,6 +79,15 @@ entry_halt raw model.Memory cause = inl refl
 pub entry_absent : (history : History) (name : TableName) (raw : RawTable) (h : Halt) → Some raw ≡ entry_of history name → (h ≡ halt.Memory) ⊎ IsEntryHalt raw h → IsAbsentHalt (name ∷ []) history h
 entry_absent history name raw h is (inl memory) = subst (IsAbsentHalt (name ∷ []) history) (sym memory) tt
 entry_absent history name raw h is (inr e) = absent_here history name (Some raw) h is (e.error, e.fault, e.is)
+
+-- ---- one that can be captured
+
+pub described_as : (name : TableName) (raw : RawTable) (info : TableInfo) (version : ℕ) (s t : SourceState) → KeepsColumns t.history → IsDescribed name (Some raw) s t → raw.name ≡ name → IsInfoOf raw info → version ≡ max 1 raw.version
+    → IsDescribedAs name info version s t
+described_as name raw info version s t kept said named is counted =
+    let info_named : info.name ≡ name = sym (ap (λ (r : RawTable). r.name) is) ∙ named in
+    let entry : entry_of s.history info.name ≡ Some raw = ap (entry_of s.history) info_named ∙ sym (entry_described name (Some raw) s t kept said) in
+    (said.0, info_named, record { raw = raw; entry = entry; is = is }, subst (λ (o : Option RawTable). IsSomeAnd o (λ r. version ≡ max 1 r.version)) (sym entry) counted)
 
 -- ---- one of several
 

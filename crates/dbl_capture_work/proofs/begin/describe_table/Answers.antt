@@ -1,6 +1,7 @@
 use Rattle.std.proofs.Common.{◌∙◌, None, sym, ap}
 use Rattle.std.proofs.lemmas.Result.{err_from_is_err_and}
 use Rattle.dbl_model_table.specs.declared.table.TableName.{TableName}
+use Rattle.dbl_source_model.proofs.PlainLemmas.{entry_described}
 use Rattle.dbl_capture_work.specs.declared.halt.Halt.TheVariants as halt
 use Rattle.dbl_capture_work.specs.Halts.{model_halt}
 use Rattle.dbl_capture_work.proofs.Describing.{absent_here, entry_absent, entry_halt}
@@ -12,9 +13,11 @@ returns-in_err-make-in-Some-clause-absent g c s stands =
     let raw = c.in-Some.raw in
     let error = c.in_err-make-in-Some.field-0.0 in
     let stood = c.in_ok-raw.ensures.described s stands in
-    rw (p.1, p.2) (entry_absent s.history c.args.name.now raw (model_halt error) (sym c.in-Some.is ∙ stood.holds.1) (entry_halt raw error c.in_err-make-in-Some.ensures.fault))
+    let is = entry_described c.args.name.now _ s stood.standing (g.met.S.Source.unaltered c.describe.new.self stood.standing stood.is) stood.holds in
+    rw (p.1, p.2) (entry_absent s.history c.args.name.now raw (model_halt error) (sym c.in-Some.is ∙ is) (entry_halt raw error c.in_err-make-in-Some.ensures.fault))
 
 pub returns-in_ok-copy-in-None-clause-absent : goal.returns-in_ok-copy-in-None-clause-absent
 returns-in_ok-copy-in-None-clause-absent g c s stands =
     let stood = c.in_ok-raw.ensures.described s stands in
-    absent_here s.history c.args.name.now None (halt.UnknownTable c.in_ok-copy-in-None.field-0) (sym c.in-None.is ∙ stood.holds.1) (ap (λ (n : TableName). halt.UnknownTable n) c.in_ok-copy-in-None.ensures)
+    let is = entry_described c.args.name.now _ s stood.standing (g.met.S.Source.unaltered c.describe.new.self stood.standing stood.is) stood.holds in
+    absent_here s.history c.args.name.now None (halt.UnknownTable c.in_ok-copy-in-None.field-0) (sym c.in-None.is ∙ is) (ap (λ (n : TableName). halt.UnknownTable n) c.in_ok-copy-in-None.ensures)

@@ -5,6 +5,7 @@ use Rattle.std.specs.List.{AllByRecursion, filter_map, cons_option}
 use Rattle.std.specs.Str.{IsUtf8}
 use Rattle.std.specs.Int.{w64}
 use Rattle.std.proofs.lemmas.Bool.{eqb-false}
+use Rattle.std.proofs.lemmas.List.{length-map}
 use lib.Signed.{mag}
 use Rattle.dbl_value.specs.declared.column_type.PgType.{PgType}
 use Rattle.dbl_value.specs.declared.column_type.PgType.TheVariants as type
@@ -20,13 +21,19 @@ use Rattle.dbl_model_table.specs.declared.table.Column.{Column}
 use Rattle.dbl_model_table.specs.declared.table.RawRow.{RawRow}
 use Rattle.dbl_model_table.specs.declared.table.RawTable.{RawTable}
 use Rattle.dbl_model_table.specs.declared.table.TableInfo.{TableInfo}
+use Rattle.dbl_model_table.specs.declared.change.Body.TheVariants as body
+use Rattle.dbl_model_table.specs.declared.change.Change.{Change}
 use Rattle.dbl_model_table.specs.declared.change.Change.TheVariants as change
 use Rattle.dbl_model_table.specs.Tables.{same_name}
-use Rattle.dbl_model_table.specs.Infos.{raw_column, catalogue_of, IsInfoOf, number_of}
+use Rattle.dbl_model_table.specs.Rows.{changes_of}
+use Rattle.dbl_model_table.specs.Infos.{raw_column, IsInfoOf, number_of}
 use Rattle.dbl_model_history.specs.History.{RawCell, RawChange, RawBody, RawCommit, History, entry_of}
 use Rattle.dbl_model_history.specs.History as raw
 use Rattle.dbl_model_history.specs.Typed.{typed_cell, typed_cells, typed_update, types_of, key_types_of, typed_key, typed_row, typed_change, typed_body, typed_commit}
-use Rattle.dbl_model_history.specs.Ranges.{IsColumnInRange, IsEntryInRange, AreTextsInRange, IsRawCellInRange, IsRawChangeInRange, IsRawBodyInRange, IsRawCommitInRange, HasRanges, IsNameInRange, IsValueInRange, AreValuesInRange, IsCellInRange, IsChangeInRange, IsBodyInRange, IsCommitInRange, IsInfoInRange}
+use Rattle.dbl_model_history.specs.Ranges.{most_raw_events_of, most_raw_events, most_events_of, most_events, IsColumnInRange, IsEntryInRange, AreTextsInRange, IsRawCellInRange, IsRawChangeInRange, IsRawBodyInRange, IsRawCommitInRange, HasRanges, IsNameInRange, IsValueInRange, AreValuesInRange, IsCellInRange, IsChangeInRange, IsBodyInRange, IsCommitInRange, IsInfoInRange}
+use Rattle.dbl_model_history.specs.InForce.{Alteration, plain_commit, infos_by, alteration_in, versioned_from, opening_infos}
+use Rattle.dbl_model_history.specs.VersionRows.{inserts}
+use Rattle.dbl_model_history.specs.FitVersions.{VersionsAreInRange}
 use Rattle.dbl_model_history.specs.Laws.{TypedCommitsAreInRange, InfosAreInRange}
 use Rattle.dbl_model_history.proofs.RowKeys.{some_and}
 
@@ -139,10 +146,17 @@ change_in_range infos (raw.Delete name key old) h =
     (λ table is. (cells_in_range (key_types_of infos table) key h.1, cells_in_range (types_of infos table) old.cells h.2))
 change_in_range infos (raw.Clear name) h = mapped (λ table. change.Clear table) IsChangeInRange (number_of infos name) (λ table is. tt)
 
+no_more_changes : (changes : List RawChange) → length changes ≤ most_raw_events changes
+no_more_changes [] = omega arith
+no_more_changes (raw.Insert name row ∷ changes) = omega (arith, no_more_changes changes)
+no_more_changes (raw.Update name key old cells ∷ changes) = omega (arith, no_more_changes changes)
+no_more_changes (raw.Delete name key old ∷ changes) = omega (arith, no_more_changes changes)
+no_more_changes (raw.Clear name ∷ changes) = omega (arith, no_more_changes changes)
+
 body_in_range : (infos : List TableInfo) (b : RawBody) → IsRawBodyInRange b → IsBodyInRange (typed_body infos b)
 body_in_range infos (raw.Changes changes) h =
     let few : length (filter_map (typed_change infos) changes) ≤ length changes = length-filter_map (typed_change infos) changes in
-    (omega (arith, h.0), filtered (typed_change infos) IsRawChangeInRange IsChangeInRange changes (change_in_range infos) h.1)
+    (omega (arith, few, no_more_changes changes, h.0), filtered (typed_change infos) IsRawChangeInRange IsChangeInRange changes (change_in_range infos) h.1)
 body_in_range infos (raw.Mark value) h = h
 body_in_range infos (raw.Alter name columns rows) h = (omega arith, tt)
 
@@ -155,6 +169,57 @@ commits_in_range infos (c ∷ cs) h = (commit_in_range infos c h.0, commits_in_r
 
 pub typed_in_range : TypedCommitsAreInRange
 typed_in_range infos history h = commits_in_range infos history.commits h.commits
+
+-- ---- commits with the captured tables from each on
+
+typed_events : (infos : List TableInfo) (c : RawChange) → IfSome (typed_change infos c) (λ t. most_events_of t ≤ most_raw_events_of c)
+typed_events infos (raw.Insert name row) = mapped (λ table. change.Insert table (typed_row infos table row)) (λ t. most_events_of t ≤ 1) (number_of infos name) (λ table is. omega arith)
+typed_events infos (raw.Update name key old cells) =
+    mapped (λ table. change.Update table (typed_key infos table key) (option_map (typed_row infos table) old) (typed_update (types_of infos table) cells)) (λ t. most_events_of t ≤ 3) (number_of infos name) (λ table is. omega arith)
+typed_events infos (raw.Delete name key old) =
+    mapped (λ table. change.Delete table (typed_key infos table key) (typed_row infos table old)) (λ t. most_events_of t ≤ 2) (number_of infos name) (λ table is. omega arith)
+typed_events infos (raw.Clear name) = mapped (λ table. change.Clear table) (λ t. most_events_of t ≤ 1) (number_of infos name) (λ table is. omega arith)
+
+few_events : (infos : List TableInfo) (changes : List RawChange) → most_events (filter_map (typed_change infos) changes) ≤ most_raw_events changes
+few_events infos [] = omega arith
+few_events infos (c ∷ changes) = by (typed_change infos c) (typed_events infos c) (few_events infos changes)
+  where
+    by : (o : Option Change) → IfSome o (λ t. most_events_of t ≤ most_raw_events_of c) → most_events (filter_map (typed_change infos) changes) ≤ most_raw_events changes
+        → most_events (cons_option o (filter_map (typed_change infos) changes)) ≤ most_raw_events (c ∷ changes)
+    by None one rest = omega (arith, rest)
+    by (Some t) one rest = omega (arith, one, rest)
+
+few_in_body : (infos : List TableInfo) (c : RawCommit) (b : RawBody) → IsRawBodyInRange b → most_events (changes_of (typed_commit infos (record c { body = b }))) < 2 ^ 62
+few_in_body infos c (raw.Changes changes) h = omega (arith, few_events infos changes, h.0)
+few_in_body infos c (raw.Mark value) h = omega arith
+few_in_body infos c (raw.Alter name columns rows) h = omega arith
+
+inserts_in_range : (infos : List TableInfo) (table : ℕ) (rows : List RawRow) → AllByRecursion (λ row. AreTextsInRange row.cells) rows → AllByRecursion IsChangeInRange (inserts infos table rows)
+inserts_in_range infos table [] h = tt
+inserts_in_range infos table (row ∷ rows) h = (cells_in_range (types_of infos table) row.cells h.0, inserts_in_range infos table rows h.1)
+
+altered_in_range : (infos : List TableInfo) (b : RawBody) → IsRawBodyInRange b → IfSome (alteration_in infos b) (λ alteration. IsBodyInRange (body.Changes (inserts infos alteration.table alteration.rows)))
+altered_in_range infos (raw.Changes changes) h = tt
+altered_in_range infos (raw.Mark value) h = tt
+altered_in_range infos (raw.Alter name columns rows) h = by (number_of infos name)
+  where
+    by : (o : Option ℕ) → IfSome (option_map (λ table. record { table = table; rows = rows }) o) (λ (alteration : Alteration). IsBodyInRange (body.Changes (inserts infos alteration.table alteration.rows)))
+    by None = tt
+    by (Some table) =
+        let long : length (inserts infos table rows) ≡ length rows = length-map rows (λ row. change.Insert table (typed_row infos table row)) in
+        (omega (arith, long, h.few), inserts_in_range infos table rows h.rows)
+
+versions_from : (infos : List TableInfo) (cs : List RawCommit) → AllByRecursion IsRawCommitInRange cs
+    → AllByRecursion (λ v. IsCommitInRange (plain_commit v) × (most_events (changes_of (plain_commit v)) < 2 ^ 62)
+    × IfSome v.altered (λ alteration. IsBodyInRange (body.Changes (inserts v.infos alteration.table alteration.rows)))) (versioned_from infos cs)
+versions_from infos [] h = tt
+versions_from infos (c ∷ cs) h = (
+  (commit_in_range (infos_by c.body infos) c h.0, few_in_body (infos_by c.body infos) c c.body h.0.body, altered_in_range (infos_by c.body infos) c.body h.0.body),
+  versions_from (infos_by c.body infos) cs h.1,
+)
+
+pub versions_in_range : VersionsAreInRange
+versions_in_range infos history h = versions_from (opening_infos history infos) history.commits h.commits
 
 -- ---- infos
 

@@ -6,8 +6,10 @@ pub mod Cursors
 pub mod FitsInfos
 pub mod InForce
 pub mod KeptKeys
+pub mod VersionRows
 pub mod Image
 pub mod Laws
+pub mod FitVersions
 pub mod PlainRows
 pub mod FitChanges
 pub mod ImageNames

@@ -1,6 +1,6 @@
 -- The ranges of numbers and texts in PostgreSQL's types and protocol (PostgreSQL "Logical Replication Message Formats"). An LSN is unsigned
 -- of 64 bits, a time signed of 64 bits, a transaction id and an OID unsigned of 32 bits, and each text is UTF-8.
-use Rattle.std.specs.Prelude.{ℕ, ℤ, ◌<◌, ◌≤◌, ◌^◌, FitsSigned, IsTrue, Option, IfSome, List, length, map, bytes_eq}
+use Rattle.std.specs.Prelude.{ℕ, ℤ, ◌+◌, ◌<◌, ◌≤◌, ◌^◌, FitsSigned, IsTrue, Option, IfSome, List, [], ◌∷◌, length, map, bytes_eq}
 use Rattle.std.specs.List.{AllByRecursion}
 use Rattle.std.specs.Str.{IsUtf8}
 use Rattle.std.specs.Int.{w32, w64}
@@ -75,10 +75,22 @@ pub record IsAlterInRange (table : TableName) (new_columns : List RawColumn) (ne
   pub rows : AllByRecursion (λ row. AreTextsInRange row.cells) new_rows
   pub few : length new_rows < 2 ^ 62
 
--- Whether the contents of a commit are in range. It has fewer than 2^62 changes, as each takes more than four bytes of a log whose
--- positions are LSNs, so that the numbers of its records have 64 bits.
+-- The most events that a change can have: three for an update, which may move its row, and two for a delete.
+abbrev pub most_raw_events_of : RawChange → ℕ
+most_raw_events_of (raw.Insert name row) = 1
+most_raw_events_of (raw.Update name key old cells) = 3
+most_raw_events_of (raw.Delete name key old) = 2
+most_raw_events_of (raw.Clear name) = 1
+
+-- The most events that some changes can have.
+abbrev pub most_raw_events : List RawChange → ℕ
+most_raw_events [] = 0
+most_raw_events (change ∷ changes) = most_raw_events_of change + most_raw_events changes
+
+-- Whether the contents of a commit are in range. Its changes have fewer than 2^62 events, as each event takes more than four bytes of a log
+-- whose positions are LSNs, so that the numbers of its records have 64 bits.
 abbrev pub IsRawBodyInRange : RawBody → Type 0
-IsRawBodyInRange (raw.Changes changes) = (length changes < 2 ^ 62) × AllByRecursion IsRawChangeInRange changes
+IsRawBodyInRange (raw.Changes changes) = (most_raw_events changes < 2 ^ 62) × AllByRecursion IsRawChangeInRange changes
 IsRawBodyInRange (raw.Mark value) = IsUtf8 value
 IsRawBodyInRange (raw.Alter name columns rows) = IsAlterInRange name columns rows
 
@@ -130,6 +142,18 @@ IsChangeInRange (change.Insert table row) = AreValuesInRange row.cells
 IsChangeInRange (change.Update table key old cells) = IsUpdateInRange key old cells
 IsChangeInRange (change.Delete table key old) = AreValuesInRange key.cells × AreValuesInRange old.cells
 IsChangeInRange (change.Clear table) = Unit {0}
+
+-- The most events that a typed change can have.
+abbrev pub most_events_of : Change → ℕ
+most_events_of (change.Insert table row) = 1
+most_events_of (change.Update table key old cells) = 3
+most_events_of (change.Delete table key old) = 2
+most_events_of (change.Clear table) = 1
+
+-- The most events that some typed changes can have.
+abbrev pub most_events : List Change → ℕ
+most_events [] = 0
+most_events (c ∷ changes) = most_events_of c + most_events changes
 
 -- Whether the contents of a typed commit are in range.
 abbrev pub IsBodyInRange : Body → Type 0

@@ -1,4 +1,5 @@
-//! Alterations keep the key of their table.
+//! Alterations: they keep the key of their table, and what follows for the commits.
+ghost use Rattle.dbl_model_history.specs.FitVersions.{VersionsAreInRange};
 ghost use Rattle.dbl_model_history.specs.KeptKeys.{InfosHaveKeys, EntriesAreInForce};
 ghost use Rattle.dbl_model_history.specs.KeptKeys.{VersionsFollow, ShapesAreInForce, ShapesAreDescriptions};
 
@@ -27,4 +28,9 @@ pub fn shapes_are_in_force()
 /// captured.
 pub fn shapes_are_descriptions()
     ensures { ShapesAreDescriptions }
+{}
+
+/// The commits of a history in range are in range, for any captured tables.
+pub fn versions_are_in_range()
+    ensures { VersionsAreInRange }
 {}

@@ -11,7 +11,7 @@ mod window_laws;
 
 pub use alteration_laws::{
     entries_are_in_force, infos_have_keys, shapes_are_descriptions, shapes_are_in_force,
-    versions_follow,
+    versions_are_in_range, versions_follow,
 };
 pub use bound_laws::{
     bounds_part_keys, keys_above_go_on, keys_up_to_go_back, marks_are_short, marks_tell_numbers,

@@ -2,7 +2,7 @@
 use Rattle.std.proofs.Common.{◌≡◌, ◌∙◌, inl, inr, ◌⊎◌, ℕ, ◌+◌, ◌<◌, ◌≤◌, max, Bool, true, false, Option, Some, None, List, [], ◌∷◌, ◌++◌, length, map, refl, sym, ap, subst, arith, append_assoc, length-append}
 use Rattle.std.proofs.lemmas.Bool.{eqb-true}
 use Rattle.std.proofs.lemmas.List.{append-nil, length-map}
-use Rattle.std.specs.Prelude.{◌==◌, if◌then◌else◌, ◌^◌, fold, flat_map, IsSome, IsSomeAnd, IfSome, slice_get}
+use Rattle.std.specs.Prelude.{◌==◌, if◌then◌else◌, ◌^◌, fold, flat_map, IsSome, IsSomeAnd, IfSome, option_map, unwrap_or, slice_get}
 use Rattle.std.specs.List.{AllByRecursion}
 use Rattle.dbl_value.specs.declared.value.Val.{Val}
 use Rattle.dbl_model_table.specs.declared.row.Key.{Key}
@@ -13,11 +13,13 @@ use Rattle.dbl_model_table.specs.declared.change.Change.TheVariants.{Insert, Upd
 use Rattle.dbl_model_table.specs.declared.change.Body.{Body}
 use Rattle.dbl_model_table.specs.declared.change.Body.TheVariants.{Changes, Mark}
 use Rattle.dbl_model_table.specs.declared.change.Commit.{Commit}
+use Rattle.dbl_model_table.specs.Keys.{same_key, new_key_of, given_or_null}
 use Rattle.dbl_model_table.specs.Rows.{Effect, effect_of, row_after, Rows, no_rows, rows_after, rows_from, table_of, changes_of, all_changes}
 use Rattle.dbl_model_history.specs.History.{AreRising}
 use Rattle.dbl_model_history.specs.Fit.{IsFitInsert, IsFitUpdate, IsFitDelete, IsFit, AreFit}
-use Rattle.dbl_model_history.specs.Ranges.{IsChangeInRange, IsBodyInRange, IsCommitInRange}
-use Rattle.dbl_model_event.specs.Events.{Notice, notices}
+use Rattle.dbl_model_history.specs.Ranges.{most_events_of, most_events, IsChangeInRange, IsBodyInRange, IsCommitInRange}
+use Rattle.dbl_model_event.specs.Events.{Notice, notice, move_notices, change_notices, notices}
+use Rattle.dbl_model_event.specs.Events.Content.{Updated}
 use Rattle.dbl_model_history.proofs.MomentLemmas.{lsns}
 use Rattle.dbl_model_history.proofs.PlainLemmas.{rows_from-row_from}
 use Rattle.dbl_model_history.proofs.RowKeys.{some_and}
@@ -180,6 +182,30 @@ module _ (infos : List TableInfo) (table : ℕ) where
       by true is = subst (AllByRecursion IsChangeInRange) (sym (ap (choice c) is)) (low.0, tt)
       by false is = subst (AllByRecursion IsChangeInRange) (sym (ap (choice c) is)) (clears_range (table_of c) (notices infos c))
 
+-- no more events than there can be
+events_of_one : (infos : List TableInfo) (c : Change) → length (notices infos c) ≤ most_events_of c
+events_of_one infos c = by (slice_get infos (table_of c))
+  where
+    made : (c : Change) (info : TableInfo) → length (change_notices (table_of c) info c) ≤ most_events_of c
+    made (Insert t row) info = omega arith
+    made (Update t key old cells) info = moved (same_key key (new_key_of info cells))
+      where
+        moved : (b : Bool) → length (if b then notice t info (Some key) (Updated old cells) ∷ [] else move_notices t info key (new_key_of info cells) old (record { cells = map given_or_null cells })) ≤ 3
+        moved true = omega arith
+        moved false = omega arith
+    made (Delete t key old) info = omega arith
+    made (Clear t) info = omega arith
+
+    by : (o : Option TableInfo) → length (unwrap_or (option_map (λ info. change_notices (table_of c) info c) o) []) ≤ most_events_of c
+    by None = omega arith
+    by (Some info) = made c info
+
+events_few : (infos : List TableInfo) (cs : List Change) → length (flat_map (notices infos) cs) ≤ most_events cs
+events_few infos [] = omega arith
+events_few infos (c ∷ cs) =
+    let both : length (notices infos c ++ flat_map (notices infos) cs) ≡ length (notices infos c) + length (flat_map (notices infos) cs) = length-append (notices infos c) (flat_map (notices infos) cs) in
+    omega (arith, both, events_of_one infos c, events_few infos cs)
+
 -- ---- a course that goes on
 
 below_of : (a b : ℕ) (l : List ℕ) → a ≤ b → AreRising b l → AreRising a l
@@ -249,13 +275,12 @@ module _ (table : ℕ) (c : Course) (v : Versioned) (at : Rows) (start : ℕ) (d
   tick_range (Changes changes) is =
       let le : length (flat_map (ticked v.infos table) changes) ≤ length (flat_map (notices v.infos) changes) =
       ticks_few v.infos table at changes (subst (λ (b : Body). AreFit v.infos at (elim b [ Changes changes ↦ changes | Mark value ↦ [] ])) is valid.changes) in
-      let few : length (flat_map (notices v.infos) changes) < 2 ^ 62 =
-      subst (λ (b : Body). length (flat_map (notices v.infos) (elim b [ Changes changes ↦ changes | Mark value ↦ [] ])) < 2 ^ 62) is valid.few in
+      let few : most_events changes < 2 ^ 62 = subst (λ (b : Body). most_events (elim b [ Changes changes ↦ changes | Mark value ↦ [] ]) < 2 ^ 62) is valid.few in
       let low : IsBodyInRange (Changes changes) = subst IsBodyInRange is valid.in_range.body in
-      subst (λ (b : Body). IsBodyInRange (ticked_body v.infos table b)) (sym is) (lt_of (length (flat_map (ticked v.infos table) changes)) (length (flat_map (notices v.infos) changes)) (2 ^ 62) le few, ticks_range v.infos table changes low.1)
+      subst (λ (b : Body). IsBodyInRange (ticked_body v.infos table b)) (sym is) (lt_of (length (flat_map (ticked v.infos table) changes)) (length (flat_map (notices v.infos) changes)) (most_events changes) (2 ^ 62) le (events_few v.infos changes) few, ticks_range v.infos table changes low.1)
     where
-      lt_of : (a b n : ℕ) → a ≤ b → b < n → a < n
-      lt_of a b n le lt = omega (arith, le, lt)
+      lt_of : (a b c n : ℕ) → a ≤ b → b ≤ c → c < n → a < n
+      lt_of a b c n le more lt = omega (arith, le, more, lt)
   tick_range (Mark value) is = subst (λ (b : Body). IsBodyInRange (ticked_body v.infos table b)) (sym is) (subst IsBodyInRange is valid.in_range.body)
 
   good_more : (after : Rows) → AreKin c.infos v.infos → slice_get v.infos table ≡ slice_get c.infos table → Shows table next_more after → IsGood table next_more after start (done ++ v.lsn.0 ∷ [])

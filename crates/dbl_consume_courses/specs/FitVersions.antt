@@ -1,45 +1,10 @@
--- Valid histories with alterations: what a source's commits must satisfy, each after the rows just before it.
-use Rattle.std.specs.Prelude.{ℕ, ◌<◌, ◌^◌, ◌↔◌, IfSome, IsSome, List, [], ◌∷◌, length, map, flat_map}
-use Rattle.dbl_model_table.specs.declared.row.Key.{Key}
+-- Courses of valid histories with alterations.
+use Rattle.std.specs.Prelude.{ℕ, List}
 use Rattle.dbl_model_table.specs.declared.table.TableInfo.{TableInfo}
-use Rattle.dbl_model_table.specs.declared.change.Body.TheVariants.{Changes}
-use Rattle.dbl_model_table.specs.Rows.{Rows, no_rows, rows_from, changes_of}
-use Rattle.dbl_model_history.specs.Fit.{AreFit}
-use Rattle.dbl_model_history.specs.Laws.{CommitsRise, AreDistinctTables}
-use Rattle.dbl_model_history.specs.Ranges.{IsBodyInRange, IsCommitInRange}
-use Rattle.dbl_model_event.specs.Events.{notices}
 use Rattle.dbl_consume_laws.specs.Commits.{AreFitCommits}
-use Rattle.dbl_consume_courses.specs.Versions.{Alteration, Versioned, plain_commit, AreVersionsFrom, inserts, rows_through}
+use Rattle.dbl_consume_courses.specs.Versions.{Versioned}
 use Rattle.dbl_consume_courses.specs.Courses.{course_from, first_course}
-
--- A valid alteration: its rows are as wide as the new columns, each at a readable key and no two at one, and there is one for each key that
--- had a row just before, and for no other.
-pub record IsFitAlteration (infos : List TableInfo) (before : Rows) (alteration : Alteration) : Type 0 where
-  pub rows : AreFit infos no_rows (inserts infos alteration.table alteration.rows)
-  pub keys : (key : Key) → IsSome (before alteration.table key)
-      ↔ IsSome (rows_from infos no_rows (inserts infos alteration.table alteration.rows) alteration.table key)
-  pub in_range : IsBodyInRange (Changes (inserts infos alteration.table alteration.rows))
-
--- A valid commit after the rows just before it.
-pub record IsFitVersion (before : Rows) (v : Versioned) : Type 0 where
-  -- Each change is valid, in the columns in force.
-  pub changes : AreFit v.infos before (changes_of (plain_commit v))
-  pub altered : IfSome v.altered (IsFitAlteration v.infos before)
-  pub in_range : IsCommitInRange (plain_commit v)
-  -- An event takes more than four bytes of a log whose positions are LSNs.
-  pub few : length (flat_map (notices v.infos) (changes_of (plain_commit v))) < 2 ^ 62
-
--- Whether each of some commits is valid after the rows just before it.
-abbrev pub AreFitFrom : Rows → List Versioned → Type 0
-AreFitFrom before [] = Unit {0}
-AreFitFrom before (v ∷ versions) = IsFitVersion before v × AreFitFrom (rows_through before v) versions
-
--- Whether the commits are those of a valid history of which these tables are captured before all of them.
-pub record AreFitVersions (infos : List TableInfo) (versions : List Versioned) : Type 0 where
-  pub follow : AreVersionsFrom infos versions
-  pub distinct : AreDistinctTables infos
-  pub rise : CommitsRise (map plain_commit versions)
-  pub fit : AreFitFrom no_rows versions
+pub use Rattle.dbl_model_history.specs.FitVersions.{IsFitAlteration, IsFitVersion, AreFitFrom, AreFitVersions}
 
 -- A course satisfies all that the theorems on commits without alterations require of them.
 abbrev pub CoursesAreFit : Type 0

@@ -1,5 +1,5 @@
 -- Texts that are given are UTF-8, and so is all that is made of them: rows, messages and the log. And a commit has few changes.
-use Rattle.std.proofs.Common.{◌≡◌, ◌∙◌, ◌+◌, ◌<◌, ◌≤◌, ◌^◌, ℕ, zero, suc, Bool, true, false, cond, Option, Some, None, List, [], ◌∷◌, ◌++◌, length, map, refl, subst, arith}
+use Rattle.std.proofs.Common.{◌≡◌, ◌∙◌, ◌+◌, ◌*◌, ◌<◌, ◌≤◌, ◌^◌, ℕ, zero, suc, Bool, true, false, cond, Option, Some, None, List, [], ◌∷◌, ◌++◌, length, map, refl, subst, arith}
 use Rattle.std.specs.Prelude.{not, if◌then◌else◌, IfSome, option_map, option_and_then, unwrap_or, slice_get, filter_map, fold, sum, bytes_eq}
 use Rattle.std.specs.List.{AllByRecursion, cons_option}
 use Rattle.std.specs.Str.{IsUtf8}
@@ -21,7 +21,7 @@ use Rattle.dbl_model_table.proofs.Lists.{and_right}
 use Rattle.dbl_tables_rows.specs.ModelHistory.History.{RawCell, RawChange, name_of}
 use Rattle.dbl_tables_rows.specs.ModelHistory.History.RawCell.{Given, Unchanged}
 use Rattle.dbl_tables_rows.specs.ModelHistory.History.RawChange.{Insert, Update, Delete, Clear}
-use Rattle.dbl_tables_rows.specs.ModelHistory.Ranges.{IsNameInRange, IsEntryInRange, AreTextsInRange, IsRawCellInRange, IsRawChangeInRange}
+use Rattle.dbl_tables_rows.specs.ModelHistory.Ranges.{most_raw_events, IsNameInRange, IsEntryInRange, AreTextsInRange, IsRawCellInRange, IsRawChangeInRange}
 use Rattle.dbl_tables_rows.specs.ModelCommit.Stated.{list_of}
 use Rattle.dbl_tables_rows.specs.SourceLog.declared.logged.LogTable.{LogTable}
 use Rattle.dbl_tables_rows.specs.SourceLog.RawChanges.{insert_of, update_of, delete_of, raw_changes, changes_from}
@@ -207,5 +207,12 @@ all_many tables rows (m ∷ ms) =
     let total : sum (map size_in (m ∷ ms)) ≡ (0 + size_in m) + sum (map size_in ms) = fold_from (0 + size_in m) (map size_in ms) in
     omega (arith, both, total, many tables rows m, all_many tables next ms)
 
-pub few_changes : (tables : List LogTable) (rows : TextRows) (ms : List Message) → entry_size ms ≤ 268435456 → length (changes_from tables rows ms) < 2 ^ 62
-few_changes tables rows ms short = omega (arith, all_many tables rows ms, short)
+events_of_changes : (changes : List RawChange) → most_raw_events changes ≤ 3 * length changes
+events_of_changes [] = omega arith
+events_of_changes (Insert name row ∷ changes) = omega (arith, events_of_changes changes)
+events_of_changes (Update name key old cells ∷ changes) = omega (arith, events_of_changes changes)
+events_of_changes (Delete name key old ∷ changes) = omega (arith, events_of_changes changes)
+events_of_changes (Clear name ∷ changes) = omega (arith, events_of_changes changes)
+
+pub few_changes : (tables : List LogTable) (rows : TextRows) (ms : List Message) → entry_size ms ≤ 268435456 → most_raw_events (changes_from tables rows ms) < 2 ^ 62
+few_changes tables rows ms short = omega (arith, events_of_changes (changes_from tables rows ms), all_many tables rows ms, short)

@@ -133,6 +133,7 @@ told_row errors.BadRow line = inr (refl, λ same. cc)
 told_row (errors.RowLocked by) line = inr (refl, λ same. cc)
 told_row errors.NoRow line = inr (refl, λ same. cc)
 told_row errors.RowExists line = inr (refl, λ same. cc)
+told_row errors.BadAlter line = inr (refl, λ same. cc)
 
 -- a row's insert, whose cells are the row's
 module _ (tables : List DemoTable) (past : List Accepted) (row : ScriptRow) (cells : List NamedCell) (are : cells ≡ row.cells) (new : FirstRows) where

@@ -3,7 +3,7 @@ use std::alloc::{AllocError, AllocFailed};
 use thiserror::Error;
 
 /// Why a session's step isn't accepted: the first cause of this list, except that a locked row or
-/// table comes after an unreadable row, and before a missing or an existing row.
+/// table comes after an unreadable row or alteration, and before a missing or an existing row.
 #[derive(Debug, Drop, Error)]
 pub enum StepError {
     /// The session has begun already.
@@ -29,6 +29,11 @@ pub enum StepError {
     /// A row with the key already exists.
     #[error("row exists")]
     RowExists,
+    /// A column can't be added, or can't be removed: its name is taken, its type is float4 or
+    /// float8, its text is no value of its type, the table has 1,600 columns, or a row would be too
+    /// long with it; or it doesn't exist, or is of the key.
+    #[error("bad alter")]
+    BadAlter,
     #[error("out of memory")]
     Memory,
 }

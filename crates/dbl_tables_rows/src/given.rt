@@ -53,7 +53,8 @@ fn cell_named<'a>(
     }
 }
 
-fn copy_text(alloc: Global, text: &Option<Text>) -> Result<Option<Text>, AllocError>
+/// An equal cell.
+pub fn copy_text(alloc: Global, text: &Option<Text>) -> Result<Option<Text>, AllocError>
     ensures { IfOk result (λ copied. copied ≡ text.now) }
 {
     match text {
@@ -228,7 +229,8 @@ fn spells_text(alloc: Global, ty: PgType, text: &Text) -> Result<bool, AllocErro
     }
 }
 
-fn spells(alloc: Global, ty: PgType, text: &Option<Text>) -> Result<bool, AllocError>
+/// Whether a cell is null or a text that parses as a value of the type.
+pub fn spells(alloc: Global, ty: PgType, text: &Option<Text>) -> Result<bool, AllocError>
     ensures { IfOk result (λ spelled. spelled ≡ spells_cell ty text.now) }
 {
     match text {

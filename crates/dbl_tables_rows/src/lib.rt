@@ -18,8 +18,8 @@ pub use demo_table::DemoTable;
 pub use ends::{commit_tables, roll_back_tables};
 pub use error::StepError;
 pub use given::{
-    are_each_readable, are_of_key, enter_cells, has_key_texts, keep_key, key_texts, key_texts_set,
-    row_given, row_set,
+    are_each_readable, are_of_key, copy_text, enter_cells, has_key_texts, keep_key, key_texts,
+    key_texts_set, row_given, row_set, spells,
 };
 pub use held::{HeldKey, list_key};
 pub use rows::{Cleared, Rows, key_holder, lesser, make_rows, seen_row, table_holder, truncate};

@@ -9,7 +9,6 @@ ghost use Rattle.dbl_model_history.specs.Fit.{IsKeyOf};
 ghost use Rattle.dbl_tables_rows.specs.declared.demo_table.DemoTable.{DemoTable};
 ghost use Rattle.dbl_tables_rows.specs.Acts.{Accepted};
 ghost use Rattle.dbl_tables_rows.specs.Selects.{SelectsCommitted};
-ghost use Rattle.dbl_tables_rows.specs.Views.{base_of};
 ghost use Rattle.dbl_tables.specs.Shown.{rows_after_key};
 ghost use Rattle.dbl_tables.specs.Stands.{Stands};
 
@@ -17,7 +16,7 @@ use crate::tables::{Tables, place_of};
 use dbl_base::Seq;
 use dbl_model_history::key_fits;
 use dbl_model_table::{Key, RawRow, TableInfo, TableName};
-use dbl_tables_rows::{Rows, Slot, Slots, StepError};
+use dbl_tables_rows::{Slot, Slots, StepError, base};
 use std::alloc::{AllocError, Global};
 use std::collections::btree_map::Range;
 use std::ops::Bound;
@@ -105,15 +104,6 @@ fn is_bound_of(info: &TableInfo, above: Option<&Key>) -> bool
     match above {
         None => true,
         Some(key) => key_fits(info, key),
-    }
-}
-
-fn base(rows: &Rows) -> &Slots
-    ensures { result.now ≡ base_of rows.now.cleared rows.now.slots }
-{
-    match &rows.cleared {
-        Some(cleared) => &cleared.slots,
-        None => &rows.slots,
     }
 }
 

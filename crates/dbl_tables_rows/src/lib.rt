@@ -22,7 +22,9 @@ pub use given::{
     key_texts_set, row_given, row_set, spells,
 };
 pub use held::{HeldKey, list_key};
-pub use rows::{Cleared, Rows, key_holder, lesser, make_rows, seen_row, table_holder, truncate};
+pub use rows::{
+    Cleared, Rows, base, key_holder, lesser, make_rows, seen_row, table_holder, truncate,
+};
 pub use sending::{delete_message, insert_message, update_message};
 pub use sizes::{empty_size, grown_size};
 pub use slots::{Held, Slot, Slots, hold, make_slot};

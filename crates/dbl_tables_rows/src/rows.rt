@@ -5,7 +5,8 @@ ghost use Rattle.std.specs.Prelude.{bytes_eq, option_map, option_copied};
 ghost use Rattle.std.specs.BTreeMap.{IsEmpty};
 ghost use Rattle.std.specs.BTreeSet.{IsOrdered};
 ghost use Rattle.dbl_base.specs.Texts.{text_cmp};
-ghost use Rattle.dbl_tables_rows.specs.Views.{held_in, owner_at, is_owner, seen_under, seen_at};
+ghost use Rattle.dbl_tables_rows.specs.Views.{base_of, held_in, owner_at, is_owner};
+ghost use Rattle.dbl_tables_rows.specs.Views.{seen_under, seen_at};
 ghost use Rattle.dbl_tables_rows.specs.Given.{HasColumns};
 ghost use Rattle.dbl_tables_rows.specs.Holders.{other_than, lesser_if, IsFirstHolder};
 ghost use Rattle.dbl_tables_rows.specs.Changing.{IsEnded, IsUndone, IsTruncated};
@@ -52,6 +53,16 @@ pub fn make_rows(alloc: Global, table: DemoTable) -> Result<Rows, AllocError>
         cleared: None,
         holders: BTreeSet::new(alloc),
     })
+}
+
+/// The slots with the committed rows: those before a truncate in progress, if there is one.
+pub fn base(rows: &Rows) -> &Slots
+    ensures { result.now ≡ base_of rows.now.cleared rows.now.slots }
+{
+    match &rows.cleared {
+        Some(cleared) => &cleared.slots,
+        None => &rows.slots,
+    }
 }
 
 /// The session that has locked a key, by itself or with its table.

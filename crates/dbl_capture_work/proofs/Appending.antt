@@ -145,8 +145,9 @@ module _ {K : Type 0} (model : SinkModel K) (snapshot : Bool) (records : List Re
       kept = λ groups held lasts other. holds_put model.holds snapshot groups records gathered rest sink new report next
           (put_kept model.holds snapshot records gathered rest sink mid new report after next p
           (λ found h. puts.kept found h (other_sink {T = T} {U = U} e other)) same) held lasts;
-      torn = λ groups held lasts failed. torn_put model.holds snapshot model.may_leave groups records gathered rest gathered sink mid new report after next
-          p n lasts same (λ found leaves. puts.left (groups ++ p.put) found (p.held groups held) leaves);
+      torn = λ groups held lasts failed. torn_put model.holds snapshot model groups records gathered rest gathered sink mid new report after next
+          p n lasts same (λ found leaves. puts.left (groups ++ p.put) found (p.held groups held) leaves) (puts.some (groups ++ p.put) (p.held groups held))
+          (puts.fails (ap (λ (h : Halt). Err h) (same_halt {T = T} e halt.Sink failed)));
     }
 
     known : 1 ≤ length rest → (long : IsLongRecord records e) × (long.place ≡ length (joined p.put))

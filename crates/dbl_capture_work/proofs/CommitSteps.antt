@@ -113,6 +113,7 @@ module _ {K : Type 0} (sink_model : SinkModel K) (ended : Ended) (ms : List Mess
     marked = marked_clash start (head_in (begin_of ms)) ended (changes_so_far work.offset.infos ms) amid.amid.no_clash;
     clash = λ some. refl;
     no_clash = λ failed. let same : h ≡ halt.Sink = cc in absurd (other same);
+    listed = λ failed. let same : h ≡ halt.Sink = cc in absurd (other same);
     long = tt;
   }
 
@@ -180,11 +181,11 @@ module _ {K : Type 0} (sink_model : SinkModel K) (ended : Ended) (ms : List Mess
       (subst (λ (b : Bool). HoldsPut sink_model.holds groups b put rest report new_report new_sink) snapshot_is
       (holds_after put (records_in work.batch) records amid.batched own sink_model.holds groups snapshot report new_report new_sink h))
 
-  torn_commit : (groups : List (List Record)) → WasTorn sink_model.may_leave (groups ++ cut put) snapshot [] rest report new_report new_sink → WasTorn sink_model.may_leave groups marked put (drop (length put) all) report new_report new_sink
+  torn_commit : (groups : List (List Record)) → WasTorn sink_model (groups ++ cut put) snapshot [] rest report new_report new_sink → WasTorn sink_model groups marked put (drop (length put) all) report new_report new_sink
   torn_commit groups t =
-      subst (λ (l : List Record). WasTorn sink_model.may_leave groups marked put l report new_report new_sink) (sym dropped)
-      (subst (λ (b : Bool). WasTorn sink_model.may_leave groups b put rest report new_report new_sink) snapshot_is
-      (torn_after put (records_in work.batch) records amid.batched own sink_model.may_leave groups snapshot report new_report new_sink t))
+      subst (λ (l : List Record). WasTorn sink_model groups marked put l report new_report new_sink) (sym dropped)
+      (subst (λ (b : Bool). WasTorn sink_model groups b put rest report new_report new_sink) snapshot_is
+      (torn_after put (records_in work.batch) records amid.batched own sink_model groups snapshot report new_report new_sink t))
 
   before_commit : (groups : List (List Record)) (h : Halt) → HasPutBefore sink_model.holds (groups ++ cut put) snapshot [] rest report new_report new_sink h → HasPutBefore sink_model.holds groups marked put (drop (length put) all) report new_report new_sink h
   before_commit groups h p =
@@ -240,6 +241,7 @@ module _ {K : Type 0} (sink_model : SinkModel K) (ended : Ended) (ms : List Mess
     marked = no_clash_here;
     clash = λ some. refl;
     no_clash = λ failed. ends.no_clash;
+    listed = λ failed. listed;
     long = tt;
   }
 
@@ -263,6 +265,7 @@ module _ {K : Type 0} (sink_model : SinkModel K) (ended : Ended) (ms : List Mess
     marked = no_clash_here;
     clash = λ some. absurd (some ends.no_clash);
     no_clash = λ failed. (cc);
+    listed = λ failed. listed;
     long = short_commit (λ place item at more. puts.long place item at more);
   }
 

@@ -8,6 +8,7 @@ use Rattle.dbl_model_table.specs.declared.change.Head.{Head}
 use Rattle.dbl_model_table.specs.Heads.{commit_so_far}
 use Rattle.dbl_envelope.specs.ModelEvent.EventJson.{envelopes}
 use Rattle.dbl_model_table.proofs.Lists.{slice_get-lt}
+use Rattle.dbl_topic.specs.Model.{SinkModel}
 use Rattle.dbl_topic.specs.Sinks.{IsLeftByPut}
 use Rattle.dbl_follow.specs.Amid.{IsAmid, AreReleased}
 use Rattle.dbl_follow.specs.Followed.{Following}
@@ -122,9 +123,9 @@ module _ (put batch more : List Record) (batched : IsBatched put batch) (own : I
     report = h.report;
   }
 
-  pub torn_after : {K : Type 0} (may_leave : K → List (List Record) → Type 0) (groups : List (List Record)) (snapshot : Bool) (before after : Report) (sink : K)
-      → WasTorn may_leave (groups ++ cut put) snapshot [] (batch ++ more) before after sink → WasTorn may_leave groups snapshot put (batch ++ more) before after sink
-  torn_after may_leave groups snapshot before after sink t = record {
+  pub torn_after : {K : Type 0} (model : SinkModel K) (groups : List (List Record)) (snapshot : Bool) (before after : Report) (sink : K)
+      → WasTorn model (groups ++ cut put) snapshot [] (batch ++ more) before after sink → WasTorn model groups snapshot put (batch ++ more) before after sink
+  torn_after model groups snapshot before after sink t = record {
     count = t.count;
     group = t.group;
     later = t.later;
@@ -134,6 +135,8 @@ module _ (put batch more : List Record) (batched : IsBatched put batch) (own : I
         ∙ (sym (append_assoc (cut put) (cut (take t.count (batch ++ more))) (t.group ∷ t.later))
         ∙ ap (λ (l : List (List Record)). l ++ t.group ∷ t.later) (sym (cut_taken put batch more t.count batched own))));
     left = λ found may. subst (λ (l : List (List Record)). IsLeftByPut l t.group found) (groups_after groups t.count) (t.left found may);
+    some = t.some;
+    fails = t.fails;
     report = t.report;
   }
     where

@@ -283,12 +283,14 @@ module _ {K T : Type 0} (sink_model : SinkModel K) (m : Message) (ms : List Mess
         (holds_after put (records_in work.batch) records amid.batched own sink_model.holds groups false report new_report new_sink (kept other)))
         (leaves.kept (groups ++ cut put) held lasts);
     torn = λ groups held is.
-        subst (λ (l : List Record). WasTorn sink_model.may_leave groups false put l report new_report new_sink) (sym dropped)
-        (torn_after put (records_in work.batch) records amid.batched own sink_model.may_leave groups false report new_report new_sink (leaves.torn (groups ++ cut put) held lasts is));
+        subst (λ (l : List Record). WasTorn sink_model groups false put l report new_report new_sink) (sym dropped)
+        (torn_after put (records_in work.batch) records amid.batched own sink_model groups false report new_report new_sink (leaves.torn (groups ++ cut put) held lasts is));
     causes = IfErr-weaker result (λ h. (h ≡ halt.Memory) ⊎ ((h ≡ halt.Sink) ⊎ ((long : IsLongRecord rest h) × (long.place + 1 < length rest))))
         (λ h. (h ≡ halt.Memory) ⊎ ((h ≡ halt.Sink) ⊎ (IsClashIn (clash_of start.identity start.infos commit) h ⊎ ((clash_of start.identity start.infos commit ≡ None) × IsLongSoFar all h)))) open_cause halts.causes;
     clash = λ some. absurd (some no_clash);
     no_clash = λ is. no_clash;
+    released = λ is. ap (λ (l : List Record). put ++ l) dropped
+        ∙ released_is start new.follower (head_in (begin_of (m ∷ ms))) (changes_so_far work.offset.infos (m ∷ ms)) work.now_ms (put ++ rest) amid_all;
     long = λ place item at known long. too_long place item at known long (λ other there lt. halts.long other item there lt long);
   }
 
@@ -314,6 +316,7 @@ module _ {K T : Type 0} (sink_model : SinkModel K) (commit : Commit) (ms : List 
     causes = refused cause;
     clash = λ some. refl;
     no_clash = λ failed. let same : h ≡ halt.Sink = cc in absurd (other same);
+    released = λ failed. let same : h ≡ halt.Sink = cc in absurd (other same);
     long = λ place item at known long. refl;
   })
     where

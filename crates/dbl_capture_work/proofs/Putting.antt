@@ -8,6 +8,7 @@ use Rattle.dbl_record.specs.Cuts.{begins_batch, batches_after, cut, joined}
 use Rattle.dbl_record.specs.Groups.{record_form, group_form}
 use Rattle.dbl_record.proofs.CutLaws.{cuts_join}
 use Rattle.dbl_record.proofs.Sizes.{group_size}
+use Rattle.dbl_topic.specs.Model.{SinkModel}
 use Rattle.dbl_topic.specs.Sinks.{IsLeftByPut, told_length}
 use Rattle.dbl_capture_model.proofs.FaithfulItems.{at_left, at_right, at_cases}
 use Rattle.dbl_capture_work.specs.declared.report.Report.{Report}
@@ -187,10 +188,11 @@ module _ {K : Type 0} (holds : K → List (List Record) → Type 0) (snapshot : 
       }
 
   -- the put of the next group failed
-  pub torn_put : (may_leave : K → List (List Record) → Type 0) (groups : List (List Record)) (records gathered rest group : List Record) (old mid new : K) (before after next : Report)
+  pub torn_put : (model : SinkModel K) (groups : List (List Record)) (records gathered rest group : List Record) (old mid new : K) (before after next : Report)
       → (p : IsPut holds snapshot records gathered rest old mid before after) → IsNextGroup records p.put group → HasLastsAtItsEnd records → next ≡ after
-      → ((found : List (List Record)) → may_leave new found → IsLeftByPut (groups ++ p.put) group found) → WasTorn may_leave groups snapshot [] records before next new
-  torn_put may_leave groups records gathered rest group old mid new before after next p n lasts same left =
+      → ((found : List (List Record)) → model.may_leave new found → IsLeftByPut (groups ++ p.put) group found) → (found : List (List Record)) × model.may_leave new found
+      → model.fails_at new group → WasTorn model groups snapshot [] records before next new
+  torn_put model groups records gathered rest group old mid new before after next p n lasts same left some fails =
       let taken = taken_is records gathered rest old mid before after p in
       let front : p.put ≡ cut (take (length (joined p.put)) records) = sym (ap cut taken ∙ front_cut records p.put group n) in
       record {
@@ -199,6 +201,8 @@ module _ {K : Type 0} (holds : K → List (List Record) → Type 0) (snapshot : 
         later = n.later;
         parted = subst (λ (l : List (List Record)). cut records ≡ l ++ group ∷ n.later) front n.parted;
         left = λ found may. subst (λ (l : List (List Record)). IsLeftByPut (groups ++ l) group found) front (left found may);
+        some = some;
+        fails = fails;
         report = same ∙ (p.counted lasts ∙ ap (λ (l : List Record). report_with snapshot l before) (sym taken));
       }
 

@@ -93,19 +93,24 @@ pub record HoldsPut {K : Type 0} (holds : K → List (List Record) → Type 0) (
   pub held : holds sink (groups ++ cut (put ++ take count records))
   pub report : after ≡ report_with snapshot (take count records) before
 
--- After a failed append, a prefix of the records after `put` was appended and is counted, and the sink may have a prefix of the next batch.
-pub record WasTorn {K : Type 0} (may_leave : K → List (List Record) → Type 0) (groups : List (List Record)) (snapshot : Bool)
+-- After a failed append, a prefix of the records after `put` was appended and is counted, and the sink may have a prefix of the next batch,
+-- which is the one whose append failed.
+pub record WasTorn {K : Type 0} (sink_model : SinkModel K) (groups : List (List Record)) (snapshot : Bool)
     (put records : List Record) (before after : Report) (sink : K) : Type 0 where
   pub count : ℕ
   pub group : List Record
   pub later : List (List Record)
   pub parted : cut (put ++ records) ≡ cut (put ++ take count records) ++ group ∷ later
-  pub left : (found : List (List Record)) → may_leave sink found → IsLeftByPut (groups ++ cut (put ++ take count records)) group found
+  pub left : (found : List (List Record)) → sink_model.may_leave sink found
+      → IsLeftByPut (groups ++ cut (put ++ take count records)) group found
+  pub some : (found : List (List Record)) × sink_model.may_leave sink found
+  pub fails : sink_model.fails_at sink group
   pub report : after ≡ report_with snapshot (take count records) before
 
 -- ---- one batch
 
--- The batch is appended; if the sink failed, a crash may leave some first records of it; after another error nothing was appended.
+-- The batch is appended; if the sink failed, it failed at this batch, and a crash may leave some first records of it; after another error
+-- nothing was appended.
 pub record PutsGroup {K T : Type 0} (sink_model : SinkModel K) (sink new_sink : K) (group : List Record) (result : Result T Halt)
     : Type 0 where
   pub put : (groups : List (List Record)) → sink_model.holds sink groups → OnOk result (sink_model.holds new_sink (groups ++ group ∷ []))
@@ -114,6 +119,7 @@ pub record PutsGroup {K T : Type 0} (sink_model : SinkModel K) (sink new_sink : 
   pub left : (groups left : List (List Record)) → sink_model.holds sink groups → sink_model.may_leave new_sink left
       → IsLeftByPut groups group left
   pub some : (groups : List (List Record)) → sink_model.holds sink groups → (left : List (List Record)) × sink_model.may_leave new_sink left
+  pub fails : result ≡ Err halt.Sink → sink_model.fails_at new_sink group
 
 -- The report counts the batch once its append was acknowledged.
 pub record CountsGroup {T : Type 0} (snapshot : Bool) (group : List Record) (report new_report : Report) (result : Result T Halt)
@@ -151,4 +157,4 @@ pub record LeavesRecords {K T : Type 0} (sink_model : SinkModel K) (records : Li
   pub kept : (groups : List (List Record)) → sink_model.holds sink groups → HasLastsAtItsEnd records
       → OnErr result (result ≢ Err halt.Sink → HoldsPut sink_model.holds groups snapshot [] records report new_report new_sink)
   pub torn : (groups : List (List Record)) → sink_model.holds sink groups → HasLastsAtItsEnd records → result ≡ Err halt.Sink
-      → WasTorn sink_model.may_leave groups snapshot [] records report new_report new_sink
+      → WasTorn sink_model groups snapshot [] records report new_report new_sink

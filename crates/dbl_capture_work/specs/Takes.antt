@@ -197,13 +197,15 @@ pub record DeliversOpen {K T : Type 0} (sink_model : SinkModel K) (commit : Comm
   pub kept : (groups : List (List Record)) → sink_model.holds sink (groups ++ cut put) → OnErr result (result ≢ Err halt.Sink
       → HoldsPut sink_model.holds groups false put (drop (length put) (open_released work commit)) report new_report new_sink)
   pub torn : (groups : List (List Record)) → sink_model.holds sink (groups ++ cut put) → result ≡ Err halt.Sink
-      → WasTorn sink_model.may_leave groups false put (drop (length put) (open_released work commit)) report new_report new_sink
+      → WasTorn sink_model groups false put (drop (length put) (open_released work commit)) report new_report new_sink
   pub causes : IfErr result (λ h. (h ≡ halt.Memory) ⊎ ((h ≡ halt.Sink)
       ⊎ (IsClashIn (clash_of work.follower.identity work.follower.infos commit) h
       ⊎ ((clash_of work.follower.identity work.follower.infos commit ≡ None)
       × IsLongSoFar (envelopes work.follower.identity work.follower.infos commit work.now_ms) h))))
   pub clash : clash_of work.follower.identity work.follower.infos commit ≢ None → IsErr result
   pub no_clash : result ≡ Err halt.Sink → clash_of work.follower.identity work.follower.infos commit ≡ None
+  -- If an append failed, the records that were appended before come first among those that are released.
+  pub released : result ≡ Err halt.Sink → put ++ drop (length put) (open_released work commit) ≡ open_released work commit
   pub long : (place : ℕ) (item : Record)
       → slice_get (envelopes work.follower.identity work.follower.infos commit work.now_ms) place ≡ Some item
       → place + 2 < length (envelopes work.follower.identity work.follower.infos commit work.now_ms)
@@ -226,7 +228,7 @@ pub record DeliversCommit {K : Type 0} (sink_model : SinkModel K) (commit : Comm
       report new_report new_sink)
   -- After the sink's own error the report counts a prefix, and at most the next batch is torn.
   pub torn : (groups : List (List Record)) → sink_model.holds sink (groups ++ cut put) → result ≡ Err halt.Sink
-      → WasTorn sink_model.may_leave groups (is_some (mark_of commit)) put (drop (length put) (records_by work.follower commit work.now_ms))
+      → WasTorn sink_model groups (is_some (mark_of commit)) put (drop (length put) (records_by work.follower commit work.now_ms))
       report new_report new_sink
   -- If a record is too long, those before it were appended, and are counted.
   pub before : (groups : List (List Record)) → sink_model.holds sink (groups ++ cut put) → (len : ℕ) → result ≡ Err (halt.RecordTooLong len)
@@ -243,4 +245,5 @@ pub record DeliversCommit {K : Type 0} (sink_model : SinkModel K) (commit : Comm
   pub marked : (c : Clash) → clash_by work.follower commit ≡ Some c → IsSome (mark_of commit)
   pub clash : clash_by work.follower commit ≢ None → IsErr result
   pub no_clash : result ≡ Err halt.Sink → clash_by work.follower commit ≡ None
+  pub listed : result ≡ Err halt.Sink → HasSnapshotRecords commit work
   pub long : OnOk result (AreShort (records_by work.follower commit work.now_ms))

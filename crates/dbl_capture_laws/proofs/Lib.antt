@@ -63,6 +63,7 @@ pub mod Ended
 pub mod Sources
 pub mod Puts
 pub mod Tallied
+pub mod Failing
 pub mod Sinks
 pub mod StepMarks
 pub mod Answered

@@ -24,7 +24,7 @@ use Rattle.dbl_capture_work.specs.declared.report.Report.{Report}
 use Rattle.dbl_capture_work.specs.declared.work.SessionState.{SessionState}
 use Rattle.dbl_capture_work.specs.Causes.{IsLongRecord}
 use Rattle.dbl_capture_work.specs.Groups.{HoldsPut, WasTorn, counted}
-use Rattle.dbl_capture_work.specs.Takes.{IsClashIn, IsLeftByStep, LeftOpen, WasTaken, open_released}
+use Rattle.dbl_capture_work.specs.Takes.{HasSnapshotRecords, IsClashIn, IsLeftByStep, LeftOpen, WasTaken, open_released}
 use Rattle.dbl_capture_work.specs.Works.{open_commit, rest_in, resting}
 use Rattle.dbl_capture_laws.specs.Gained.{Gains, HasCountedGroups, ReportsGroups}
 use Rattle.dbl_capture_laws.specs.Carried.{Beginning, IsNewestCause}
@@ -97,8 +97,8 @@ module _ {S K : Type 0} (source_model : SourceModel S) (sink_model : SinkModel K
     (whole : records_by u.way.ahead.start commit next.now_ms ≡ u.way.ahead.put ++ rest) (h : Halt)
     (leaves : (left : List (List Record)) → sink_model.may_leave sink2 left → IsLeftByStep commit (resting u.way.ahead.start next) u.way.ahead.put (groups ++ cut u.put.records) left) (may : (held : List (List Record)) → sink_model.holds sink2 held → sink_model.may_leave sink2 held)
     (kept : (h ≡ halt.Sink → ⊥) → HoldsPut sink_model.holds (groups ++ cut u.put.records) (is_some (mark_of commit)) u.way.ahead.put rest (record before { messages = before.messages + 1 }) report sink2)
-    (torn : h ≡ halt.Sink → WasTorn sink_model.may_leave (groups ++ cut u.put.records) (is_some (mark_of commit)) u.way.ahead.put rest (record before { messages = before.messages + 1 }) report sink2)
-    (some : (left : List (List Record)) × sink_model.may_leave sink2 left) (counts : IsTornCount before report) (clear : h ≡ halt.Sink → clash_by u.way.ahead.start commit ≡ None)
+    (torn : h ≡ halt.Sink → WasTorn sink_model (groups ++ cut u.put.records) (is_some (mark_of commit)) u.way.ahead.put rest (record before { messages = before.messages + 1 }) report sink2)
+    (counts : IsTornCount before report) (clear : h ≡ halt.Sink → clash_by u.way.ahead.start commit ≡ None) (listed : h ≡ halt.Sink → HasSnapshotRecords commit (resting u.way.ahead.start next))
     (one : IsTakenBy (bytes ∷ []) (source_model.told src) (source_model.told src2)) (took : (s : SourceState) → source_model.stands src s → (m : Message) × Spells bytes m × HasState source_model.stands src2 (HasReadOneMore m s)) (same : (s t : SourceState) → source_model.stands src2 s → source_model.stands src2 t → s ≡ t)
     (cause : (h ≡ halt.Memory) ⊎ ((h ≡ halt.Sink) ⊎ (IsClashIn (clash_by u.way.ahead.start commit) h ⊎ ((clash_by u.way.ahead.start commit ≡ None) × IsLongRecord (records_by u.way.ahead.start commit next.now_ms) h)))) where
   newest_cause : IsNewestCause report.messages b.first.lsn u.way.messages bytes (rest_in u.way.ahead) h
@@ -116,7 +116,7 @@ module _ {S K : Type 0} (source_model : SourceModel S) (sink_model : SinkModel K
       by : (h ≡ halt.Memory) ⊎ ((h ≡ halt.Sink) ⊎ (IsClashIn (clash_by u.way.ahead.start commit) h ⊎ ((clash_by u.way.ahead.start commit ≡ None) × IsLongRecord (records_by u.way.ahead.start commit next.now_ms) h)))
           → HasHaltedPut source_model sink_model groups at b.config b.now b.held stored report src2 sink2 h
       by (inl memory) = other_halts (memory_other h memory)
-      by (inr (inl failed)) = puts_fail source_model sink_model groups at found b stored src src2 sink sink2 old next before report u bytes commit rest w many moment whole h leaves failed (torn failed) some took same
+      by (inr (inl failed)) = puts_fail source_model sink_model groups at found b stored src src2 sink sink2 old next before report u bytes commit rest w many moment whole h leaves failed (torn failed) (clear failed) (listed failed) took same
       by (inr (inr (inl is))) = other_halts (clash_other (clash_by u.way.ahead.start commit) h is)
       by (inr (inr (inr long))) = other_halts (long_other (records_by u.way.ahead.start commit next.now_ms) h long.1)
 
@@ -141,13 +141,14 @@ module _ {S K : Type 0} (source_model : SourceModel S) (sink_model : SinkModel K
   pub change_puts : ((left : List (List Record)) → sink_model.may_leave sink2 left
       → (left ≡ (groups ++ cut u.put.records) ++ cut u.way.ahead.put) ⊎ LeftOpen more (resting u.way.ahead.start next) (groups ++ cut u.put.records) left) → ((held : List (List Record)) → sink_model.holds sink2 held → sink_model.may_leave sink2 held)
       → ((h ≡ halt.Sink → ⊥) → HoldsPut sink_model.holds (groups ++ cut u.put.records) false u.way.ahead.put after_put (record before { messages = before.messages + 1 }) report sink2)
-      → (h ≡ halt.Sink → WasTorn sink_model.may_leave (groups ++ cut u.put.records) false u.way.ahead.put after_put (record before { messages = before.messages + 1 }) report sink2)
+      → (h ≡ halt.Sink → WasTorn sink_model (groups ++ cut u.put.records) false u.way.ahead.put after_put (record before { messages = before.messages + 1 }) report sink2)
+      → (h ≡ halt.Sink → u.way.ahead.put ++ after_put ≡ open_released (resting u.way.ahead.start next) more)
       → IsTornCount before report → IsNewestCause report.messages b.first.lsn u.way.messages bytes (rest_in u.way.ahead) h
       → IsTakenBy (bytes ∷ []) (source_model.told src) (source_model.told src2) → ((s : SourceState) → source_model.stands src s → (m : Message) × Spells bytes m × HasState source_model.stands src2 (HasReadOneMore m s)) → ((s t : SourceState) → source_model.stands src2 s → source_model.stands src2 t → s ≡ t)
       → (h ≡ halt.Sink) ⊎ (h ≡ halt.Sink → ⊥) → HasHaltedPut source_model sink_model groups at b.config b.now b.held stored report src2 sink2 h
-  change_puts leaves may kept torn counts cause one took same (inl failed) =
-      changes_fail source_model sink_model groups at found b stored src src2 sink sink2 old next before report u bytes w many moment inside h leaves failed (torn failed) took same
-  change_puts leaves may kept torn counts cause one took same (inr other) =
+  change_puts leaves may kept torn released counts cause one took same (inl failed) =
+      changes_fail source_model sink_model groups at found b stored src src2 sink sink2 old next before report u bytes w many moment inside h leaves failed (torn failed) (released failed) took same
+  change_puts leaves may kept torn released counts cause one took same (inr other) =
       changes_halt source_model sink_model groups at found b stored src src2 sink sink2 old next before report u bytes w many moment inside h leaves may other (kept other)
       (cause_left report.messages b.first.lsn u.way.messages bytes (rest_in u.way.ahead) h cause) counts.messages counts.commits one took same
 

@@ -13,10 +13,11 @@ use Rattle.dbl_model_table.specs.declared.identity.Identity.{Identity}
 use Rattle.dbl_model_table.specs.declared.table.TableInfo.{TableInfo}
 use Rattle.std.specs.List.{AllByRecursion}
 use Rattle.dbl_capture_work.specs.ModelCommit.Past.{begin_of}
+use Rattle.dbl_capture_work.specs.ModelCommit.Stated.{commits_of}
 use Rattle.dbl_capture_work.specs.ModelEvent.EventJson.{envelopes}
 use Rattle.dbl_capture_work.specs.ModelHistory.Ranges.{IsMomentInRange}
 use Rattle.dbl_capture_work.specs.Follow.declared.window.Window.TheVariants.{Absent}
-use Rattle.dbl_capture_work.specs.Follow.Steps.{mark_of, records_by}
+use Rattle.dbl_capture_work.specs.Follow.Steps.{clash_by, mark_of, records_by}
 use Rattle.dbl_capture_work.specs.SourceModel.Calls.{IsConfirmed, HasReadOneMore}
 use Rattle.dbl_capture_work.specs.SourceModel.Standings.{SourceState, HasState}
 use Rattle.dbl_capture_work.specs.SourceModel.Trace.{Trace, IsTakenAnew, IsTakenBy}
@@ -33,7 +34,7 @@ use Rattle.dbl_capture_work.specs.Groups.{HoldsPut, WasTorn, report_with}
 use Rattle.dbl_capture_work.specs.Takes.{GoesOnOpen, HasSnapshotRecords, IsLeftByStep, LeftOpen, ReportsStep, WasStepped, WasTaken, closes, open_released}
 use Rattle.dbl_capture_work.specs.Works.{AreShort, BeginsWithOffset, CouldBeSentSoFar, HasOpen, IsArmedWork, IsOpenTable, IsWork, next_offset_of, open_commit, rest_in, resting}
 use Rattle.dbl_capture_work.specs.CaptureModel.Reports.{chunks_in}
-use Rattle.dbl_capture_laws.specs.Gained.{AreCounted, Gains, IsGained, Making, HasCountedGroups, HasCountedBefore, ReportsGroups}
+use Rattle.dbl_capture_laws.specs.Gained.{AreCounted, AreSent, Gains, IsGained, Making, HasCountedGroups, HasCountedBefore, ReportsGroups}
 use Rattle.dbl_capture_laws.specs.Underway.{IsOfFirst}
 use Rattle.dbl_capture_laws.specs.Reported.{IsLeftOut}
 use Rattle.dbl_capture_laws.specs.Tallied.{IsOpenPart, IsPartOf}
@@ -42,6 +43,8 @@ use Rattle.dbl_capture_laws.proofs.Carried.{of_next}
 use Rattle.dbl_capture_laws.proofs.Ended.{cause_left}
 use Rattle.dbl_capture_laws.proofs.Sources.{arms_on, at_rest, begins, follows_at_rest, follows_on, rests_on, settled_rests, settles_on, takes_on}
 use Rattle.dbl_capture_laws.specs.Puts.{HasPut}
+use Rattle.dbl_capture_laws.specs.Failing.{FailsAt}
+use Rattle.dbl_capture_laws.proofs.Failing.{commit_fails, newest_fails, open_fails}
 use Rattle.dbl_capture_laws.specs.Sinks.{HasHaltedPut, HasPutCommit, IsPutting}
 use Rattle.dbl_capture_laws.proofs.Ahead.{armed_open, at_rest_so, batch_after, rest_kept, rest_taken}
 use Rattle.dbl_capture_laws.proofs.Taken.{taken_is}
@@ -334,6 +337,7 @@ module _ {S K : Type 0} (source_model : SourceModel S) (sink_model : SinkModel K
     tallied = λ same. between_tallied source_model sink_model groups at found b stored later work before report src src2 sink c (Err h) few messages commits kept none;
     tallied_stood = λ same. between_stood source_model sink_model groups at found b stored later work before report src src2 sink c (Err h) few messages commits kept reads;
     passed = λ failed. absurd (other failed);
+    failed = λ failed. absurd (other failed);
   }
 
   -- ---- at a message that isn't taken
@@ -349,6 +353,7 @@ module _ {S K : Type 0} (source_model : SourceModel S) (sink_model : SinkModel K
     tallied = λ x. newest_told source_model sink_model groups at found b stored work before report src src2 sink sink u bytes h few (ap (λ (r : Report). r.messages) counted) (ap (λ (r : Report). r.commits) counted) u.way.ahead.put part u.put.held one;
     tallied_stood = λ x. newest_stood source_model sink_model groups at found b stored work before report src src2 sink sink u bytes h few (ap (λ (r : Report). r.messages) counted) (ap (λ (r : Report). r.commits) counted) u.way.ahead.put part u.put.held took same;
     passed = λ failed. absurd (other failed);
+    failed = λ failed. absurd (other failed);
   }
     where
       rests : HasPutCommit source_model sink_model groups at found b stored work before src sink
@@ -399,17 +404,19 @@ module _ {S K : Type 0} (source_model : SourceModel S) (sink_model : SinkModel K
       tallied = λ x. newest_told source_model sink_model groups at found b stored old before report src src2 sink sink2 u bytes h few messages commits (u.way.ahead.put ++ take kept.count rest) part held one;
       tallied_stood = λ x. newest_stood source_model sink_model groups at found b stored old before report src src2 sink sink2 u bytes h few messages commits (u.way.ahead.put ++ take kept.count rest) part held took same;
       passed = λ failed. absurd (other failed);
+      failed = λ failed. absurd (other failed);
     }
       where
         held : sink_model.holds sink2 (groups ++ (cut u.put.records ++ cut (u.way.ahead.put ++ take kept.count rest)))
         held = subst (sink_model.holds sink2) (append_assoc groups (cut u.put.records) (cut (u.way.ahead.put ++ take kept.count rest))) kept.held
 
     -- a put failed: some records of its group may be there
-    pub more_fail : (t : WasTorn sink_model.may_leave had snapshot u.way.ahead.put rest counting report sink2) → AreOfKind t.count
+    pub more_fail : (t : WasTorn sink_model had snapshot u.way.ahead.put rest counting report sink2) → AreOfKind t.count
         → ((left : List (List Record)) → sink_model.may_leave sink2 left → Gains b.config b.now b.held stored groups left) → h ≡ halt.Sink
+        → (m : Message) → Spells bytes m → FailsAt sink_model groups (making_at (rest_in u.way.ahead)) b.first.lsn m u.way.messages sink2
         → TookOne src src2 bytes → ((s t : SourceState) → source_model.stands src2 s → source_model.stands src2 t → s ≡ t)
         → HasHaltedPut source_model sink_model groups at b.config b.now b.held stored report src2 sink2 h
-    more_fail t kinds gained same took one = record {
+    more_fail t kinds gained same m spells fails took one = record {
       grouped = gained;
       counted = reported_sink h sink2 report same (record {
         more = cut u.put.records ++ cut (u.way.ahead.put ++ take t.count rest);
@@ -422,6 +429,7 @@ module _ {S K : Type 0} (source_model : SourceModel S) (sink_model : SinkModel K
       passed = λ failed first last was now there may.
           let before_it = has_before groups (cut u.put.records) (cut (u.way.ahead.put ++ take t.count rest)) t.group there (t.left there may) in
           newest_passed source_model sink_model groups at found b stored old before src src2 sink u bytes there before_it.more before_it.is took one first last was now;
+      failed = λ failed. newest_fails source_model sink_model groups at found b stored old before src src2 sink sink2 u bytes m spells fails took;
     }
 
   -- ---- a commit
@@ -476,12 +484,15 @@ module _ {S K : Type 0} (source_model : SourceModel S) (sink_model : SinkModel K
         subst (AllByRecursion (IsOfKind (is_some (mark_of commit)))) (sym (torn_none u.way.ahead.put (take n rest) (groups ++ cut u.put.records) group left same torn)) tt
     kinds_torn n group left (inr step) torn = kinds_listed n step.listed
 
-    pub puts_fail : h ≡ halt.Sink → WasTorn sink_model.may_leave (groups ++ cut u.put.records) (is_some (mark_of commit)) u.way.ahead.put rest (record before { messages = before.messages + 1 }) report sink2
-        → (left : List (List Record)) × sink_model.may_leave sink2 left → TookOne src src2 bytes → ((s t : SourceState) → source_model.stands src2 s → source_model.stands src2 t → s ≡ t)
+    pub puts_fail : h ≡ halt.Sink → WasTorn sink_model (groups ++ cut u.put.records) (is_some (mark_of commit)) u.way.ahead.put rest (record before { messages = before.messages + 1 }) report sink2
+        → clash_by u.way.ahead.start commit ≡ None → HasSnapshotRecords commit rest_next_of
+        → TookOne src src2 bytes → ((s t : SourceState) → source_model.stands src2 s → source_model.stands src2 t → s ≡ t)
         → HasHaltedPut source_model sink_model groups at b.config b.now b.held stored report src2 sink2 h
-    puts_fail same t left took one =
+    puts_fail same t clear listed took one =
         more_fail b stored src src2 sink sink2 old next before report u bytes (is_some (mark_of commit)) rest h t
-        (kinds_torn t.count t.group left.0 (leaves left.0 left.1) (t.left left.0 left.1)) gained_left same took one
+        (kinds_torn t.count t.group t.some.0 (leaves t.some.0 t.some.1) (t.left t.some.0 t.some.1)) gained_left same taken_at_rest.message taken_at_rest.spells
+        (commit_fails sink_model groups sink2 (is_some (mark_of commit)) (record before { messages = before.messages + 1 }) report u.put.records u.way.ahead.put rest t
+        b.first.lsn u.way.messages bytes commit (rest_in u.way.ahead) rest_next_of u.way.is.is.is taken_at_rest whole clear listed u.put.is.sent) took one
 
   -- ---- changes of the open transaction
 
@@ -565,7 +576,12 @@ module _ {S K : Type 0} (source_model : SourceModel S) (sink_model : SinkModel K
         inside had_here fronts may kept))
         opens_gained_left other few messages commits one took same
 
-    pub changes_fail : h ≡ halt.Sink → WasTorn sink_model.may_leave (groups ++ cut u.put.records) false u.way.ahead.put after_put (record before { messages = before.messages + 1 }) report sink2
-        → TookOne src src2 bytes → ((s t : SourceState) → source_model.stands src2 s → source_model.stands src2 t → s ≡ t)
+    pub changes_fail : h ≡ halt.Sink → WasTorn sink_model (groups ++ cut u.put.records) false u.way.ahead.put after_put (record before { messages = before.messages + 1 }) report sink2
+        → u.way.ahead.put ++ after_put ≡ open_released now_taken more → TookOne src src2 bytes → ((s t : SourceState) → source_model.stands src2 s → source_model.stands src2 t → s ≡ t)
         → HasHaltedPut source_model sink_model groups at b.config b.now b.held stored report src2 sink2 h
-    changes_fail same t took one = more_fail b stored src src2 sink sink2 old next before report u bytes false after_put h t (front_kinds t.count) opens_gained_left same took one
+    changes_fail same t released took one =
+        more_fail b stored src src2 sink sink2 old next before report u bytes false after_put h t (front_kinds t.count) opens_gained_left same w.message w.spells
+        (subst (λ (by : Making). FailsAt sink_model groups by b.first.lsn w.message u.way.messages sink2) (ap making_at taken_same)
+        (open_fails sink_model groups sink2 false (record before { messages = before.messages + 1 }) report u.put.records u.way.ahead.put after_put t
+        b.first.lsn w.message u.way.messages now_taken now_is.identity now_is.infos inside released
+        (subst (λ (by : Making). AreSent by b.first.lsn.0 (commits_of by.infos u.way.messages) u.put.records) (sym (ap making_at taken_same)) u.put.is.sent))) took one

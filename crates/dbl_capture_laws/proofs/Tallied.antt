@@ -123,7 +123,7 @@ module _ (b : Beginning) (ms : List Message) (stored later : Option Offset) (wor
   not_beyond : (n : ℕ) → n ≤ work.offset.lsn.0 → n ≤ (last_lsn b.first.lsn ms).0
   not_beyond n le = subst (λ (l : Lsn). n ≤ l.0) is.is.lsn le
 
-  at_stored : (P : Option Offset → Type 0) → ((o : Offset) → IsOfFirst b.config b.now b.held b.first o work → o.lsn.0 ≤ (last_lsn b.first.lsn ms).0 → P (Some o)) → (later ≡ stored) ⊎ (later ≡ Some (next_offset_of work)) → P later
+  pub at_stored : (P : Option Offset → Type 0) → ((o : Offset) → IsOfFirst b.config b.now b.held b.first o work → o.lsn.0 ≤ (last_lsn b.first.lsn ms).0 → P (Some o)) → (later ≡ stored) ⊎ (later ≡ Some (next_offset_of work)) → P later
   at_stored P f (inl same) = subst P (sym (same ∙ is.stored_is)) (f is.offset is.of (not_beyond is.offset.lsn.0 is.upto))
   at_stored P f (inr next) = subst P (sym next) (f (next_offset_of work) (of_next b is.offset work is.of) (not_beyond work.offset.lsn.0 (le_refl work.offset.lsn.0)))
 

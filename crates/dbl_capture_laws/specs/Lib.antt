@@ -17,6 +17,7 @@ pub mod Written
 pub mod Gained
 pub mod Reported
 pub mod Tallied
+pub mod Failing
 pub mod Followed
 pub mod Halted
 pub mod Musts

@@ -4,7 +4,7 @@ use Rattle.dbl_record.specs.declared.record.Record.{Record}
 use Rattle.dbl_topic.specs.Model.{SinkModel}
 use Rattle.dbl_model_table.specs.declared.config.Config.{Config}
 use Rattle.dbl_capture_work.specs.Source.Model.{SourceModel}
-use Rattle.dbl_capture_work.specs.SourceModel.Standings.{SourceState}
+use Rattle.dbl_capture_work.specs.SourceModel.Standings.{SourceState, HasState}
 use Rattle.dbl_capture_work.specs.SourceModel.Trace.{Trace}
 use Rattle.dbl_capture_work.specs.Offset.declared.offset.Offset.{Offset}
 use Rattle.dbl_capture_work.specs.declared.halt.Halt.{Halt}
@@ -15,6 +15,7 @@ use Rattle.dbl_capture_work.specs.declared.work.SessionState.{SessionState}
 use Rattle.dbl_capture_work.specs.Works.{rest_in}
 use Rattle.dbl_capture_laws.specs.Gained.{Gains, ReportsGroups}
 use Rattle.dbl_capture_laws.specs.Tallied.{HasPassed, IsTallied, IsTalliedAfter}
+use Rattle.dbl_capture_laws.specs.Failing.{FailsNext}
 use Rattle.dbl_capture_laws.specs.Carried.{Beginning}
 use Rattle.dbl_capture_laws.specs.Sources.{HasCommitted, IsUnderWay}
 use Rattle.dbl_capture_laws.specs.Puts.{HasPut}
@@ -35,7 +36,7 @@ pub record HasPutCommit {S K : Type 0} (source_model : SourceModel S) (sink_mode
   pub put : HasPut sink_model.holds groups b.first.lsn way.messages (rest_in way.ahead) way.ahead.put report sink
 
 -- The session stopped: what is left of the sink, and what the report counts of it, with the commits unless an append failed; then the sink
--- has at least the commits that the stored offset passed.
+-- has at least the commits that the stored offset passed, and the batch that failed is the next one.
 pub record HasHaltedPut {S K : Type 0} (source_model : SourceModel S) (sink_model : SinkModel K)
     (groups : List (List Record)) (at : Option SourceState) (config : Config) (now : ℤ) (held stored : Option Offset)
     (report : Report) (src : S) (sink : K) (h : Halt) : Type 0 where
@@ -46,3 +47,5 @@ pub record HasHaltedPut {S K : Type 0} (source_model : SourceModel S) (sink_mode
       → IsTalliedAfter sink_model.holds groups config now held stored report t sink (Err h)
   pub passed : h ≡ halt.Sink → (s t : SourceState) → at ≡ Some s → source_model.stands src t → (left : List (List Record))
       → sink_model.may_leave sink left → HasPassed groups left config now held stored t
+  pub failed : h ≡ halt.Sink → (s : SourceState) → at ≡ Some s
+      → HasState source_model.stands src (FailsNext sink_model groups config now held stored sink)

@@ -1,11 +1,13 @@
 //! The session of a connector.
 
-ghost use Rattle.std.specs.Prelude.{Some, None, IfErr, IsTrue};
+ghost use Rattle.std.specs.Prelude.{◌≡◌, List, Some, None, IfErr, IsTrue};
+ghost use Rattle.dbl_record.specs.declared.record.Record.{Record};
 ghost use Rattle.dbl_model_table.specs.Configs.{IsGoodConfig};
-ghost use Rattle.dbl_source.specs.SourceModel.Standings.{SourceState};
+ghost use Rattle.dbl_source.specs.SourceModel.Standings.{HasState, SourceState};
 ghost use Rattle.dbl_offset.specs.Stores.{IsLive};
 ghost use Rattle.dbl_capture_work.specs.CaptureModel.Entries.{SessionStart, WasFaithful};
 ghost use Rattle.dbl_capture_laws.specs.Closed.{HasClosedRead};
+ghost use Rattle.dbl_capture_laws.specs.Failing.{FailsNext};
 ghost use Rattle.dbl_capture_laws.specs.Found.{Found, IsOfConfig, IsEntryOf};
 ghost use Rattle.dbl_capture_laws.specs.Nevers.{IsFaithfulHalt};
 ghost use Rattle.dbl_capture.specs.Gone.{TellsIfGone};
@@ -82,6 +84,11 @@ pub fn session<S: Source, K: Sink, D: Disk>(
     ensures halt_by_state { HaltsByState S.Source config.now now_ms src.old src.new offsets.old
         offsets.new report.new result }
     ensures gone { TellsIfGone S.Source src.old offsets.old result }
+    // The batch whose append failed is the next one after all that were appended.
+    ensures failed { (groups : List (List Record)) → K.holds sink.old groups →
+        result ≡ Err Halt.Sink → (s : SourceState) → S.stands src.old s →
+        HasState S.stands src.new (FailsNext K.Sink groups config.now now_ms offsets.old.offset
+        offsets.new.offset sink.new) }
     ensures own { NeverHalts S.Source config.now now_ms src.old src.new offsets.old result }
     // Over a conforming source and faithful stores the cause of an error is in the source's
     // history.

@@ -14,6 +14,7 @@ use Rattle.dbl_capture_laws.proofs.Endings.{complete_left, first_of_stored, firs
 use Rattle.dbl_capture_laws.proofs.Keeping.{either_answer, ok_then, on_ok, rests, some_chunk}
 use Rattle.dbl_capture_laws.proofs.Openings.{going_left, source_found, told_found}
 use Rattle.dbl_capture_laws.specs.Closed.{HasClosedRead}
+use Rattle.dbl_capture_laws.specs.Failing.{FailsNext}
 use Rattle.dbl_capture_laws.proofs.Unclosed.{closed_either, closed_read, closed_unread}
 use Rattle.dbl_source.specs.SourceModel.Standings.{SourceState, HasState}
 use Rattle.dbl_capture_laws.specs.Musts.{MustHalt, MustHaltStood, MustHaltTold}
@@ -455,6 +456,21 @@ returns-clause-tallies g c = record {
       sink_answer c.process_messages.result _ (HasPassed groups left c.args.config.now c.args.now_ms c.args.offsets.now.offset c.process_messages.new.store.offset t) _ on put
       (λ h x same. x.passed same s t refl now left may) failed;
 }
+
+pub returns-in_err-work-clause-failed : goal.returns-in_err-work-clause-failed
+returns-in_err-work-clause-failed g c groups held failed s was =
+    absurd (c.open_session.ensures.stops.sink (residual_is c.from_residual.result c.open_session.result _ _ c.in_err-work.was c.from_residual.ensures.1 failed))
+
+pub returns-clause-failed : goal.returns-clause-failed
+returns-clause-failed g c groups held failed s was =
+    let way = c.in_ok-work.ensures.report.putting groups held (Some s) (at_some g.S.Source.stands c.args.src.now s was) (refl, refl, refl, refl, refl) in
+    let b = beginning_at c.args.config.now c.args.now_ms c.args.offsets.now.offset way.0 in
+    let u = subst (λ (n : ℤ). IsPutting g.S.Source g.K.Sink groups (Some s) (g.S.Source.told c.args.src.now) (beginning_at c.args.config.now n c.args.offsets.now.offset way.0) c.open_session.new.store.offset c.in_ok-work.work c.open_session.new.report c.open_session.new.src c.args.sink.now) (to_z-of_z c.ranges.now_ms) way.1 in
+    let on = c.process_messages.ensures.puts.putting groups (Some s) (g.S.Source.told c.args.src.now) b u in
+    let put = c.process_messages.ensures.puts.put groups (Some s) (g.S.Source.told c.args.src.now) b u in
+    sink_answer c.process_messages.result _
+    (HasState g.S.Source.stands c.process_messages.new.src (FailsNext g.K.Sink groups c.args.config.now c.args.now_ms c.args.offsets.now.offset c.process_messages.new.store.offset c.process_messages.new.sink)) _ on put
+    (λ h x same. x.failed same s refl) failed
 
 pub returns-in_err-work-clause-own : goal.returns-in_err-work-clause-own
 returns-in_err-work-clause-own g c = record {

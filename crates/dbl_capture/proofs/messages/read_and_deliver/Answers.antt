@@ -669,6 +669,7 @@ returns-in_err-deliver_changes-in-Changed-clause-puts g c = record {
       (λ left may. d.left had left held may) (g.met.K.Sink.may c.deliver_changes.new.sink)
       (λ other. d.kept had held (λ is. let same : c.in_err-deliver_changes-in-Changed.field-0.0 ≡ halt.Sink = cc in other same))
       (λ is. d.torn had held (ap (λ (k : Halt). Err k) is))
+      (λ is. d.released (ap (λ (k : Halt). Err k) is))
       (open_counts c.args.report.now c.deliver_changes.new.report c.deliver_changes.ensures.counts)
       (open_cause c.deliver_changes.new.report.messages b.first.lsn u.way.messages c.in-Some.bytes (rest_in u.way.ahead) (resting u.way.ahead.start c.take_message.new.work) c.in-Changed.changes _ (rest_piece u.way.ahead.start b.first.lsn u.way.messages c.in-Some.bytes c.args.work.now c.take_message.new.work (Changed c.in-Changed.changes) p) u.way.is.is.so_far (λ is. e.no_clash (ap (λ (k : Halt). Err k) is)) e.causes)
       (some_read _ _ _ _ c.in-Some.is c.in_ok-bytes.ensures.taken) (λ s is. some_read _ _ _ _ c.in-Some.is (c.in_ok-bytes.ensures.took s is)) (g.met.S.Source.one c.read.new.self) (sink_or_other c.in_err-deliver_changes-in-Changed.field-0.0));
@@ -688,8 +689,8 @@ returns-in_err-closed-in-Ended-clause-puts g c = record {
       (part_whole b.first.lsn u.way.messages c.in-Some.bytes c.args.work.now c.take_message.new.work u.way.ahead.start u.way.ahead.put u.way.ahead.is u.way.is.is.is.accepted commit p.taken) c.in_err-closed-in-Ended.field-0.0
       (λ left may. d.left had left held may) (g.met.K.Sink.may c.deliver_commit.new.sink)
       (λ other. d.kept had held (λ is. let same : c.in_err-closed-in-Ended.field-0.0 ≡ halt.Sink = cc in other same))
-      (λ is. d.torn had held (ap (λ (k : Halt). Err k) is)) (d.some (had ++ cut u.way.ahead.put) held)
-      (torn_counts _ _ c.args.report.now c.deliver_commit.new.report d.noted) (λ is. d.no_clash (ap (λ (k : Halt). Err k) is)) (some_read _ _ _ _ c.in-Some.is c.in_ok-bytes.ensures.taken) (λ s is. some_read _ _ _ _ c.in-Some.is (c.in_ok-bytes.ensures.took s is)) (g.met.S.Source.one c.read.new.self) d.causes);
+      (λ is. d.torn had held (ap (λ (k : Halt). Err k) is))
+      (torn_counts _ _ c.args.report.now c.deliver_commit.new.report d.noted) (λ is. d.no_clash (ap (λ (k : Halt). Err k) is)) (λ is. d.listed (ap (λ (k : Halt). Err k) is)) (some_read _ _ _ _ c.in-Some.is c.in_ok-bytes.ensures.taken) (λ s is. some_read _ _ _ _ c.in-Some.is (c.in_ok-bytes.ensures.took s is)) (g.met.S.Source.one c.read.new.self) d.causes);
 }
 
 pub returns-in-Some-clause-puts : goal.returns-in-Some-clause-puts

@@ -39,16 +39,16 @@ groups_after : List (List Record) → List (List Record)
 groups_after [] = []
 groups_after (group ∷ groups) = groups
 
-same_after : (groups xs ys : List (List Record)) → groups ++ xs ≡ groups ++ ys → xs ≡ ys
+pub same_after : (groups xs ys : List (List Record)) → groups ++ xs ≡ groups ++ ys → xs ≡ ys
 unfolding groups_after
 same_after [] xs ys is = is
 same_after (group ∷ groups) xs ys is = same_after groups xs ys (ap groups_after is)
 
-first_groups : (rule : Rule) (xs ys : List (List Record)) → AllByRecursion (AreAllowed rule) (xs ++ ys) → AllByRecursion (AreAllowed rule) xs
+pub first_groups : (rule : Rule) (xs ys : List (List Record)) → AllByRecursion (AreAllowed rule) (xs ++ ys) → AllByRecursion (AreAllowed rule) xs
 first_groups rule [] ys all = tt
 first_groups rule (x ∷ xs) ys all = (all.0, first_groups rule xs ys all.1)
 
-both_allowed : (rule : Rule) (xs ys : List Record) → AreAllowed rule xs → AreAllowed rule ys → AreAllowed rule (xs ++ ys)
+pub both_allowed : (rule : Rule) (xs ys : List Record) → AreAllowed rule xs → AreAllowed rule ys → AreAllowed rule (xs ++ ys)
 both_allowed rule [] ys a b = b
 both_allowed rule (x ∷ xs) ys a b = (a.0, both_allowed rule xs ys a.1 b)
 
@@ -60,7 +60,7 @@ last_allowed : (rule : Rule) (xs ys : List Record) → AreAllowed rule (xs ++ ys
 last_allowed rule [] ys all = all
 last_allowed rule (x ∷ xs) ys all = last_allowed rule xs ys all.1
 
-joined_allowed : (rule : Rule) (groups : List (List Record)) → AllByRecursion (AreAllowed rule) groups → AreAllowed rule (joined groups)
+pub joined_allowed : (rule : Rule) (groups : List (List Record)) → AllByRecursion (AreAllowed rule) groups → AreAllowed rule (joined groups)
 joined_allowed rule [] all = tt
 joined_allowed rule (group ∷ groups) all = both_allowed rule group (joined groups) all.0 (joined_allowed rule groups all.1)
 
@@ -69,7 +69,7 @@ each_allowed rule [] all = tt
 each_allowed rule (part ∷ parts) all = (first_allowed rule part (joined parts) all, each_allowed rule parts (last_allowed rule part (joined parts) all))
 
 -- the records of these commits are allowed if the groups in which they were appended are among allowed ones
-sent_allowed : (by : Making) (rule : Rule) (low : ℕ) (commits : List Commit) (records : List Record) (groups left more : List (List Record))
+pub sent_allowed : (by : Making) (rule : Rule) (low : ℕ) (commits : List Commit) (records : List Record) (groups left more : List (List Record))
     → AreSent by low commits records → AddsAllowed rule groups left → left ≡ groups ++ (cut records ++ more) → AreAllowedOf by rule commits
 sent_allowed by rule low commits records groups left more sent adds is =
     let same : adds.more ≡ cut records ++ more = same_after groups adds.more (cut records ++ more) (sym adds.is ∙ is) in
@@ -100,7 +100,7 @@ halt_is : (h g : Halt) → ◌≡◌ {A = Result Ending Halt} (Err h) (Err g) �
 unfolding halt_in
 halt_is h g is = ap halt_in is
 
-sink_failed : (result : Result Ending Halt) → (result ≡ Err halt.Sink) ⊎ (result ≡ Err halt.Sink → ⊥)
+pub sink_failed : (result : Result Ending Halt) → (result ≡ Err halt.Sink) ⊎ (result ≡ Err halt.Sink → ⊥)
 sink_failed (Ok ending) = inr (λ is. cc)
 sink_failed (Err h) = elim (halted_sink h) [
   | inl is ↦ inl (ap (λ (x : Halt). Err x) is)

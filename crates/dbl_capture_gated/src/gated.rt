@@ -2,7 +2,7 @@ ghost use Rattle.std.specs.Prelude.{◌≡◌, ◌⊎◌, ℕ, List, Some, IfErr
 ghost use Rattle.dbl_record.specs.declared.record.Record.{Record};
 ghost use Rattle.dbl_hooks_gate.specs.Gates.{AddsAllowed, IsFirstRefused, is_open};
 ghost use Rattle.dbl_model_table.specs.Configs.{IsGoodConfig};
-ghost use Rattle.dbl_source.specs.SourceModel.Standings.{SourceState};
+ghost use Rattle.dbl_source.specs.SourceModel.Standings.{HasState, SourceState};
 ghost use Rattle.dbl_offset.specs.Stores.{IsLive};
 ghost use Rattle.dbl_offset.specs.Keeps.{KeepsStore};
 ghost use Rattle.dbl_source.specs.Keeps.{KeepsSource};
@@ -16,7 +16,7 @@ ghost use Rattle.dbl_capture.specs.SessionEnds.{AddsRecords, ReportsByTrace, Rep
 ghost use Rattle.dbl_capture.specs.SessionEnds.{CountsWithin, TalliesRecords, EndsNormally};
 ghost use Rattle.dbl_capture.specs.SessionEnds.{HaltsByTrace, HaltsByState, NeverHalts};
 ghost use Rattle.dbl_capture_gated.specs.Inner.{KeepsInner};
-ghost use Rattle.dbl_capture_gated.specs.Passed.{PassesAllowed};
+ghost use Rattle.dbl_capture_gated.specs.Passed.{PassesAllowed, RefusesNext};
 
 use dbl_capture::{Ending, Halt, Report, session};
 use dbl_disk::Disk;
@@ -51,6 +51,12 @@ pub fn gated_session<S: Source, K: Sink, D: Disk>(
     // stopped with an error.
     ensures refused { (place : ℕ × ℕ) → gate.new.refused ≡ Some place → IsErr result ×
         (group : List Record) × IsFirstRefused gate.old.rule group place }
+    // It is the first that isn't allowed of the commit that came next, or of the window that this
+    // commit closes; all records of the commits before it are allowed.
+    ensures next { (groups : List (List Record)) → K.holds gate.old.sink groups →
+        (s : SourceState) → S.stands src.old s → (place : ℕ × ℕ) →
+        gate.new.refused ≡ Some place → HasState S.stands src.new (RefusesNext config.now now_ms
+        gate.old.rule offsets.old.offset offsets.new.offset place) }
     // Every commit that the stored offset passed has only allowed records.
     ensures passed { (groups left : List (List Record)) → K.holds gate.old.sink groups →
         K.may_leave gate.new.sink left → (s t : SourceState) → S.stands src.old s →

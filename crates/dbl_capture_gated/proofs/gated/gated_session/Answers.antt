@@ -4,9 +4,11 @@ use Rattle.std.proofs.Math.Facts.{to_z-of_z}
 use Rattle.dbl_capture.specs.CaptureLaws.Found.{IsEntryOf}
 use Rattle.dbl_capture.specs.SessionEnds.{LeavesStores, AddsMarks, AddsRecords, ReportsByTrace, ReportsByState, TalliesRecords}
 use Rattle.dbl_capture.specs.SessionEnds.{HaltsByTrace, HaltsByState, NeverHalts}
-use Rattle.dbl_capture_gated.specs.Passed.{PassesAllowed}
+use Rattle.dbl_source.specs.SourceModel.Standings.{HasState}
+use Rattle.dbl_capture_gated.specs.Passed.{PassesAllowed, RefusesNext}
 use Rattle.dbl_capture_gated.proofs.Inner.{halts_inner, keeps_inner, tallies_inner}
 use Rattle.dbl_capture_gated.proofs.Passing.{passes, stopped_by, unrefused}
+use Rattle.dbl_capture_gated.proofs.Refusing.{first_refused, none_some, refuses_next}
 use Rattle.dbl_capture_gated.proofs.gated.gated_session.Goals as goal
 
 pub returns-clause-allowed : goal.returns-clause-allowed
@@ -28,6 +30,19 @@ returns-clause-passed g c groups left held may s t found leaves =
     (λ after has. g.met.K.Sink.may c.session.new.sink.sink after has.0)
     c.session.ensures.tallies groups left
     (held, unrefused (g.K.Sink.is_live c.args.gate.now.sink) c.args.gate.now.refused c.requires.gate_open) may s t found leaves)
+
+pub returns-clause-next : goal.returns-clause-next
+returns-clause-next g c groups held s found place is =
+    subst (λ (now : ℤ). HasState g.S.Source.stands c.session.new.src (RefusesNext c.args.config.now now c.args.gate.now.rule c.args.offsets.now.offset c.session.new.offsets.offset place))
+    (to_z-of_z c.ranges.now_ms)
+    (refuses_next g.S.Source _ c.args.config.now _ c.args.gate.now.rule c.args.src.now c.session.new.src c.args.gate.now c.session.new.sink
+    c.args.offsets.now c.session.new.offsets c.session.new.report c.session.result place
+    (λ before after has may_leave. c.session.ensures.sink.comes.adds before after has may_leave)
+    (λ after has. none_some c.session.new.sink.refused place has.1 is)
+    (λ group fails. first_refused g.K.Sink c.session.new.sink.sink c.session.new.sink.refused c.session.new.sink.rule c.args.gate.now.rule place group is
+    c.session.ensures.sink.comes.same_rule fails)
+    c.session.ensures.tallies c.session.ensures.failed groups
+    (held, unrefused (g.K.Sink.is_live c.args.gate.now.sink) c.args.gate.now.refused c.requires.gate_open) s found)
 
 pub returns-clause-faithful : goal.returns-clause-faithful
 returns-clause-faithful g c =

@@ -4,6 +4,7 @@ use Rattle.std.specs.Prelude.{IfSome, is_some}
 use Rattle.std.specs.List.{AllByRecursion}
 use Rattle.dbl_base.specs.declared.lsn.Lsn.{Lsn}
 use Rattle.dbl_record.specs.declared.record.Record.{Record}
+use Rattle.dbl_hooks_gate.specs.Gates.{AddsAllowed}
 use Rattle.dbl_disk.specs.Model.{DiskModel}
 use Rattle.dbl_model_table.specs.declared.config.Config.{Config}
 use Rattle.dbl_journal.specs.Stored.{OnDisk}
@@ -54,7 +55,7 @@ use Rattle.dblog_connect.specs.declared.asked.Asked.{Asked}
 use Rattle.dblog_connect_ends.specs.declared.error.ConnectError.{ConnectError}
 use Rattle.dblog_connect_ends.specs.declared.error.ConnectError.TheVariants as error
 use Rattle.dblog_connect_ends.specs.declared.error.ConnectError.TheVariants.{Halted}
-use Rattle.dblog_connect.specs.Asked.{asks_in}
+use Rattle.dblog_connect.specs.Asked.{asks_in, rule_of}
 use Rattle.dblog_connect.specs.Ends.{AddsFew, AreGained, EndsBefore, GainsRecords, HasBegun, HasClosedSent, EndsWithHalt, HasReadClean, HasRun, IsKeptError, IsReported, IsStoredLast, IsUngained}
 use Rattle.dblog_connect_ends.specs.Errors.{IsExternalConnectError, IsOwnHalt, halt_error}
 use Rattle.dblog_connect.specs.Followed.{AreFollowed, AreTallied, ComesByReading}
@@ -64,7 +65,7 @@ use Rattle.dblog_connect.proofs.Causes.{IsHaltOver, cause_of, err_is, kept_halt,
 use Rattle.dblog_connect.proofs.Followed.{followed_read, still_stands, tallied_read, unread_by}
 use Rattle.dblog_connect.proofs.CrashState.{ended_store, ended_wal, image_of, left_store, ok_is, own_of, place_read, settled_of, source_kept}
 use Rattle.dblog_connect.proofs.Opened.{found_of, held_by, left_wal, log_come, read_of, stood_first}
-use Rattle.dblog_connect.proofs.Ran.{LogLeaves, Ran, SourceLeaves}
+use Rattle.dblog_connect.proofs.Ran.{GainsAllowed, LogLeaves, Ran, SourceLeaves}
 
 -- ---- halts
 
@@ -184,13 +185,15 @@ module _ {W T F : Type 0} (wal_model : DiskModel W) (topics_model : DiskModel T)
   }
 
   -- what the topic log gains, and how few watermarks are added
-  pub gains_of : (asked : Asked) → asks_in asked old ≡ Some config → (begun : HasBegun asked w t f) → GainsRecords asked now (topics_model.may_leave lo.disk) (topics_model.may_leave ln.disk) w t f begun
-  gains_of asked asks begun = record {
+  pub gains_of : (asked : Asked) → asks_in asked old ≡ Some config → GainsAllowed topics_model asked lo ln → (begun : HasBegun asked w t f) → GainsRecords asked now (topics_model.may_leave lo.disk) (topics_model.may_leave ln.disk) w t f begun
+  gains_of asked asks adds begun = record {
     stored = fn.offset;
     last = at_begun asked w t f (λ h c. IsStoredLast c h.offset fn.offset) begun old config read_here asks ran.stores;
     gains = λ bytes groups leaves is. inr
         (at_begun asked w t f (λ h c. Gains c now h.offset fn.offset h.groups groups) begun old config read_here asks
         (ran.grouped lg.groups groups lg.holds (bytes, leaves, is)));
+    allowed = λ bytes groups leaves is. inr
+        (at_begun asked w t f (λ h c. AddsAllowed (rule_of asked) h.groups groups) begun old config read_here asks (adds lg.groups groups lg.holds (bytes, leaves, is)));
   }
 
   ungained_of : IsUngained (topics_model.may_leave ln.disk) old fn.offset
@@ -461,6 +464,7 @@ module _ {W T F : Type 0} (wal_model : DiskModel W) (topics_model : DiskModel T)
       out error.AlreadyStarted outside = tt
       out error.NotStarted outside = tt
       out (error.Halted k) outside = absurd outside
+      out (error.Refused position ordinal) outside = tt
       out error.Memory outside = tt
 
       by : IsExternalConnectError (halt_error h) ⊎ ((halt_error h ≡ Halted h) × IsOwnHalt h) → IsKeptError asked now (wal_model.may_leave sn.journal.disk) (topics_model.may_leave ln.disk) (offsets_model.may_leave (disk_of fn)) w t f (halt_error h)

@@ -25,6 +25,7 @@ use Rattle.dblog_init.specs.declared.error.Store.TheVariants as store
 use Rattle.dblog_connect.specs.declared.asked.Asked.{Asked}
 use Rattle.dblog_connect_ends.specs.declared.error.ConnectError.{ConnectError}
 use Rattle.dblog_connect_ends.specs.declared.error.ConnectError.TheVariants as error
+use Rattle.dblog_connect.specs.Refusals.{IsErrorFor}
 use Rattle.dblog_connect.specs.Steps.{disks_of}
 use Rattle.dblog_connect.specs.Ends.{AreSteady, CountsFaults, ConnectEnd, IsRefused, IsWrongSource, OnlyRead}
 use Rattle.dblog_connect.specs.Ends.IsRefused.{no_source, no_log, no_offset}
@@ -75,6 +76,17 @@ demo_wrong w (demo.Model e) bad fault = tt
 demo_wrong w (demo.BadEntry index) bad fault = bad index refl
 demo_wrong w demo.Memory bad fault = tt
 
+-- a store that isn't opened is no refused record
+pub no_refusal : (asked : Asked) (e : ConnectError) → IsConnectError e → IsUnhalted e → IsErrorFor asked e
+no_refusal asked (error.Failed s) kind own = (kind, tt)
+no_refusal asked (error.NotAStore s at) kind own = (kind, tt)
+no_refusal asked (error.BadEntry s index) kind own = (kind, tt)
+no_refusal asked error.AlreadyStarted kind own = (kind, tt)
+no_refusal asked error.NotStarted kind own = (kind, tt)
+no_refusal asked (error.Halted h) kind own = (kind, tt)
+no_refusal asked (error.Refused position ordinal) kind own = absurd own
+no_refusal asked error.Memory kind own = (kind, tt)
+
 -- where it is opened, it isn't told to be none
 pub not_wrong : (w : List ℕ) (e : ConnectError) → IsAfterOpening store.Wal e → IsWrongSource w e
 not_wrong w (error.Failed s) subsequent = tt
@@ -87,6 +99,7 @@ not_wrong w (error.BadEntry store.Offsets index) subsequent = tt
 not_wrong w error.AlreadyStarted subsequent = tt
 not_wrong w error.NotStarted subsequent = tt
 not_wrong w (error.Halted h) subsequent = tt
+not_wrong w (error.Refused position ordinal) subsequent = tt
 not_wrong w error.Memory subsequent = tt
 
 -- ---- a topic log that isn't
@@ -154,6 +167,7 @@ not_before_topics (error.BadEntry store.Offsets index) subsequent before = befor
 not_before_topics error.AlreadyStarted subsequent before = before
 not_before_topics error.NotStarted subsequent before = before
 not_before_topics (error.Halted h) subsequent before = before
+not_before_topics (error.Refused position ordinal) subsequent before = before
 not_before_topics error.Memory subsequent before = before
 
 pub not_before_offsets : (e : ConnectError) → IsAfterOpening store.Topics e → IsBeforeStore store.Offsets e → ⊥
@@ -167,6 +181,7 @@ not_before_offsets (error.BadEntry store.Offsets index) subsequent before = befo
 not_before_offsets error.AlreadyStarted subsequent before = before
 not_before_offsets error.NotStarted subsequent before = before
 not_before_offsets (error.Halted h) subsequent before = before
+not_before_offsets (error.Refused position ordinal) subsequent before = before
 not_before_offsets error.Memory subsequent before = before
 
 pub after_wal : (e : ConnectError) → IsAfterOpening store.Topics e → IsAfterOpening store.Wal e
@@ -180,6 +195,7 @@ after_wal (error.BadEntry store.Offsets index) subsequent = tt
 after_wal error.AlreadyStarted subsequent = tt
 after_wal error.NotStarted subsequent = tt
 after_wal (error.Halted h) subsequent = tt
+after_wal (error.Refused position ordinal) subsequent = tt
 after_wal error.Memory subsequent = tt
 
 pub after_topics : (e : ConnectError) → IsAfterOpening store.Offsets e → IsAfterOpening store.Topics e
@@ -193,6 +209,7 @@ after_topics (error.BadEntry store.Offsets index) subsequent = tt
 after_topics error.AlreadyStarted subsequent = tt
 after_topics error.NotStarted subsequent = tt
 after_topics (error.Halted h) subsequent = tt
+after_topics (error.Refused position ordinal) subsequent = tt
 after_topics error.Memory subsequent = tt
 
 -- ---- of an end

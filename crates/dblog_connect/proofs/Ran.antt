@@ -4,6 +4,7 @@ use Rattle.std.specs.Prelude.{IfErr, IfOk, IfSome, IsTrue, OnOk}
 use Rattle.dbl_base.specs.declared.lsn.Lsn.{Lsn}
 use Rattle.dbl_record.specs.declared.record.Record.{Record}
 use Rattle.dbl_disk.specs.Model.{DiskModel}
+use Rattle.dbl_hooks_gate.specs.Gates.{AddsAllowed}
 use Rattle.dbl_model_table.specs.declared.config.Config.{Config}
 use Rattle.dbl_journal.specs.Stored.{OnDisk}
 use Rattle.dbl_demo.specs.SourceModel.Calls.{IsConfirmedAt, IsConfirmedUpTo, Moved}
@@ -35,6 +36,8 @@ use Rattle.dbl_capture.specs.CaptureLaws.Awaited.{IsWithinLog}
 use Rattle.dbl_capture.specs.CaptureLaws.Captured.{MustHaltAbsent}
 use Rattle.dbl_capture.specs.CaptureLaws.Owned.{IsLongBy}
 use Rattle.dbl_capture.specs.CaptureLaws.HasState.{IsGoneBelow, IsHaltStanding}
+use Rattle.dblog_connect.specs.declared.asked.Asked.{Asked}
+use Rattle.dblog_connect.specs.Asked.{rule_of}
 
 -- what a crash may leave of the source, and of the topic log
 abbrev pub SourceLeaves : {W : Type 0} → DiskModel W → Demo W → CrashState → Type 0
@@ -42,6 +45,10 @@ SourceLeaves model source l = MayLeaveWal model source.journal.disk l
 
 abbrev pub LogLeaves : {T : Type 0} → DiskModel T → OnDisk T → List (List Record) → Type 0
 LogLeaves model log groups = MayLeaveGroups model log.disk groups
+
+-- every record that the topic log gained is one that the session's receiver accepts
+abbrev pub GainsAllowed : {T : Type 0} → DiskModel T → Asked → OnDisk T → OnDisk T → Type 0
+GainsAllowed model asked log new_log = (groups left : List (List Record)) → HoldsGroups model log groups → LogLeaves model new_log left → AddsAllowed (rule_of asked) groups left
 
 pub record Ran {W T F : Type 0} (wal_model : DiskModel W) (topics_model : DiskModel T) (offsets_model : DiskModel F) (config : Config) (now : ℤ) (so sn : Demo W) (lo ln : OnDisk T) (fo fn : StoreOn F)
     (report : Report) (result : Result Ending Halt) : Type 0 where

@@ -19,7 +19,7 @@ use Rattle.dblog_connect.proofs.Answered.{ends_before, gains_of, kept_again, mar
 use Rattle.dblog_connect.proofs.CrashState.{kept_of, promised_of}
 use Rattle.dblog_connect.proofs.Opened.{held_by, some_of}
 use Rattle.dblog_connect.proofs.Gated.{Stopped, halted, over}
-use Rattle.dblog_connect.proofs.Ran.{Ran}
+use Rattle.dblog_connect.proofs.Ran.{GainsAllowed, Ran}
 
 module _ {W T F : Type 0} (wal_model : DiskModel W) (topics_model : DiskModel T) (offsets_model : DiskModel F)
     (is_w : (disk : W) (bytes : List ℕ) → wal_model.seen disk ≡ Some bytes → wal_model.may_leave disk bytes)
@@ -29,7 +29,7 @@ module _ {W T F : Type 0} (wal_model : DiskModel W) (topics_model : DiskModel T)
     (opened_w : IsOpenedSource wal_model so) (opened_t : IsOpenedLog topics_model lo) (opened_f : IsOpenedStore offsets_model fo)
     (asked : Asked) (config : Config) (now : ℤ) (sn : Demo W) (ln : OnDisk T) (fn : StoreOn F) (report : Report) (result : Result Ending Halt)
     (ran : Ran wal_model topics_model offsets_model config now so sn lo ln fo fn report result)
-    (asks : asks_of asked so.names fo.offset ≡ Some config) where
+    (asks : asks_of asked so.names fo.offset ≡ Some config) (adds : GainsAllowed topics_model asked lo ln) where
   asks_here : (w t : List ℕ) (src : IsSourceOf wal_model w so) (lg : IsLogOf topics_model t lo) → asks_in asked (held_by src.wal lg.groups fo.offset) ≡ Some config
   asks_here w t src lg = subst (λ (names : List TableName). asks_of asked names fo.offset ≡ Some config) src.demo.running.names asks
 
@@ -63,7 +63,7 @@ module _ {W T F : Type 0} (wal_model : DiskModel W) (topics_model : DiskModel T)
     told = λ w t f told_w told_t told_f. run_of wal_model topics_model offsets_model is_w is_t is_f w t f so lo fo
         (opened_w w told_w) (opened_t t told_t) (opened_f f told_f) config now sn ln fn report result ran asked (asks_here w t (opened_w w told_w) (opened_t t told_t)) ending is;
     gains = λ w t f told_w told_t told_f begun. gains_of wal_model topics_model offsets_model is_w is_t is_f w t f so lo fo
-        (opened_w w told_w) (opened_t t told_t) (opened_f f told_f) config now sn ln fn report result ran asked (asks_here w t (opened_w w told_w) (opened_t t told_t)) begun;
+        (opened_w w told_w) (opened_t t told_t) (opened_f f told_f) config now sn ln fn report result ran asked (asks_here w t (opened_w w told_w) (opened_t t told_t)) adds begun;
     marks = λ w t f told_w told_t told_f. marks_of wal_model topics_model offsets_model is_w is_t is_f w t f so lo fo
         (opened_w w told_w) (opened_t t told_t) (opened_f f told_f) config now sn ln fn report result ran asked (asks_here w t (opened_w w told_w) (opened_t t told_t));
   }
@@ -97,7 +97,7 @@ module _ {W T F : Type 0} (wal_model : DiskModel W) (topics_model : DiskModel T)
     told = λ w t f told_w told_t told_f. ends_before wal_model topics_model offsets_model is_w is_t is_f w t f so lo fo
         (opened_w w told_w) (opened_t t told_t) (opened_f f told_f) config now sn ln fn report result ran asked (asks_here w t (opened_w w told_w) (opened_t t told_t)) h is;
     gains = λ w t f told_w told_t told_f begun. gains_of wal_model topics_model offsets_model is_w is_t is_f w t f so lo fo
-        (opened_w w told_w) (opened_t t told_t) (opened_f f told_f) config now sn ln fn report result ran asked (asks_here w t (opened_w w told_w) (opened_t t told_t)) begun;
+        (opened_w w told_w) (opened_t t told_t) (opened_f f told_f) config now sn ln fn report result ran asked (asks_here w t (opened_w w told_w) (opened_t t told_t)) adds begun;
     marks = λ w t f told_w told_t told_f. marks_of wal_model topics_model offsets_model is_w is_t is_f w t f so lo fo
         (opened_w w told_w) (opened_t t told_t) (opened_f f told_f) config now sn ln fn report result ran asked (asks_here w t (opened_w w told_w) (opened_t t told_t));
   }

@@ -17,7 +17,7 @@ use Rattle.dblog_init.specs.declared.error.Store.{Store}
 use Rattle.dblog_connect.specs.declared.asked.Asked.{Asked}
 use Rattle.dblog_connect.specs.declared.asked.Asked.TheVariants.{First, Again}
 use Rattle.dblog_connect_ends.specs.declared.error.ConnectError.{ConnectError}
-use Rattle.dblog_connect_ends.specs.declared.error.ConnectError.TheVariants.{AlreadyStarted, BadEntry, Failed, Halted, Memory, NotAStore, NotStarted}
+use Rattle.dblog_connect_ends.specs.declared.error.ConnectError.TheVariants.{AlreadyStarted, BadEntry, Failed, Halted, Memory, NotAStore, NotStarted, Refused}
 use Rattle.dblog_connect.specs.Asked.{Refuses, asks_in}
 use Rattle.dblog_connect.specs.Disks.{AreKeptDisks}
 use Rattle.dblog_connect.specs.Ends.{ConnectEnd, EndsBefore, IsKeptError, IsRefused}
@@ -25,9 +25,10 @@ use Rattle.dblog_connect.specs.Ends.IsRefused.{no_source, no_log, no_offset, not
 use Rattle.dblog_connect_ends.specs.Errors.{IsExternalConnectError}
 use Rattle.dblog_connect.specs.Steps.{AnswersConnect, disks_of}
 
--- it isn't a session's halt
+-- it isn't a session's halt, and no record was refused
 abbrev pub IsUnhalted : ConnectError → Type 0
 IsUnhalted (Halted h) = ⊥
+IsUnhalted (Refused position ordinal) = ⊥
 IsUnhalted e = Unit {0}
 
 -- some words, of which what stays has gone on
@@ -71,6 +72,7 @@ never_so asked now wals logs stores w t f held read (BadEntry store index) own e
 never_so asked now wals logs stores w t f held read AlreadyStarted own ends = tt
 never_so asked now wals logs stores w t f held read NotStarted own ends = tt
 never_so asked now wals logs stores w t f held read (Halted h) own ends = absurd own
+never_so asked now wals logs stores w t f held read (Refused position ordinal) own ends = absurd own
 never_so asked now wals logs stores w t f held read Memory own ends = tt
 
 told_so : (asked : Asked) (now : ℤ) (wals logs stores : List ℕ → Type 0) (w t f : List ℕ) (e : ConnectError) → IsExternalConnectError e ⊎ IsRefused asked w t f e → EndsBefore asked now wals logs stores w t f e
@@ -127,6 +129,7 @@ module _ {W T F : Type 0} (wal_model : DiskModel W) (topics_model : DiskModel T)
       stored = begun.held.offset;
       last = inl refl;
       gains = λ bytes groups leaves is. inl (crash_t bytes leaves);
+      allowed = λ bytes groups leaves is. inl (crash_t bytes leaves);
     };
     marks = λ w t f told_w told_t told_f begun tables bytes left leaves is. inl (crash_w bytes leaves);
   }
@@ -176,6 +179,7 @@ module _ {W T F : Type 0} (wal_model : DiskModel W) (topics_model : DiskModel T)
           stored = here.stored;
           last = here.last;
           gains = λ bytes groups leaves is. either (crash_t bytes) (here.gains bytes groups leaves is);
+          allowed = λ bytes groups leaves is. either (crash_t bytes) (here.allowed bytes groups leaves is);
         });
     marks = λ w t f told_w told_t told_f begun tables bytes left leaves is.
         either (crash_w bytes) (by.marks w t f (same_w ∙ told_w) (same_t ∙ told_t) (same_f ∙ told_f) begun tables bytes left leaves is);

@@ -3,6 +3,7 @@ use Rattle.std.specs.Prelude.{Contains, IfSome, ◌≡◌, ◌⊎◌, ℕ, ℤ, 
 use Rattle.std.specs.List.{AllByRecursion}
 use Rattle.dbl_base.specs.Streams.{FailsOnlyIfCounted}
 use Rattle.dbl_record.specs.declared.record.Record.{Record}
+use Rattle.dbl_hooks_gate.specs.Gates.{AddsAllowed}
 use Rattle.dbl_disk.specs.Calls.{IsSteady}
 use Rattle.dbl_disk.specs.Model.{DiskModel}
 use Rattle.dbl_journal.specs.Form.{IsFaultAt}
@@ -44,7 +45,7 @@ use Rattle.dblog_connect.specs.declared.asked.Asked.{Asked}
 use Rattle.dblog_connect_ends.specs.declared.summary.Summary.{Summary}
 use Rattle.dblog_connect_ends.specs.declared.error.ConnectError.{ConnectError}
 use Rattle.dblog_connect_ends.specs.declared.error.ConnectError.TheVariants.{BadEntry, Failed, Halted, NotAStore}
-use Rattle.dblog_connect.specs.Asked.{Refuses, asks_in, budget_of}
+use Rattle.dblog_connect.specs.Asked.{Refuses, asks_in, budget_of, rule_of}
 use Rattle.dblog_connect_ends.specs.Errors.{IsExternalConnectError}
 use Rattle.dblog_connect.specs.Followed.{AreFollowed, AreTallied, ComesByReading}
 use Rattle.dbl_disk.specs.Disks.{disk_limit}
@@ -189,6 +190,9 @@ pub record GainsRecords (asked : Asked) (now : ℤ) (before logs : List ℕ → 
   pub last : IsStoredLast begun.config begun.held.offset stored
   pub gains : (bytes : List ℕ) (groups : List (List Record)) → logs bytes → IsLog bytes groups
       → before bytes ⊎ Gains begun.config now begun.held.offset stored begun.held.groups groups
+  -- No value is longer than the arguments allow.
+  pub allowed : (bytes : List ℕ) (groups : List (List Record)) → logs bytes → IsLog bytes groups
+      → before bytes ⊎ AddsAllowed (rule_of asked) begun.held.groups groups
 
 -- If a stored offset captures the tables of the catalogue, the source's log is as before or gained few watermarks.
 abbrev pub AddsFew : Asked → (List ℕ → Type 0) → (List ℕ → Type 0) → List ℕ → List ℕ → List ℕ → Type 0

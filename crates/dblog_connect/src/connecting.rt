@@ -1,19 +1,21 @@
 //! The session over the disks.
 
-ghost use Rattle.std.specs.Prelude.{◌≡◌, ℕ, List, Some, None, IfOk, IfErr, MatchResult, IsTrue, OnOk};
+ghost use Rattle.std.specs.Prelude.{◌≡◌, ℕ, List, Some, None, IfOk, IfErr, MatchResult};
+ghost use Rattle.std.specs.Prelude.{IsTrue, OnOk};
 ghost use Rattle.dblog_promise.specs.Bounds.{IsBounded, IsStoreBounded};
 ghost use Rattle.dblog_promise.specs.Headline.{GuaranteesAfterCrash};
 ghost use Rattle.dbl_offset.specs.Stores.{IsLive, disk_of};
 ghost use Rattle.dbl_demo.specs.DemoWorkload.Ready.{AreTableNames};
-ghost use Rattle.dblog_connect.specs.Asked.{IsAskedWithinLimits, asks_in, budget_of};
+ghost use Rattle.dblog_connect.specs.Asked.{IsAskedWithinLimits, asks_in, budget_of, rule_of};
 ghost use Rattle.dblog_connect.specs.Disks.{AreKeptDisks, IsTrueAfterCrash, IsTrueOfContents};
 ghost use Rattle.dblog_connect.specs.Ends.{AddsFew, AreSteady, CountsFaults, EndsBefore};
 ghost use Rattle.dblog_connect.specs.Ends.{GainsRecords};
 ghost use Rattle.dblog_connect.specs.Ends.{HasBegun, HasRun, IsCompleteEnd, IsKeptError};
 ghost use Rattle.dblog_connect.specs.Ends.{IsReported, IsSpent, IsWrongSource, OnlyRead};
 ghost use Rattle.dblog_connect_ends.specs.Errors.{IsBeforeStore, IsAfterOpening};
-ghost use Rattle.dblog_connect_ends.specs.Errors.{IsConnectError, IsConnectRefusal};
-ghost use Rattle.dblog_connect.specs.Steps.{AnswersConnect, disks_of, IsOpenedLog};
+ghost use Rattle.dblog_connect_ends.specs.Errors.{IsConnectRefusal};
+ghost use Rattle.dblog_connect.specs.Refusals.{IsErrorFor};
+ghost use Rattle.dblog_connect.specs.Steps.{AnswersConnect, EndsSession, disks_of, IsOpenedLog};
 ghost use Rattle.dblog_connect.specs.Steps.{IsOpenedSource, IsOpenedStore, session_end};
 
 use crate::asked::{Asked, config_for, limit_of};
@@ -77,10 +79,11 @@ pub fn connect<W: Disk, T: Disk, F: Disk>(
     ensures wal_wrong { (w : List ℕ) → W.seen disks.wal ≡ Some w →
         IfErr result.end (IsWrongSource w) }
 
-    // For every disk: how much is read until a normal end, which errors there are, and that a
-    // refused command only reads the disks, up to the one that is refused.
+    // For every disk: how much is read until a normal end, which errors there are (a refused record
+    // only if its value is longer than the arguments allow), and that a refused command only reads
+    // the disks, up to the one that is refused.
     ensures spent { IfOk result.end (IsSpent (budget_of asked)) }
-    ensures kinds { IfErr result.end IsConnectError }
+    ensures kinds { IfErr result.end (IsErrorFor asked) }
     ensures topics_stay { IfErr result.end (λ e. IsBeforeStore Store.Topics e →
         result.disks.topics ≡ disks.topics) }
     ensures offsets_stay { IfErr result.end (λ e. IsBeforeStore Store.Offsets e →
@@ -138,7 +141,7 @@ fn connect_source<W: Disk, T: Disk, F: Disk>(
     ensures answers { AnswersConnect W.Disk T.Disk F.Disk asked now_ms
         (disks_of source.journal.disk topics offsets) result.disks result.end }
     ensures spent { IfOk result.end (IsSpent (budget_of asked)) }
-    ensures kinds { IfErr result.end IsConnectError }
+    ensures kinds { IfErr result.end (IsErrorFor asked) }
     ensures after_opening { IfErr result.end (IsAfterOpening Store.Wal) }
     ensures offsets_stay { IfErr result.end (λ e. IsBeforeStore Store.Offsets e →
         result.disks.offsets ≡ offsets) }
@@ -189,7 +192,7 @@ fn connect_log<W: Disk, T: Disk, F: Disk>(
     ensures answers { AnswersConnect W.Disk T.Disk F.Disk asked now_ms
         (disks_of source.journal.disk log.disk offsets) result.disks result.end }
     ensures spent { IfOk result.end (IsSpent (budget_of asked)) }
-    ensures kinds { IfErr result.end IsConnectError }
+    ensures kinds { IfErr result.end (IsErrorFor asked) }
     ensures after_opening { IfErr result.end (IsAfterOpening Store.Topics) }
     ensures wal_read { IfErr result.end (λ e. IsConnectRefusal e →
         OnlyRead W.Disk source.journal.disk result.disks.wal) }
@@ -211,7 +214,8 @@ fn connect_log<W: Disk, T: Disk, F: Disk>(
 {
     match OffsetStore::open(alloc, offsets) {
         Ok(mut store) => {
-            let (log, end) = run_session(alloc, asked, now_ms, &mut source, log, &mut store);
+            let session = run_session(alloc, asked, now_ms, &mut source, log, &mut store);
+            let (log, end) = session;
             Outcome {
                 disks: Disks {
                     wal: source.into_disk(),
@@ -248,28 +252,8 @@ fn run_session<W: Disk, T: Disk, F: Disk>(
     requires source_opened { IsOpenedSource W.Disk source.old }
     requires log_opened { IsOpenedLog T.Disk log }
     requires store_opened { IsOpenedStore F.Disk store.old }
-    ensures answers { AnswersConnect W.Disk T.Disk F.Disk asked now_ms
-        (disks_of source.old.journal.disk log.disk (disk_of store.old))
-        (disks_of source.new.journal.disk result.0.disk (disk_of store.new)) result.1 }
-    ensures spent { IfOk result.1 (IsSpent (budget_of asked)) }
-    ensures kinds { IfErr result.1 IsConnectError }
-    ensures after_opening { IfErr result.1 (IsAfterOpening Store.Offsets) }
-    ensures source_stays { IfErr result.1 (λ e. IsConnectRefusal e → source.new ≡ source.old) }
-    ensures log_stays { IfErr result.1 (λ e. IsConnectRefusal e → result.0 ≡ log) }
-    ensures store_stays { IfErr result.1 (λ e. IsConnectRefusal e → store.new ≡ store.old) }
-    ensures source_counts { CountsFaults W.Disk Store.Wal result.1
-        source.old.journal.disk source.new.journal.disk }
-    ensures steady { OnOk result.1 (AreSteady W.Disk T.Disk F.Disk
-        (disks_of source.old.journal.disk log.disk (disk_of store.old))
-        (disks_of source.new.journal.disk result.0.disk (disk_of store.new))) }
-    ensures log_counts { CountsFaults T.Disk Store.Topics result.1 log.disk result.0.disk }
-    ensures store_counts { CountsFaults F.Disk Store.Offsets result.1
-        (disk_of store.old) (disk_of store.new) }
-    ensures source_bounded { IsBounded
-        (W.seen source.old.journal.disk) (W.seen source.new.journal.disk) }
-    ensures log_bounded { IsBounded (T.seen log.disk) (T.seen result.0.disk) }
-    ensures store_bounded { IsStoreBounded
-        (F.seen (disk_of store.old)) (F.seen (disk_of store.new)) }
+    ensures { EndsSession W.Disk T.Disk F.Disk asked now_ms source.old source.new log result.0
+        store.old store.new result.1 }
 {
     let rule = Rule::MaxValue(limit_of(&asked).unwrap_or(u64::MAX));
     match Box::new(alloc, move |item: &Record| rule.allows(item)) {
@@ -283,10 +267,7 @@ fn run_session<W: Disk, T: Disk, F: Disk>(
 }
 
 // The end of a session over a gate.
-fn end_of(
-    end: Result<Ending, Halt>,
-    refused: Option<(u64, u64)>,
-) -> Result<Ending, ConnectError>
+fn end_of(end: Result<Ending, Halt>, refused: Option<(u64, u64)>) -> Result<Ending, ConnectError>
     ensures { result ≡ session_end end refused }
 {
     match end {
@@ -310,6 +291,7 @@ fn run_over_gate<W: Disk, T: Disk, F: Disk>(
     requires source_live { IsTrue source.old.live }
     requires log_live { IsTrue gate.old.sink.live }
     requires unrefused { gate.old.refused ≡ None }
+    requires rule { gate.old.rule ≡ rule_of asked }
     requires store_live { IsLive store.old }
     requires tables { AreTableNames source.old.names }
     requires source_opened { IsOpenedSource W.Disk source.old }
@@ -319,17 +301,19 @@ fn run_over_gate<W: Disk, T: Disk, F: Disk>(
         (disks_of source.old.journal.disk gate.old.sink.disk (disk_of store.old))
         (disks_of source.new.journal.disk gate.new.sink.disk (disk_of store.new)) result }
     ensures spent { IfOk result (IsSpent (budget_of asked)) }
-    ensures kinds { IfErr result IsConnectError }
+    ensures kinds { IfErr result (IsErrorFor asked) }
     ensures after_opening { IfErr result (IsAfterOpening Store.Offsets) }
     ensures source_stays { IfErr result (λ e. IsConnectRefusal e → source.new ≡ source.old) }
-    ensures log_stays { IfErr result (λ e. IsConnectRefusal e → gate.new.sink ≡ gate.old.sink) }
+    ensures log_stays { IfErr result (λ e. IsConnectRefusal e →
+        gate.new.sink ≡ gate.old.sink) }
     ensures store_stays { IfErr result (λ e. IsConnectRefusal e → store.new ≡ store.old) }
     ensures source_counts { CountsFaults W.Disk Store.Wal result
         source.old.journal.disk source.new.journal.disk }
     ensures steady { OnOk result (AreSteady W.Disk T.Disk F.Disk
         (disks_of source.old.journal.disk gate.old.sink.disk (disk_of store.old))
         (disks_of source.new.journal.disk gate.new.sink.disk (disk_of store.new))) }
-    ensures log_counts { CountsFaults T.Disk Store.Topics result gate.old.sink.disk gate.new.sink.disk }
+    ensures log_counts { CountsFaults T.Disk Store.Topics result
+        gate.old.sink.disk gate.new.sink.disk }
     ensures store_counts { CountsFaults F.Disk Store.Offsets result
         (disk_of store.old) (disk_of store.new) }
     ensures source_bounded { IsBounded

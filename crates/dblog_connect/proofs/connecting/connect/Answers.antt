@@ -3,9 +3,10 @@ use Rattle.std.proofs.Math.Facts.{to_z-of_z}
 use Rattle.dblog_init.specs.declared.error.Store.TheVariants as store
 use Rattle.dblog_connect_ends.specs.declared.error.ConnectError.{ConnectError}
 use Rattle.dblog_connect.specs.Ends.{IsRefused, IsWrongSource}
-use Rattle.dblog_connect_ends.specs.Errors.{IsBeforeStore, IsAfterOpening, IsConnectError, IsExternalConnectError}
+use Rattle.dblog_connect_ends.specs.Errors.{IsBeforeStore, IsAfterOpening, IsExternalConnectError, demo_error}
+use Rattle.dblog_connect.specs.Refusals.{IsErrorFor}
 use Rattle.dblog_connect.specs.Steps.{AnswersConnect, disks_of}
-use Rattle.dblog_connect.proofs.ErrorKinds.{bounded_on, counts_by, counts_on, counts_same, demo_ends, demo_fails, demo_kind, demo_wrong, err_as, not_before_topics, not_wrong, only_same, read_on, steady_on}
+use Rattle.dblog_connect.proofs.ErrorKinds.{bounded_on, counts_by, counts_on, counts_same, demo_ends, demo_fails, demo_kind, demo_wrong, err_as, no_refusal, not_before_topics, not_wrong, only_same, read_on, steady_on}
 use Rattle.dblog_connect.proofs.Opened.{bounded_same, store_bounded_same}
 use Rattle.dblog_connect.proofs.Stays.{IsUnhalted, answers_before, answers_stay}
 use Rattle.dblog_connect.proofs.connecting.connect.Goals as goal
@@ -62,7 +63,7 @@ returns-in-Err-clause-marks g c =
     (demo_ends c.args.asked w t f c.in-Err.field-0.error (λ index is. c.in-Err.ensures.bad w index told_w is) (λ at is. c.in-Err.ensures.not_a_journal w at told_w is)))).marks
 
 pub returns-in-Err-clause-kinds : goal.returns-in-Err-clause-kinds
-returns-in-Err-clause-kinds g c = subst IsConnectError (sym c.from.ensures) (demo_kind c.in-Err.field-0.error).0
+returns-in-Err-clause-kinds g c = subst (IsErrorFor c.args.asked) (sym c.from.ensures) (let kind = demo_kind c.in-Err.field-0.error in no_refusal c.args.asked (demo_error c.in-Err.field-0.error) kind.0 kind.1)
 
 pub returns-in-Err-clause-topics_stay : goal.returns-in-Err-clause-topics_stay
 returns-in-Err-clause-topics_stay g c = λ before. refl

@@ -3,9 +3,10 @@ use Rattle.std.proofs.Math.Facts.{to_z-of_z}
 use Rattle.dblog_init.specs.declared.error.Store.TheVariants as store
 use Rattle.dblog_connect_ends.specs.declared.error.ConnectError.{ConnectError}
 use Rattle.dblog_connect.specs.Ends.{IsRefused}
-use Rattle.dblog_connect_ends.specs.Errors.{IsBeforeStore, IsAfterOpening, IsConnectError, IsExternalConnectError}
+use Rattle.dblog_connect_ends.specs.Errors.{IsBeforeStore, IsAfterOpening, IsExternalConnectError, topic_error}
+use Rattle.dblog_connect.specs.Refusals.{IsErrorFor}
 use Rattle.dblog_connect.specs.Steps.{AnswersConnect, disks_of}
-use Rattle.dblog_connect.proofs.ErrorKinds.{after_wal, bounded_on, counts_by, counts_on, counts_same, err_as, moved_crash, not_before_offsets, only_same, read_on, steady_on, topic_ends, topic_fails, topic_kind}
+use Rattle.dblog_connect.proofs.ErrorKinds.{after_wal, bounded_on, counts_by, counts_on, counts_same, err_as, moved_crash, no_refusal, not_before_offsets, only_same, read_on, steady_on, topic_ends, topic_fails, topic_kind}
 use Rattle.dblog_connect.proofs.Opened.{bounded_same, store_bounded_same}
 use Rattle.dblog_connect.proofs.Stays.{IsUnhalted, answers_before, answers_stay}
 use Rattle.dblog_connect.proofs.connecting.connect_source.Goals as goal
@@ -20,7 +21,7 @@ returns-in-Err-clause-answers g c =
     (topic_ends c.args.asked w t f (c.requires.opened w told_w).wal (c.requires.opened w told_w).is c.in-Err.field-0.error (λ index is. c.in-Err.ensures.bad t told_t index is) (λ at is. c.in-Err.ensures.refused t told_t at is)))
 
 pub returns-in-Err-clause-kinds : goal.returns-in-Err-clause-kinds
-returns-in-Err-clause-kinds g c = subst IsConnectError (sym c.from.ensures) (topic_kind c.in-Err.field-0.error).0
+returns-in-Err-clause-kinds g c = subst (IsErrorFor c.args.asked) (sym c.from.ensures) (let kind = topic_kind c.in-Err.field-0.error in no_refusal c.args.asked (topic_error c.in-Err.field-0.error) kind.0 kind.1)
 
 pub returns-in-Err-clause-after_opening : goal.returns-in-Err-clause-after_opening
 returns-in-Err-clause-after_opening g c = subst (IsAfterOpening store.Wal) (sym c.from.ensures) (topic_kind c.in-Err.field-0.error).2

@@ -1,6 +1,8 @@
 use Rattle.std.proofs.Common.{◌≡◌, ◌∙◌, Ok, Err, refl, sym, ap, subst}
 use Rattle.std.specs.Prelude.{IfErr, IfOk, OnOk}
 use Rattle.std.proofs.Math.Facts.{to_z-of_z}
+use Rattle.dbl_hooks_gate.specs.declared.rule.Rule.{Rule}
+use Rattle.dbl_hooks_gate.specs.Gates.{AddsAllowed}
 use Rattle.dbl_offset.specs.Stores.{disk_of}
 use Rattle.dbl_demo.specs.DemoWorkload.Ready.{AreTableNames}
 use Rattle.dbl_capture.specs.CaptureWork.declared.halt.Halt.{Halt}
@@ -8,12 +10,13 @@ use Rattle.dbl_capture.specs.CaptureWork.declared.report.Ending.{Ending}
 use Rattle.dblog_init.specs.declared.error.Store.TheVariants as store
 use Rattle.dblog_connect.specs.Asked.{budget_of}
 use Rattle.dblog_connect.specs.Ends.{AreSteady, CountsFaults, ConnectEnd, IsSpent}
-use Rattle.dblog_connect_ends.specs.Errors.{IsAfterOpening, IsConnectError, IsConnectRefusal}
+use Rattle.dblog_connect_ends.specs.Errors.{IsAfterOpening, IsConnectRefusal}
+use Rattle.dblog_connect.specs.Refusals.{IsErrorFor}
 use Rattle.dblog_connect.specs.Steps.{AnswersConnect, disks_of}
 use Rattle.dblog_connect.proofs.Configs.{asks_budget}
 use Rattle.dblog_connect.proofs.Exits.{asked_of, asks_same, log_bounded, log_steady, refused_after, refused_ends, refused_kind, refused_unfailed, refused_unhalted, residual, source_bounded, source_steady, spent_of, store_bounded, store_steady}
-use Rattle.dblog_connect.proofs.Gated.{ended, ok_then, open_of, stop_fails, stop_kind, stopped}
-use Rattle.dblog_connect.proofs.ErrorKinds.{counts_same}
+use Rattle.dblog_connect.proofs.Gated.{ended, ok_then, open_of, stop_exceeds, stop_fails, stop_kind, stopped}
+use Rattle.dblog_connect.proofs.ErrorKinds.{counts_same, no_refusal}
 use Rattle.dblog_connect.proofs.Opened.{bounded_same, store_bounded_same}
 use Rattle.dblog_connect.proofs.Ran.{done_by, renow}
 use Rattle.dblog_connect.proofs.Session.{answers_ok, answers_stopped}
@@ -46,7 +49,7 @@ pub returns-in_err-config-clause-spent : goal.returns-in_err-config-clause-spent
 returns-in_err-config-clause-spent g c = residual c.from_residual.result _ (λ (r : ConnectEnd). IfOk r (IsSpent (budget_of c.args.asked))) c.from_residual.ensures.1 tt
 
 pub returns-in_err-config-clause-kinds : goal.returns-in_err-config-clause-kinds
-returns-in_err-config-clause-kinds g c = residual c.from_residual.result _ (λ (r : ConnectEnd). IfErr r IsConnectError) c.from_residual.ensures.1 (refused_kind c.args.asked _ _ c.in_err-config.ensures.refused)
+returns-in_err-config-clause-kinds g c = residual c.from_residual.result _ (λ (r : ConnectEnd). IfErr r (IsErrorFor c.args.asked)) c.from_residual.ensures.1 (no_refusal c.args.asked _ (refused_kind c.args.asked _ _ c.in_err-config.ensures.refused) (refused_unhalted c.args.asked _ _ c.in_err-config.ensures.refused))
 
 pub returns-in_err-config-clause-after_opening : goal.returns-in_err-config-clause-after_opening
 returns-in_err-config-clause-after_opening g c = residual c.from_residual.result _ (λ (r : ConnectEnd). IfErr r (IsAfterOpening store.Offsets)) c.from_residual.ensures.1 (refused_after c.args.asked _ _ c.in_err-config.ensures.refused)
@@ -135,13 +138,18 @@ returns-in_err-ending-clause-answers g c =
       sink_comes = c.gated_session-end.ensures.sink.comes;
       store_comes = c.gated_session-end.ensures.store.comes;
     }))
-    (asks_same c.args.asked c.args.source.now.names c.args.store.now.offset _ _ c.in_ok-config.config c.table_names.ensures c.load.ensures.offset c.in_ok-config.ensures.asks) c.refused.result _ (stopped c.gated_session-end.result c.refused.result _ (sym c.end_of.ensures ∙ c.in_err-ending.was)))
+    (asks_same c.args.asked c.args.source.now.names c.args.store.now.offset _ _ c.in_ok-config.config c.table_names.ensures c.load.ensures.offset c.in_ok-config.ensures.asks) (λ groups left holds may. subst (λ (rule : Rule). AddsAllowed rule groups left) c.requires.rule (c.gated_session-end.ensures.allowed groups left holds may)) c.refused.result _ (stopped c.gated_session-end.result c.refused.result _ (sym c.end_of.ensures ∙ c.in_err-ending.was)))
 
 pub returns-in_err-ending-clause-spent : goal.returns-in_err-ending-clause-spent
 returns-in_err-ending-clause-spent g c = residual c.from_residual-in_err-ending.result _ (λ (r : ConnectEnd). IfOk r (IsSpent (budget_of c.args.asked))) c.from_residual-in_err-ending.ensures.1 tt
 
 pub returns-in_err-ending-clause-kinds : goal.returns-in_err-ending-clause-kinds
-returns-in_err-ending-clause-kinds g c = residual c.from_residual-in_err-ending.result _ (λ (r : ConnectEnd). IfErr r IsConnectError) c.from_residual-in_err-ending.ensures.1 (stop_kind _ _ _ (stopped c.gated_session-end.result c.refused.result _ (sym c.end_of.ensures ∙ c.in_err-ending.was))).0
+returns-in_err-ending-clause-kinds g c =
+    let stop = stopped c.gated_session-end.result c.refused.result _ (sym c.end_of.ensures ∙ c.in_err-ending.was) in
+    residual c.from_residual-in_err-ending.result _ (λ (r : ConnectEnd). IfErr r (IsErrorFor c.args.asked)) c.from_residual-in_err-ending.ensures.1 (
+      (stop_kind _ _ _ stop).0,
+      stop_exceeds _ _ _ c.args.asked c.args.gate.now.rule c.requires.rule (λ place some. (let first = c.gated_session-end.ensures.refused place (sym c.refused.ensures ∙ some) in (first.1, first.2))) stop,
+    )
 
 pub returns-in_err-ending-clause-after_opening : goal.returns-in_err-ending-clause-after_opening
 returns-in_err-ending-clause-after_opening g c = residual c.from_residual-in_err-ending.result _ (λ (r : ConnectEnd). IfErr r (IsAfterOpening store.Offsets)) c.from_residual-in_err-ending.ensures.1 (stop_kind _ _ _ (stopped c.gated_session-end.result c.refused.result _ (sym c.end_of.ensures ∙ c.in_err-ending.was))).1
@@ -239,7 +247,7 @@ returns-clause-answers g c =
       sink_comes = c.gated_session-end.ensures.sink.comes;
       store_comes = c.gated_session-end.ensures.store.comes;
     }))
-    (asks_same c.args.asked c.args.source.now.names c.args.store.now.offset _ _ c.in_ok-config.config c.table_names.ensures c.load.ensures.offset c.in_ok-config.ensures.asks) c.in_ok-ending.ending (ended c.gated_session-end.result c.refused.result c.in_ok-ending.ending (sym c.end_of.ensures ∙ c.in_ok-ending.was))
+    (asks_same c.args.asked c.args.source.now.names c.args.store.now.offset _ _ c.in_ok-config.config c.table_names.ensures c.load.ensures.offset c.in_ok-config.ensures.asks) (λ groups left holds may. subst (λ (rule : Rule). AddsAllowed rule groups left) c.requires.rule (c.gated_session-end.ensures.allowed groups left holds may)) c.in_ok-ending.ending (ended c.gated_session-end.result c.refused.result c.in_ok-ending.ending (sym c.end_of.ensures ∙ c.in_ok-ending.was))
 
 pub returns-clause-spent : goal.returns-clause-spent
 returns-clause-spent g c =

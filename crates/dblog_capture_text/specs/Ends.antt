@@ -11,7 +11,8 @@ use Rattle.dblog_capture_text.specs.Halts.{halt_line, halt_status}
 use Rattle.dblog_capture_text.specs.Reports.{ending_status, report_lines}
 use Rattle.dbl_lines.specs.declared.status.Status.{Status}
 use Rattle.dbl_lines.specs.declared.status.Status.TheVariants.{Done, BudgetSpent, StartMismatch, MalformedLog, Unsupported, SourceFailed}
-use Rattle.dbl_lines.specs.declared.status.Status.TheVariants.{TopicsFailed, OffsetsFailed, OutOfMemory, InvalidStore, LogGone, RecordRefused}
+use Rattle.dbl_lines.specs.declared.status.Status.TheVariants.{TopicsFailed, OffsetsFailed, OutOfMemory, InvalidStore, LogGone}
+use Rattle.dbl_lines.specs.declared.status.Status.TheVariants.{RecordRefused}
 use Rattle.dbl_lines.specs.declared.run_error.RunError.TheVariants.{Memory}
 use Rattle.dbl_lines.specs.Faults.{fault_line}
 use Rattle.dbl_lines.specs.Says.{IsCutShort, Writes}
@@ -66,7 +67,8 @@ SaysSession end status before after =
 abbrev pub IsSessionStatus : Status → Type 0
 IsSessionStatus status = (status ≡ Done) ⊎ ((status ≡ BudgetSpent) ⊎ ((status ≡ StartMismatch) ⊎ ((status ≡ MalformedLog)
     ⊎ ((status ≡ Unsupported) ⊎ ((status ≡ InvalidStore) ⊎ ((status ≡ LogGone)
-    ⊎ ((status ≡ SourceFailed) ⊎ (((status ≡ TopicsFailed) ⊎ ((status ≡ OffsetsFailed) ⊎ (status ≡ RecordRefused))) ⊎ IsCutShort status))))))))
+    ⊎ ((status ≡ SourceFailed)
+    ⊎ (((status ≡ TopicsFailed) ⊎ ((status ≡ OffsetsFailed) ⊎ (status ≡ RecordRefused))) ⊎ IsCutShort status))))))))
 
 -- The statuses of a session that ended normally.
 abbrev pub IsNormalStatus : Status → Type 0

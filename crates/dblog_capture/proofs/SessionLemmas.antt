@@ -10,7 +10,9 @@ use Rattle.dblog_init.specs.declared.error.Store.TheVariants.{Wal, Topics, Offse
 use Rattle.dblog_connect_ends.specs.declared.error.ConnectError.{ConnectError}
 use Rattle.dblog_connect_ends.specs.declared.error.ConnectError.TheVariants as connect
 use Rattle.dblog_connect.specs.Ends.{CountsFaults, ConnectEnd, IsCompleteEnd, OnlyRead}
+use Rattle.dblog_connect.specs.declared.asked.Asked.{Asked}
 use Rattle.dblog_connect.specs.Errors.{IsConnectError, IsConnectRefusal}
+use Rattle.dblog_connect.specs.Refusals.{ExceedsMaximum, IsErrorFor}
 use Rattle.dbl_model_table.specs.declared.config.Config.{Config}
 use Rattle.dblog_connect.specs.Promise.Contents.{Contents}
 use Rattle.dblog_connect.specs.Promise.Goes.{Advances}
@@ -18,13 +20,22 @@ use Rattle.dblog_connect.specs.Promise.Headline.{GuaranteesAfterCrash}
 use Rattle.dblog_capture_text.specs.Reports.{ending_status}
 use Rattle.dbl_lines.specs.declared.status.Status.{Status}
 use Rattle.dbl_lines.specs.declared.status.Status.TheVariants.{Done, BudgetSpent, StartMismatch, MalformedLog, Unsupported, SourceFailed, TopicsFailed}
-use Rattle.dbl_lines.specs.declared.status.Status.TheVariants.{OffsetsFailed, StdinFailed, StdoutFailed, OutOfMemory, InvalidStore, LogGone}
+use Rattle.dbl_lines.specs.declared.status.Status.TheVariants.{OffsetsFailed, StdinFailed, StdoutFailed, OutOfMemory, InvalidStore, LogGone, RecordRefused}
 use Rattle.dbl_lines.specs.Says.{IsCutShort}
 use Rattle.dblog_capture.specs.Runs.{WroteNothing}
 use Rattle.dblog_capture_text.specs.Ends.{IsNormalStatus, IsSessionStatus, SaysSession, connect_status, session_status, store_status}
 use Rattle.dbl_lines.proofs.SayLemmas.{cut_other}
 use Rattle.dbl_disk.specs.Model.{DiskModel}
 use Rattle.dblog_capture_text.proofs.EndStatuses.{halt_known, halt_other, own_status}
+
+-- the kinds of errors for any arguments, and that a record that was refused is longer than these allow
+pub kinds_of : (asked : Asked) (end : ConnectEnd) → IfErr end (IsErrorFor asked) → IfErr end IsConnectError
+kinds_of asked (Ok summary) kinds = tt
+kinds_of asked (Err e) kinds = kinds.0
+
+pub exceeds_of : (asked : Asked) (end : ConnectEnd) → IfErr end (IsErrorFor asked) → IfErr end (ExceedsMaximum asked)
+exceeds_of asked (Ok summary) kinds = tt
+exceeds_of asked (Err e) kinds = kinds.1
 
 pub says_status : (end : ConnectEnd) (status : Status) (before after : Option (List ℕ)) → SaysSession end status before after → (status ≡ session_status end) ⊎ IsCutShort status
 says_status end status before after (inl (inl said)) = inl said.0
@@ -40,12 +51,13 @@ cut_known status cut = inr (inr (inr (inr (inr (inr (inr (inr (inr cut))))))))
 error_known : (e : ConnectError) → IsConnectError e → (status : Status) → status ≡ connect_status e → IsSessionStatus status
 error_known (connect.Failed Wal) kind status is = inr (inr (inr (inr (inr (inr (inr (inl is)))))))
 error_known (connect.Failed Topics) kind status is = inr (inr (inr (inr (inr (inr (inr (inr (inl (inl is)))))))))
-error_known (connect.Failed Offsets) kind status is = inr (inr (inr (inr (inr (inr (inr (inr (inl (inr is)))))))))
+error_known (connect.Failed Offsets) kind status is = inr (inr (inr (inr (inr (inr (inr (inr (inl (inr (inl is))))))))))
 error_known (connect.NotAStore store at) kind status is = inr (inr (inr (inr (inr (inl is)))))
 error_known (connect.BadEntry store index) kind status is = inr (inr (inr (inr (inr (inl is)))))
 error_known connect.AlreadyStarted kind status is = inr (inr (inl is))
 error_known connect.NotStarted kind status is = inr (inr (inl is))
 error_known (connect.Halted h) kind status is = halt_known status (own_status h kind status is)
+error_known (connect.Refused position ordinal) kind status is = inr (inr (inr (inr (inr (inr (inr (inr (inl (inr (inr is))))))))))
 error_known connect.Memory kind status is = cut_known status (inr is)
 
 ending_known : (ending : Ending) (status : Status) → status ≡ ending_status ending → IsSessionStatus status
@@ -61,7 +73,7 @@ session_known end kind status before after says = elim (says_status end status b
 
 -- ---- it is no other one
 
-pub session_other : (n status : Status) → (n ≢ Done) × (n ≢ BudgetSpent) × (n ≢ StartMismatch) × (n ≢ MalformedLog) × (n ≢ Unsupported) → (n ≢ InvalidStore) × (n ≢ LogGone) × (n ≢ SourceFailed) × (n ≢ TopicsFailed) × (n ≢ OffsetsFailed) → (n ≢ StdoutFailed) × (n ≢ OutOfMemory) → IsSessionStatus status → status ≡ n → ⊥
+pub session_other : (n status : Status) → (n ≢ Done) × (n ≢ BudgetSpent) × (n ≢ StartMismatch) × (n ≢ MalformedLog) × (n ≢ Unsupported) → (n ≢ InvalidStore) × (n ≢ LogGone) × (n ≢ SourceFailed) × (n ≢ TopicsFailed) × (n ≢ OffsetsFailed) × (n ≢ RecordRefused) → (n ≢ StdoutFailed) × (n ≢ OutOfMemory) → IsSessionStatus status → status ≡ n → ⊥
 session_other n status own other short (inl is) same = own.0 (sym same ∙ is)
 session_other n status own other short (inr (inl is)) same = own.1 (sym same ∙ is)
 session_other n status own other short (inr (inr (inl is))) same = own.2 (sym same ∙ is)
@@ -71,12 +83,13 @@ session_other n status own other short (inr (inr (inr (inr (inr (inl is)))))) sa
 session_other n status own other short (inr (inr (inr (inr (inr (inr (inl is))))))) same = other.1 (sym same ∙ is)
 session_other n status own other short (inr (inr (inr (inr (inr (inr (inr (inl is)))))))) same = other.2 (sym same ∙ is)
 session_other n status own other short (inr (inr (inr (inr (inr (inr (inr (inr (inl (inl is)))))))))) same = other.3 (sym same ∙ is)
-session_other n status own other short (inr (inr (inr (inr (inr (inr (inr (inr (inl (inr is)))))))))) same = other.4 (sym same ∙ is)
+session_other n status own other short (inr (inr (inr (inr (inr (inr (inr (inr (inl (inr (inl is))))))))))) same = other.4 (sym same ∙ is)
+session_other n status own other short (inr (inr (inr (inr (inr (inr (inr (inr (inl (inr (inr is))))))))))) same = other.5 (sym same ∙ is)
 session_other n status own other short (inr (inr (inr (inr (inr (inr (inr (inr (inr cut))))))))) same = cut_other n status short cut same
 
 pub session_no_input : (status : Status) → IsSessionStatus status → status ≢ StdinFailed
 session_no_input status known is =
-    session_other StdinFailed status (λ e. cc, λ e. cc, λ e. cc, λ e. cc, λ e. cc) (λ e. cc, λ e. cc, λ e. cc, λ e. cc, λ e. cc) (λ e. cc, λ e. cc) known is
+    session_other StdinFailed status (λ e. cc, λ e. cc, λ e. cc, λ e. cc, λ e. cc) (λ e. cc, λ e. cc, λ e. cc, λ e. cc, λ e. cc, λ e. cc) (λ e. cc, λ e. cc) known is
 
 -- ---- where it is 0, the session was complete
 
@@ -89,6 +102,7 @@ error_not_0 (connect.BadEntry store index) kind status is zero = cc
 error_not_0 connect.AlreadyStarted kind status is zero = cc
 error_not_0 connect.NotStarted kind status is zero = cc
 error_not_0 (connect.Halted h) kind status is zero = halt_other Done status (λ e. cc, λ e. cc, λ e. cc, λ e. cc, λ e. cc) (own_status h kind status is) zero
+error_not_0 (connect.Refused position ordinal) kind status is zero = cc
 error_not_0 connect.Memory kind status is zero = cc
 
 ending_0 : (ending : Ending) (status : Status) → status ≡ ending_status ending → status ≡ Done → ending ≡ Complete
@@ -114,6 +128,7 @@ error_not_3 (connect.BadEntry store index) kind status is three = cc
 error_not_3 connect.AlreadyStarted kind status is three = cc
 error_not_3 connect.NotStarted kind status is three = cc
 error_not_3 (connect.Halted h) kind status is three = halt_other BudgetSpent status (λ e. cc, λ e. cc, λ e. cc, λ e. cc, λ e. cc) (own_status h kind status is) three
+error_not_3 (connect.Refused position ordinal) kind status is three = cc
 error_not_3 connect.Memory kind status is three = cc
 
 error_unnormal : (e : ConnectError) → IsConnectError e → (status : Status) → (status ≡ connect_status e) ⊎ IsCutShort status → IsNormalStatus status → ⊥
@@ -144,12 +159,12 @@ one_store Offsets Topics status is same = cc
 one_store Offsets Offsets status is same = refl
 
 abbrev Others : Status → Type 0
-Others n = ((n ≢ Done) × (n ≢ BudgetSpent)) × (((n ≢ StartMismatch) × (n ≢ InvalidStore)) × ((n ≢ MalformedLog) × (n ≢ Unsupported) × (n ≢ InvalidStore) × (n ≢ LogGone) × (n ≢ OutOfMemory)))
+Others n = ((n ≢ Done) × (n ≢ BudgetSpent)) × (((n ≢ StartMismatch) × (n ≢ InvalidStore) × (n ≢ RecordRefused)) × ((n ≢ MalformedLog) × (n ≢ Unsupported) × (n ≢ InvalidStore) × (n ≢ LogGone) × (n ≢ OutOfMemory)))
 
 store_others : (store : Store) → Others (store_status store)
-store_others Wal = ((λ e. cc, λ e. cc), ((λ e. cc, λ e. cc), (λ e. cc, λ e. cc, λ e. cc, λ e. cc, λ e. cc)))
-store_others Topics = ((λ e. cc, λ e. cc), ((λ e. cc, λ e. cc), (λ e. cc, λ e. cc, λ e. cc, λ e. cc, λ e. cc)))
-store_others Offsets = ((λ e. cc, λ e. cc), ((λ e. cc, λ e. cc), (λ e. cc, λ e. cc, λ e. cc, λ e. cc, λ e. cc)))
+store_others Wal = ((λ e. cc, λ e. cc), ((λ e. cc, λ e. cc, λ e. cc), (λ e. cc, λ e. cc, λ e. cc, λ e. cc, λ e. cc)))
+store_others Topics = ((λ e. cc, λ e. cc), ((λ e. cc, λ e. cc, λ e. cc), (λ e. cc, λ e. cc, λ e. cc, λ e. cc, λ e. cc)))
+store_others Offsets = ((λ e. cc, λ e. cc), ((λ e. cc, λ e. cc, λ e. cc), (λ e. cc, λ e. cc, λ e. cc, λ e. cc, λ e. cc)))
 
 store_cut : (store : Store) (status : Status) → IsCutShort status → status ≡ store_status store → ⊥
 store_cut Wal status cut same = cut_other SourceFailed status (λ e. cc, λ e. cc) cut same
@@ -163,6 +178,7 @@ failed_error (connect.BadEntry other index) kind store status is same = absurd (
 failed_error connect.AlreadyStarted kind store status is same = absurd ((store_others store).1.0.0 (sym same ∙ is))
 failed_error connect.NotStarted kind store status is same = absurd ((store_others store).1.0.0 (sym same ∙ is))
 failed_error (connect.Halted h) kind store status is same = absurd (halt_other (store_status store) status (store_others store).1.1 (own_status h kind status is) same)
+failed_error (connect.Refused position ordinal) kind store status is same = absurd ((store_others store).1.0.2 (sym same ∙ is))
 failed_error connect.Memory kind store status is same = absurd ((store_others store).1.1.4 (sym same ∙ is))
 
 failed_end : (end : ConnectEnd) → IfErr end IsConnectError → (store : Store) (status : Status) → status ≡ session_status end → status ≡ store_status store → end ≡ Err (connect.Failed store)

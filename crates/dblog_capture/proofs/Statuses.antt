@@ -21,7 +21,7 @@ cut_known status cut = inr (inr (inr (inr (inr (inr (inr (inr (inr (inr cut)))))
 own_known : (e : InitError) (status : Status) → e ≢ init.InputFailed → status ≡ init_status e → IsGeneratedStatus status
 own_known (init.Failed store.Wal) status other is = inr (inr (inr (inr (inr (inr (inr (inr (inl is))))))))
 own_known (init.Failed store.Topics) status other is = inr (inr (inr (inr (inr (inr (inr (inr (inr (inl (inl is))))))))))
-own_known (init.Failed store.Offsets) status other is = inr (inr (inr (inr (inr (inr (inr (inr (inr (inl (inr is))))))))))
+own_known (init.Failed store.Offsets) status other is = inr (inr (inr (inr (inr (inr (inr (inr (inr (inl (inr (inl is)))))))))))
 own_known (init.NotEmpty held) status other is = inr (inr (inr (inr (inr (inr (inl is))))))
 own_known init.InputFailed status other is = absurd (other refl)
 own_known init.InputTooLong status other is = inl is

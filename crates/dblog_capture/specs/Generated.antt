@@ -1,5 +1,5 @@
 -- What `gen --run` returns and leaves: an `init` of a generated workload, and then a first capture of its tables.
-use Rattle.std.specs.Prelude.{◌≡◌, ◌≢◌, ◌⊎◌, ℕ, ℤ, ◌≤◌, max, Option, Some, Err, List, [], codes, length}
+use Rattle.std.specs.Prelude.{◌≡◌, ◌≢◌, ◌⊎◌, ℕ, ℤ, ◌≤◌, max, Option, Some, None, Err, List, [], codes, length}
 use Rattle.dbl_lines.specs.declared.status.Status.{Status}
 use Rattle.dbl_lines.specs.declared.status.Status.TheVariants.{Done, SourceFailed, TopicsFailed}
 use Rattle.dbl_lines.specs.declared.status.Status.TheVariants.{OffsetsFailed, InvalidInput}
@@ -41,6 +41,7 @@ plain_capture = record {
   chunk = 1000;
   every = 100;
   messages = 999999999;
+  max_value = None;
   tables = [];
 }
 

@@ -14,6 +14,7 @@ use Rattle.dblog_connect.specs.Disks.{AreKeptDisks, IsTrueAfterCrash}
 use Rattle.dblog_connect.specs.Ends.{AddsFew, AreSteady, ConnectEnd, EndsBefore, GainsRecords, HasBegun}
 use Rattle.dblog_connect.specs.Ends.{HasRun, IsKeptError, IsReported, IsSpent, IsWrongSource}
 use Rattle.dblog_connect.specs.Errors.{IsConnectError, IsConnectRefusal}
+use Rattle.dblog_connect.specs.Refusals.{ExceedsMaximum}
 use Rattle.dblog_capture_text.specs.Ends.{IsNormalStatus, SaysSession}
 
 -- The answer for disks with these contents, by what a crash might leave before the run and may leave after it.
@@ -54,6 +55,8 @@ pub record RunsSession (asked : Asked) (now : ℤ) (told_wal told_topics told_of
   pub refused : IfErr end (λ e. IsConnectRefusal e → WroteNothing wals logs stores new_wals new_logs new_stores)
   pub spent : IfOk end (IsSpent (budget_of asked))
   pub kinds : IfErr end IsConnectError
+  -- A record is refused only if its value is longer than the arguments allow.
+  pub exceeds : IfErr end (ExceedsMaximum asked)
 
 -- The session over these disks had this result, which was written.
 abbrev pub RunsSessionOn : {W T F : Type 0} → DiskModel W → DiskModel T → DiskModel F → Asked → ℤ → Disks W T F → Disks W T F

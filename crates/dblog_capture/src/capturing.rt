@@ -74,6 +74,7 @@ fn plain_capture(alloc: Global) -> Result<CaptureOptions, AllocError>
         chunk: 1_000,
         every: 100,
         messages: 999_999_999,
+        max_value: None,
         tables: Seq::make(Vec::new(alloc)),
     })
 }

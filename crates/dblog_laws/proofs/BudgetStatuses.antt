@@ -76,6 +76,7 @@ error_not_3 (connect.BadEntry store index) status is three = cc
 error_not_3 connect.AlreadyStarted status is three = cc
 error_not_3 connect.NotStarted status is three = cc
 error_not_3 (connect.Halted h) status is three = halt_not_3 h status is three
+error_not_3 (connect.Refused position ordinal) status is three = cc
 error_not_3 connect.Memory status is three = cc
 
 -- ---- it ended with its budget

@@ -124,4 +124,4 @@ module _ {W T F : Type 0} (wal_model : DiskModel W) (topics_model : DiskModel T)
       let kept = made_kept wal_model topics_model offsets_model text captured.made w t f in
       let run = supported w.bytes t.bytes f.bytes w.is t.is f.is in
       supported_runs_succeed (wal_model.may_leave captured.made.wal) (topics_model.may_leave captured.made.topics) (offsets_model.may_leave captured.made.offsets) (wal_model.may_leave new.wal) (topics_model.may_leave new.topics) (offsets_model.may_leave new.offsets) plainly now
-      (wal_model.seen captured.made.wal) (topics_model.seen captured.made.topics) (offsets_model.seen captured.made.offsets) status before after captured.runs kept w.bytes t.bytes f.bytes w.told t.told f.told run none
+      (wal_model.seen captured.made.wal) (topics_model.seen captured.made.topics) (offsets_model.seen captured.made.offsets) status before after captured.runs kept w.bytes t.bytes f.bytes w.told t.told f.told run none (inl refl)

@@ -46,12 +46,14 @@ use Rattle.dblog_run.specs.Connect.ConnectEnds.declared.error.ConnectError.TheVa
 use Rattle.dblog_run.specs.Connect.Asked.{Refuses, asks_in, asks_of, workload_tables}
 use Rattle.dblog_run.specs.Connect.Ends.{ConnectEnd, EndsBefore, EndsWithHalt, IsKeptError, IsRefused, no_source, no_log, no_offset, not_asked}
 use Rattle.dblog_run.specs.Connect.Errors.{IsConnectError, IsExternalConnectError, IsOwnHalt}
+use Rattle.dblog_run.specs.Connect.Refusals.{ExceedsMaximum}
 use Rattle.dblog_run.specs.Capture.Reports.{ending_status}
 use Rattle.dbl_lines.specs.declared.status.Status.{Status}
+use Rattle.dbl_lines.specs.declared.status.Status.TheVariants.{RecordRefused}
 use Rattle.dbl_lines.specs.Says.{Writes}
 use Rattle.dblog_run.specs.Capture.Ends.{SaysSession, connect_line, connect_status}
 use Rattle.dblog_laws.specs.RunLaws.{SupportedRunsSucceed, SupportedSessionsSucceed}
-use Rattle.dblog_laws.specs.Sessions.{ReadsFromOffset, IsSessionDone, IsSupportedOver, IsSupportedRun, MayHaveRead, NoneFailed}
+use Rattle.dblog_laws.specs.Sessions.{ReadsFromOffset, IsSessionDone, IsSupportedOver, IsSupportedRun, MayHaveRead, NoneFailed, NoneRefused}
 
 -- ---- what it met
 
@@ -185,27 +187,33 @@ by_ending : (ending : Ending) (status : Status) → status ≡ ending_status end
 by_ending Complete status is = inl is
 by_ending Budget status is = inr (inl is)
 
-module _ (status : Status) (before after : Option (List ℕ)) (none : NoneFailed status) where
-  by_error : (e : ConnectError) → IsExternalConnectError e → Writes (connect_status e) (lines_text (connect_line e ∷ [])) status before after → IsSessionDone status
-  by_error e may (inr cut) = absurd (none.output cut.0)
-  by_error (connect.Failed Wal) may (inl said) = absurd (none.wal said.0)
-  by_error (connect.Failed Topics) may (inl said) = absurd (none.topics said.0)
-  by_error (connect.Failed Offsets) may (inl said) = absurd (none.offsets said.0)
-  by_error (connect.NotAStore store at) may (inl said) = absurd may
-  by_error (connect.BadEntry store index) may (inl said) = absurd may
-  by_error connect.AlreadyStarted may (inl said) = absurd may
-  by_error connect.NotStarted may (inl said) = absurd may
-  by_error (connect.Halted h) may (inl said) = absurd may
-  by_error connect.Memory may (inl said) = inr (inr said.0)
+refuses_none : (asked : Asked) (status : Status) (position ordinal : ℕ) → NoneRefused asked status → status ≡ RecordRefused
+    → ExceedsMaximum asked (connect.Refused position ordinal) → ⊥
+refuses_none asked status position ordinal (inl unlimited) is exceeds = let wrong : None ≡ Some exceeds.0 = sym unlimited ∙ exceeds.1 in cc
+refuses_none asked status position ordinal (inr other) is exceeds = other is
 
-  by_end : (end : ConnectEnd) → IfErr end IsExternalConnectError → SaysSession end status before after → IsSessionDone status
-  by_end end may (inr (inl said)) = inr (inr said.0)
-  by_end end may (inr (inr cut)) = absurd (none.output cut.0)
-  by_end (Ok summary) may (inl (inl said)) = by_ending summary.ending status said.0
-  by_end (Ok summary) may (inl (inr cut)) = absurd (none.output cut.0)
-  by_end (Err e) may (inl writes) = by_error e may writes
+module _ (asked : Asked) (status : Status) (before after : Option (List ℕ)) (none : NoneFailed status) (unrefused : NoneRefused asked status) where
+  by_error : (e : ConnectError) → IsExternalConnectError e → ExceedsMaximum asked e → Writes (connect_status e) (lines_text (connect_line e ∷ [])) status before after → IsSessionDone status
+  by_error e may exceeds (inr cut) = absurd (none.output cut.0)
+  by_error (connect.Failed Wal) may exceeds (inl said) = absurd (none.wal said.0)
+  by_error (connect.Failed Topics) may exceeds (inl said) = absurd (none.topics said.0)
+  by_error (connect.Failed Offsets) may exceeds (inl said) = absurd (none.offsets said.0)
+  by_error (connect.NotAStore store at) may exceeds (inl said) = absurd may
+  by_error (connect.BadEntry store index) may exceeds (inl said) = absurd may
+  by_error connect.AlreadyStarted may exceeds (inl said) = absurd may
+  by_error connect.NotStarted may exceeds (inl said) = absurd may
+  by_error (connect.Halted h) may exceeds (inl said) = absurd may
+  by_error (connect.Refused position ordinal) may exceeds (inl said) = absurd (refuses_none asked status position ordinal unrefused said.0 exceeds)
+  by_error connect.Memory may exceeds (inl said) = inr (inr said.0)
+
+  by_end : (end : ConnectEnd) → IfErr end IsExternalConnectError → IfErr end (ExceedsMaximum asked) → SaysSession end status before after → IsSessionDone status
+  by_end end may exceeds (inr (inl said)) = inr (inr said.0)
+  by_end end may exceeds (inr (inr cut)) = absurd (none.output cut.0)
+  by_end (Ok summary) may exceeds (inl (inl said)) = by_ending summary.ending status said.0
+  by_end (Ok summary) may exceeds (inl (inr cut)) = absurd (none.output cut.0)
+  by_end (Err e) may exceeds (inl writes) = by_error e may exceeds writes
 
 pub supported_runs_succeed : (wals logs stores new_wals new_logs new_stores : List ℕ → Type 0) → SupportedRunsSucceed wals logs stores new_wals new_logs new_stores
-supported_runs_succeed wals logs stores new_wals new_logs new_stores asked now told_wal told_topics told_offsets status before after runs kept w t f wal_is topics_is offsets_is run none =
+supported_runs_succeed wals logs stores new_wals new_logs new_stores asked now told_wal told_topics told_offsets status before after runs kept w t f wal_is topics_is offsets_is run none unrefused =
     let may = supported_sessions_succeed wals logs new_wals new_logs new_stores asked now w t f runs.end (runs.answers w t f wal_is topics_is offsets_is) (runs.kept kept w t f wal_is topics_is offsets_is) runs.kinds run in
-    by_end status before after none runs.end may runs.says
+    by_end asked status before after none unrefused runs.end may runs.exceeds runs.says

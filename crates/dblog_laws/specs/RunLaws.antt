@@ -30,11 +30,11 @@ use Rattle.dblog_run.specs.Streams.Answers.{RunAnswer, EndsAs}
 use Rattle.dblog_run.specs.Disks.{OfDisk}
 use Rattle.dblog_run.specs.Means.{RunInput, InputFails, Runs, SpellSome, StandsAlone, WalFails, uses_offsets, uses_topics}
 use Rattle.dblog_laws.specs.Commands.{CanRun}
-use Rattle.dblog_laws.specs.Sessions.{IsDoneStatus, IsSessionDone, IsSupportedRun, NoneFailed}
+use Rattle.dblog_laws.specs.Sessions.{IsDoneStatus, IsSessionDone, IsSupportedRun, NoneFailed, NoneRefused}
 
 -- ---- sessions
 
--- A supported session over crash-consistent disks ends normally, unless a disk failed or memory ran out.
+-- A supported session over crash-consistent disks ends normally, unless a disk failed, memory ran out or a record was refused.
 abbrev pub SupportedSessionsSucceed : (wals logs new_wals new_logs new_stores : List ℕ → Type 0) → Type 0
 SupportedSessionsSucceed wals logs new_wals new_logs new_stores = (asked : Asked) (now : ℤ) (w t f : List ℕ) (end : ConnectEnd)
     → AnswersCapture asked now wals logs new_wals new_logs new_stores w t f end
@@ -42,14 +42,14 @@ SupportedSessionsSucceed wals logs new_wals new_logs new_stores = (asked : Asked
     → IfErr end IsConnectError → IsSupportedRun asked now new_wals new_logs new_stores w t f
     → IfErr end IsExternalConnectError
 
--- A supported `capture` or `resume` exits with 0, 3 or 12, if no device failed: by the clause `session` of `run`.
+-- A supported `capture` or `resume` exits with 0, 3 or 12, if no device failed and no record was refused: by the clause `session` of `run`.
 abbrev pub SupportedRunsSucceed : (wals logs stores new_wals new_logs new_stores : List ℕ → Type 0) → Type 0
 SupportedRunsSucceed wals logs stores new_wals new_logs new_stores =
     (asked : Asked) (now : ℤ) (told_wal told_topics told_offsets : Option (List ℕ)) (status : Status) (before after : Option (List ℕ))
     → RunsSession asked now told_wal told_topics told_offsets wals logs stores new_wals new_logs new_stores status before after
     → AreKept told_wal told_topics told_offsets wals logs stores
     → (w t f : List ℕ) → told_wal ≡ Some w → told_topics ≡ Some t → told_offsets ≡ Some f
-    → IsSupportedRun asked now new_wals new_logs new_stores w t f → NoneFailed status
+    → IsSupportedRun asked now new_wals new_logs new_stores w t f → NoneFailed status → NoneRefused asked status
     → IsSessionDone status
 
 -- Over crash-consistent disks no session stops at a cell that parses as no value: by the clauses `session` and `kept` of `run`.

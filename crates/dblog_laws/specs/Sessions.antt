@@ -2,7 +2,7 @@
 use Rattle.std.specs.Prelude.{◌≡◌, ◌≢◌, ◌⊎◌, ◌≤◌, ℕ, ℤ, ◌++◌, Option, Some, None, List, [], ◌∷◌, reverse}
 use Rattle.dbl_lines.specs.declared.status.Status.{Status}
 use Rattle.dbl_lines.specs.declared.status.Status.TheVariants.{Done, BudgetSpent, SourceFailed, TopicsFailed}
-use Rattle.dbl_lines.specs.declared.status.Status.TheVariants.{OffsetsFailed, StdinFailed, StdoutFailed, OutOfMemory}
+use Rattle.dbl_lines.specs.declared.status.Status.TheVariants.{OffsetsFailed, StdinFailed, StdoutFailed, OutOfMemory, RecordRefused}
 use Rattle.std.specs.List.{AllByRecursion}
 use Rattle.dbl_base.specs.declared.lsn.Lsn.{Lsn}
 use Rattle.dbl_pgmsg.specs.declared.messages.Message.{Message}
@@ -23,6 +23,7 @@ use Rattle.dblog_run.specs.Promise.Causes.{standing_left}
 use Rattle.dblog_run.specs.Promise.Contents.{Contents, ReadAs, found_in, history_at, records_of_contents}
 use Rattle.dblog_run.specs.Promise.Kept.{IsKept}
 use Rattle.dblog_run.specs.Connect.declared.asked.Asked.{Asked}
+use Rattle.dblog_run.specs.Connect.Asked.{limit_of}
 use Rattle.dblog_run.specs.Connect.Ends.{HasBegun}
 
 -- ---- what a session may meet
@@ -89,6 +90,10 @@ pub record NoneFailed (status : Status) : Type 0 where
   pub offsets : status ≢ OffsetsFailed
   pub output : status ≢ StdoutFailed
   pub input : status ≢ StdinFailed
+
+-- The arguments name no maximum length of a record's value, or the exit status reports no refused record.
+abbrev pub NoneRefused : Asked → Status → Type 0
+NoneRefused asked status = (limit_of asked ≡ None) ⊎ (status ≢ RecordRefused)
 
 -- ---- the exit status
 

@@ -14,15 +14,16 @@ ghost use Rattle.dblog_laws.specs.Sequences.{DisksStayKept};
 
 use dbl_disk::Disk;
 
-/// A supported session over crash-consistent disks ends normally, unless a disk fails or memory
-/// runs out.
+/// A supported session over crash-consistent disks ends normally, unless a disk fails, memory runs
+/// out or a record is refused.
 pub fn supported_sessions_succeed<W: Disk, T: Disk, F: Disk>()
     ensures { (old new : Disks W T F) →
         SupportedSessionsSucceed (W.may_leave old.wal) (T.may_leave old.topics)
         (W.may_leave new.wal) (T.may_leave new.topics) (F.may_leave new.offsets) }
 {}
 
-/// A supported `capture` or `resume` exits with 0, 3 or 12, if no device failed.
+/// A supported `capture` or `resume` exits with 0, 3 or 12, if no device failed and no record was
+/// refused.
 pub fn supported_runs_succeed<W: Disk, T: Disk, F: Disk>()
     ensures { (old new : Disks W T F) →
         SupportedRunsSucceed

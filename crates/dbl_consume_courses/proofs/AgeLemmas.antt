@@ -22,7 +22,7 @@ new_aged identity c records item table early =
     (subst (λ (l : List Record). IsAged identity c.infos c.commits (course_start c) l (course_start c)) (sym (ended c.start records item early))
     (no_records_are_aged identity c.infos c.commits (course_start c)))
 
-no_item : (item : Record) → Contains [] item → ⊥
+pub no_item : (item : Record) → Contains [] item → ⊥
 no_item item h = let none : h.0 < 0 = h.1 in omega (arith, none)
 
 pub none_known : NothingIsKnownAtFirst

@@ -38,7 +38,7 @@ use Rattle.dbl_consume_laws.proofs.Topics.{not_progress, is_progress_topic}
 use Rattle.dbl_consume_courses.proofs.CourseLemmas.{silent_change}
 use Rattle.dbl_consume_courses.proofs.FitLemmas.{IsTick, AreTicks}
 
-all_weaker : {X : Type 0} (P Q : X → Type 0) → ((x : X) → P x → Q x) → (xs : List X) → AllByRecursion P xs → AllByRecursion Q xs
+pub all_weaker : {X : Type 0} (P Q : X → Type 0) → ((x : X) → P x → Q x) → (xs : List X) → AllByRecursion P xs → AllByRecursion Q xs
 all_weaker P Q less [] all = tt
 all_weaker P Q less (x ∷ xs) all = (less x all.0, all_weaker P Q less xs all.1)
 

@@ -337,7 +337,7 @@ all_emptied identity info commits (item ∷ records) all = (
   all_emptied identity info commits records all.1,
 )
 
-all_ticked : (table position : ℕ) (versions : List Versioned) → AllByRecursion (λ v. position < v.lsn.0) versions → AllByRecursion (λ commit. position < commit.lsn.0) (map (ticked_commit table) versions)
+pub all_ticked : (table position : ℕ) (versions : List Versioned) → AllByRecursion (λ v. position < v.lsn.0) versions → AllByRecursion (λ commit. position < commit.lsn.0) (map (ticked_commit table) versions)
 all_ticked table position [] all = tt
 all_ticked table position (v ∷ versions) all = (all.0, all_ticked table position versions all.1)
 
@@ -358,7 +358,7 @@ drop_one [] y (z ∷ rest) low rise = (lt_of low y z rise.0 rise.1.0, rise.1.1)
     lt_of a b c one two = omega (arith, one, two)
 drop_one (f ∷ front) y rest low rise = (rise.0, drop_one front y rest f rise.1)
 
-each_late : (table : ℕ) (c : Course) (at : Rows) (start : ℕ) (done : List ℕ) → IsGood table c at start done → (vs : List Versioned) (low : ℕ) → AreRising low (done ++ lsns (map plain_commit vs))
+pub each_late : (table : ℕ) (c : Course) (at : Rows) (start : ℕ) (done : List ℕ) → IsGood table c at start done → (vs : List Versioned) (low : ℕ) → AreRising low (done ++ lsns (map plain_commit vs))
     → AllByRecursion (λ v. start < v.lsn.0) vs → AllByRecursion (λ v. c.start < v.lsn.0) vs
 each_late table c at start done good [] low rise all = tt
 each_late table c at start done good (v ∷ vs) low rise all = (

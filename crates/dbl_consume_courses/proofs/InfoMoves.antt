@@ -132,7 +132,7 @@ moment_at-most (c ∷ commits) position =
 above_le : (a b : ℕ) → b < a → nat_le a b ≡ false
 above_le a b lt = grind (arith, nat_tests)
 
-none_at : (more : List Commit) (position : ℕ) → AllByRecursion (λ commit. position < commit.lsn.0) more → moment_at more position ≡ 0
+pub none_at : (more : List Commit) (position : ℕ) → AllByRecursion (λ commit. position < commit.lsn.0) more → moment_at more position ≡ 0
 none_at [] position late = refl
 none_at (c ∷ more) position late = ap (λ (b : Bool). if b then length (changes_of c) + moment_at more position else 0) (above_le c.lsn.0 position late.0)
 

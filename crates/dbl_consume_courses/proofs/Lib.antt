@@ -11,7 +11,12 @@ pub mod GrowthLemmas
 pub mod SameLemmas
 pub mod AlteredLemmas
 pub mod Clock
+pub mod NameLemmas
 pub mod PlainLemmas
 pub mod Presence
 pub mod ThereLemmas
 pub mod ThereWindows
+pub mod Positions
+pub mod TableLemmas
+pub mod TableRepeats
+pub mod TableWindows

@@ -43,6 +43,21 @@ none_since : (start : ℕ) (earlier : List Record) → (earlier ≡ []) ⊎ Ends
 none_since start earlier (inl none) = ap (since start) none
 none_since start earlier (inr ends) = ap (since start) ends.is ∙ ended start ends.others ends.item ends.before
 
+early_after : (start : ℕ) (records : List Record) → AllByRecursion (λ item. item.position < start) records → fold (since_after start) [] records ≡ []
+early_after start [] early = refl
+early_after start (item ∷ records) early = ap (λ (l : List Record). fold (since_after start) l records) (one_early start [] item early.0) ∙ early_after start records early.1
+
+-- none of the records is since the start where all lie before it
+pub all_early : (start : ℕ) (records : List Record) → AllByRecursion (λ item. item.position < start) records → since start records ≡ []
+all_early start records early = early_after start records early
+
+-- some records before the start end what was since it
+pub early_more : (start : ℕ) (records more : List Record) → AllByRecursion (λ item. item.position < start) more → (more ≡ []) ⊎ (since start (records ++ more) ≡ [])
+early_more start records [] early = inl refl
+early_more start records (item ∷ more) early = inr (
+    fold-append (since_after start) [] records (item ∷ more)
+    ∙ (ap (λ (l : List Record). fold (since_after start) l more) (one_early start (since start records) item early.0) ∙ early_after start more early.1))
+
 -- ---- what is since a start
 
 late_one : (start : ℕ) (records : List Record) (item : Record) → AreLate start records → start ≤ item.position → AreLate start (records ++ item ∷ [])

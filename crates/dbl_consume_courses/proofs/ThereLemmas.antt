@@ -1,6 +1,6 @@
 -- Each row of a consumer was in the source, as the records of commits are delivered.
 use Rattle.std.proofs.Common.{◌≡◌, ◌∙◌, inl, inr, ℕ, ℤ, zero, suc, ◌+◌, ◌-◌, ◌≤◌, ◌<◌, max, Bool, true, false, Option, Some, None, List, [], ◌∷◌, ◌++◌, fold, length, map, flat_map, take, refl, sym, ap, subst, arith, append-nil, append_assoc, length-append}
-use Rattle.std.proofs.lemmas.Bool.{cases_eq, cases_lt, eqb-true, eq-eqb}
+use Rattle.std.proofs.lemmas.Bool.{cases_lt, eqb-true, eq-eqb}
 use Rattle.std.proofs.Math.Seq.{take-append_seam}
 use Rattle.std.proofs.lemmas.List.{take_all}
 use Rattle.std.proofs.lemmas.Bool.Decides.{nat_tests}
@@ -23,14 +23,11 @@ use Rattle.dbl_model_table.specs.declared.change.Body.{Body}
 use Rattle.dbl_model_table.specs.declared.change.Body.TheVariants.{Changes, Mark}
 use Rattle.dbl_model_table.specs.declared.change.Change.{Change}
 use Rattle.dbl_model_table.specs.Rows.{effect_of, Rows, no_rows, rows_after, rows_from, changes_of, all_changes}
-use Rattle.dbl_model_history.specs.Fit.{AreOf, IsKeyOf, AreFit}
+use Rattle.dbl_model_history.specs.Fit.{IsKeyOf, AreFit}
 use Rattle.dbl_model_history.specs.History.{AreRising}
-use Rattle.dbl_model_history.specs.Image.{Names, members_of, key_text}
+use Rattle.dbl_model_history.specs.Image.{Names, key_text}
 use Rattle.dbl_model_history.specs.Laws.{AreDistinctTables}
-use Rattle.dbl_model_table.specs.Infos.{key_names, key_types, topic_of}
-use Rattle.serde_json.specs.Data.{object}
-use Rattle.serde_json.specs.Written.{compact_text}
-use Rattle.dbl_value.specs.declared.column_type.PgType.{PgType}
+use Rattle.dbl_model_table.specs.Infos.{topic_of}
 use Rattle.dbl_model_history.specs.Ranges.{IsChangeInRange, IsMomentInRange}
 use Rattle.dbl_model_event.specs.Events.{Notice, notices, is_nil, numbered}
 use Rattle.dbl_model_event.specs.EventJson.{print, envelopes}
@@ -49,7 +46,7 @@ use Rattle.dbl_consume_courses.specs.Versions.{Alteration, Versioned, plain_comm
 use Rattle.dbl_consume_courses.specs.AlteredTables.{version_moment, version_span_end, WasThereThrough}
 use Rattle.dbl_consume_courses.specs.FitVersions.{IsFitAlteration, AreFitFrom, AreFitVersions}
 use Rattle.dbl_consume_courses.specs.RowsThere.{changes_in, HasRowsThere, NoRecordsHaveRows, PartsOfCommitsKeepRowsThere, CommitsMoveRowsThere}
-use Rattle.dbl_consume_courses.proofs.TickLemmas.{topic_by}
+use Rattle.dbl_consume_courses.proofs.NameLemmas.{names_at, names_back}
 use Rattle.dbl_consume_courses.proofs.SameLemmas.{infos_distinct}
 use Rattle.dbl_consume_courses.proofs.Presence.{after, there_op, held_mark, row_mark, mark_sound, IsNoticePart, DoesAs, does}
 
@@ -76,7 +73,7 @@ pub changes_more : (x : Versioned) (earlier : List Versioned) → changes_in (x 
 changes_more x earlier = length-append (changes_of (plain_commit x)) (all_changes (map plain_commit earlier))
 
 -- past some commits
-upto_past : (rows : Rows) (earlier rest : List Versioned) (i : ℕ) → rows_upto rows (earlier ++ rest) (changes_in earlier + i) ≡ rows_upto (fold rows_through rows earlier) rest i
+pub upto_past : (rows : Rows) (earlier rest : List Versioned) (i : ℕ) → rows_upto rows (earlier ++ rest) (changes_in earlier + i) ≡ rows_upto (fold rows_through rows earlier) rest i
 upto_past rows [] rest i = let e : 0 + i ≡ i = omega arith in ap (rows_upto rows rest) e
 upto_past rows (x ∷ earlier) rest i =
     let n : ℕ = length (changes_of (plain_commit x)) in
@@ -126,7 +123,7 @@ upto_none rows (x ∷ later) table key fit = by (upto_none (rows_through rows x)
         ap (λ (l : List Change). row_mark ((if nat_lt 0 (length l) then rows_from x.infos rows (take 0 l) else rows_upto (rows_through rows x) later (0 - length l)) table key)) is
         ∙ ap (λ (b : Bool). row_mark ((if b then rows_from x.infos rows (take 0 (c ∷ cs)) else rows_upto (rows_through rows x) later (0 - length (c ∷ cs))) table key)) (lt_is 0 (length (c ∷ cs)) (omega arith))
 
-fit_rest : (at : Rows) (earlier rest : List Versioned) → AreFitFrom at (earlier ++ rest) → AreFitFrom (fold rows_through at earlier) rest
+pub fit_rest : (at : Rows) (earlier rest : List Versioned) → AreFitFrom at (earlier ++ rest) → AreFitFrom (fold rows_through at earlier) rest
 fit_rest at [] rest fit = fit
 fit_rest at (x ∷ earlier) rest fit = fit_rest (rows_through at x) earlier rest fit.1
 
@@ -428,57 +425,7 @@ module _ (identity : Identity) (infos : List TableInfo) (earlier : List Versione
       subst (λ (l : List Record). Aged l (base + length (pre ++ c ∷ others))) (append_assoc records rs (rest_records (pre ++ c ∷ []) others) ∙ ap (λ (l : List Record). records ++ l) (sym split))
       (subst (λ (l : List Change). Aged ((records ++ rs) ++ rest_records (pre ++ c ∷ []) others) (base + length l)) (append_assoc pre (c ∷ []) others) rest)
 
--- ---- the names of a table and key, which no alteration changes
-
-names_by : (identity : Identity) (old : List TableInfo) (v : Versioned) (o : Option Alteration) (topic text : List ℕ) (table : ℕ) (key : Key) → FollowsInfos old v o → Names identity old topic text table key → Names identity v.infos topic text table key
-names_by identity old v None topic text table key follows names = subst (λ (l : List TableInfo). Names identity l topic text table key) (sym follows) names
-names_by identity old v (Some alteration) topic text table key alters names = elim (cases_eq table alteration.table) [
-  | inl same ↦ (
-      let own : Some names.info ≡ Some alters.before = sym names.captured ∙ (ap (slice_get old) same ∙ alters.was) in
-      let info_is : names.info ≡ alters.before = cc in
-      let name : names.info.name ≡ alters.info.name = ap (λ (i : TableInfo). i.name) info_is ∙ alters.alike.name in
-      let keys : key_names names.info ≡ key_names alters.info = ap key_names info_is ∙ alters.alike.keys in
-      let types : key_types names.info ≡ key_types alters.info = ap key_types info_is ∙ alters.alike.types in
-      record {
-        info = alters.info;
-        captured = ap (slice_get v.infos) same ∙ alters.is;
-        is_key = subst (λ (l : List PgType). AreOf l key.cells) types names.is_key;
-        topic_is = topic_by identity alters.info names.info (sym name) ∙ names.topic_is;
-        text_is = ap (λ (l : List (List ℕ)). compact_text (object (members_of l key.cells))) (sym keys) ∙ names.text_is;
-      })
-  | inr apart ↦ record { info = names.info; captured = alters.others table apart ∙ names.captured; is_key = names.is_key; topic_is = names.topic_is; text_is = names.text_is }
-]
-
-names_at : (identity : Identity) (infos : List TableInfo) (earlier : List Versioned) (v : Versioned) (later : List Versioned) (topic text : List ℕ) (table : ℕ) (key : Key) → AreVersionsFrom infos (earlier ++ v ∷ later) → Names identity infos topic text table key → Names identity v.infos topic text table key
-names_at identity infos [] v later topic text table key follow names = names_by identity infos v v.altered topic text table key follow.0 names
-names_at identity infos (x ∷ earlier) v later topic text table key follow names =
-    names_at identity x.infos earlier v later topic text table key follow.1 (names_by identity infos x x.altered topic text table key follow.0 names)
-
-names_from : (identity : Identity) (old : List TableInfo) (v : Versioned) (o : Option Alteration) (topic text : List ℕ) (table : ℕ) (key : Key) → FollowsInfos old v o → Names identity v.infos topic text table key → Names identity old topic text table key
-names_from identity old v None topic text table key follows names = subst (λ (l : List TableInfo). Names identity l topic text table key) follows names
-names_from identity old v (Some alteration) topic text table key alters names = elim (cases_eq table alteration.table) [
-  | inl same ↦ (
-      let own : Some names.info ≡ Some alters.info = sym names.captured ∙ (ap (slice_get v.infos) same ∙ alters.is) in
-      let info_is : names.info ≡ alters.info = cc in
-      let name : names.info.name ≡ alters.before.name = ap (λ (i : TableInfo). i.name) info_is ∙ sym alters.alike.name in
-      let keys : key_names names.info ≡ key_names alters.before = ap key_names info_is ∙ sym alters.alike.keys in
-      let types : key_types names.info ≡ key_types alters.before = ap key_types info_is ∙ sym alters.alike.types in
-      record {
-        info = alters.before;
-        captured = ap (slice_get old) same ∙ alters.was;
-        is_key = subst (λ (l : List PgType). AreOf l key.cells) types names.is_key;
-        topic_is = topic_by identity alters.before names.info (sym name) ∙ names.topic_is;
-        text_is = ap (λ (l : List (List ℕ)). compact_text (object (members_of l key.cells))) (sym keys) ∙ names.text_is;
-      })
-  | inr apart ↦ record { info = names.info; captured = sym (alters.others table apart) ∙ names.captured; is_key = names.is_key; topic_is = names.topic_is; text_is = names.text_is }
-]
-
-names_back : (identity : Identity) (infos : List TableInfo) (earlier : List Versioned) (v : Versioned) (later : List Versioned) (topic text : List ℕ) (table : ℕ) (key : Key) → AreVersionsFrom infos (earlier ++ v ∷ later) → Names identity v.infos topic text table key → Names identity infos topic text table key
-names_back identity infos [] v later topic text table key follow names = names_from identity infos v v.altered topic text table key follow.0 names
-names_back identity infos (x ∷ earlier) v later topic text table key follow names =
-    names_from identity infos x x.altered topic text table key follow.0 (names_back identity x.infos earlier v later topic text table key follow.1 names)
-
-changes_end : (earlier : List Versioned) (v : Versioned) → changes_in (earlier ++ v ∷ []) ≡ changes_in earlier + length (changes_of (plain_commit v))
+pub changes_end : (earlier : List Versioned) (v : Versioned) → changes_in (earlier ++ v ∷ []) ≡ changes_in earlier + length (changes_of (plain_commit v))
 changes_end [] v =
     let e : length (changes_of (plain_commit v)) ≡ 0 + length (changes_of (plain_commit v)) = omega arith in
     ap length (append-nil (changes_of (plain_commit v))) ∙ e

@@ -52,7 +52,7 @@ use Rattle.dbl_consume_courses.proofs.ThereLemmas.{changes_more, upto_none, name
 max_step : (to end x w : ℕ) → w ≤ max (max to x) end → x ≤ end → w ≤ max to end
 max_step to end x w le in_end = omega (arith, le, in_end)
 
-ends : (versions : List Versioned) (records : List Record) (from : ℕ) → from ≤ version_span_end versions records from
+pub ends : (versions : List Versioned) (records : List Record) (from : ℕ) → from ≤ version_span_end versions records from
 ends versions [] from = omega arith
 ends versions (item ∷ records) from =
     first (max from (version_moment versions (place_of item))) from (version_moment versions (place_of item)) (version_span_end versions records (max from (version_moment versions (place_of item)))) refl (ends versions records (max from (version_moment versions (place_of item))))
@@ -69,12 +69,16 @@ no_farther versions (item ∷ records) from to le =
     let reached : max from x ≤ version_span_end versions records (max from x) = ends versions records (max from x) in
     max_step to (version_span_end versions records (max from x)) x (version_span_end versions records (max to x)) rest (omega (arith, reached))
 
+-- a row that was there from a point on which the records reach was so from an earlier one on
+pub was_earlier : (versions : List Versioned) (records : List Record) (from to table : ℕ) (key : Key) → from ≤ to → to ≤ version_span_end versions records from
+    → WasThereThrough versions to (version_span_end versions records to) table key → WasThereThrough versions from (version_span_end versions records from) table key
+was_earlier versions records from to table key le reached w =
+    let end : version_span_end versions records to ≤ max to (version_span_end versions records from) = no_farther versions records from to le in
+    record { moment = w.moment; not_before = omega (arith, w.not_before, le); not_after = omega (arith, w.not_after, end, reached); present = w.present }
+
 pub go_back : RowsThereGoBack
 go_back identity infos versions records from to table le reached there = record {
-  each = λ topic text key names some. (
-      let w : WasThereThrough versions to (version_span_end versions records to) table key = there.each topic text key names some in
-      let end : version_span_end versions records to ≤ max to (version_span_end versions records from) = no_farther versions records from to le in
-      record { moment = w.moment; not_before = omega (arith, w.not_before, le); not_after = omega (arith, w.not_after, end, reached); present = w.present });
+  each = λ topic text key names some. was_earlier versions records from to table key le reached (there.each topic text key names some);
 }
 
 -- ---- one record more
@@ -195,7 +199,7 @@ not_lt a b le = grind (arith, nat_tests)
 not_eq : (a b : ℕ) → b < a → (a == b) ≡ false
 not_eq a b lt = grind (arith, nat_tests)
 
-place_longer : (versions later : List Versioned) (place : Place) → AllByRecursion (λ v. place.0 < v.lsn.0) later → version_moment (versions ++ later) place ≡ version_moment versions place
+pub place_longer : (versions later : List Versioned) (place : Place) → AllByRecursion (λ v. place.0 < v.lsn.0) later → version_moment (versions ++ later) place ≡ version_moment versions place
 place_longer [] [] place late = refl
 place_longer [] (v ∷ later) place late =
     ap (λ (b : Bool). if b then length (changes_of (plain_commit v)) + version_moment later place else (if v.lsn.0 == place.0 then changes_through v.infos (changes_of (plain_commit v)) place.1 else 0)) (not_lt v.lsn.0 place.0 (lt_le place.0 v.lsn.0 late.0))
@@ -217,7 +221,7 @@ pick_most true y a b w one two = one
 pick_most false true a b w one two = two
 pick_most false false a b w one two = omega arith
 
-place_most : (versions : List Versioned) (place : Place) → version_moment versions place ≤ changes_in versions
+pub place_most : (versions : List Versioned) (place : Place) → version_moment versions place ≤ changes_in versions
 place_most [] place = omega arith
 place_most (x ∷ versions) place =
     let size : changes_in (x ∷ versions) ≡ length (changes_of (plain_commit x)) + changes_in versions = changes_more x versions in
@@ -226,7 +230,7 @@ place_most (x ∷ versions) place =
     pick_most (nat_lt x.lsn.0 place.0) (x.lsn.0 == place.0) (length (changes_of (plain_commit x)) + version_moment versions place) (changes_through x.infos (changes_of (plain_commit x)) place.1) (changes_in (x ∷ versions))
     (omega (arith, size, rest)) (omega (arith, size, through))
 
-span_most : (versions : List Versioned) (records : List Record) (from : ℕ) → from ≤ changes_in versions → version_span_end versions records from ≤ changes_in versions
+pub span_most : (versions : List Versioned) (records : List Record) (from : ℕ) → from ≤ changes_in versions → version_span_end versions records from ≤ changes_in versions
 span_most versions [] from le = le
 span_most versions (item ∷ records) from le = span_most versions records (max from (version_moment versions (place_of item))) (least from (version_moment versions (place_of item)) (changes_in versions) le (place_most versions (place_of item)))
   where
@@ -251,18 +255,23 @@ rows_longer rows (x ∷ versions) later m table key le fit =
     by true before = refl
     by false before = before
 
-some_by_mark : (a b : Option (List Val)) → row_mark a ≡ row_mark b → IsSome b → IsSome a
+pub some_by_mark : (a b : Option (List Val)) → row_mark a ≡ row_mark b → IsSome b → IsSome a
 some_by_mark None None same some = some
 some_by_mark None (Some y) same some = cc
 some_by_mark (Some x) b same some = refl
 
+-- a row that was there is so in a longer history
+pub was_longer : (infos : List TableInfo) (versions later : List Versioned) (records : List Record) (from table : ℕ) (key : Key) → AreFitVersions infos (versions ++ later)
+    → AllByRecursion (λ item. AllByRecursion (λ v. item.position < v.lsn.0) later) records → from ≤ changes_in versions
+    → WasThereThrough versions from (version_span_end versions records from) table key → WasThereThrough (versions ++ later) from (version_span_end (versions ++ later) records from) table key
+was_longer infos versions later records from table key valid above low w =
+    let end : version_span_end (versions ++ later) records from ≡ version_span_end versions records from = span_longer versions later records from above in
+    let most : version_span_end versions records from ≤ changes_in versions = span_most versions records from low in
+    let same : row_mark (rows_upto no_rows (versions ++ later) w.moment table key) ≡ row_mark (rows_upto no_rows versions w.moment table key) =
+    rows_longer no_rows versions later w.moment table key (omega (arith, w.not_after, most)) valid.fit in
+    record { moment = w.moment; not_before = w.not_before; not_after = subst (λ (e : ℕ). w.moment ≤ e) (sym end) w.not_after; present = some_by_mark (rows_upto no_rows (versions ++ later) w.moment table key) (rows_upto no_rows versions w.moment table key) same w.present }
+
 pub there_stays : RowsThereStayAsHistoriesGrow
 there_stays identity infos versions later records from table valid above low there = record {
-  each = λ topic text key names some. (
-      let w : WasThereThrough versions from (version_span_end versions records from) table key = there.each topic text key names some in
-      let end : version_span_end (versions ++ later) records from ≡ version_span_end versions records from = span_longer versions later records from above in
-      let most : version_span_end versions records from ≤ changes_in versions = span_most versions records from low in
-      let same : row_mark (rows_upto no_rows (versions ++ later) w.moment table key) ≡ row_mark (rows_upto no_rows versions w.moment table key) =
-      rows_longer no_rows versions later w.moment table key (omega (arith, w.not_after, most)) valid.fit in
-      record { moment = w.moment; not_before = w.not_before; not_after = subst (λ (e : ℕ). w.moment ≤ e) (sym end) w.not_after; present = some_by_mark (rows_upto no_rows (versions ++ later) w.moment table key) (rows_upto no_rows versions w.moment table key) same w.present });
+  each = λ topic text key names some. was_longer infos versions later records from table key valid above low (there.each topic text key names some);
 }

@@ -9,4 +9,5 @@ pub mod SameCells
 pub mod CourseAges
 pub mod PlainAges
 pub mod RowsThere
+pub mod TableAges
 pub mod Example

@@ -7,6 +7,7 @@ mod fit_laws;
 mod growth_laws;
 mod same_laws;
 mod since_laws;
+mod table_laws;
 mod there_laws;
 
 pub use age_laws::{
@@ -28,6 +29,12 @@ pub use same_laws::{
 pub use since_laws::{
     early_records_end_all, late_logs_are_whole, late_records_are_appended, later_starts_keep_less,
     since_is_one, since_is_since,
+};
+pub use table_laws::{
+    alterations_move_table_age, commits_move_table_age, parts_of_commits_keep_table_age,
+    parts_of_repeats_keep_table_age, parts_of_snapshots_keep_table_age, repeats_move_table_age,
+    table_age_goes_back, table_age_stays_as_courses_grow, table_age_stays_as_histories_grow,
+    versions_reach_their_top,
 };
 pub use there_laws::{
     commits_move_rows_there, no_records_have_rows, parts_of_commits_keep_rows_there,

@@ -12,7 +12,6 @@ use crate::{Message, MsgError, OldTuple, RelationColumn, Tuple};
 use dbl_base::{Bytes, Lsn, Text};
 use std::alloc::{AllocError, Global};
 
-#[tactic(auto, using(crate::proofs::Fronts::begins_same, crate::proofs::Fronts::begins_front), unfolding(crate::specs::Grammar::spelling))]
 fn write_begin(out: &mut Vec<u8>, lsn: Lsn, time: &i64, xid: u32) -> Result<(), AllocError>
     requires { FitsFields (Message.Begin lsn time.now xid) }
     ensures written { OnOk result
@@ -25,7 +24,6 @@ fn write_begin(out: &mut Vec<u8>, lsn: Lsn, time: &i64, xid: u32) -> Result<(), 
     int32(out, xid)
 }
 
-#[tactic(auto, using(crate::proofs::Fronts::begins_same, crate::proofs::Fronts::begins_front), unfolding(crate::specs::Grammar::spelling))]
 fn write_commit(
     out: &mut Vec<u8>,
     flags: u8,
@@ -44,7 +42,6 @@ fn write_commit(
     signed64(out, time)
 }
 
-#[tactic(auto, using(crate::proofs::Fronts::begins_same, crate::proofs::Fronts::begins_front), unfolding(crate::specs::Grammar::spelling))]
 fn write_origin(out: &mut Vec<u8>, lsn: Lsn, name: &Text) -> Result<(), AllocError>
     requires { FitsFields (Message.Origin lsn name.now) }
     ensures written { OnOk result
@@ -57,7 +54,6 @@ fn write_origin(out: &mut Vec<u8>, lsn: Lsn, name: &Text) -> Result<(), AllocErr
 }
 
 /// The OID of a table or a type, and its name.
-#[tactic(auto, using(crate::proofs::Fronts::begins_same, crate::proofs::Fronts::begins_front))]
 fn write_name(out: &mut Vec<u8>, oid: u32, namespace: &Text, name: &Text) -> Result<(), AllocError>
     ensures written { OnOk result (Appends out.old.items
         (int32 oid ++ string namespace.now ++ string name.now) out.new.items) }
@@ -68,7 +64,6 @@ fn write_name(out: &mut Vec<u8>, oid: u32, namespace: &Text, name: &Text) -> Res
     string(out, name)
 }
 
-#[tactic(auto, using(crate::proofs::Fronts::begins_same, crate::proofs::Fronts::begins_front), unfolding(crate::specs::Grammar::spelling))]
 fn write_type(out: &mut Vec<u8>, oid: u32, namespace: &Text, name: &Text) -> Result<(), AllocError>
     requires { FitsFields (Message.TypeName oid namespace.now name.now) }
     ensures written { OnOk result (Appends out.old.items
@@ -79,7 +74,6 @@ fn write_type(out: &mut Vec<u8>, oid: u32, namespace: &Text, name: &Text) -> Res
     write_name(out, oid, namespace, name)
 }
 
-#[tactic(auto, using(crate::proofs::Fronts::begins_same, crate::proofs::Fronts::begins_front), unfolding(crate::specs::Grammar::spelling))]
 fn write_relation(
     out: &mut Vec<u8>,
     oid: u32,
@@ -102,7 +96,6 @@ fn write_relation(
     write_columns(out, columns)
 }
 
-#[tactic(auto, using(crate::proofs::Fronts::begins_same, crate::proofs::Fronts::begins_front), unfolding(crate::specs::Grammar::spelling))]
 fn write_insert(out: &mut Vec<u8>, oid: u32, row: &Tuple) -> Result<(), AllocError>
     requires { FitsFields (Message.Insert oid row.now) }
     ensures written { OnOk result
@@ -115,7 +108,6 @@ fn write_insert(out: &mut Vec<u8>, oid: u32, row: &Tuple) -> Result<(), AllocErr
     write_tuple(out, row)
 }
 
-#[tactic(auto, using(crate::proofs::Fronts::begins_same, crate::proofs::Fronts::begins_front), unfolding(crate::specs::Grammar::spelling))]
 fn write_update(
     out: &mut Vec<u8>,
     oid: u32,
@@ -134,7 +126,6 @@ fn write_update(
     write_tuple(out, row)
 }
 
-#[tactic(auto, using(crate::proofs::Fronts::begins_same, crate::proofs::Fronts::begins_front), unfolding(crate::specs::Grammar::spelling))]
 fn write_delete(out: &mut Vec<u8>, oid: u32, before: &OldTuple) -> Result<(), AllocError>
     requires { FitsFields (Message.Delete oid before.now) }
     ensures written { OnOk result
@@ -146,7 +137,6 @@ fn write_delete(out: &mut Vec<u8>, oid: u32, before: &OldTuple) -> Result<(), Al
     write_old(out, before)
 }
 
-#[tactic(auto, using(crate::proofs::Fronts::begins_same, crate::proofs::Fronts::begins_front), unfolding(crate::specs::Grammar::spelling))]
 fn write_truncate(out: &mut Vec<u8>, options: u8, oids: &Vec<u32>) -> Result<(), AllocError>
     requires { FitsFields (Message.Truncate options oids.now.items) }
     ensures written { OnOk result (Appends out.old.items
@@ -179,7 +169,6 @@ fn write_logical(
     out.extend_from_slice(content)
 }
 
-#[tactic(auto, using(crate::proofs::Fronts::begins_same, crate::proofs::Fronts::begins_front))]
 fn write_message(out: &mut Vec<u8>, message: &Message) -> Result<(), AllocError>
     requires { FitsFields message.now }
     ensures written { OnOk result (Appends out.old.items (spelling message.now) out.new.items) }

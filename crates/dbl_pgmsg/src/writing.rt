@@ -85,7 +85,6 @@ fn write_cell(out: &mut Vec<u8>, item: &TupleCell) -> Result<(), AllocError>
     }
 }
 
-#[tactic(auto, using(crate::proofs::Fronts::begins_same, crate::proofs::Fronts::begins_front))]
 fn write_cells(out: &mut Vec<u8>, cells: &[TupleCell]) -> Result<(), AllocError>
     requires { AllByRecursion FitsCell cells.now }
     ensures written { OnOk result (Appends out.old.items (flat_map cell cells.now) out.new.items) }
@@ -142,7 +141,6 @@ pub fn write_before(out: &mut Vec<u8>, before: &Option<OldTuple>) -> Result<(), 
     }
 }
 
-#[tactic(auto, using(crate::proofs::Fronts::begins_same, crate::proofs::Fronts::begins_front), unfolding(crate::specs::Grammar::column))]
 fn write_column(out: &mut Vec<u8>, item: &RelationColumn) -> Result<(), AllocError>
     ensures written { OnOk result (Appends out.old.items (column item.now) out.new.items) }
     ensures kept { OnErr result (Begins out.old.items out.new.items) }
@@ -154,7 +152,6 @@ fn write_column(out: &mut Vec<u8>, item: &RelationColumn) -> Result<(), AllocErr
 }
 
 /// Appends the columns of a Relation.
-#[tactic(auto, using(crate::proofs::Fronts::begins_same, crate::proofs::Fronts::begins_front))]
 pub fn write_columns(out: &mut Vec<u8>, columns: &[RelationColumn]) -> Result<(), AllocError>
     ensures written { OnOk result
         (Appends out.old.items (flat_map column columns.now) out.new.items) }
@@ -167,7 +164,6 @@ pub fn write_columns(out: &mut Vec<u8>, columns: &[RelationColumn]) -> Result<()
 }
 
 /// Appends the OIDs of a Truncate.
-#[tactic(auto, using(crate::proofs::Fronts::begins_same, crate::proofs::Fronts::begins_front))]
 pub fn write_oids(out: &mut Vec<u8>, oids: &[u32]) -> Result<(), AllocError>
     ensures written { OnOk result (Appends out.old.items (flat_map int32 oids.now) out.new.items) }
     ensures kept { OnErr result (Begins out.old.items out.new.items) }

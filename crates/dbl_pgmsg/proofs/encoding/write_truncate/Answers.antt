@@ -1,0 +1,36 @@
+use Rattle.std.proofs.Common.{◌≡◌, ◌++◌, ◌∙◌, OnOk, length, flat_map, subst, arith}
+use Rattle.dbl_pgmsg.specs.Grammar.{spelling, int32}
+use Rattle.dbl_pgmsg.specs.Room.{Appends}
+use Rattle.dbl_pgmsg.proofs.Fronts.{begins_same, begins_front, two_steps, last_step, last_left, left_at}
+use Rattle.dbl_pgmsg.proofs.encoding.write_truncate.Goals as goal
+
+pub returns-in_err-extend_from_slice-clause-kept : goal.returns-in_err-extend_from_slice-clause-kept
+returns-in_err-extend_from_slice-clause-kept c = left_at c.from_residual.result (begins_same _ _ c.in_err-extend_from_slice.ensures.items)
+
+pub returns-in_err-int32-clause-kept : goal.returns-in_err-int32-clause-kept
+returns-in_err-int32-clause-kept c = left_at c.from_residual-in_err-int32.result (begins_front _ _ _ _ c.in_ok-extend_from_slice.ensures.items
+    c.in_err-int32.ensures.kept)
+
+pub returns-in_err-extend_from_slice-2-clause-kept : goal.returns-in_err-extend_from_slice-2-clause-kept
+returns-in_err-extend_from_slice-2-clause-kept c =
+    left_at c.from_residual-in_err-extend_from_slice-2.result (begins_front _ _ _ _ c.in_ok-extend_from_slice.ensures.items
+    (begins_front _ _ _ _ c.in_ok-int32.ensures.written (begins_same _ _ c.in_err-extend_from_slice-2.ensures.items)))
+
+pub returns-clause-written : goal.returns-clause-written
+unfolding spelling
+returns-clause-written c =
+    let count : c.len.result ≡ length c.args.oids.now.items = c.len.ensures ∙ omega (arith, c.args.oids.now.ok) in
+    let listed : OnOk c.write_oids.result (Appends c.extend_from_slice-2.new.self.items (flat_map int32 c.args.oids.now.items) c.write_oids.new.out.items) =
+    subst (λ l. OnOk c.write_oids.result (Appends c.extend_from_slice-2.new.self.items (flat_map int32 l) c.write_oids.new.out.items))
+    c.deref.ensures.value c.write_oids.ensures.written in
+    last_step c.write_oids.result c.args.out.now.items _ c.extend_from_slice-2.new.self.items _ _
+    (two_steps c.args.out.now.items _ c.int32.new.out.items _ c.extend_from_slice-2.new.self.items
+    (two_steps c.args.out.now.items _ c.extend_from_slice.new.self.items _ c.int32.new.out.items
+    c.in_ok-extend_from_slice.ensures.items
+    (subst (λ n. c.int32.new.out.items ≡ c.extend_from_slice.new.self.items ++ int32 n) count c.in_ok-int32.ensures.written))
+    c.in_ok-extend_from_slice-2.ensures.items) listed
+
+pub returns-clause-kept : goal.returns-clause-kept
+returns-clause-kept c = last_left c.write_oids.result _ _ _ _ c.in_ok-extend_from_slice.ensures.items
+    (last_left c.write_oids.result _ _ _ _ c.in_ok-int32.ensures.written
+    (last_left c.write_oids.result _ _ _ _ c.in_ok-extend_from_slice-2.ensures.items c.write_oids.ensures.kept))

@@ -1,0 +1,34 @@
+use Rattle.dbl_pgmsg.specs.Grammar.{spelling}
+use Rattle.dbl_pgmsg.proofs.Fronts.{begins_same, begins_front, two_steps, last_step, last_left, left_at}
+use Rattle.dbl_pgmsg.proofs.encoding.write_update.Goals as goal
+
+pub returns-in_err-extend_from_slice-clause-kept : goal.returns-in_err-extend_from_slice-clause-kept
+returns-in_err-extend_from_slice-clause-kept c = left_at c.from_residual.result (begins_same _ _ c.in_err-extend_from_slice.ensures.items)
+
+pub returns-in_err-int32-clause-kept : goal.returns-in_err-int32-clause-kept
+returns-in_err-int32-clause-kept c = left_at c.from_residual-in_err-int32.result (begins_front _ _ _ _ c.in_ok-extend_from_slice.ensures.items
+    c.in_err-int32.ensures.kept)
+
+pub returns-in_err-write_before-clause-kept : goal.returns-in_err-write_before-clause-kept
+returns-in_err-write_before-clause-kept c = left_at c.from_residual-in_err-write_before.result (begins_front _ _ _ _ c.in_ok-extend_from_slice.ensures.items
+    (begins_front _ _ _ _ c.in_ok-int32.ensures.written c.in_err-write_before.ensures.kept))
+
+pub returns-in_err-extend_from_slice-2-clause-kept : goal.returns-in_err-extend_from_slice-2-clause-kept
+returns-in_err-extend_from_slice-2-clause-kept c =
+    left_at c.from_residual-in_err-extend_from_slice-2.result (begins_front _ _ _ _ c.in_ok-extend_from_slice.ensures.items
+    (begins_front _ _ _ _ c.in_ok-int32.ensures.written (begins_front _ _ _ _ c.in_ok-write_before.ensures.written
+    (begins_same _ _ c.in_err-extend_from_slice-2.ensures.items))))
+
+pub returns-clause-written : goal.returns-clause-written
+unfolding spelling
+returns-clause-written c = last_step c.write_tuple.result c.args.out.now.items _ c.extend_from_slice-2.new.self.items _ _
+    (two_steps c.args.out.now.items _ c.write_before.new.out.items _ c.extend_from_slice-2.new.self.items
+    (two_steps c.args.out.now.items _ c.int32.new.out.items _ c.write_before.new.out.items
+    (two_steps c.args.out.now.items _ c.extend_from_slice.new.self.items _ c.int32.new.out.items
+    c.in_ok-extend_from_slice.ensures.items c.in_ok-int32.ensures.written) c.in_ok-write_before.ensures.written)
+    c.in_ok-extend_from_slice-2.ensures.items) c.write_tuple.ensures.written
+
+pub returns-clause-kept : goal.returns-clause-kept
+returns-clause-kept c = last_left c.write_tuple.result _ _ _ _ c.in_ok-extend_from_slice.ensures.items
+    (last_left c.write_tuple.result _ _ _ _ c.in_ok-int32.ensures.written (last_left c.write_tuple.result _ _ _ _ c.in_ok-write_before.ensures.written
+    (last_left c.write_tuple.result _ _ _ _ c.in_ok-extend_from_slice-2.ensures.items c.write_tuple.ensures.kept)))

@@ -1,5 +1,6 @@
 -- The rows of a history whose tables may be altered, each row in the columns in force.
-use Rattle.std.specs.Prelude.{ℕ, ◌-◌, ◌==◌, nat_le, nat_lt, if◌then◌else◌, IsTrue, IsSomeAnd, Option, Some, None, List, [], ◌∷◌, length, map, take, filter, fold}
+use Rattle.std.specs.Prelude.{ℕ, ◌≤◌, ◌-◌, ◌==◌, nat_le, nat_lt, if◌then◌else◌, IsTrue, IsSomeAnd, Option, Some, None}
+use Rattle.std.specs.Prelude.{List, [], ◌∷◌, length, map, take, filter, fold}
 use Rattle.std.specs.List.{AllByRecursion}
 use Rattle.dbl_model_table.specs.declared.table.RawRow.{RawRow}
 use Rattle.dbl_model_table.specs.declared.table.TableInfo.{TableInfo}
@@ -10,7 +11,7 @@ use Rattle.dbl_model_table.specs.Infos.{IsInfoOf}
 use Rattle.dbl_model_table.specs.Rows.{Rows, no_rows, rows_from, changes_of}
 use Rattle.dbl_model_history.specs.History.{History}
 use Rattle.dbl_model_history.specs.Typed.{typed_row}
-use Rattle.dbl_model_history.specs.InForce.{entry_at, Alteration, Versioned, plain_commit, versioned}
+use Rattle.dbl_model_history.specs.InForce.{entry_at, infos_by, opening_infos, Alteration, Versioned, plain_commit, versioned}
 
 -- The commits up to a position.
 abbrev pub versions_to : ℕ → List Versioned → List Versioned
@@ -47,7 +48,18 @@ version_rows versions = fold rows_through no_rows versions
 abbrev pub rows_in_force : List TableInfo → History → ℕ → Rows
 rows_in_force infos history place = version_rows (take place (versioned infos history))
 
--- Whether the captured tables are distinct tables of the catalogue, each as its entry describes it after this many commits.
-pub record AreInForce (history : History) (place : ℕ) (infos : List TableInfo) : Type 0 where
+-- The captured tables in the columns in force after a number of first commits of a history; `infos` gives names and keys only.
+abbrev pub infos_in_force : List TableInfo → History → ℕ → List TableInfo
+infos_in_force infos history place =
+    fold (λ tables commit. infos_by commit.body tables) (opening_infos history infos) (take place history.commits)
+
+-- Whether a description is that of its table's entry in the catalogue after some number of commits, at most this one.
+pub record WasInfo (history : History) (upto : ℕ) (info : TableInfo) : Type 0 where
+  pub place : ℕ
+  pub not_after : place ≤ upto
+  pub is : IsSomeAnd (entry_at history place info.name) (λ raw. IsInfoOf raw info)
+
+-- Whether the captured tables are distinct tables of the catalogue, each as its entry described it up to a position.
+pub record WereInfosOf (history : History) (upto : ℕ) (infos : List TableInfo) : Type 0 where
   pub distinct : IsTrue (are_distinct same_name (map (λ info. info.name) infos))
-  pub each : AllByRecursion (λ info. IsSomeAnd (entry_at history place info.name) (λ raw. IsInfoOf raw info)) infos
+  pub each : AllByRecursion (WasInfo history upto) infos

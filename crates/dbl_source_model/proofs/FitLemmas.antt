@@ -16,7 +16,7 @@ use Rattle.dbl_model_commit.specs.ModelHistory.Ranges.{IsRawCommitInRange}
 use Rattle.dbl_model_commit.specs.ModelHistory.Typed.{typed, typed_commit}
 use Rattle.dbl_model_commit.specs.ModelHistory.Fit.{AltersNone, AreFit, AreInfosOf, IsFitHistory}
 use Rattle.dbl_model_commit.specs.ModelHistory.InForce.{entry_after, entry_at, version_at, Versioned, infos_by, versioned_commit, versioned_from, opening_infos}
-use Rattle.dbl_source_model.specs.VersionRows.{version_rows, rows_in_force, AreInForce}
+use Rattle.dbl_model_commit.specs.ModelHistory.VersionRows.{version_rows, rows_in_force, infos_in_force, WasInfo}
 use Rattle.dbl_model_commit.proofs.ModelHistoryRowLemmas.{all_changes-append, AreFit-before}
 use Rattle.dbl_source_model.specs.declared.selected.Selected.{Selected}
 use Rattle.dbl_source_model.specs.Selected.{AreFirstOf, AreRowsAt, AreAnswered}
@@ -47,16 +47,6 @@ module _ (tables : List RawTable) (xs ys : List RawCommit) where
   captured_too : (infos : List TableInfo) → AreInfosOf old infos → AreInfosOf new infos
   captured_too infos captured = record { distinct = captured.distinct; each = captured.each }
 
-  each_entry : (place : ℕ) (infos : List TableInfo) → ((name : TableName) → entry_at old place name ≡ entry_at new place name) → AllByRecursion (λ info. IsSomeAnd (entry_at old place info.name) (λ raw. IsInfoOf raw info)) infos
-      → AllByRecursion (λ info. IsSomeAnd (entry_at new place info.name) (λ raw. IsInfoOf raw info)) infos
-  each_entry place [] same each = tt
-  each_entry place (info ∷ infos) same each = (subst (λ (o : Option RawTable). IsSomeAnd o (λ raw. IsInfoOf raw info)) (same info.name) each.0, each_entry place infos same each.1)
-
-  each_entry_back : (place : ℕ) (infos : List TableInfo) → ((name : TableName) → entry_at old place name ≡ entry_at new place name) → AllByRecursion (λ info. IsSomeAnd (entry_at new place info.name) (λ raw. IsInfoOf raw info)) infos
-      → AllByRecursion (λ info. IsSomeAnd (entry_at old place info.name) (λ raw. IsInfoOf raw info)) infos
-  each_entry_back place [] same each = tt
-  each_entry_back place (info ∷ infos) same each = (subst (λ (o : Option RawTable). IsSomeAnd o (λ raw. IsInfoOf raw info)) (sym (same info.name)) each.0, each_entry_back place infos same each.1)
-
   parts : (infos : List TableInfo) → all_changes (typed infos new) ≡ all_changes (typed infos old) ++ all_changes (map (typed_commit infos) ys)
   parts infos = ap all_changes (map-append (typed_commit infos) xs ys) ∙ all_changes-append (typed infos old) (map (typed_commit infos) ys)
 
@@ -77,24 +67,47 @@ module _ (tables : List RawTable) (xs ys : List RawCommit) where
   entry_front place name le =
       ap (λ (cs : List RawCommit). option_map (λ table. fold (λ entry commit. entry_after commit.body entry) table cs) (entry_of old name)) (take-append-le place xs ys le)
 
-  force_later : (infos : List TableInfo) (place : ℕ) → place ≤ length xs → AreInForce old place infos → AreInForce new place infos
-  force_later infos place le force = record { distinct = force.distinct; each = each_entry place infos (λ name. sym (entry_front place name le)) force.each }
+  infos_later : (infos : List TableInfo) (upto : ℕ) → upto ≤ length xs → AllByRecursion (WasInfo old upto) infos → AllByRecursion (WasInfo new upto) infos
+  infos_later [] upto le each = tt
+  infos_later (info ∷ infos) upto le each =
+      let within : each.0.place ≤ length xs = omega (arith, each.0.not_after, le) in
+      (record {
+        place = each.0.place;
+        not_after = each.0.not_after;
+        is = subst (λ (o : Option RawTable). IsSomeAnd o (λ raw. IsInfoOf raw info)) (sym (entry_front each.0.place info.name within)) each.0.is;
+      }, infos_later infos upto le each.1)
 
-  force_front : (infos : List TableInfo) (place : ℕ) → place ≤ length xs → AreInForce new place infos → AreInForce old place infos
-  force_front infos place le force = record { distinct = force.distinct; each = each_entry_back place infos (λ name. sym (entry_front place name le)) force.each }
+  infos_front : (infos : List TableInfo) (upto : ℕ) → upto ≤ length xs → AllByRecursion (WasInfo new upto) infos → AllByRecursion (WasInfo old upto) infos
+  infos_front [] upto le each = tt
+  infos_front (info ∷ infos) upto le each =
+      let within : each.0.place ≤ length xs = omega (arith, each.0.not_after, le) in
+      (record {
+        place = each.0.place;
+        not_after = each.0.not_after;
+        is = subst (λ (o : Option RawTable). IsSomeAnd o (λ raw. IsInfoOf raw info)) (entry_front each.0.place info.name within) each.0.is;
+      }, infos_front infos upto le each.1)
 
-  in_force_front : (infos : List TableInfo) (place : ℕ) → place ≤ length xs → rows_in_force infos new place ≡ rows_in_force infos old place
-  in_force_front infos place le = ap version_rows (taken_front (opening_infos old infos) xs ys place le)
+  rows_stay : (infos : List TableInfo) (place : ℕ) → place ≤ length xs → rows_in_force infos new place ≡ rows_in_force infos old place
+  rows_stay infos place le = ap version_rows (taken_front (opening_infos old infos) xs ys place le)
+
+  columns_stay : (infos : List TableInfo) (place : ℕ) → place ≤ length xs → infos_in_force infos new place ≡ infos_in_force infos old place
+  columns_stay infos place le = ap (λ (cs : List RawCommit). fold (λ tables commit. infos_by commit.body tables) (opening_infos old infos) cs) (take-append-le place xs ys le)
 
   rows_at_front : (place : ℕ) (name : TableName) (above : Option Key) (limit : ℕ) (rows : List RawRow) → place ≤ length xs → AreRowsAt new place name above limit rows → AreRowsAt old place name above limit rows
-  rows_at_front place name above limit rows le are infos force =
-      IfSome_then (number_of infos name) (are infos (force_later infos place le force))
-      (λ table first. (first.0, subst (λ (at : Rows). AreFirstOf infos table first.0 at above limit rows) (in_force_front infos place le) first.1))
+  rows_at_front place name above limit rows le are infos were =
+      IfSome_then (number_of infos name) (are infos (record { distinct = were.distinct; each = infos_later infos place le were.each }))
+      (λ table first. (
+          first.0,
+          subst (λ (at : Rows). AreFirstOf (infos_in_force infos old place) table first.0 at above limit rows) (rows_stay infos place le)
+          (subst (λ (now : List TableInfo). AreFirstOf now table first.0 (rows_in_force infos new place) above limit rows) (columns_stay infos place le) first.1)))
 
   rows_at_later : (place : ℕ) (name : TableName) (above : Option Key) (limit : ℕ) (rows : List RawRow) → place ≤ length xs → AreRowsAt old place name above limit rows → AreRowsAt new place name above limit rows
-  rows_at_later place name above limit rows le are infos force =
-      IfSome_then (number_of infos name) (are infos (force_front infos place le force))
-      (λ table first. (first.0, subst (λ (at : Rows). AreFirstOf infos table first.0 at above limit rows) (sym (in_force_front infos place le)) first.1))
+  rows_at_later place name above limit rows le are infos were =
+      IfSome_then (number_of infos name) (are infos (record { distinct = were.distinct; each = infos_front infos place le were.each }))
+      (λ table first. (
+          first.0,
+          subst (λ (at : Rows). AreFirstOf (infos_in_force infos new place) table first.0 at above limit rows) (sym (rows_stay infos place le))
+          (subst (λ (now : List TableInfo). AreFirstOf now table first.0 (rows_in_force infos old place) above limit rows) (sym (columns_stay infos place le)) first.1)))
 
   version_front : (place : ℕ) (name : TableName) → place ≤ length xs → version_at new place name ≡ version_at old place name
   version_front place name le = ap (λ (entry : Option RawTable). unwrap_or (option_map (λ (table : RawTable). table.version) entry) 1) (entry_front place name le)

@@ -1,5 +1,5 @@
 -- At one place there is one answer, and before the first commit a captured table has no rows, so that an answer with one isn't right.
-use Rattle.std.proofs.Common.{◌≡◌, ◌∙◌, ◌⊎◌, inl, inr, ℕ, ◌<◌, zero, suc, Bool, true, false, length, Option, Some, None, List, [], ◌∷◌, map, take, refl, sym, ap, subst, arith}
+use Rattle.std.proofs.Common.{◌≡◌, ◌∙◌, ◌⊎◌, inl, inr, ℕ, ◌<◌, ◌≤◌, zero, suc, Bool, true, false, length, Option, Some, None, List, [], ◌∷◌, map, take, refl, sym, ap, subst, arith}
 use Rattle.std.specs.Prelude.{if◌then◌else◌, IfSome, slice_get}
 use Rattle.std.specs.List.{AllByRecursion}
 use Rattle.std.proofs.lemmas.List.{length-map}
@@ -14,15 +14,16 @@ use Rattle.dbl_model_commit.specs.ModelTable.Rows.{Rows, no_rows}
 use Rattle.dbl_model_commit.specs.ModelHistory.History.{RawCommit, History}
 use Rattle.dbl_model_commit.specs.ModelHistory.Fit.{IsKeyOf, AltersNone}
 use Rattle.dbl_model_commit.specs.ModelHistory.InForce.{Versioned, versioned_from, opening_infos}
-use Rattle.dbl_source_model.specs.VersionRows.{version_rows, rows_in_force, AreInForce}
+use Rattle.dbl_model_commit.specs.ModelHistory.VersionRows.{version_rows, rows_in_force, infos_in_force, WasInfo, WereInfosOf}
 use Rattle.dbl_model_commit.specs.ModelTable.Keys.{same_key}
 use Rattle.dbl_model_commit.proofs.ModelTableKeyLemmas.{same_key-is}
 use Rattle.dbl_model_commit.specs.ModelHistory.KeyBounds.{IsAbove, IsUpTo}
 use Rattle.dbl_model_commit.specs.ModelHistory.KeyedRows.{row_in, AreAbove, last_key, AreFirst}
 use Rattle.dbl_model_commit.proofs.ModelHistoryBoundLemmas.{above_goes_on, up_to_last, first_rows_one}
+use Rattle.dbl_source_model.specs.declared.selected.Selected.{Selected}
 use Rattle.dbl_source_model.specs.Growth.{KeepsColumns}
-use Rattle.dbl_source_model.specs.Selected.{keyed_row, AreFirstOf, AreRowsAt}
-use Rattle.dbl_source_model.proofs.PlainLemmas.{captured_in_force}
+use Rattle.dbl_source_model.specs.Selected.{keyed_row, AreFirstOf, AreRowsAt, AreAnswered}
+use Rattle.dbl_source_model.proofs.PlainLemmas.{captured_were}
 use Rattle.dbl_source_model.specs.Laws.{AnswersAtAPlaceAreOne, NoRowsBeforeTheFirstCommit, RowsOfNoPlaceAreUnanswered, StandingRowsAreAnswered}
 
 none_taken : {A : Type 0} (n : ℕ) → take {A = A} n [] ≡ []
@@ -55,28 +56,31 @@ none_answered infos table info above limit (row ∷ rows) first = first.none_abo
 pub no_rows_yet : NoRowsBeforeTheFirstCommit
 no_rows_yet history from upto name above limit answer infos table none captured number answered =
     let rows : List RawRow = answer.rows in
-    let are = answered.are infos (captured_in_force history answered.place infos (none_altered history none) captured) in
-    let own : (info : TableInfo) × AreFirstOf infos table info (rows_in_force infos history answered.place) above limit rows =
-    subst (λ (o : Option ℕ). IfSome o (λ t. (info : TableInfo) × AreFirstOf infos t info (rows_in_force infos history answered.place) above limit rows)) number are in
-    none_answered infos table own.0 above limit rows (subst (λ (at : Rows). AreFirstOf infos table own.0 at above limit rows) (no_rows_after infos history answered.place none) own.1)
+    let now : List TableInfo = infos_in_force infos history answered.place in
+    let are = answered.are infos (captured_were history answered.place infos (none_altered history none) captured) in
+    let own : (info : TableInfo) × AreFirstOf now table info (rows_in_force infos history answered.place) above limit rows =
+    subst (λ (o : Option ℕ). IfSome o (λ t. (info : TableInfo) × AreFirstOf now t info (rows_in_force infos history answered.place) above limit rows)) number are in
+    none_answered now table own.0 above limit rows (subst (λ (at : Rows). AreFirstOf now table own.0 at above limit rows) (no_rows_after infos history answered.place none) own.1)
 
 -- ---- one answer at a place
 
 -- of the captured table with this number and these columns
-of_table : (history : History) (place : ℕ) (name : TableName) (above : Option Key) (limit : ℕ) (rows : List RawRow) (infos : List TableInfo) (table : ℕ) (info : TableInfo) → AreInForce history place infos → number_of infos name ≡ Some table
-    → slice_get infos table ≡ Some info → AreRowsAt history place name above limit rows → AreFirstOf infos table info (rows_in_force infos history place) above limit rows
-of_table history place name above limit rows infos table info captured number there are =
-    let own : (i : TableInfo) × AreFirstOf infos table i (rows_in_force infos history place) above limit rows =
-    subst (λ (o : Option ℕ). IfSome o (λ t. (i : TableInfo) × AreFirstOf infos t i (rows_in_force infos history place) above limit rows)) number (are infos captured) in
-    let some : Some own.0 ≡ Some info = sym own.1.captured ∙ there in
-    let same : own.0 ≡ info = cc in
-    subst (λ (i : TableInfo). AreFirstOf infos table i (rows_in_force infos history place) above limit rows) same own.1
+of_table : (history : History) (place : ℕ) (name : TableName) (above : Option Key) (limit : ℕ) (rows : List RawRow) (infos now : List TableInfo) (table : ℕ) (info : TableInfo) → WereInfosOf history place infos → infos_in_force infos history place ≡ now
+    → number_of infos name ≡ Some table → slice_get now table ≡ Some info → AreRowsAt history place name above limit rows → AreFirstOf now table info (rows_in_force infos history place) above limit rows
+of_table history place name above limit rows infos now table info were now_is number there are =
+    let found : (i : TableInfo) × AreFirstOf (infos_in_force infos history place) table i (rows_in_force infos history place) above limit rows =
+    subst (λ (o : Option ℕ). IfSome o (λ t. (i : TableInfo) × AreFirstOf (infos_in_force infos history place) t i (rows_in_force infos history place) above limit rows)) number (are infos were) in
+    let own : AreFirstOf now table found.0 (rows_in_force infos history place) above limit rows =
+    subst (λ (l : List TableInfo). AreFirstOf l table found.0 (rows_in_force infos history place) above limit rows) now_is found.1 in
+    let some : Some found.0 ≡ Some info = sym own.captured ∙ there in
+    let same : found.0 ≡ info = cc in
+    subst (λ (i : TableInfo). AreFirstOf now table i (rows_in_force infos history place) above limit rows) same own
 
 pub one_answer : AnswersAtAPlaceAreOne
-one_answer history place name above limit rows others infos table info captured number there first second =
-    let a = of_table history place name above limit rows infos table info captured number there first in
-    let b = of_table history place name above limit others infos table info captured number there second in (
-      λ is_key. first_rows_one info (rows_in_force infos history place table) above limit (map (keyed_row infos table info) rows) (map (keyed_row infos table info) others) (a.first is_key) (b.first is_key),
+one_answer history place name above limit rows others infos now table info were now_is number there first second =
+    let a = of_table history place name above limit rows infos now table info were now_is number there first in
+    let b = of_table history place name above limit others infos now table info were now_is number there second in (
+      λ is_key. first_rows_one info (rows_in_force infos history place table) above limit (map (keyed_row now table info) rows) (map (keyed_row now table info) others) (a.first is_key) (b.first is_key),
       λ no_key. a.none_above no_key ∙ sym (b.none_above no_key),
     )
 
@@ -119,18 +123,31 @@ none_in infos table info at above limit rows key first none = by (row_in (map (k
         let empty : row_in (map (keyed_row infos table info) rows) key ≡ None = ap (λ (l : List RawRow). row_in (map (keyed_row infos table info) l) key) (first.none_above never) in
         sym is ∙ empty
 
+were_on : (history : History) (from upto : ℕ) (infos : List TableInfo) → from ≤ upto → AllByRecursion (WasInfo history from) infos → AllByRecursion (WasInfo history upto) infos
+were_on history from upto [] le each = tt
+were_on history from upto (info ∷ infos) le each =
+    (record { place = each.0.place; not_after = omega (arith, each.0.not_after, le); is = each.0.is }, were_on history from upto infos le each.1)
+
+-- the first ones of an answer, in the columns that are in force all the while
+of_answer : (history : History) (from upto : ℕ) (name : TableName) (above : Option Key) (limit : ℕ) (answer : Selected) (infos now : List TableInfo) (table : ℕ) (info : TableInfo) → WereInfosOf history from infos
+    → ((place : ℕ) → from ≤ place → place ≤ upto → infos_in_force infos history place ≡ now) → number_of infos name ≡ Some table → slice_get now table ≡ Some info → (answered : AreAnswered history from upto name above limit answer)
+    → AreFirstOf now table info (rows_in_force infos history answered.place) above limit answer.rows
+of_answer history from upto name above limit answer infos now table info were columns number there answered =
+    of_table history answered.place name above limit answer.rows infos now table info (record { distinct = were.distinct; each = were_on history from answered.place infos answered.not_before were.each })
+    (columns answered.place answered.not_before answered.not_after) number there answered.are
+
 pub no_place_no_row : RowsOfNoPlaceAreUnanswered
-no_place_no_row history from upto name above limit answer infos table info key force number there answered never =
-    none_in infos table info (rows_in_force infos history answered.place) above limit answer.rows key
-    (of_table history answered.place name above limit answer.rows infos table info (force answered.place answered.not_before answered.not_after) number there answered.are)
+no_place_no_row history from upto name above limit answer infos now table info key were columns number there answered never =
+    none_in now table info (rows_in_force infos history answered.place) above limit answer.rows key
+    (of_answer history from upto name above limit answer infos now table info were columns number there answered)
     (never answered.place answered.not_before answered.not_after)
 
 pub standing_row : StandingRowsAreAnswered
-standing_row history from upto name above limit answer infos table info key row force number there answered bound is_key subsequent range stands =
+standing_row history from upto name above limit answer infos now table info key row were columns number there answered bound is_key subsequent range stands =
     let rows : List RawRow = answer.rows in
-    let first = of_table history answered.place name above limit rows infos table info (force answered.place answered.not_before answered.not_after) number there answered.are in
-    let within : (length (map (keyed_row infos table info) rows) < limit) ⊎ IsUpTo (last_key above (map (keyed_row infos table info) rows)) key = elim range [
-      | inl fewer ↦ inl (omega (arith, fewer, length-map rows (keyed_row infos table info)))
+    let first = of_answer history from upto name above limit answer infos now table info were columns number there answered in
+    let within : (length (map (keyed_row now table info) rows) < limit) ⊎ IsUpTo (last_key above (map (keyed_row now table info) rows)) key = elim range [
+      | inl fewer ↦ inl (omega (arith, fewer, length-map rows (keyed_row now table info)))
       | inr up ↦ inr up
     ] in
     (first.first bound).right key is_key subsequent within ∙ stands answered.place answered.not_before answered.not_after

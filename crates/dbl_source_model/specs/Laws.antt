@@ -16,7 +16,7 @@ use Rattle.dbl_model_commit.specs.ModelHistory.History.{History, IsRising, entry
 use Rattle.dbl_model_commit.specs.ModelHistory.Typed.{typed}
 use Rattle.dbl_model_commit.specs.ModelHistory.Fit.{IsKeyOf, AreInfosOf, IsFitHistory}
 use Rattle.dbl_model_commit.specs.ModelHistory.InForce.{entry_at, version_at}
-use Rattle.dbl_source_model.specs.VersionRows.{rows_in_force, AreInForce}
+use Rattle.dbl_model_commit.specs.ModelHistory.VersionRows.{rows_in_force, infos_in_force, WereInfosOf}
 use Rattle.dbl_model_commit.specs.ModelHistory.KeyBounds.{IsAbove, IsUpTo}
 use Rattle.dbl_model_commit.specs.ModelHistory.KeyedRows.{row_in, last_key}
 use Rattle.dbl_model_commit.specs.Past.{begin_of}
@@ -89,12 +89,13 @@ AllReadIsAllStated = (infos : List TableInfo) (s t : SourceState) (reading : Rea
     → AreWithoutFault infos reading.after reading.messages → HasReadAll s t
     → (more : List Commit) × (commits_of infos reading.messages ≡ to_state infos reading.after s.history ++ more)
 
--- Whether at a position each table is as the catalogue has it before all commits: its entry, its version, which is 1, what is captured of
--- it, and its rows.
+-- Whether at a position each table is as the catalogue has it before all commits: its entry, its version, which is 1, what can be captured
+-- of it, its columns, and its rows.
 pub record HasFirstTables (history : History) (place : ℕ) : Type 0 where
   pub entry : (name : TableName) → entry_at history place name ≡ entry_of history name
   pub version : (name : TableName) → version_at history place name ≡ 1
-  pub in_force : (infos : List TableInfo) → AreInForce history place infos ↔ AreInfosOf history infos
+  pub described : (infos : List TableInfo) → WereInfosOf history place infos ↔ AreInfosOf history infos
+  pub columns : (infos : List TableInfo) → AreInfosOf history infos → infos_in_force infos history place ≡ infos
   pub rows : (infos : List TableInfo) → AreInfosOf history infos → rows_in_force infos history place ≡ rows_up_to infos history place
 
 -- A valid history alters no table.
@@ -105,10 +106,11 @@ ValidHistoriesKeepTables = (history : History) (place : ℕ) → IsFitHistory hi
 -- above another key there is no row.
 abbrev pub AnswersAtAPlaceAreOne : Type 0
 AnswersAtAPlaceAreOne = (history : History) (place : ℕ) (name : TableName) (above : Option Key) (limit : ℕ) (rows others : List RawRow)
-    (infos : List TableInfo) (table : ℕ) (info : TableInfo)
-    → AreInForce history place infos → number_of infos name ≡ Some table → slice_get infos table ≡ Some info
+    (infos now : List TableInfo) (table : ℕ) (info : TableInfo)
+    → WereInfosOf history place infos → infos_in_force infos history place ≡ now
+    → number_of infos name ≡ Some table → slice_get now table ≡ Some info
     → AreRowsAt history place name above limit rows → AreRowsAt history place name above limit others
-    → (IfSome above (IsKeyOf info) → map (keyed_row infos table info) rows ≡ map (keyed_row infos table info) others)
+    → (IfSome above (IsKeyOf info) → map (keyed_row now table info) rows ≡ map (keyed_row now table info) others)
     × ((¬ IfSome above (IsKeyOf info)) → rows ≡ others)
 
 -- Before the first commit a captured table has no rows, so that no answer with a row is correct.
@@ -122,25 +124,25 @@ NoRowsBeforeTheFirstCommit = (history : History) (from upto : ℕ) (name : Table
 -- nor one inserted after the return. Stated of captured tables that have the same columns all the while.
 abbrev pub RowsOfNoPlaceAreUnanswered : Type 0
 RowsOfNoPlaceAreUnanswered = (history : History) (from upto : ℕ) (name : TableName) (above : Option Key) (limit : ℕ) (answer : Selected)
-    (infos : List TableInfo) (table : ℕ) (info : TableInfo) (key : Key)
-    → ((place : ℕ) → from ≤ place → place ≤ upto → AreInForce history place infos)
-    → number_of infos name ≡ Some table → slice_get infos table ≡ Some info
+    (infos now : List TableInfo) (table : ℕ) (info : TableInfo) (key : Key)
+    → WereInfosOf history from infos → ((place : ℕ) → from ≤ place → place ≤ upto → infos_in_force infos history place ≡ now)
+    → number_of infos name ≡ Some table → slice_get now table ≡ Some info
     → AreAnswered history from upto name above limit answer
     → ((place : ℕ) → from ≤ place → place ≤ upto → rows_in_force infos history place table key ≡ None)
-    → row_in (map (keyed_row infos table info) answer.rows) key ≡ None
+    → row_in (map (keyed_row now table info) answer.rows) key ≡ None
 
 -- A key above the bound and within the answer's range has in a correct answer the row, or none, that it has at every position between the
 -- call and the return. Stated of captured tables that have the same columns all the while.
 abbrev pub StandingRowsAreAnswered : Type 0
 StandingRowsAreAnswered = (history : History) (from upto : ℕ) (name : TableName) (above : Option Key) (limit : ℕ) (answer : Selected)
-    (infos : List TableInfo) (table : ℕ) (info : TableInfo) (key : Key) (row : Option (List Val))
-    → ((place : ℕ) → from ≤ place → place ≤ upto → AreInForce history place infos)
-    → number_of infos name ≡ Some table → slice_get infos table ≡ Some info
+    (infos now : List TableInfo) (table : ℕ) (info : TableInfo) (key : Key) (row : Option (List Val))
+    → WereInfosOf history from infos → ((place : ℕ) → from ≤ place → place ≤ upto → infos_in_force infos history place ≡ now)
+    → number_of infos name ≡ Some table → slice_get now table ≡ Some info
     → AreAnswered history from upto name above limit answer
     → IfSome above (IsKeyOf info) → IsKeyOf info key → IsAbove above key → (length answer.rows < limit)
-    ⊎ IsUpTo (last_key above (map (keyed_row infos table info) answer.rows)) key
+    ⊎ IsUpTo (last_key above (map (keyed_row now table info) answer.rows)) key
     → ((place : ℕ) → from ≤ place → place ≤ upto → rows_in_force infos history place table key ≡ row)
-    → row_in (map (keyed_row infos table info) answer.rows) key ≡ row
+    → row_in (map (keyed_row now table info) answer.rows) key ≡ row
 
 -- What a crash may leave of a watermark that wasn't answered: what may be left without it, possibly with the watermark, once. Calls that
 -- only read leave no watermark.

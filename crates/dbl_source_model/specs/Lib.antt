@@ -3,7 +3,6 @@ pub use Rattle.dbl_model_commit.specs.ModelHistory
 pub mod Standings
 pub mod Growth
 pub mod Stated
-pub mod VersionRows
 pub mod Selected
 pub mod Calls
 pub mod Answered

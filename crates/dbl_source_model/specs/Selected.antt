@@ -12,7 +12,7 @@ use Rattle.dbl_model_commit.specs.ModelHistory.History.{History, entry_of}
 use Rattle.dbl_model_commit.specs.ModelHistory.Typed.{typed, typed_row}
 use Rattle.dbl_model_commit.specs.ModelHistory.Fit.{IsKeyOf}
 use Rattle.dbl_model_commit.specs.ModelHistory.InForce.{version_at}
-use Rattle.dbl_source_model.specs.VersionRows.{rows_in_force, AreInForce}
+use Rattle.dbl_model_commit.specs.ModelHistory.VersionRows.{rows_in_force, infos_in_force, WereInfosOf}
 use Rattle.dbl_model_commit.specs.ModelHistory.KeyedRows.{AreFirst}
 use Rattle.dbl_source_model.specs.declared.selected.Selected.{Selected}
 
@@ -33,12 +33,13 @@ pub record AreFirstOf (infos : List TableInfo) (table : ℕ) (info : TableInfo) 
   pub first : IfSome above (IsKeyOf info) → AreFirst info (at table) above limit (map (keyed_row infos table info) rows)
 
 -- Whether the rows are, for any captured tables, the table's first rows above the key after the first `place` commits, in the columns in
--- force there. The rows of a table that can't be captured in them are not restricted.
+-- force there. The rows of a table that couldn't be captured at any position up to there are not restricted.
 abbrev pub AreRowsAt : History → ℕ → TableName → Option Key → ℕ → List RawRow → Type 0
 AreRowsAt history place name above limit rows =
-    (infos : List TableInfo) → AreInForce history place infos
+    (infos : List TableInfo) → WereInfosOf history place infos
     → IfSome (number_of infos name)
-    (λ table. (info : TableInfo) × AreFirstOf infos table info (rows_in_force infos history place) above limit rows)
+    (λ table. (info : TableInfo)
+    × AreFirstOf (infos_in_force infos history place) table info (rows_in_force infos history place) above limit rows)
 
 -- Whether the version and the rows are those of one position, not before the last of the first `from` commits, nor after the first `upto`.
 -- A table that isn't in the catalogue has version 1 and no rows.

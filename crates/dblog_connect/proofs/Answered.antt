@@ -59,13 +59,14 @@ use Rattle.dblog_connect.specs.Asked.{asks_in, rule_of}
 use Rattle.dblog_connect.specs.Ends.{AddsFew, AreGained, EndsBefore, GainsRecords, HasBegun, HasClosedSent, EndsWithHalt, HasReadClean, HasRun, IsKeptError, IsReported, IsStoredLast, IsUngained}
 use Rattle.dblog_connect_ends.specs.Errors.{IsExternalConnectError, IsOwnHalt, halt_error}
 use Rattle.dblog_connect.specs.Followed.{AreFollowed, AreTallied, ComesByReading}
+use Rattle.dblog_connect.specs.Refusals.{RefusesRecord}
 use Rattle.dblog_connect.specs.Steps.{IsLogOf, IsSourceOf, IsStoreOf}
 use Rattle.dblog_connect.proofs.Configs.{asks_budget}
 use Rattle.dblog_connect.proofs.Causes.{IsHaltOver, cause_of, err_is, kept_halt, sent_front}
-use Rattle.dblog_connect.proofs.Followed.{followed_read, still_stands, tallied_read, unread_by}
+use Rattle.dblog_connect.proofs.Followed.{followed_read, refused_read, still_stands, tallied_read, unread_by}
 use Rattle.dblog_connect.proofs.CrashState.{ended_store, ended_wal, image_of, left_store, ok_is, own_of, place_read, settled_of, source_kept}
 use Rattle.dblog_connect.proofs.Opened.{found_of, held_by, left_wal, log_come, read_of, stood_first}
-use Rattle.dblog_connect.proofs.Ran.{GainsAllowed, LogLeaves, Ran, SourceLeaves}
+use Rattle.dblog_connect.proofs.Ran.{GainsAllowed, LogLeaves, Ran, SourceLeaves, TellsNext}
 
 -- ---- halts
 
@@ -228,10 +229,24 @@ module _ {W T F : Type 0} (wal_model : DiskModel W) (topics_model : DiskModel T)
   tallied_as r is other t stands =
       subst (λ (x : Result Ending Halt). AreTallied config now old fn.offset (wal_model.may_leave sn.journal.disk) (topics_model.may_leave ln.disk) report x) is (tallied_at other t stands)
 
-  -- ---- where it ended normally
-
   abbrev pub begun_of : (asked : Asked) → asks_in asked old ≡ Some config → HasBegun asked w t f
   begun_of asked asks = record { held = old; read = read_here; config = config; asks = asks }
+
+  -- ---- where a record was refused
+
+  pub refuses_of : (asked : Asked) → asks_in asked old ≡ Some config → (place : ℕ × ℕ) → TellsNext wal_model topics_model config now asked so sn lo fo.offset fn.offset place
+      → RefusesRecord asked now (wal_model.may_leave sn.journal.disk) w t f place
+  refuses_of asked asks place tells =
+      let next = tells lg.groups lg.holds first first_stands in
+      record {
+        begun = begun_of asked asks;
+        stored = fn.offset;
+        last = ran.stores;
+        next = λ bytes wal leaves read. refused_read config now (rule_of asked) fo.offset fn.offset next.standing wal sn.place
+            (one_left bytes wal leaves read next.standing next.is) place next.holds;
+      }
+
+  -- ---- where it ended normally
 
   demo_at : (ending : Ending) → result ≡ Ok ending → (bytes : List ℕ) (wal : Wal) → wal_model.may_leave sn.journal.disk bytes → IsWal bytes wal → IsDemo wal_model wal sn
   demo_at ending is bytes wal leaves read =

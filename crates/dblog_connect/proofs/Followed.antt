@@ -1,6 +1,7 @@
 -- What a session over opened stores had read, followed and sent when it ended, by the messages after which its source stands.
-use Rattle.std.proofs.Common.{◌≡◌, ◌∙◌, inl, inr, ℤ, ◌+◌, Option, Some, None, List, Result, sym, ap, arith}
+use Rattle.std.proofs.Common.{◌≡◌, ◌∙◌, inl, inr, ℕ, ℤ, ◌+◌, Option, Some, None, List, Result, sym, ap, arith}
 use Rattle.dbl_record.specs.declared.record.Record.{Record}
+use Rattle.dbl_hooks_gate.specs.declared.rule.Rule.{Rule}
 use Rattle.dbl_model_table.specs.declared.config.Config.{Config}
 use Rattle.dbl_demo.specs.SourceLog.declared.reader_position.ReaderPosition.{ReaderPosition}
 use Rattle.dbl_demo.specs.SourceModel.Standings.{SourceState}
@@ -15,8 +16,10 @@ use Rattle.dbl_capture.specs.CaptureWork.declared.report.Report.{Report}
 use Rattle.dbl_capture.specs.CaptureLaws.Found.{HasStored}
 use Rattle.dbl_capture.specs.CaptureLaws.Reported.{HasStoodAfter, IsFollowed}
 use Rattle.dbl_capture.specs.CaptureLaws.Tallied.{IsTalliedAfter}
+use Rattle.dbl_capture_gated.specs.Passed.{RefusesNext}
 use Rattle.dblog_promise.specs.Contents.{Contents}
 use Rattle.dblog_connect.specs.Followed.{ComesByReading, IsFollowedRead, IsTalliedRead}
+use Rattle.dblog_connect.specs.Refusals.{HasRefusedNext}
 use Rattle.dblog_connect.proofs.Causes.{IsHaltOver, sent_front}
 
 -- after such a halt the source still stands
@@ -53,6 +56,23 @@ pub unread_by : (config : Config) (now : ℤ) (old new : Option Offset) (report 
     → IsFollowed config now old new report told h → new ≡ old → (report.messages ≡ 0) × (report.commits ≡ 0)
 unread_by config now old new report told h (inl none) same = (none.0, none.1)
 unread_by config now old new report told h (inr read) same = absurd (not_again config old new same read.0.stored)
+
+-- the record that was refused, by what a crash leaves of the source's log
+pub refused_read : (config : Config) (now : ℤ) (rule : Rule) (old new : Option Offset) (t : SourceState) (wal : Wal) (place : Option ReaderPosition) → t ≡ standing_in wal place
+    → (refused : ℕ × ℕ) → RefusesNext config now rule old new refused t → HasRefusedNext config now rule old new wal refused
+refused_read config now rule old new t wal place is refused so =
+    let front = sent_front t so.reading wal place is so.reading_is in
+    record {
+      reading = so.reading;
+      was = record { by = so.stored; begins_after = so.begins_after; rest = front.0; front = front.1 };
+      newest = so.newest;
+      earlier = so.earlier;
+      parted = so.parted;
+      allowed = so.allowed;
+      records = so.records;
+      next = so.next;
+      first = so.first;
+    }
 
 -- of what a crash leaves of the source's log
 module _ (config : Config) (now : ℤ) (old new : Option Offset) (report : Report) (s t : SourceState) (wal : Wal) (place : Option ReaderPosition) (is : t ≡ standing_in wal place) where

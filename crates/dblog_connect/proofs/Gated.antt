@@ -14,6 +14,10 @@ use Rattle.dbl_capture.specs.CaptureWork.declared.halt.Halt.{Halt}
 use Rattle.dbl_capture.specs.CaptureWork.declared.halt.Halt.TheVariants as halt
 use Rattle.dbl_capture.specs.CaptureWork.declared.report.Ending.{Ending}
 use Rattle.dbl_capture.specs.CaptureWork.declared.report.Ending.TheVariants.{Complete}
+use Rattle.dbl_demo.specs.SourceModel.Standings.{HasState, SourceState}
+use Rattle.dbl_capture_gated.specs.Passed.{RefusesNext}
+use Rattle.dbl_model_table.specs.declared.config.Config.{Config}
+use Rattle.dbl_offset_content.specs.declared.offset.Offset.{Offset}
 use Rattle.dblog_init.specs.declared.error.Store.{Store}
 use Rattle.dblog_init.specs.declared.error.Store.TheVariants as store
 use Rattle.dblog_connect_ends.specs.declared.error.ConnectError.{ConnectError}
@@ -21,7 +25,7 @@ use Rattle.dblog_connect_ends.specs.declared.error.ConnectError.TheVariants as e
 use Rattle.dblog_connect_ends.specs.Errors.{IsAfterOpening, IsConnectError, IsConnectRefusal, halt_error}
 use Rattle.dblog_connect.specs.declared.asked.Asked.{Asked}
 use Rattle.dblog_connect.specs.Asked.{limit_of, rule_of}
-use Rattle.dblog_connect.specs.Refusals.{ExceedsMaximum}
+use Rattle.dblog_connect.specs.Refusals.{ExceedsMaximum, IsRefusedNext}
 use Rattle.dblog_connect.specs.Ends.{ConnectEnd}
 use Rattle.dblog_connect.specs.Steps.{EndsSession, disks_of, session_end}
 use Rattle.dblog_connect.proofs.ErrorKinds.{counts_same}
@@ -85,6 +89,31 @@ halt_exceeds asked (halt.UnknownTable table) = tt
 halt_exceeds asked (halt.Gone asked_for first) = tt
 halt_exceeds asked (halt.WatermarkMissing value at) = tt
 halt_exceeds asked (halt.Exhausted incarnation) = tt
+
+pub halt_next : (asked : Asked) (now : ℤ) (wals : List ℕ → Type 0) (w t f : List ℕ) (h : Halt) → IsRefusedNext asked now wals w t f (halt_error h)
+halt_next asked now wals w t f halt.Source = tt
+halt_next asked now wals w t f halt.Sink = tt
+halt_next asked now wals w t f halt.Offsets = tt
+halt_next asked now wals w t f halt.Memory = tt
+halt_next asked now wals w t f (halt.Message number error) = tt
+halt_next asked now wals w t f (halt.Txn number error) = tt
+halt_next asked now wals w t f (halt.Chunk table row) = tt
+halt_next asked now wals w t f (halt.Cell table column error) = tt
+halt_next asked now wals w t f (halt.Clash table column) = tt
+halt_next asked now wals w t f (halt.RecordTooLong len) = tt
+halt_next asked now wals w t f (halt.OffsetTooLong len) = tt
+halt_next asked now wals w t f (halt.Model error) = tt
+halt_next asked now wals w t f (halt.UnknownTable table) = tt
+halt_next asked now wals w t f (halt.Gone asked_for first) = tt
+halt_next asked now wals w t f (halt.WatermarkMissing value at) = tt
+halt_next asked now wals w t f (halt.Exhausted incarnation) = tt
+
+-- at the same time, by the same rule
+pub next_same : {W : Type 0} (stands : Demo W → SourceState → Type 0) (source : Demo W) (config : Config) (now later : ℤ) (rule other : Rule) (old new : Option Offset) (place : ℕ × ℕ)
+    → now ≡ later → rule ≡ other → HasState stands source (RefusesNext config now rule old new place) → HasState stands source (RefusesNext config later other old new place)
+next_same stands source config now later rule other old new place same_now same_rule has =
+    subst (λ (n : ℤ). HasState stands source (RefusesNext config n other old new place)) same_now
+    (subst (λ (r : Rule). HasState stands source (RefusesNext config now r old new place)) same_rule has)
 
 -- without a maximum length no record is refused
 exceeds_by : (asked : Asked) (limit : Option ℕ) → limit_of asked ≡ limit → (rule : Rule) → rule ≡ rule_of asked

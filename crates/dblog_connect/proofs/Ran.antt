@@ -21,6 +21,7 @@ use Rattle.dbl_capture.specs.CaptureWork.declared.report.Ending.{Ending}
 use Rattle.dbl_capture.specs.CaptureWork.declared.report.Ending.TheVariants.{Budget, Complete}
 use Rattle.dbl_capture.specs.CaptureWork.declared.report.Report.{Report}
 use Rattle.dbl_capture.specs.CaptureWork.Begins.{IsAbsentHalt}
+use Rattle.dbl_capture_gated.specs.Passed.{RefusesNext}
 use Rattle.dbl_capture.specs.CaptureLaws.Closed.{HasClosedRead}
 use Rattle.dbl_capture.specs.CaptureLaws.Ends.{AreAllDone, LeavesComplete}
 use Rattle.dbl_capture.specs.CaptureLaws.Found.{Found, HasStored, IsEntryOf, IsFirstStored, session_start_at, position_of}
@@ -49,6 +50,11 @@ LogLeaves model log groups = MayLeaveGroups model log.disk groups
 -- every record that the topic log gained is one that the session's receiver accepts
 abbrev pub GainsAllowed : {T : Type 0} → DiskModel T → Asked → OnDisk T → OnDisk T → Type 0
 GainsAllowed model asked log new_log = (groups left : List (List Record)) → HoldsGroups model log groups → LogLeaves model new_log left → AddsAllowed (rule_of asked) groups left
+
+-- which record was refused, by the messages after which the source stands
+abbrev pub TellsNext : {W T : Type 0} → DiskModel W → DiskModel T → Config → ℤ → Asked → Demo W → Demo W → OnDisk T → Option Offset → Option Offset → ℕ × ℕ → Type 0
+TellsNext wal_model topics_model config now asked source new_source log old new place = (groups : List (List Record)) → HoldsGroups topics_model log groups → (s : SourceState)
+    → HasDemoState wal_model source s → HasState (HasDemoState wal_model) new_source (RefusesNext config now (rule_of asked) old new place)
 
 pub record Ran {W T F : Type 0} (wal_model : DiskModel W) (topics_model : DiskModel T) (offsets_model : DiskModel F) (config : Config) (now : ℤ) (so sn : Demo W) (lo ln : OnDisk T) (fo fn : StoreOn F)
     (report : Report) (result : Result Ending Halt) : Type 0 where

@@ -15,11 +15,11 @@ use Rattle.dblog_connect_ends.specs.declared.error.ConnectError.{ConnectError}
 use Rattle.dblog_connect_ends.specs.declared.error.ConnectError.TheVariants.{Refused}
 use Rattle.dblog_connect_ends.specs.Errors.{halt_error}
 use Rattle.dblog_connect.specs.Steps.{AnswersConnect, disks_of, IsLogOf, IsOpenedLog, IsOpenedSource, IsOpenedStore, IsSourceOf}
-use Rattle.dblog_connect.proofs.Answered.{ends_before, gains_of, kept_again, marks_of, never_of, report_of, run_of}
+use Rattle.dblog_connect.proofs.Answered.{ends_before, gains_of, kept_again, marks_of, never_of, refuses_of, report_of, run_of}
 use Rattle.dblog_connect.proofs.CrashState.{kept_of, promised_of}
 use Rattle.dblog_connect.proofs.Opened.{held_by, some_of}
-use Rattle.dblog_connect.proofs.Gated.{Stopped, halted, over}
-use Rattle.dblog_connect.proofs.Ran.{GainsAllowed, Ran}
+use Rattle.dblog_connect.proofs.Gated.{Stopped, halt_next, halted, over}
+use Rattle.dblog_connect.proofs.Ran.{GainsAllowed, Ran, TellsNext}
 
 module _ {W T F : Type 0} (wal_model : DiskModel W) (topics_model : DiskModel T) (offsets_model : DiskModel F)
     (is_w : (disk : W) (bytes : List ℕ) → wal_model.seen disk ≡ Some bytes → wal_model.may_leave disk bytes)
@@ -62,6 +62,7 @@ module _ {W T F : Type 0} (wal_model : DiskModel W) (topics_model : DiskModel T)
     never = λ kept w t f told_w told_t told_f. tt;
     told = λ w t f told_w told_t told_f. run_of wal_model topics_model offsets_model is_w is_t is_f w t f so lo fo
         (opened_w w told_w) (opened_t t told_t) (opened_f f told_f) config now sn ln fn report result ran asked (asks_here w t (opened_w w told_w) (opened_t t told_t)) ending is;
+    refuses = λ w t f told_w told_t told_f. tt;
     gains = λ w t f told_w told_t told_f begun. gains_of wal_model topics_model offsets_model is_w is_t is_f w t f so lo fo
         (opened_w w told_w) (opened_t t told_t) (opened_f f told_f) config now sn ln fn report result ran asked (asks_here w t (opened_w w told_w) (opened_t t told_t)) adds begun;
     marks = λ w t f told_w told_t told_f. marks_of wal_model topics_model offsets_model is_w is_t is_f w t f so lo fo
@@ -96,6 +97,7 @@ module _ {W T F : Type 0} (wal_model : DiskModel W) (topics_model : DiskModel T)
         (kept_of wal_model topics_model offsets_model is_w is_t is_f w t f so lo fo (opened_w w told_w) (opened_t t told_t) (opened_f f told_f) kept);
     told = λ w t f told_w told_t told_f. ends_before wal_model topics_model offsets_model is_w is_t is_f w t f so lo fo
         (opened_w w told_w) (opened_t t told_t) (opened_f f told_f) config now sn ln fn report result ran asked (asks_here w t (opened_w w told_w) (opened_t t told_t)) h is;
+    refuses = λ w t f told_w told_t told_f. halt_next asked now (wal_model.may_leave sn.journal.disk) w t f h;
     gains = λ w t f told_w told_t told_f begun. gains_of wal_model topics_model offsets_model is_w is_t is_f w t f so lo fo
         (opened_w w told_w) (opened_t t told_t) (opened_f f told_f) config now sn ln fn report result ran asked (asks_here w t (opened_w w told_w) (opened_t t told_t)) adds begun;
     marks = λ w t f told_w told_t told_f. marks_of wal_model topics_model offsets_model is_w is_t is_f w t f so lo fo
@@ -103,9 +105,9 @@ module _ {W T F : Type 0} (wal_model : DiskModel W) (topics_model : DiskModel T)
   }
 
   -- a record was refused
-  pub answers_refused : (h : Halt) (position ordinal : ℕ) → result ≡ Err h
+  pub answers_refused : (h : Halt) (position ordinal : ℕ) → result ≡ Err h → TellsNext wal_model topics_model config now asked so sn lo fo.offset fn.offset (position, ordinal)
       → AnswersConnect wal_model topics_model offsets_model asked now (disks_of so.journal.disk lo.disk (disk_of fo)) (disks_of sn.journal.disk ln.disk (disk_of fn)) (Err (Refused position ordinal))
-  answers_refused h position ordinal is =
+  answers_refused h position ordinal is tells =
       let a = answers_err h is in
       record {
         headline = a.headline;
@@ -113,15 +115,19 @@ module _ {W T F : Type 0} (wal_model : DiskModel W) (topics_model : DiskModel T)
         report = λ kept w t f told_w told_t told_f. tt;
         never = λ kept w t f told_w told_t told_f. tt;
         told = λ w t f told_w told_t told_f. inl tt;
+        refuses = λ w t f told_w told_t told_f. refuses_of wal_model topics_model offsets_model is_w is_t is_f w t f so lo fo
+            (opened_w w told_w) (opened_t t told_t) (opened_f f told_f) config now sn ln fn report result ran asked (asks_here w t (opened_w w told_w) (opened_t t told_t))
+            (position, ordinal) tells;
         gains = a.gains;
         marks = a.marks;
       }
 
   pub answers_stopped : (refused : Option (ℕ × ℕ)) (e : ConnectError) → Stopped result refused e
+      → ((place : ℕ × ℕ) → refused ≡ Some place → TellsNext wal_model topics_model config now asked so sn lo fo.offset fn.offset place)
       → AnswersConnect wal_model topics_model offsets_model asked now (disks_of so.journal.disk lo.disk (disk_of fo)) (disks_of sn.journal.disk ln.disk (disk_of fn)) (Err e)
-  answers_stopped refused e (halted h is none e_is) =
+  answers_stopped refused e (halted h is none e_is) tells =
       subst (λ (x : ConnectError). AnswersConnect wal_model topics_model offsets_model asked now (disks_of so.journal.disk lo.disk (disk_of fo))
       (disks_of sn.journal.disk ln.disk (disk_of fn)) (Err x)) (sym e_is) (answers_err h is)
-  answers_stopped refused e (over h place is some e_is) =
+  answers_stopped refused e (over h place is some e_is) tells =
       subst (λ (x : ConnectError). AnswersConnect wal_model topics_model offsets_model asked now (disks_of so.journal.disk lo.disk (disk_of fo))
-      (disks_of sn.journal.disk ln.disk (disk_of fn)) (Err x)) (sym e_is) (answers_refused h place.0 place.1 is)
+      (disks_of sn.journal.disk ln.disk (disk_of fn)) (Err x)) (sym e_is) (answers_refused h place.0 place.1 is (tells place some))

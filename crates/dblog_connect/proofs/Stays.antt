@@ -23,6 +23,7 @@ use Rattle.dblog_connect.specs.Disks.{AreKeptDisks}
 use Rattle.dblog_connect.specs.Ends.{ConnectEnd, EndsBefore, IsKeptError, IsRefused}
 use Rattle.dblog_connect.specs.Ends.IsRefused.{no_source, no_log, no_offset, not_asked}
 use Rattle.dblog_connect_ends.specs.Errors.{IsExternalConnectError}
+use Rattle.dblog_connect.specs.Refusals.{IsRefusedNext}
 use Rattle.dblog_connect.specs.Steps.{AnswersConnect, disks_of}
 
 -- it isn't a session's halt, and no record was refused
@@ -75,6 +76,16 @@ never_so asked now wals logs stores w t f held read (Halted h) own ends = absurd
 never_so asked now wals logs stores w t f held read (Refused position ordinal) own ends = absurd own
 never_so asked now wals logs stores w t f held read Memory own ends = tt
 
+no_next : (asked : Asked) (now : ℤ) (wals : List ℕ → Type 0) (w t f : List ℕ) (e : ConnectError) → IsUnhalted e → IsRefusedNext asked now wals w t f e
+no_next asked now wals w t f (Failed store) own = tt
+no_next asked now wals w t f (NotAStore store at) own = tt
+no_next asked now wals w t f (BadEntry store index) own = tt
+no_next asked now wals w t f AlreadyStarted own = tt
+no_next asked now wals w t f NotStarted own = tt
+no_next asked now wals w t f (Halted h) own = tt
+no_next asked now wals w t f (Refused position ordinal) own = absurd own
+no_next asked now wals w t f Memory own = tt
+
 told_so : (asked : Asked) (now : ℤ) (wals logs stores : List ℕ → Type 0) (w t f : List ℕ) (e : ConnectError) → IsExternalConnectError e ⊎ IsRefused asked w t f e → EndsBefore asked now wals logs stores w t f e
 told_so asked now wals logs stores w t f e (inl outside) = inl outside
 told_so asked now wals logs stores w t f e (inr refused) = inr (inl refused)
@@ -125,6 +136,7 @@ module _ {W T F : Type 0} (wal_model : DiskModel W) (topics_model : DiskModel T)
         let here = kept.each w t f (is_w disks0.wal w told_w) (is_t disks0.topics t told_t) (is_f disks0.offsets f told_f) in
         never_so asked now (wal_model.may_leave disks1.wal) (topics_model.may_leave disks1.topics) (offsets_model.may_leave disks1.offsets) w t f here.0 here.1 e own (ends w t f told_w told_t told_f));
     told = λ w t f told_w told_t told_f. told_so asked now (wal_model.may_leave disks1.wal) (topics_model.may_leave disks1.topics) (offsets_model.may_leave disks1.offsets) w t f e (ends w t f told_w told_t told_f);
+    refuses = λ w t f told_w told_t told_f. no_next asked now (wal_model.may_leave disks1.wal) w t f e own;
     gains = λ w t f told_w told_t told_f begun. record {
       stored = begun.held.offset;
       last = inl refl;
@@ -173,6 +185,7 @@ module _ {W T F : Type 0} (wal_model : DiskModel W) (topics_model : DiskModel T)
     report = λ kept w t f told_w told_t told_f. by.report (before_kept kept) w t f (same_w ∙ told_w) (same_t ∙ told_t) (same_f ∙ told_f);
     never = λ kept w t f told_w told_t told_f. by.never (before_kept kept) w t f (same_w ∙ told_w) (same_t ∙ told_t) (same_f ∙ told_f);
     told = λ w t f told_w told_t told_f. by.told w t f (same_w ∙ told_w) (same_t ∙ told_t) (same_f ∙ told_f);
+    refuses = λ w t f told_w told_t told_f. by.refuses w t f (same_w ∙ told_w) (same_t ∙ told_t) (same_f ∙ told_f);
     gains = λ w t f told_w told_t told_f begun. (
         let here = by.gains w t f (same_w ∙ told_w) (same_t ∙ told_t) (same_f ∙ told_f) begun in
         record {

@@ -7,7 +7,7 @@ pub use Rattle.dblog_connect_ends.specs as ConnectEnds
 pub use Rattle.dblog_connect_ends.specs.Errors
 pub mod Followed
 pub mod Asked
-pub mod Refusals
 pub mod Disks
 pub mod Ends
+pub mod Refusals
 pub mod Steps

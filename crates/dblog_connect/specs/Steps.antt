@@ -19,7 +19,7 @@ use Rattle.dblog_connect.specs.Asked.{asks_in, budget_of}
 use Rattle.dblog_connect_ends.specs.declared.error.ConnectError.{ConnectError}
 use Rattle.dblog_connect_ends.specs.declared.error.ConnectError.TheVariants.{Refused}
 use Rattle.dblog_connect_ends.specs.Errors.{IsAfterOpening, IsConnectRefusal, halt_error}
-use Rattle.dblog_connect.specs.Refusals.{IsErrorFor}
+use Rattle.dblog_connect.specs.Refusals.{IsErrorFor, IsRefusedNext}
 use Rattle.dblog_connect.specs.Disks.{AreKeptDisks, IsTrueAfterCrash, IsTrueOfContents}
 use Rattle.dblog_connect.specs.Ends.{AddsFew, AreSteady, ConnectEnd, CountsFaults, EndsBefore, GainsRecords, HasBegun}
 use Rattle.dblog_connect.specs.Ends.{HasRun, IsCompleteEnd, IsKeptError, IsReported, IsSpent}
@@ -81,6 +81,8 @@ pub record AnswersConnect {W T F : Type 0} (wal_model : DiskModel W) (topics_mod
   pub told : IsTrueOfContents wal_model topics_model offsets_model old (λ w t f. MatchResult end
       (HasRun asked now (wal_model.may_leave new.wal) (topics_model.may_leave new.topics) (offsets_model.may_leave new.offsets) w t f)
       (EndsBefore asked now (wal_model.may_leave new.wal) (topics_model.may_leave new.topics) (offsets_model.may_leave new.offsets) w t f))
+  pub refuses : IsTrueOfContents wal_model topics_model offsets_model old (λ w t f.
+      IfErr end (IsRefusedNext asked now (wal_model.may_leave new.wal) w t f))
   pub gains : IsTrueOfContents wal_model topics_model offsets_model old (λ w t f. (begun : HasBegun asked w t f)
       → GainsRecords asked now (topics_model.may_leave old.topics) (topics_model.may_leave new.topics) w t f begun)
   pub marks : IsTrueOfContents wal_model topics_model offsets_model old (λ w t f.

@@ -14,7 +14,7 @@ ghost use Rattle.dblog_connect.specs.Ends.{HasBegun, HasRun, IsCompleteEnd, IsKe
 ghost use Rattle.dblog_connect.specs.Ends.{IsReported, IsSpent, IsWrongSource, OnlyRead};
 ghost use Rattle.dblog_connect_ends.specs.Errors.{IsBeforeStore, IsAfterOpening};
 ghost use Rattle.dblog_connect_ends.specs.Errors.{IsConnectRefusal};
-ghost use Rattle.dblog_connect.specs.Refusals.{IsErrorFor};
+ghost use Rattle.dblog_connect.specs.Refusals.{IsErrorFor, IsRefusedNext};
 ghost use Rattle.dblog_connect.specs.Steps.{AnswersConnect, EndsSession, disks_of, IsOpenedLog};
 ghost use Rattle.dblog_connect.specs.Steps.{IsOpenedSource, IsOpenedStore, session_end};
 
@@ -63,12 +63,15 @@ pub fn connect<W: Disk, T: Disk, F: Disk>(
         (IsKeptError asked now_ms (W.may_leave result.disks.wal) (T.may_leave result.disks.topics)
         (F.may_leave result.disks.offsets) w t f)) }
 
-    // For disks with known contents: the answer, and what the topic log and the source's log gain.
+    // For disks with known contents: the answer, which record is refused, and what the topic log
+    // and the source's log gain.
     ensures told { IsTrueOfContents W.Disk T.Disk F.Disk disks (λ w t f. MatchResult result.end
         (HasRun asked now_ms (W.may_leave result.disks.wal) (T.may_leave result.disks.topics)
         (F.may_leave result.disks.offsets) w t f)
         (EndsBefore asked now_ms (W.may_leave result.disks.wal) (T.may_leave result.disks.topics)
         (F.may_leave result.disks.offsets) w t f)) }
+    ensures refuses { IsTrueOfContents W.Disk T.Disk F.Disk disks (λ w t f. IfErr result.end
+        (IsRefusedNext asked now_ms (W.may_leave result.disks.wal) w t f)) }
     ensures gains { IsTrueOfContents W.Disk T.Disk F.Disk disks (λ w t f.
         (begun : HasBegun asked w t f) → GainsRecords asked now_ms
         (T.may_leave disks.topics) (T.may_leave result.disks.topics) w t f begun) }

@@ -48,6 +48,13 @@ returns-in-Err-clause-told g c =
     (λ w t f told_w told_t told_f. subst (λ (x : ConnectError). IsExternalConnectError x ⊎ IsRefused c.args.asked w t f x) (sym c.from.ensures)
     (demo_ends c.args.asked w t f c.in-Err.field-0.error (λ index is. c.in-Err.ensures.bad w index told_w is) (λ at is. c.in-Err.ensures.not_a_journal w at told_w is)))).told
 
+pub returns-in-Err-clause-refuses : goal.returns-in-Err-clause-refuses
+returns-in-Err-clause-refuses g c =
+    (answers_stay g.W.Disk g.T.Disk g.F.Disk g.met.W.Disk.seen_may_be_left g.met.T.Disk.seen_may_be_left g.met.F.Disk.seen_may_be_left c.args.disks (disks_of c.in-Err.field-0.disk c.args.disks.topics c.args.disks.offsets) c.in-Err.ensures.seen refl refl c.in-Err.ensures.crash (λ i m. m) (λ i m. m)
+    c.args.asked c.args.now_ms c.from.result (subst IsUnhalted (sym c.from.ensures) (demo_kind c.in-Err.field-0.error).1)
+    (λ w t f told_w told_t told_f. subst (λ (x : ConnectError). IsExternalConnectError x ⊎ IsRefused c.args.asked w t f x) (sym c.from.ensures)
+    (demo_ends c.args.asked w t f c.in-Err.field-0.error (λ index is. c.in-Err.ensures.bad w index told_w is) (λ at is. c.in-Err.ensures.not_a_journal w at told_w is)))).refuses
+
 pub returns-in-Err-clause-gains : goal.returns-in-Err-clause-gains
 returns-in-Err-clause-gains g c =
     (answers_stay g.W.Disk g.T.Disk g.F.Disk g.met.W.Disk.seen_may_be_left g.met.T.Disk.seen_may_be_left g.met.F.Disk.seen_may_be_left c.args.disks (disks_of c.in-Err.field-0.disk c.args.disks.topics c.args.disks.offsets) c.in-Err.ensures.seen refl refl c.in-Err.ensures.crash (λ i m. m) (λ i m. m)
@@ -132,6 +139,12 @@ returns-in-Ok-clause-told g c =
     (answers_before g.W.Disk g.T.Disk g.F.Disk g.met.W.Disk.seen_may_be_left g.met.T.Disk.seen_may_be_left g.met.F.Disk.seen_may_be_left c.args.disks (disks_of c.in-Ok.source.journal.disk c.args.disks.topics c.args.disks.offsets) c.in-Ok.ensures.seen refl refl c.in-Ok.ensures.crash (λ i m. m) (λ i m. m)
     c.args.asked c.args.now_ms c.connect_source.result.disks c.connect_source.result.end
     (subst (λ (n : ℤ). AnswersConnect g.W.Disk g.T.Disk g.F.Disk c.args.asked n (disks_of c.in-Ok.source.journal.disk c.args.disks.topics c.args.disks.offsets) c.connect_source.result.disks c.connect_source.result.end) (to_z-of_z c.ranges.now_ms) c.connect_source.ensures.answers)).told
+
+pub returns-in-Ok-clause-refuses : goal.returns-in-Ok-clause-refuses
+returns-in-Ok-clause-refuses g c =
+    (answers_before g.W.Disk g.T.Disk g.F.Disk g.met.W.Disk.seen_may_be_left g.met.T.Disk.seen_may_be_left g.met.F.Disk.seen_may_be_left c.args.disks (disks_of c.in-Ok.source.journal.disk c.args.disks.topics c.args.disks.offsets) c.in-Ok.ensures.seen refl refl c.in-Ok.ensures.crash (λ i m. m) (λ i m. m)
+    c.args.asked c.args.now_ms c.connect_source.result.disks c.connect_source.result.end
+    (subst (λ (n : ℤ). AnswersConnect g.W.Disk g.T.Disk g.F.Disk c.args.asked n (disks_of c.in-Ok.source.journal.disk c.args.disks.topics c.args.disks.offsets) c.connect_source.result.disks c.connect_source.result.end) (to_z-of_z c.ranges.now_ms) c.connect_source.ensures.answers)).refuses
 
 pub returns-in-Ok-clause-gains : goal.returns-in-Ok-clause-gains
 returns-in-Ok-clause-gains g c =

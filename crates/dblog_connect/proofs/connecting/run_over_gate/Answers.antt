@@ -15,7 +15,7 @@ use Rattle.dblog_connect.specs.Refusals.{IsErrorFor}
 use Rattle.dblog_connect.specs.Steps.{AnswersConnect, disks_of}
 use Rattle.dblog_connect.proofs.Configs.{asks_budget}
 use Rattle.dblog_connect.proofs.Exits.{asked_of, asks_same, log_bounded, log_steady, refused_after, refused_ends, refused_kind, refused_unfailed, refused_unhalted, residual, source_bounded, source_steady, spent_of, store_bounded, store_steady}
-use Rattle.dblog_connect.proofs.Gated.{ended, ok_then, open_of, stop_exceeds, stop_fails, stop_kind, stopped}
+use Rattle.dblog_connect.proofs.Gated.{ended, next_same, ok_then, open_of, stop_exceeds, stop_fails, stop_kind, stopped}
 use Rattle.dblog_connect.proofs.ErrorKinds.{counts_same, no_refusal}
 use Rattle.dblog_connect.proofs.Opened.{bounded_same, store_bounded_same}
 use Rattle.dblog_connect.proofs.Ran.{done_by, renow}
@@ -138,7 +138,9 @@ returns-in_err-ending-clause-answers g c =
       sink_comes = c.gated_session-end.ensures.sink.comes;
       store_comes = c.gated_session-end.ensures.store.comes;
     }))
-    (asks_same c.args.asked c.args.source.now.names c.args.store.now.offset _ _ c.in_ok-config.config c.table_names.ensures c.load.ensures.offset c.in_ok-config.ensures.asks) (λ groups left holds may. subst (λ (rule : Rule). AddsAllowed rule groups left) c.requires.rule (c.gated_session-end.ensures.allowed groups left holds may)) c.refused.result _ (stopped c.gated_session-end.result c.refused.result _ (sym c.end_of.ensures ∙ c.in_err-ending.was)))
+    (asks_same c.args.asked c.args.source.now.names c.args.store.now.offset _ _ c.in_ok-config.config c.table_names.ensures c.load.ensures.offset c.in_ok-config.ensures.asks) (λ groups left holds may. subst (λ (rule : Rule). AddsAllowed rule groups left) c.requires.rule (c.gated_session-end.ensures.allowed groups left holds may)) c.refused.result _ (stopped c.gated_session-end.result c.refused.result _ (sym c.end_of.ensures ∙ c.in_err-ending.was))
+    (λ place some groups holds s stands. next_same _ c.gated_session-end.new.src c.in_ok-config.config _ c.args.now_ms c.args.gate.now.rule _ _ _ place (to_z-of_z c.ranges.now_ms) c.requires.rule
+    (c.gated_session-end.ensures.next groups holds s stands place (sym c.refused.ensures ∙ some))))
 
 pub returns-in_err-ending-clause-spent : goal.returns-in_err-ending-clause-spent
 returns-in_err-ending-clause-spent g c = residual c.from_residual-in_err-ending.result _ (λ (r : ConnectEnd). IfOk r (IsSpent (budget_of c.args.asked))) c.from_residual-in_err-ending.ensures.1 tt

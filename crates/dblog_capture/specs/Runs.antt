@@ -14,7 +14,7 @@ use Rattle.dblog_connect.specs.Disks.{AreKeptDisks, IsTrueAfterCrash}
 use Rattle.dblog_connect.specs.Ends.{AddsFew, AreSteady, ConnectEnd, EndsBefore, GainsRecords, HasBegun}
 use Rattle.dblog_connect.specs.Ends.{HasRun, IsKeptError, IsReported, IsSpent, IsWrongSource}
 use Rattle.dblog_connect.specs.Errors.{IsConnectError, IsConnectRefusal}
-use Rattle.dblog_connect.specs.Refusals.{ExceedsMaximum}
+use Rattle.dblog_connect.specs.Refusals.{ExceedsMaximum, IsRefusedNext}
 use Rattle.dblog_capture_text.specs.Ends.{IsNormalStatus, SaysSession}
 
 -- The answer for disks with these contents, by what a crash might leave before the run and may leave after it.
@@ -22,6 +22,8 @@ pub record AnswersCapture (asked : Asked) (now : ℤ) (wals logs new_wals new_lo
     (end : ConnectEnd) : Type 0 where
   -- Why the session ended.
   pub told : MatchResult end (HasRun asked now new_wals new_logs new_stores w t f) (EndsBefore asked now new_wals new_logs new_stores w t f)
+  -- Which record was refused, if one was.
+  pub refuses : IfErr end (IsRefusedNext asked now new_wals w t f)
   -- What the topic log gained, and how few watermarks the source's log did.
   pub gains : (begun : HasBegun asked w t f) → GainsRecords asked now logs new_logs w t f begun
   pub marks : AddsFew asked wals new_wals w t f

@@ -34,7 +34,7 @@ returns-clause-connected g c =
         says = says;
         answers = λ w t f wal topics offsets.
             subst (λ (n : ℤ). AnswersCapture c.args.asked n wals logs new_wals new_logs new_stores w t f end) moment
-            (record { told = told.told w t f wal topics offsets; gains = told.gains w t f wal topics offsets; marks = told.marks w t f wal topics offsets });
+            (record { told = told.told w t f wal topics offsets; refuses = told.refuses w t f wal topics offsets; gains = told.gains w t f wal topics offsets; marks = told.marks w t f wal topics offsets });
         kept = λ kept w t f wal topics offsets.
             subst (λ (n : ℤ). AnswersKept c.args.asked n new_wals new_logs new_stores w t f end) moment
             (record { report = told.report kept w t f wal topics offsets; never = told.never kept w t f wal topics offsets });

@@ -28,8 +28,10 @@ all_columns (c ∷ columns) (g ∷ given) long same =
     ap₂ (λ (x : RawColumn) (l : List RawColumn). x ∷ l) (one_column c g (and_left (same_column (c, g)) _ same))
     (all_columns columns given (omega (arith, long)) (and_right (same_column (c, g)) _ same))
 
+-- the table's own columns
+pub same_columns_in : (info : TableInfo) (columns : List RelationColumn) → same_columns info.columns columns ≡ true → columns_in columns ≡ map raw_column info.columns
+same_columns_in info columns same =
+    all_columns info.columns columns (eqb-true (length info.columns) (length columns) (and_left _ _ same)) (and_right (length info.columns == length columns) _ same)
+
 pub read_alike : SameColumnsReadAlike
-read_alike columns info same =
-    ap (λ (l : List RawColumn). reshaped l info)
-    (all_columns info.columns columns (eqb-true (length info.columns) (length columns) (and_left _ _ same)) (and_right (length info.columns == length columns) _ same))
-    ∙ reshaped_itself (catalogue_of info) info refl
+read_alike columns info same = ap (λ (l : List RawColumn). reshaped l info) (same_columns_in info columns same) ∙ reshaped_itself (catalogue_of info) info refl

@@ -11,3 +11,4 @@ mod tables;
 
 pub use known::{Known, read_relation};
 pub use stated::{read_row, read_truncate};
+pub use tables::{are_same_columns, is_same_column};

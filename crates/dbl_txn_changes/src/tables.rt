@@ -49,7 +49,8 @@ pub fn target_of(infos: &Vec<TableInfo>, table: &TableName) -> Result<Target, Tx
     }
 }
 
-fn is_same_column(column: &Column, given: &RelationColumn) -> bool
+/// Whether a Relation's column has the captured one's name and type.
+pub fn is_same_column(column: &Column, given: &RelationColumn) -> bool
     ensures { result ≡ same_column (column.now, given.now) }
 {
     column.name.as_str() == given.name.as_str() && oid(column.ty) == given.oid
@@ -64,7 +65,8 @@ fn are_same_in_pairs(columns: &Vec<Column>, given: &Vec<RelationColumn>) -> bool
         .all(|(column, given)| is_same_column(column, given))
 }
 
-fn are_same_columns(columns: &Vec<Column>, given: &Vec<RelationColumn>) -> bool
+/// Whether a Relation's columns are the captured ones in number, names and types.
+pub fn are_same_columns(columns: &Vec<Column>, given: &Vec<RelationColumn>) -> bool
     ensures { result ≡ same_columns columns.now.items given.now.items }
 {
     columns.len() == given.len() && are_same_in_pairs(columns, given)

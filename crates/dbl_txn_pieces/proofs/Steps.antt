@@ -1,6 +1,6 @@
 -- One more message.
 use Rattle.std.proofs.Common.{◌≡◌, ◌∙◌, ℕ, ℤ, List, [], ◌∷◌, ◌++◌, refl, sym, ap, subst, eq-eqb}
-use Rattle.std.specs.Prelude.{Bool, if◌then◌else◌, Option, Some, None, is_some, option_map, nat_eq}
+use Rattle.std.specs.Prelude.{Bool, false, if◌then◌else◌, Option, Some, None, is_some, option_map, nat_eq, slice_get, slice_set}
 use Rattle.indexmap.specs.IndexMap.{get}
 use Rattle.dbl_base.specs.declared.lsn.Lsn.{Lsn}
 use Rattle.dbl_pgmsg.specs.declared.messages.Message.{Message}
@@ -15,9 +15,11 @@ use Rattle.dbl_model_commit.specs.declared.txn_error.TxnError.{TxnError}
 use Rattle.dbl_model_commit.specs.declared.txn_error.TxnError.TheVariants as errors
 use Rattle.dbl_model_commit.specs.Past.{relation_of, Head, begin_of, open_mark, HasNoRelation}
 use Rattle.dbl_model_commit.specs.Stated.{has_some, open_changes, ended_commit, mismatch, first_of, commit_of}
-use Rattle.dbl_model_commit.specs.Pieces.{piece_of}
+use Rattle.dbl_model_commit.specs.Pieces.{piece_of, changes_so_far}
+use Rattle.dbl_model_commit.specs.Shapes.{changes_table, IsOpenStated}
 use Rattle.dbl_model_commit.proofs.Learning.{changes_learnt, other_relation, target_learnt}
 use Rattle.dbl_model_commit.proofs.PieceLemmas.{stated_piece}
+use Rattle.dbl_model_commit.proofs.Reshaping.{target_stays, open_stays}
 use Rattle.dbl_txn_changes.specs.KnownTables.{known_in}
 use Rattle.dbl_txn_pieces.specs.declared.reader.Block.{Block}
 use Rattle.dbl_txn_pieces.specs.declared.reader.PieceReader.{PieceReader}
@@ -111,5 +113,32 @@ reads_learnt infos info after ms a b s none is last relations block = record {
   relations = λ oid. subst (λ m. get nat_eq m oid ≡ option_map (known_in (infos ++ info ∷ [])) (relation_of oid ms)) (sym relations)
       (s.relations oid ∙ known_learnt infos info (relation_of oid ms) (other_relation info.name oid ms none));
   block = subst (λ (cs : List Change). IsOpen (open_mark ms) (has_some cs) (begin_of ms) b.block) (sym (changes_learnt infos info ms none))
+      (subst (IsOpen (open_mark ms) (has_some (open_changes infos ms)) (begin_of ms)) (sym block) s.block);
+}
+
+known_reshaped : (infos : List TableInfo) (table : ℕ) (old new : TableInfo) → slice_get infos table ≡ Some old → new.name ≡ old.name → (o : Option Relation)
+    → option_map (known_in infos) o ≡ option_map (known_in (slice_set infos table new)) o
+known_reshaped infos table old new at name None = refl
+known_reshaped infos table old new at name (Some r) = ap (λ t. Some (record { relation = r; target = t })) (sym (target_stays infos table old new at name r.name))
+
+open_reshaped : (mark : Option (List ℕ)) (o : Option Head) (before now : List Change) (block : Option Block) → ((head : Head) → o ≡ Some head → now ≡ before)
+    → IsOpen mark (has_some before) o block → IsOpen mark (has_some now) o block
+open_reshaped mark None before now None same is = is
+open_reshaped mark None before now (Some block) same is = is
+open_reshaped mark (Some head) before now None same is = is
+open_reshaped mark (Some head) before now (Some block) same is = subst (λ (cs : List Change). IsBlock mark (has_some cs) head block) (sym (same head refl)) is
+
+-- a table got other columns
+pub reads_reshaped : (infos : List TableInfo) (table : ℕ) (old new : TableInfo) (after : Lsn) (ms : List Message) (a b : PieceReader) → HasReadMessages infos after ms a
+    → slice_get infos table ≡ Some old → new.name ≡ old.name → IsOpenStated infos ms → changes_table table (changes_so_far infos ms) ≡ false
+    → b.infos.items ≡ slice_set a.infos.items table new → b.last ≡ a.last → b.relations ≡ a.relations → b.block ≡ a.block
+    → HasReadMessages (slice_set infos table new) after ms b
+reads_reshaped infos table old new after ms a b s at name all none is last relations block = record {
+  tables = is ∙ ap (λ (l : List TableInfo). slice_set l table new) s.tables;
+  last = last ∙ s.last;
+  relations = λ oid. subst (λ m. get nat_eq m oid ≡ option_map (known_in (slice_set infos table new)) (relation_of oid ms)) (sym relations)
+      (s.relations oid ∙ known_reshaped infos table old new at name (relation_of oid ms));
+  block = open_reshaped (open_mark ms) (begin_of ms) (open_changes infos ms) (open_changes (slice_set infos table new) ms) b.block
+      (λ head begun. (open_stays infos table old new at name ms all none head begun).0)
       (subst (IsOpen (open_mark ms) (has_some (open_changes infos ms)) (begin_of ms)) (sym block) s.block);
 }

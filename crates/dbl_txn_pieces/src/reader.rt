@@ -1,5 +1,6 @@
 ghost use Rattle.std.specs.Prelude.{◌≡◌, ◌||◌, ℕ, ℤ, List, [], ◌∷◌, ◌++◌, OnOk, OnErr, IfOk, IfErr};
-ghost use Rattle.std.specs.Prelude.{if◌then◌else◌, is_some, nat_eq};
+ghost use Rattle.std.specs.Prelude.{if◌then◌else◌, is_some, nat_eq, Some, false};
+ghost use Rattle.std.specs.Prelude.{slice_get, slice_set};
 ghost use Rattle.indexmap.specs.IndexMap.{get};
 ghost use Rattle.dbl_base.specs.declared.lsn.Lsn.{Lsn};
 ghost use Rattle.dbl_pgmsg.specs.declared.messages.Message.{Message};
@@ -8,7 +9,8 @@ ghost use Rattle.dbl_model_table.specs.declared.table.TableInfo.{TableInfo};
 ghost use Rattle.dbl_model_commit.specs.Past.{begin_of, mark_in, HasNoRelation};
 ghost use Rattle.dbl_model_commit.specs.Stated.{has_some, row_stated, targets_at};
 ghost use Rattle.dbl_model_commit.specs.Stated.{is_the_watermark, truncated_tables};
-ghost use Rattle.dbl_model_commit.specs.Pieces.{piece_of};
+ghost use Rattle.dbl_model_commit.specs.Pieces.{piece_of, changes_so_far};
+ghost use Rattle.dbl_model_commit.specs.Shapes.{changes_table, IsOpenStated};
 ghost use Rattle.dbl_txn_changes.specs.Answers.{ReturnsAssembled};
 ghost use Rattle.dbl_txn_pieces.specs.Reading.{message_of, Recalls, HasReadMessages};
 ghost use Rattle.dbl_txn_pieces.specs.Reading.{ReadsPiece, StatesChanges};
@@ -181,6 +183,21 @@ impl PieceReader {
     {
         self.infos.push(info)?;
         Ok(())
+    }
+
+    /// Replaces a captured table by the same one in other columns. The open transaction must have no
+    /// change of it so far.
+    pub fn reshape(&mut self, table: u32, info: TableInfo)
+        ensures { (infos : List TableInfo) (after : Lsn) (ms : List Message) (old : TableInfo) →
+            HasReadMessages infos after ms self.old → slice_get infos table ≡ Some old →
+            info.name ≡ old.name → IsOpenStated infos ms →
+            changes_table table (changes_so_far infos ms) ≡ false →
+            HasReadMessages (slice_set infos table info) after ms self.new }
+    {
+        let place = table as usize;
+        if place < self.infos.len() {
+            self.infos[place] = info;
+        }
     }
 
     fn begin(&mut self, lsn: Lsn, time: &i64, xid: u32) -> Result<Piece, TxnError>

@@ -1,6 +1,6 @@
 -- The changes of the open transaction that an assembler buffers.
 use Rattle.std.proofs.Common.{◌≡◌, ◌∙◌, List, [], ◌∷◌, ◌++◌, refl, sym, ap}
-use Rattle.std.specs.Prelude.{Option, Some, None, Result, Ok, Err}
+use Rattle.std.specs.Prelude.{ℕ, false, Option, Some, None, Result, Ok, Err, slice_get, slice_set}
 use Rattle.dbl_base.specs.declared.lsn.Lsn.{Lsn}
 use Rattle.dbl_pgmsg.specs.declared.messages.Message.{Message}
 use Rattle.dbl_model_table.specs.declared.table.TableInfo.{TableInfo}
@@ -10,9 +10,11 @@ use Rattle.dbl_model_commit.specs.declared.piece.Piece.{Piece}
 use Rattle.dbl_model_commit.specs.declared.txn_error.TxnError.{TxnError}
 use Rattle.dbl_model_commit.specs.Past.{Head, begin_of, HasNoRelation}
 use Rattle.dbl_model_commit.specs.Stated.{open_changes}
-use Rattle.dbl_model_commit.specs.Pieces.{if_open, with_piece, ended_by}
+use Rattle.dbl_model_commit.specs.Pieces.{if_open, changes_so_far, with_piece, ended_by}
+use Rattle.dbl_model_commit.specs.Shapes.{changes_table, IsOpenStated}
 use Rattle.dbl_model_commit.proofs.Learning.{changes_learnt}
 use Rattle.dbl_model_commit.proofs.PieceLemmas.{piece_joins}
+use Rattle.dbl_model_commit.proofs.Reshaping.{may_be_reshaped}
 use Rattle.dbl_txn_pieces.specs.Reading.{HasReadMessages, ReadPiece, ReadsPiece}
 use Rattle.dbl_txn.specs.declared.assembler.Assembler.{Assembler}
 use Rattle.dbl_txn.specs.Stands.{Stands, StandsWhole, StandsInPieces, Taken, TakenPiece, TakesPiece, EitherCallMayBegin}
@@ -73,3 +75,10 @@ both_stand infos after ms a none = (
   other_stands infos after ms (open_changes infos ms) [] a none,
   other_stands infos after ms [] (open_changes infos ms) a none,
 )
+
+-- a table got other columns
+pub whole_reshaped : (infos : List TableInfo) (table : ℕ) (old new : TableInfo) (after : Lsn) (ms : List Message) (a b : Assembler) → StandsWhole infos after ms a
+    → slice_get infos table ≡ Some old → new.name ≡ old.name → IsOpenStated infos ms → changes_table table (changes_so_far infos ms) ≡ false
+    → b.buffered.items ≡ a.buffered.items → HasReadMessages (slice_set infos table new) after ms b.reader → StandsWhole (slice_set infos table new) after ms b
+whole_reshaped infos table old new after ms a b s at name all none same reads =
+    record { reads = reads; buffers = same ∙ s.buffers ∙ sym (may_be_reshaped infos ms table old new at name all none).0 }

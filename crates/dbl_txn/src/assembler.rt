@@ -1,4 +1,5 @@
 ghost use Rattle.std.specs.Prelude.{◌≡◌, List, [], ◌∷◌, ◌++◌, OnOk, OnErr, IfErr, is_some, not};
+ghost use Rattle.std.specs.Prelude.{Some, false, slice_get, slice_set};
 ghost use Rattle.dbl_base.specs.declared.lsn.Lsn.{Lsn};
 ghost use Rattle.dbl_pgmsg.specs.declared.messages.Message.{Message};
 ghost use Rattle.dbl_model_table.specs.declared.change.Change.{Change};
@@ -8,6 +9,8 @@ ghost use Rattle.dbl_model_table.specs.Heads.{commit_by};
 ghost use Rattle.dbl_model_commit.specs.Past.{begin_of, HasNoRelation};
 ghost use Rattle.dbl_model_commit.specs.Stated.{is_empty};
 ghost use Rattle.dbl_model_commit.specs.Blocks.{onto, States};
+ghost use Rattle.dbl_model_commit.specs.Pieces.{changes_so_far};
+ghost use Rattle.dbl_model_commit.specs.Shapes.{changes_table, IsOpenStated};
 ghost use Rattle.dbl_txn.specs.Stands.{Stands, StandsWhole, StandsInPieces, Takes, TakesPiece};
 
 use dbl_base::{Lsn, Seq};
@@ -54,6 +57,12 @@ fn commit_by(ended: Ended, changes: Vec<Change>) -> Commit
         xid: head.xid,
         body,
     }
+}
+
+fn changes_table(changes: &Vec<Change>, table: u32) -> bool
+    ensures { result ≡ changes_table table changes.now.items }
+{
+    changes.iter().any(|change| change.table() == table)
 }
 
 impl Assembler {
@@ -114,6 +123,28 @@ impl Assembler {
         ensures err { IfErr result (λ e. e ≡ TxnError.Memory) }
     {
         self.reader.learn(info)
+    }
+
+    /// Whether the open transaction has changed the captured table at an index so far, if it is
+    /// assembled whole. Takes no memory.
+    pub fn has_changed(&self, table: u32) -> bool
+        ensures { (infos : List TableInfo) (after : Lsn) (ms : List Message) →
+            StandsWhole infos after ms self.now →
+            result ≡ changes_table table (changes_so_far infos ms) }
+    {
+        changes_table(&self.buffered, table)
+    }
+
+    /// Replaces a captured table by the same one in other columns, in which its later changes are
+    /// read. The open transaction, if it is assembled whole, must have no change of it so far.
+    pub fn reshape(&mut self, table: u32, info: TableInfo)
+        ensures { (infos : List TableInfo) (after : Lsn) (ms : List Message) (old : TableInfo) →
+            StandsWhole infos after ms self.old → slice_get infos table ≡ Some old →
+            info.name ≡ old.name → IsOpenStated infos ms →
+            changes_table table (changes_so_far infos ms) ≡ false →
+            StandsWhole (slice_set infos table info) after ms self.new }
+    {
+        self.reader.reshape(table, info);
     }
 
     /// Processes the next message, and returns its piece of the open transaction, of which nothing

@@ -1,0 +1,10 @@
+use Rattle.std.proofs.Common.{refl}
+use Rattle.dbl_txn.specs.declared.assembler.Assembler.{Assembler}
+use Rattle.dbl_txn.proofs.Buffering.{whole_reshaped}
+use Rattle.dbl_txn.proofs.assembler.Assembler.reshape.Goals as goal
+
+pub returns : goal.returns
+returns c = λ infos after ms old s at name all none. (
+    let now : Assembler = record { reader = c.reshape.new.self; buffered = c.args.self.now.buffered } in
+    whole_reshaped infos c.args.table old c.args.info after ms c.args.self.now now s at name all none refl
+    (c.reshape.ensures infos after ms old s.reads at name all none))

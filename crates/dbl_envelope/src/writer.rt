@@ -1,5 +1,5 @@
 ghost use Rattle.std.specs.Prelude.{◌≡◌, ◌<◌, ◌++◌, ◌∷◌, [], Some, length, map};
-ghost use Rattle.std.specs.Prelude.{option_map, slice_get, IfOk, IfErr, OnOk, OnErr};
+ghost use Rattle.std.specs.Prelude.{option_map, slice_get, slice_set, IfOk, IfErr, OnOk, OnErr};
 ghost use Rattle.dbl_model_table.specs.Rows.{table_of};
 ghost use Rattle.dbl_envelope.specs.Suits.{Suits, SuitsTable};
 ghost use Rattle.dbl_envelope_json.specs.Layouts.{layout_of};
@@ -117,6 +117,28 @@ impl EventWriter {
         if self.infos.push(info).is_err() {
             self.layouts.pop();
             return Err(EnvelopeError::Memory);
+        }
+        Ok(())
+    }
+
+    /// Replaces the captured table at an index, if there is one, by one in other columns, in
+    /// O(n log n) time for its n columns.
+    pub fn reshape(
+        &mut self,
+        alloc: Global,
+        table: u32,
+        info: TableInfo,
+    ) -> Result<(), EnvelopeError>
+        ensures reshaped { OnOk result
+            (self.new ≡ record self.old { infos = slice_set self.old.infos table info }) }
+        ensures kept { OnErr result (self.new ≡ self.old) }
+        ensures err { IfErr result (λ e. e ≡ EnvelopeError.Memory) }
+    {
+        let layout = Layout::make(alloc, &self.identity, &info)?;
+        let place = table as usize;
+        if place < self.infos.len() {
+            self.layouts[place] = layout;
+            self.infos[place] = info;
         }
         Ok(())
     }

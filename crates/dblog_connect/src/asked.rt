@@ -6,11 +6,13 @@ ghost use Rattle.dbl_cli_commands.specs.Limits.{AreGoodNames, AreGoodTables, IsG
 ghost use Rattle.dbl_offset.specs.Offsets.{IsOffset};
 ghost use Rattle.dbl_demo.specs.DemoWorkload.Ready.{AreTableNames};
 ghost use Rattle.dblog_connect.specs.Asked.{IsAskedWithinLimits, Refuses, asks_of};
-ghost use Rattle.dblog_connect.specs.Asked.{config_again, config_of, limit_of, names_of, tables_or};
+ghost use Rattle.dblog_connect.specs.Asked.{config_again, config_of, limit_of, names_of};
+ghost use Rattle.dblog_connect.specs.Asked.{rule_of, tables_or};
 
 use crate::ConnectError;
 use dbl_base::{Seq, copy_items};
 use dbl_cli_commands::{CaptureOptions, ResumeOptions};
+use dbl_hooks_gate::Rule;
 use dbl_model_table::{Config, Identity, TableInfo, TableName};
 use dbl_offset::Offset;
 use std::alloc::{AllocError, Global};
@@ -109,14 +111,21 @@ fn later_config(
     })
 }
 
-/// The maximum length in bytes of a record's value, if the arguments name one.
-pub(crate) fn limit_of(asked: &Asked) -> Option<u64>
+// The maximum length in bytes of a record's value, if the arguments name one.
+fn limit_of(asked: &Asked) -> Option<u64>
     ensures { result ≡ limit_of asked.now }
 {
     match asked {
         Asked::First { options } => options.max_value,
         Asked::Again { options } => options.max_value,
     }
+}
+
+/// What the session's receiver accepts: any record if the arguments name no length.
+pub(crate) fn rule_of(asked: &Asked) -> Rule
+    ensures { result ≡ rule_of asked.now }
+{
+    Rule::MaxValue(limit_of(asked).unwrap_or(u64::MAX))
 }
 
 /// The configuration of a session over a store with this offset, of a source with these tables, or

@@ -18,13 +18,13 @@ ghost use Rattle.dblog_connect.specs.Refusals.{IsErrorFor, IsRefusedNext};
 ghost use Rattle.dblog_connect.specs.Steps.{AnswersConnect, EndsSession, disks_of, IsOpenedLog};
 ghost use Rattle.dblog_connect.specs.Steps.{IsOpenedSource, IsOpenedStore, session_end};
 
-use crate::asked::{Asked, config_for, limit_of};
+use crate::asked::{Asked, config_for, rule_of};
 use crate::{ConnectError, Summary};
 use dbl_capture::{Ending, Halt, Report};
 use dbl_capture_gated::gated_session;
 use dbl_demo::DemoSource;
 use dbl_disk::{Disk, Refused};
-use dbl_hooks_gate::{Gate, Rule};
+use dbl_hooks_gate::Gate;
 use dbl_offset::OffsetStore;
 use dbl_record::Record;
 use dbl_topic::TopicLog;
@@ -258,7 +258,7 @@ fn run_session<W: Disk, T: Disk, F: Disk>(
     ensures { EndsSession W.Disk T.Disk F.Disk asked now_ms source.old source.new log result.0
         store.old store.new result.1 }
 {
-    let rule = Rule::MaxValue(limit_of(&asked).unwrap_or(u64::MAX));
+    let rule = rule_of(&asked);
     match Box::new(alloc, move |item: &Record| rule.allows(item)) {
         Ok(handler) => {
             let mut gate = Gate::make(alloc, log, rule, handler);

@@ -1,7 +1,6 @@
-use Rattle.std.proofs.Common.{◌∙◌, ℕ, ℤ, ap, sym, subst}
+use Rattle.std.proofs.Common.{◌∙◌, ℤ, sym, subst}
 use Rattle.std.specs.Prelude.{IsTrue}
 use Rattle.std.proofs.Math.Facts.{to_z-of_z}
-use Rattle.dbl_hooks_gate.specs.declared.rule.Rule.TheVariants.{MaxValue}
 use Rattle.dbl_journal.specs.Stored.{OnDisk}
 use Rattle.dbl_offset.specs.Stores.{disk_of}
 use Rattle.dblog_connect.specs.Steps.{AnswersConnect, IsOpenedLog, disks_of}
@@ -12,7 +11,7 @@ pub run_over_gate-end-requires-clause-log_live : goal.run_over_gate-end-requires
 run_over_gate-end-requires-clause-log_live g c = subst (λ (log : OnDisk g.T). IsTrue log.live) (sym c.make-gate.ensures.sink) c.requires.log_live
 
 pub run_over_gate-end-requires-clause-rule : goal.run_over_gate-end-requires-clause-rule
-run_over_gate-end-requires-clause-rule g c = c.make-gate.ensures.rule ∙ ap (λ (most : ℕ). MaxValue most) c.unwrap_or.ensures
+run_over_gate-end-requires-clause-rule g c = c.make-gate.ensures.rule ∙ c.rule_of-rule.ensures
 
 pub run_over_gate-end-requires-clause-log_opened : goal.run_over_gate-end-requires-clause-log_opened
 run_over_gate-end-requires-clause-log_opened g c = subst (λ (log : OnDisk g.T). IsOpenedLog g.T.Disk log) (sym c.make-gate.ensures.sink) c.requires.log_opened

@@ -42,7 +42,13 @@ memory_session asked now told_wal told_topics told_offsets wals logs stores stat
   says = says;
   answers = λ w t f wal topics offsets. record {
     told = inl tt;
-    gains = λ begun. record { stored = begun.held.offset; last = inl refl; gains = λ bytes groups may is. inl may };
+    refuses = tt;
+    gains = λ begun. record {
+      stored = begun.held.offset;
+      last = inl refl;
+      gains = λ bytes groups may is. inl may;
+      allowed = λ bytes groups may is. inl may;
+    };
     marks = λ begun own bytes left may is. inl may;
   };
   kept = λ kept w t f wal topics offsets. record { report = tt; never = tt };
@@ -50,4 +56,5 @@ memory_session asked now told_wal told_topics told_offsets wals logs stores stat
   refused = λ none. absurd none;
   spent = tt;
   kinds = tt;
+  exceeds = tt;
 }

@@ -7,12 +7,13 @@ use Rattle.dbl_pgmsg.specs.declared.messages.RelationColumn.{RelationColumn}
 use Rattle.dbl_value.specs.Values.{oid_of}
 use Rattle.dbl_model_table.specs.declared.table.Column.{Column}
 use Rattle.dbl_model_table.specs.declared.table.RawColumn.{RawColumn}
+use Rattle.dbl_model_table.specs.declared.table.TableInfo.{TableInfo}
 use Rattle.dbl_model_table.specs.Infos.{raw_column, catalogue_of}
 use Rattle.dbl_model_table.proofs.Lists.{and_left, and_right, same_text}
 use Rattle.dbl_model_history.specs.InForce.{reshaped}
 use Rattle.dbl_model_history.proofs.InForceLemmas.{reshaped_itself}
-use Rattle.dbl_model_commit.specs.Stated.{same_column}
-use Rattle.dbl_model_commit.specs.Shapes.{column_in, SameColumnsReadAlike}
+use Rattle.dbl_model_commit.specs.Stated.{same_column, same_columns}
+use Rattle.dbl_model_commit.specs.Shapes.{column_in, columns_in, SameColumnsReadAlike}
 
 one_column : (column : Column) (given : RelationColumn) → same_column (column, given) ≡ true → column_in given ≡ raw_column column
 one_column column given same =

@@ -4,6 +4,7 @@ pub mod AgeLemmas
 pub mod Example
 pub mod Kin
 pub mod FitLemmas
+pub mod FitHistoryLemmas
 pub mod Alone
 pub mod TickLemmas
 pub mod InfoMoves

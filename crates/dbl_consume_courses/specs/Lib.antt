@@ -4,6 +4,7 @@ pub mod Courses
 pub mod Since
 pub mod AlteredTables
 pub mod FitVersions
+pub mod FitHistories
 pub mod Growth
 pub mod SameCells
 pub mod CourseAges

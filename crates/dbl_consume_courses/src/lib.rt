@@ -17,7 +17,9 @@ pub use age_laws::{
 pub use course_laws::{
     altered_tables_stand, courses_begin_anew, courses_go_on, courses_have_infos, courses_show_rows,
 };
-pub use fit_laws::courses_are_fit;
+pub use fit_laws::{
+    courses_are_fit, fit_histories_have_fit_versions, plain_histories_have_fit_versions,
+};
 pub use growth_laws::{
     commits_move_own_age, own_age_goes_back, own_age_stays_as_histories_grow,
     parts_of_commits_keep_own_age, parts_of_snapshots_keep_own_age,

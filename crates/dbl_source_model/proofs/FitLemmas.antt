@@ -70,22 +70,26 @@ module _ (tables : List RawTable) (xs ys : List RawCommit) where
   infos_later : (infos : List TableInfo) (upto : ℕ) → upto ≤ length xs → AllByRecursion (WasInfo old upto) infos → AllByRecursion (WasInfo new upto) infos
   infos_later [] upto le each = tt
   infos_later (info ∷ infos) upto le each =
-      let within : each.0.place ≤ length xs = omega (arith, each.0.not_after, le) in
-      (record {
-        place = each.0.place;
-        not_after = each.0.not_after;
-        is = subst (λ (o : Option RawTable). IsSomeAnd o (λ raw. IsInfoOf raw info)) (sym (entry_front each.0.place info.name within)) each.0.is;
-      }, infos_later infos upto le each.1)
+      let within : each.0.place ≤ length xs = omega (arith, each.0.not_after, le) in (
+        record {
+          place = each.0.place;
+          not_after = each.0.not_after;
+          is = subst (λ (o : Option RawTable). IsSomeAnd o (λ raw. IsInfoOf raw info)) (sym (entry_front each.0.place info.name within)) each.0.is;
+        },
+        infos_later infos upto le each.1,
+      )
 
   infos_front : (infos : List TableInfo) (upto : ℕ) → upto ≤ length xs → AllByRecursion (WasInfo new upto) infos → AllByRecursion (WasInfo old upto) infos
   infos_front [] upto le each = tt
   infos_front (info ∷ infos) upto le each =
-      let within : each.0.place ≤ length xs = omega (arith, each.0.not_after, le) in
-      (record {
-        place = each.0.place;
-        not_after = each.0.not_after;
-        is = subst (λ (o : Option RawTable). IsSomeAnd o (λ raw. IsInfoOf raw info)) (entry_front each.0.place info.name within) each.0.is;
-      }, infos_front infos upto le each.1)
+      let within : each.0.place ≤ length xs = omega (arith, each.0.not_after, le) in (
+        record {
+          place = each.0.place;
+          not_after = each.0.not_after;
+          is = subst (λ (o : Option RawTable). IsSomeAnd o (λ raw. IsInfoOf raw info)) (entry_front each.0.place info.name within) each.0.is;
+        },
+        infos_front infos upto le each.1,
+      )
 
   rows_stay : (infos : List TableInfo) (place : ℕ) → place ≤ length xs → rows_in_force infos new place ≡ rows_in_force infos old place
   rows_stay infos place le = ap version_rows (taken_front (opening_infos old infos) xs ys place le)
@@ -97,17 +101,19 @@ module _ (tables : List RawTable) (xs ys : List RawCommit) where
   rows_at_front place name above limit rows le are infos were =
       IfSome_then (number_of infos name) (are infos (record { distinct = were.distinct; each = infos_later infos place le were.each }))
       (λ table first. (
-          first.0,
-          subst (λ (at : Rows). AreFirstOf (infos_in_force infos old place) table first.0 at above limit rows) (rows_stay infos place le)
-          (subst (λ (now : List TableInfo). AreFirstOf now table first.0 (rows_in_force infos new place) above limit rows) (columns_stay infos place le) first.1)))
+        first.0,
+        subst (λ (at : Rows). AreFirstOf (infos_in_force infos old place) table first.0 at above limit rows) (rows_stay infos place le)
+            (subst (λ (now : List TableInfo). AreFirstOf now table first.0 (rows_in_force infos new place) above limit rows) (columns_stay infos place le) first.1),
+      ))
 
   rows_at_later : (place : ℕ) (name : TableName) (above : Option Key) (limit : ℕ) (rows : List RawRow) → place ≤ length xs → AreRowsAt old place name above limit rows → AreRowsAt new place name above limit rows
   rows_at_later place name above limit rows le are infos were =
       IfSome_then (number_of infos name) (are infos (record { distinct = were.distinct; each = infos_front infos place le were.each }))
       (λ table first. (
-          first.0,
-          subst (λ (at : Rows). AreFirstOf (infos_in_force infos new place) table first.0 at above limit rows) (sym (rows_stay infos place le))
-          (subst (λ (now : List TableInfo). AreFirstOf now table first.0 (rows_in_force infos old place) above limit rows) (sym (columns_stay infos place le)) first.1)))
+        first.0,
+        subst (λ (at : Rows). AreFirstOf (infos_in_force infos new place) table first.0 at above limit rows) (sym (rows_stay infos place le))
+            (subst (λ (now : List TableInfo). AreFirstOf now table first.0 (rows_in_force infos old place) above limit rows) (sym (columns_stay infos place le)) first.1),
+      ))
 
   version_front : (place : ℕ) (name : TableName) → place ≤ length xs → version_at new place name ≡ version_at old place name
   version_front place name le = ap (λ (entry : Option RawTable). unwrap_or (option_map (λ (table : RawTable). table.version) entry) 1) (entry_front place name le)

@@ -65,12 +65,14 @@ described_up history upto (info ∷ infos) kept each =
 described_first : (history : History) (upto : ℕ) (infos : List TableInfo) → KeepsColumns history → AllByRecursion (λ info. IsSomeAnd (entry_of history info.name) (λ raw. IsInfoOf raw info)) infos
     → AllByRecursion (WasInfo history upto) infos
 described_first history upto [] kept each = tt
-described_first history upto (info ∷ infos) kept each =
-    (record {
-      place = upto;
-      not_after = omega arith;
-      is = subst (λ (o : Option RawTable). IsSomeAnd o (λ raw. IsInfoOf raw info)) (sym (unaltered_entries history upto info.name kept)) each.0;
-    }, described_first history upto infos kept each.1)
+described_first history upto (info ∷ infos) kept each = (
+  record {
+    place = upto;
+    not_after = omega arith;
+    is = subst (λ (o : Option RawTable). IsSomeAnd o (λ raw. IsInfoOf raw info)) (sym (unaltered_entries history upto info.name kept)) each.0;
+  },
+  described_first history upto infos kept each.1,
+)
 
 pub captured_were : (history : History) (upto : ℕ) (infos : List TableInfo) → KeepsColumns history → AreInfosOf history infos → WereInfosOf history upto infos
 captured_were history upto infos kept captured = record { distinct = captured.distinct; each = described_first history upto infos kept captured.each }
@@ -152,9 +154,10 @@ pub typed_rows : (history : History) (place : ℕ) (name : TableName) (above : O
 typed_rows history place name above limit rows infos kept captured are =
     IfSome_then (number_of infos name) (are infos (captured_were history place infos kept captured))
     (λ table first. (
-        first.0,
-        subst (λ (at : Rows). AreFirstOf infos table first.0 at above limit rows) (rows_kept infos history place kept captured)
-        (subst (λ (now : List TableInfo). AreFirstOf now table first.0 (rows_in_force infos history place) above limit rows) (columns_kept infos history place kept captured) first.1)))
+      first.0,
+      subst (λ (at : Rows). AreFirstOf infos table first.0 at above limit rows) (rows_kept infos history place kept captured)
+          (subst (λ (now : List TableInfo). AreFirstOf now table first.0 (rows_in_force infos history place) above limit rows) (columns_kept infos history place kept captured) first.1),
+    ))
 
 pub rows_of_typed : (history : History) (place : ℕ) (name : TableName) (above : Option Key) (limit : ℕ) (rows : List RawRow) → KeepsColumns history
     → ((infos : List TableInfo) → AreInfosOf history infos → AreTypedRowsAt history place name above limit rows infos) → AreRowsAt history place name above limit rows
@@ -162,6 +165,7 @@ rows_of_typed history place name above limit rows kept typed infos were =
     let captured = were_captured history place infos kept were in
     IfSome_then (number_of infos name) (typed infos captured)
     (λ table first. (
-        first.0,
-        subst (λ (now : List TableInfo). AreFirstOf now table first.0 (rows_in_force infos history place) above limit rows) (sym (columns_kept infos history place kept captured))
-        (subst (λ (at : Rows). AreFirstOf infos table first.0 at above limit rows) (sym (rows_kept infos history place kept captured)) first.1)))
+      first.0,
+      subst (λ (now : List TableInfo). AreFirstOf now table first.0 (rows_in_force infos history place) above limit rows) (sym (columns_kept infos history place kept captured))
+          (subst (λ (at : Rows). AreFirstOf infos table first.0 at above limit rows) (sym (rows_kept infos history place kept captured)) first.1),
+    ))

@@ -129,7 +129,7 @@ module _ (infos : List TableInfo) (table : ℕ) where
   silent_clears key t other (n ∷ ns) (suc k) row =
       ap (λ (r : Option (List Val)). row_from infos table key r (take k (map (λ m. Clear t) ns))) (silent_change infos table key row (Clear t) other) ∙ silent_clears key t other ns k row
 
-  take_past : (xs ys : List Change) (k : ℕ) → length xs ≤ k → take k (xs ++ ys) ≡ xs ++ take (k - length xs) ys
+  pub take_past : (xs ys : List Change) (k : ℕ) → length xs ≤ k → take k (xs ++ ys) ≡ xs ++ take (k - length xs) ys
   take_past [] ys k le = let e : k ≡ k - 0 = omega arith in ap (λ (x : ℕ). take x ys) e
   take_past (x ∷ xs) ys zero le = absurd (omega (arith, le))
   take_past (x ∷ xs) ys (suc k) le =

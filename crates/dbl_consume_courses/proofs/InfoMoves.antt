@@ -46,7 +46,7 @@ module _ (a b : List TableInfo) (table : ℕ) (kin : AreKin a b) (same : slice_g
       (λ i at. let there = kin_at a b kin clear.0 i at in (there.0, there.1))
       (λ j at. let there = kin_at b a (kin_back a b kin) clear.0 j at in (there.0, there.1)))
 
-  through : (cs : List Change) (o : ℕ) → AreTicks table cs → changes_through a cs o ≡ changes_through b cs o
+  pub through : (cs : List Change) (o : ℕ) → AreTicks table cs → changes_through a cs o ≡ changes_through b cs o
   through [] o ticks = refl
   through (c ∷ cs) o ticks =
       ap (λ (n : ℕ). if nat_lt o n then 1 else suc (changes_through a cs (o - n))) (counts c ticks.0)

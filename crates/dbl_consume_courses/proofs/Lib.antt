@@ -21,3 +21,5 @@ pub mod Positions
 pub mod TableLemmas
 pub mod TableRepeats
 pub mod TableWindows
+pub mod PointLemmas
+pub mod CoursePoints

@@ -11,4 +11,5 @@ pub mod CourseAges
 pub mod PlainAges
 pub mod RowsThere
 pub mod TableAges
+pub mod CoursePoints
 pub mod Example

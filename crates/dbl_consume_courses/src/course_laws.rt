@@ -1,6 +1,7 @@
 //! The course of a table, in which it isn't altered.
 ghost use Rattle.dbl_consume_courses.specs.Courses.{CoursesGoOn, CoursesBeginAnew};
 ghost use Rattle.dbl_consume_courses.specs.Courses.{CoursesHaveInfos, CoursesShowRows};
+ghost use Rattle.dbl_consume_courses.specs.CoursePoints.{PointsOfCoursesArePoints};
 ghost use Rattle.dbl_consume_courses.specs.Example.{AlteredTablesStand};
 
 /// A course goes on by each commit that doesn't alter its table.
@@ -21,6 +22,11 @@ pub fn courses_have_infos()
 /// A course shows the rows that its table has in the history.
 pub fn courses_show_rows()
     ensures { CoursesShowRows }
+{}
+
+/// Each point of a span of a course has the table's rows of a point of the history's span.
+pub fn points_of_courses_are_points()
+    ensures { PointsOfCoursesArePoints }
 {}
 
 /// There is a history with an alteration that satisfies what these theorems require.

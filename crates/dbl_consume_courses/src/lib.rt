@@ -16,6 +16,7 @@ pub use age_laws::{
 };
 pub use course_laws::{
     altered_tables_stand, courses_begin_anew, courses_go_on, courses_have_infos, courses_show_rows,
+    points_of_courses_are_points,
 };
 pub use fit_laws::{
     courses_are_fit, fit_histories_have_fit_versions, plain_histories_have_fit_versions,

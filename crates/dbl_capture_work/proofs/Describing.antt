@@ -85,7 +85,7 @@ entry_absent history name raw h is (inr e) = absent_here history name (Some raw)
 pub described_as : (name : TableName) (raw : RawTable) (info : TableInfo) (version : ℕ) (s t : SourceState) → KeepsColumns t.history → IsDescribed name (Some raw) s t → raw.name ≡ name → IsInfoOf raw info → version ≡ max 1 raw.version
     → IsDescribedAs name info version s t
 described_as name raw info version s t kept said named is counted =
-    let info_named : info.name ≡ name = sym (ap (λ (r : RawTable). r.name) is) ∙ named in
+    let info_named : info.name ≡ name = ap (λ (r : RawTable). r.name) is ∙ named in
     let entry : entry_of s.history info.name ≡ Some raw = ap (entry_of s.history) info_named ∙ sym (entry_described name (Some raw) s t kept said) in
     (said.0, info_named, record { raw = raw; entry = entry; is = is }, subst (λ (o : Option RawTable). IsSomeAnd o (λ r. version ≡ max 1 r.version)) (sym entry) counted)
 

@@ -1,11 +1,30 @@
-use Rattle.std.proofs.Common.{◌∙◌, None, sym, ap}
+use Rattle.std.proofs.Common.{◌≡◌, ◌∙◌, Option, None, sym, ap, subst}
+use Rattle.std.specs.Prelude.{IfSome}
+use Rattle.std.proofs.Math.Nat.{max_comm}
 use Rattle.std.proofs.lemmas.Result.{err_from_is_err_and}
+use Rattle.dbl_model_table.specs.declared.table.RawTable.{RawTable}
 use Rattle.dbl_model_table.specs.declared.table.TableName.{TableName}
+use Rattle.dbl_source_model.specs.Answered.{IsDescribed}
 use Rattle.dbl_source_model.proofs.PlainLemmas.{entry_described}
 use Rattle.dbl_capture_work.specs.declared.halt.Halt.TheVariants as halt
 use Rattle.dbl_capture_work.specs.Halts.{model_halt}
-use Rattle.dbl_capture_work.proofs.Describing.{absent_here, entry_absent, entry_halt}
+use Rattle.dbl_capture_work.proofs.Describing.{absent_here, described_as, entry_absent, entry_halt}
 use Rattle.dbl_capture_work.proofs.begin.describe_table.Goals as goal
+
+pub returns-in_ok-make-in-Some-clause-described : goal.returns-in_ok-make-in-Some-clause-described
+returns-in_ok-make-in-Some-clause-described g c s stands =
+    let name = c.args.name.now in
+    let raw = c.in-Some.raw in
+    let stood = c.in_ok-raw.ensures.described s stands in
+    record {
+      standing = stood.standing;
+      is = stood.is;
+      holds = described_as name raw c.in_ok-make-in-Some.field-0 _ s stood.standing (g.met.S.Source.unaltered c.describe.new.self stood.standing stood.is)
+          (subst (λ (o : Option RawTable). IsDescribed name o s stood.standing) c.in-Some.is stood.holds)
+          (subst (λ (o : Option RawTable). IfSome o (λ (r : RawTable). r.name ≡ name)) c.in-Some.is c.in_ok-raw.ensures.named)
+          c.in_ok-make-in-Some.ensures.ok
+          (c.max-in-Some.ensures ∙ max_comm raw.version 1);
+    }
 
 pub returns-in_err-make-in-Some-clause-absent : goal.returns-in_err-make-in-Some-clause-absent
 returns-in_err-make-in-Some-clause-absent g c s stands =

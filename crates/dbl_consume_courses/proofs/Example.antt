@@ -1,5 +1,5 @@
 -- The example of an altered table.
-use Rattle.std.proofs.Common.{◌≡◌, ◌≢◌, ◌<◌, ◌^◌, ℕ, zero, suc, pos, Bool, true, false, None, List, [], ◌∷◌, fold, refl, arith, FitsSigned, w64}
+use Rattle.std.proofs.Common.{◌≡◌, ◌≢◌, inl, ◌<◌, ◌^◌, ℕ, zero, suc, pos, Bool, true, false, None, List, [], ◌∷◌, fold, refl, arith, FitsSigned, w64}
 use Rattle.std.specs.Prelude.{◌↔◌, IsSome, slice_get, codes}
 use Rattle.std.specs.Str.{IsUtf8}
 use Rattle.json.proofs.Printed.Utf8.{IsUtf8-are_ascii}
@@ -15,10 +15,15 @@ use Rattle.dbl_model_table.specs.Keys.{same_key}
 use Rattle.dbl_model_table.specs.Rows.{at_key, row_after, no_rows}
 use Rattle.dbl_model_table.specs.Rows.Effect.{Whole}
 use Rattle.dbl_model_history.specs.Ranges.{IsCommitInRange}
+use Rattle.dbl_model_table.specs.declared.identity.Identity.{Identity}
 use Rattle.dbl_consume_courses.specs.Versions.{Alters, plain_commit, rows_through}
+use Rattle.dbl_consume_courses.specs.AlteredTables.{IsTableAged}
+use Rattle.dbl_consume_courses.specs.TableAges.{IsInCourse}
 use Rattle.dbl_consume_courses.specs.FitVersions.{IsFitAlteration, AreFitVersions}
-use Rattle.dbl_consume_courses.specs.Growth.{IsVersionAmong}
-use Rattle.dbl_consume_courses.specs.Example.{old_table, new_table, old_infos, new_infos, text_row, version_at, new_rows, alteration, first_versions, last_version, example_versions, AlteredTablesStand}
+use Rattle.dbl_consume_courses.specs.Growth.{course_of, IsVersionAmong}
+use Rattle.dbl_consume_courses.specs.Example.{old_table, new_table, old_infos, new_infos, text_row, version_at, new_rows, alteration, first_versions, last_version, example_versions, AlteredTablesStand, AgedTablesStand}
+use Rattle.dbl_consume_courses.proofs.KeyRowLemmas.{no_rows_of_keys}
+use Rattle.dbl_consume_courses.proofs.TableRepeats.{aged_none, same_none}
 
 others_stay : (other : ℕ) → other ≢ 0 → slice_get new_infos other ≡ slice_get old_infos other
 others_stay zero apart = absurd (apart refl)
@@ -93,3 +98,22 @@ last_among = record { fit = fit_versions; spelled = refl; unaltered = (refl, tt)
 
 pub stands : AlteredTablesStand
 stands = ((refl, (refl, (alters, (refl, tt)))), last_among, refl, refl)
+
+last_in_course : IsInCourse old_infos example_versions example_versions 0 0 first_versions last_version []
+last_in_course = record { fit = fit_versions; hidden = []; parted = refl; among = last_among }
+
+aged : (identity : Identity) → IsTableAged identity (course_of old_infos 0 0 example_versions) example_versions [] 3 0
+aged identity = record {
+  own = aged_none identity (course_of old_infos 0 0 example_versions) [] 0 refl;
+  same = same_none identity (course_of old_infos 0 0 example_versions) [] 0 refl;
+  there = λ topic text key names some. cc;
+}
+
+pub aged_stands : AgedTablesStand
+aged_stands identity = (
+  last_in_course,
+  record { upto = (omega arith, (omega arith, (omega arith, tt))); before = omega arith },
+  aged identity,
+  no_rows_of_keys identity old_infos 0,
+  inl (omega arith),
+)

@@ -173,7 +173,7 @@ module _ (identity : Identity) (infos : List TableInfo) (versions : List Version
   ticks : AreTicks table (all_changes C.commits)
   ticks = (good_of infos versions start table among.fit).ticks
 
-  next : IsCommitAmong C.infos C.commits before tick (map (ticked_commit table) later)
+  pub next : IsCommitAmong C.infos C.commits before tick (map (ticked_commit table) later)
   next = record { fit = fit; spelled = placed.commits }
 
   -- records of the log since the course's start, without those of other tables
@@ -216,7 +216,7 @@ module _ (identity : Identity) (infos : List TableInfo) (versions : List Version
   alike : AreAlike identity v.infos C.infos table info placed.kin placed.same captured fit.distinct course_events events
   alike = commit_alike identity v.infos C.infos table info placed.kin placed.same captured fit.distinct v refl
 
-  records_alike : (now : ℤ) → AreLike identity info (envelopes identity C.infos tick now) (envelopes identity v.infos (plain_commit v) now)
+  pub records_alike : (now : ℤ) → AreLike identity info (envelopes identity C.infos tick now) (envelopes identity v.infos (plain_commit v) now)
   records_alike now = records_like identity v.infos C.infos table info placed.kin placed.same captured fit.distinct v now v.lsn.0 0 course_events events alike
 
   all_printed : (now : ℤ) → AllByRecursion (λ item. item.position ≡ v.lsn.0) (envelopes identity v.infos (plain_commit v) now)

@@ -23,3 +23,4 @@ pub mod TableRepeats
 pub mod TableWindows
 pub mod PointLemmas
 pub mod CoursePoints
+pub mod KeyRowLemmas

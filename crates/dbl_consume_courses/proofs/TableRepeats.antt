@@ -42,21 +42,21 @@ use Rattle.dbl_consume_courses.proofs.TableLemmas.{to_there, from_there}
 
 -- ---- alterations
 
-silent_of : (old : List TableInfo) (v : Versioned) (o : Option Alteration) (table : ℕ) (rows : List RawRow) → FollowsInfos old v o → alteration_of table o ≡ Some rows → changes_of (plain_commit v) ≡ []
+pub silent_of : (old : List TableInfo) (v : Versioned) (o : Option Alteration) (table : ℕ) (rows : List RawRow) → FollowsInfos old v o → alteration_of table o ≡ Some rows → changes_of (plain_commit v) ≡ []
 silent_of old v None table rows follows is = cc
 silent_of old v (Some alteration) table rows alters is = ap (λ (b : Body). elim b as (λ x. List Change) [ Changes changes ↦ changes | Mark value ↦ [] ]) alters.silent
 
-follows_at : (infos : List TableInfo) (earlier : List Versioned) (v : Versioned) (later : List Versioned) → AreVersionsFrom infos (earlier ++ v ∷ later) → (old : List TableInfo) × FollowsInfos old v v.altered
+pub follows_at : (infos : List TableInfo) (earlier : List Versioned) (v : Versioned) (later : List Versioned) → AreVersionsFrom infos (earlier ++ v ∷ later) → (old : List TableInfo) × FollowsInfos old v v.altered
 follows_at infos [] v later follow = (infos, follow.0)
 follows_at infos (x ∷ earlier) v later follow = follows_at x.infos earlier v later follow.1
 
 -- where a log has nothing since a course's start, what it has of the course is aged there, and no key is known
-aged_none : (identity : Identity) (c : Course) (records : List Record) (table : ℕ) → since c.start records ≡ [] → IsOwnAged identity c records (course_start c) table
+pub aged_none : (identity : Identity) (c : Course) (records : List Record) (table : ℕ) → since c.start records ≡ [] → IsOwnAged identity c records (course_start c) table
 aged_none identity c records table none =
     own_whole identity c records (course_start c) table
     (subst (λ (l : List Record). IsAged identity c.infos c.commits (course_start c) l (course_start c)) (sym none) (no_records_are_aged identity c.infos c.commits (course_start c)))
 
-same_none : (identity : Identity) (c : Course) (records : List Record) (table : ℕ) → since c.start records ≡ [] → HasSameCells identity c records (course_start c) table
+pub same_none : (identity : Identity) (c : Course) (records : List Record) (table : ℕ) → since c.start records ≡ [] → HasSameCells identity c records (course_start c) table
 same_none identity c records table none = record { each = λ topic text key column names known. absurd (unknown key known) }
   where
     unknown : (key : Key) → IsKnownIn identity c records (course_start c) table key → ⊥

@@ -3,6 +3,7 @@ use Rattle.std.specs.Prelude.{◌≡◌, ℕ, pos, true, Some, None, List, [], �
 use Rattle.dbl_value.specs.declared.column_type.PgType.TheVariants as type
 use Rattle.dbl_value.specs.declared.value.Val.TheVariants as val
 use Rattle.dbl_record.specs.declared.record.Record.{Record}
+use Rattle.dbl_model_table.specs.declared.identity.Identity.{Identity}
 use Rattle.dbl_model_table.specs.declared.table.RawRow.{RawRow}
 use Rattle.dbl_model_table.specs.declared.row.Row.{Row}
 use Rattle.dbl_model_table.specs.declared.table.TableInfo.{TableInfo}
@@ -11,9 +12,12 @@ use Rattle.dbl_model_table.specs.declared.change.Body.TheVariants.{Changes}
 use Rattle.dbl_model_table.specs.declared.change.Change.TheVariants.{Clear, Insert}
 use Rattle.dbl_model_table.specs.declared.change.Commit.{Commit}
 use Rattle.dbl_consume_courses.specs.Versions.{Versioned, AreVersionsFrom}
+use Rattle.dbl_consume_courses.specs.AlteredTables.{IsTableAged}
 use Rattle.dbl_consume_courses.specs.Courses.{course, opening}
 use Rattle.dbl_consume_courses.specs.Since.{since}
-use Rattle.dbl_consume_courses.specs.Growth.{IsVersionAmong}
+use Rattle.dbl_consume_courses.specs.Growth.{course_of, IsVersionAmong}
+use Rattle.dbl_consume_courses.specs.KeyRows.{HasRowsOfKeys}
+use Rattle.dbl_consume_courses.specs.TableAges.{IsJustBefore, IsInCourse, IsBeforeCourse}
 
 -- The table t, which has its key only.
 abbrev pub old_table : TableInfo
@@ -100,3 +104,13 @@ AlteredTablesStand = AreVersionsFrom old_infos example_versions
     × (course old_infos example_versions 0 0 4
     ≡ record { infos = new_infos; commits = opening 0 alteration new_rows ∷ last_tick ∷ []; start = 3 })
     × (since 3 (record_at 1 ∷ record_at 4 ∷ record_at 2 ∷ record_at 4 ∷ []) ≡ record_at 4 ∷ [])
+
+-- The example meets what the theorems on the age of an altered table require: its last commit is the next one after the alteration, in the
+-- course of t; an empty log is aged from the alteration on, with each of its rows at a key; and the first commit lies before the course.
+abbrev pub AgedTablesStand : Type 0
+AgedTablesStand = (identity : Identity)
+    → IsInCourse old_infos example_versions example_versions 0 0 first_versions last_version []
+    × IsJustBefore 3 first_versions last_version
+    × IsTableAged identity (course_of old_infos 0 0 example_versions) example_versions [] 3 0
+    × HasRowsOfKeys identity old_infos [] 0
+    × IsBeforeCourse (course_of old_infos 0 0 example_versions) (version_at 1 old_infos (Changes (Insert 0 (text_row (codes "a")) ∷ [])))

@@ -12,4 +12,5 @@ pub mod PlainAges
 pub mod RowsThere
 pub mod TableAges
 pub mod CoursePoints
+pub mod KeyRows
 pub mod Example

@@ -2,7 +2,7 @@
 ghost use Rattle.dbl_consume_courses.specs.Courses.{CoursesGoOn, CoursesBeginAnew};
 ghost use Rattle.dbl_consume_courses.specs.Courses.{CoursesHaveInfos, CoursesShowRows};
 ghost use Rattle.dbl_consume_courses.specs.CoursePoints.{PointsOfCoursesArePoints};
-ghost use Rattle.dbl_consume_courses.specs.Example.{AlteredTablesStand};
+ghost use Rattle.dbl_consume_courses.specs.Example.{AlteredTablesStand, AgedTablesStand};
 
 /// A course goes on by each commit that doesn't alter its table.
 pub fn courses_go_on()
@@ -32,4 +32,9 @@ pub fn points_of_courses_are_points()
 /// There is a history with an alteration that satisfies what these theorems require.
 pub fn altered_tables_stand()
     ensures { AlteredTablesStand }
+{}
+
+/// The same history satisfies what the theorems on the age of an altered table require.
+pub fn aged_tables_stand()
+    ensures { AgedTablesStand }
 {}

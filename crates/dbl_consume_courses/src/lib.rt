@@ -5,6 +5,7 @@ mod age_laws;
 mod course_laws;
 mod fit_laws;
 mod growth_laws;
+mod row_laws;
 mod same_laws;
 mod since_laws;
 mod table_laws;
@@ -15,8 +16,8 @@ pub use age_laws::{
     new_courses_are_aged, nothing_is_known_at_first, plain_tables_age,
 };
 pub use course_laws::{
-    altered_tables_stand, courses_begin_anew, courses_go_on, courses_have_infos, courses_show_rows,
-    points_of_courses_are_points,
+    aged_tables_stand, altered_tables_stand, courses_begin_anew, courses_go_on, courses_have_infos,
+    courses_show_rows, points_of_courses_are_points,
 };
 pub use fit_laws::{
     courses_are_fit, fit_histories_have_fit_versions, plain_histories_have_fit_versions,
@@ -24,6 +25,10 @@ pub use fit_laws::{
 pub use growth_laws::{
     commits_move_own_age, own_age_goes_back, own_age_stays_as_histories_grow,
     parts_of_commits_keep_own_age, parts_of_snapshots_keep_own_age,
+};
+pub use row_laws::{
+    altered_tables_have_rows, no_records_have_rows_of_keys, parts_of_commits_keep_rows_of_keys,
+    parts_of_snapshots_keep_rows_of_keys,
 };
 pub use same_laws::{
     commits_move_same_cells, new_courses_have_same_cells, parts_of_commits_keep_same_cells,

@@ -24,3 +24,4 @@ pub mod TableWindows
 pub mod PointLemmas
 pub mod CoursePoints
 pub mod KeyRowLemmas
+pub mod VersionLemmas

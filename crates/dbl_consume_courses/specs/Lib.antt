@@ -13,4 +13,5 @@ pub mod RowsThere
 pub mod TableAges
 pub mod CoursePoints
 pub mod KeyRows
+pub mod VersionStores
 pub mod Example

@@ -10,6 +10,7 @@ mod same_laws;
 mod since_laws;
 mod table_laws;
 mod there_laws;
+mod version_laws;
 
 pub use age_laws::{
     aged_courses_are_own, altered_tables_age, late_logs_age_as_plain, late_logs_have_the_same_rows,
@@ -47,4 +48,8 @@ pub use table_laws::{
 pub use there_laws::{
     commits_move_rows_there, no_records_have_rows, parts_of_commits_keep_rows_there,
     parts_of_snapshots_keep_rows_there, rows_there_go_back, rows_there_stay_as_histories_grow,
+};
+pub use version_laws::{
+    cursors_are_of_courses, plain_versions_have_plain_rows, unaltered_tables_have_version_one,
+    windows_are_of_courses,
 };

@@ -23,7 +23,7 @@ returns-in_ok-make-in-Some-clause-described g c s stands =
           (subst (λ (o : Option RawTable). IsDescribed name o s stood.standing) c.in-Some.is stood.holds)
           (subst (λ (o : Option RawTable). IfSome o (λ (r : RawTable). r.name ≡ name)) c.in-Some.is c.in_ok-raw.ensures.named)
           c.in_ok-make-in-Some.ensures.ok
-          (c.max-in-Some.ensures ∙ max_comm raw.version 1);
+          (c.max.ensures ∙ max_comm raw.version 1);
     }
 
 pub returns-in_err-make-in-Some-clause-absent : goal.returns-in_err-make-in-Some-clause-absent

@@ -20,7 +20,7 @@ use Rattle.dbl_model_commit.specs.ModelHistory.InForce.{Versioned, Alteration, p
 use Rattle.dbl_model_commit.specs.ModelHistory.VersionRows.{altered_rows, rows_through, rows_in_force, infos_in_force, WasInfo, WereInfosOf}
 use Rattle.dbl_model_history.proofs.InForceLemmas.{unaltered_entries, plain_versions, reshaped_itself}
 use Rattle.dbl_model_history.proofs.RowKeys.{some_and}
-use Rattle.dbl_model_commit.proofs.ModelHistoryRowLemmas.{rows_from-append}
+use Rattle.dbl_model_history.proofs.RowLemmas.{rows_from-append}
 use Rattle.dbl_source_model.specs.Growth.{KeepsColumns}
 use Rattle.dbl_source_model.specs.Standings.{SourceState}
 use Rattle.dbl_source_model.specs.Answered.{IsDescribed}

@@ -25,13 +25,14 @@ use Rattle.dblog_replay.specs.declared.log_fault.LogFault.TheVariants as log
 use Rattle.dbl_hooks_masks.specs.declared.fault.MaskFault.{MaskFault}
 use Rattle.dbl_hooks_masks.specs.declared.masking.Masking.{Masking}
 use Rattle.dbl_hooks_masks.specs.Faults.{mask_fault}
-use Rattle.dblog_replay.specs.Captures.{room_fault, entry_fault, or_else, column_fault, capture_fault, entry_of, is_among, new_table, table_told, tables_in, AreCaptured}
+use Rattle.dblog_replay.specs.Captures.{room_fault, entry_fault, or_else, column_fault, capture_fault, entry_of, is_among, new_table, table_told, with_columns, altered_by, tables_in, AreCaptured}
+use Rattle.dbl_model_commit.specs.Shapes.{columns_in}
 
-or_false : (a b : Bool) → (a || b) ≡ false → (a ≡ false) × (b ≡ false)
+pub or_false : (a b : Bool) → (a || b) ≡ false → (a ≡ false) × (b ≡ false)
 or_false true b is = cc
 or_false false b is = (refl, is)
 
-same_name-self : (name : TableName) → same_name name name ≡ true
+pub same_name-self : (name : TableName) → same_name name name ≡ true
 same_name-self name =
     ap₂ (λ (s n : Bool). s && n) ((bytes_eq-Decides name.schema name.schema).1 refl) ((bytes_eq-Decides name.name name.name).1 refl)
 
@@ -47,6 +48,38 @@ new_other tables raw name no_mark none later is =
     let found : is_among name (list_of (new_table tables raw)) ≡ true = ap (λ (o : Option RawTable). is_among name (list_of o)) told ∙ among_new name raw is in
     let both : true ≡ false = sym found ∙ later in
     cc
+
+-- names stay where columns change
+among_with : (name other : TableName) (columns : List RelationColumn) (tables : List RawTable) → is_among name (with_columns other columns tables) ≡ is_among name tables
+among_with name other columns [] = refl
+among_with name other columns (t ∷ ts) = by (same_name t.name other)
+  where
+    by : (b : Bool) → is_among name (if b then record t { columns = columns_in columns } ∷ ts else t ∷ with_columns other columns ts) ≡ (same_name t.name name || is_among name ts)
+    by true = refl
+    by false = ap (λ (b : Bool). same_name t.name name || b) (among_with name other columns ts)
+
+among_altered : (name : TableName) (m : Message) (tables : List RawTable) → is_among name (altered_by m tables) ≡ is_among name tables
+among_altered name (says.Relation oid namespace told identity columns) tables = by (is_watermark (table_named namespace told))
+  where
+    by : (b : Bool) → is_among name (if b then tables else with_columns (table_named namespace told) columns tables) ≡ is_among name tables
+    by true = refl
+    by false = among_with name (table_named namespace told) columns tables
+among_altered name (says.Begin lsn time xid) tables = refl
+among_altered name (says.Commit flags lsn end_lsn time) tables = refl
+among_altered name (says.Origin lsn told) tables = refl
+among_altered name (says.TypeName oid namespace told) tables = refl
+among_altered name (says.Insert oid row) tables = refl
+among_altered name (says.Update oid before row) tables = refl
+among_altered name (says.Delete oid before) tables = refl
+among_altered name (says.Truncate options oids) tables = refl
+among_altered name (says.Logical flags lsn prefix content) tables = refl
+
+-- other columns of a table that isn't there
+pub with_none : (name : TableName) (columns : List RelationColumn) (tables : List RawTable) → is_among name tables ≡ false → with_columns name columns tables ≡ tables
+with_none name columns [] none = refl
+with_none name columns (t ∷ ts) none =
+    let parts = or_false (same_name t.name name) (is_among name ts) none in
+    ap (λ (b : Bool). if b then record t { columns = columns_in columns } ∷ ts else t ∷ with_columns name columns ts) parts.0 ∙ ap (λ (l : List RawTable). t ∷ l) (with_none name columns ts parts.1)
 
 none_more : (keys : List TableKey) (name : TableName) (m : Message) (ms : List Message) → is_watermark name ≡ false → is_among name (tables_in keys ms) ≡ false → is_among name (list_of (table_told keys (tables_in keys ms) m)) ≡ false
     → HasNoRelation name ms → HasNoRelation name (m ∷ ms)
@@ -66,7 +99,10 @@ none_more keys name (says.Logical flags lsn prefix content) ms no_mark none late
 pub none_told : (keys : List TableKey) (name : TableName) (ms : List Message) → is_watermark name ≡ false → is_among name (tables_in keys ms) ≡ false → HasNoRelation name ms
 none_told keys name [] no_mark none = tt
 none_told keys name (m ∷ ms) no_mark none =
-    let parts = or_false (is_among name (tables_in keys ms)) (is_among name (list_of (table_told keys (tables_in keys ms) m))) (sym (list_any-append (λ (t : RawTable). same_name t.name name) (tables_in keys ms) (list_of (table_told keys (tables_in keys ms) m))) ∙ none) in
+    let tables = tables_in keys ms in
+    let now = list_of (table_told keys tables m) in
+    let parts = or_false (is_among name tables) (is_among name now)
+    (ap (λ (b : Bool). b || is_among name now) (sym (among_altered name m tables)) ∙ sym (list_any-append (λ (t : RawTable). same_name t.name name) (altered_by m tables) now) ∙ none) in
     none_more keys name m ms no_mark parts.0 parts.1 (none_told keys name ms no_mark parts.0)
 
 not_told : (tables : List RawTable) (raw : RawTable) → (is_watermark raw.name || is_among raw.name tables) ≡ true → new_table tables raw ≡ None
@@ -115,7 +151,7 @@ told_first keys tables (says.Logical flags lsn prefix content) raw is = cc
 
 -- ---- infos and entries
 
-any-infos : (name : TableName) (infos : List TableInfo) → is_among name (map catalogue_of infos) ≡ list_any (λ (info : TableInfo). same_name info.name name) infos
+pub any-infos : (name : TableName) (infos : List TableInfo) → is_among name (map catalogue_of infos) ≡ list_any (λ (info : TableInfo). same_name info.name name) infos
 any-infos name [] = refl
 any-infos name (info ∷ infos) = ap (λ (b : Bool). same_name info.name name || b) (any-infos name infos)
 
@@ -125,15 +161,41 @@ among_infos keys name ms infos captured = sym (any-infos name infos) ∙ ap (is_
 pub count_is : (keys : List TableKey) (ms : List Message) (infos : List TableInfo) → AreCaptured keys ms infos → length infos ≡ length (tables_in keys ms)
 count_is keys ms infos captured = sym (length-map infos catalogue_of) ∙ ap length captured
 
+-- a message that describes no new table, and changes no columns
+pub captured_still : (keys : List TableKey) (m : Message) (ms : List Message) (infos : List TableInfo) → AreCaptured keys ms infos → table_told keys (tables_in keys ms) m ≡ None
+    → altered_by m (tables_in keys ms) ≡ tables_in keys ms → AreCaptured keys (m ∷ ms) infos
+captured_still keys m ms infos captured none same =
+    captured ∙ sym (ap₂ (λ (t : List RawTable) (o : Option RawTable). t ++ list_of o) same none ∙ append-nil (tables_in keys ms))
+
 -- a message that describes no new table
-pub captured_still : (keys : List TableKey) (m : Message) (ms : List Message) (infos : List TableInfo) → AreCaptured keys ms infos → table_told keys (tables_in keys ms) m ≡ None → AreCaptured keys (m ∷ ms) infos
-captured_still keys m ms infos captured none = captured ∙ sym (ap (λ (o : Option RawTable). tables_in keys ms ++ list_of o) none ∙ append-nil (tables_in keys ms))
+pub captured_now : (keys : List TableKey) (m : Message) (ms : List Message) (infos : List TableInfo) → table_told keys (tables_in keys ms) m ≡ None
+    → map catalogue_of infos ≡ altered_by m (tables_in keys ms) → AreCaptured keys (m ∷ ms) infos
+captured_now keys m ms infos none now =
+    now ∙ sym (ap (λ (o : Option RawTable). altered_by m (tables_in keys ms) ++ list_of o) none ∙ append-nil (altered_by m (tables_in keys ms)))
+
+-- a new table changes no columns
+pub new_alters_none : (keys : List TableKey) (tables : List RawTable) (m : Message) (raw : RawTable) → table_told keys tables m ≡ Some raw → altered_by m tables ≡ tables
+new_alters_none keys tables (says.Relation oid namespace told identity columns) raw is =
+    let entry = entry_of keys (table_named namespace told) columns in
+    let found = told_some tables entry raw (is_watermark entry.name || is_among entry.name tables) refl is in
+    let parts = or_false (is_watermark entry.name) (is_among entry.name tables) found.0 in
+    ap (λ (b : Bool). if b then tables else with_columns (table_named namespace told) columns tables) parts.0 ∙ with_none entry.name columns tables parts.1
+new_alters_none keys tables (says.Begin lsn time xid) raw is = cc
+new_alters_none keys tables (says.Commit flags lsn end_lsn time) raw is = cc
+new_alters_none keys tables (says.Origin lsn told) raw is = cc
+new_alters_none keys tables (says.TypeName oid namespace told) raw is = cc
+new_alters_none keys tables (says.Insert oid row) raw is = cc
+new_alters_none keys tables (says.Update oid before row) raw is = cc
+new_alters_none keys tables (says.Delete oid before) raw is = cc
+new_alters_none keys tables (says.Truncate options oids) raw is = cc
+new_alters_none keys tables (says.Logical flags lsn prefix content) raw is = cc
 
 -- and one that describes one
 pub captured_more : (keys : List TableKey) (m : Message) (ms : List Message) (infos : List TableInfo) (info : TableInfo) (raw : RawTable) → AreCaptured keys ms infos → table_told keys (tables_in keys ms) m ≡ Some raw → catalogue_of info ≡ raw
     → AreCaptured keys (m ∷ ms) (infos ++ info ∷ [])
 captured_more keys m ms infos info raw captured told is =
-    map-append catalogue_of infos (info ∷ []) ∙ ap₂ (λ (a b : List RawTable). a ++ b) captured (ap (λ (r : RawTable). r ∷ []) is) ∙ sym (ap (λ (o : Option RawTable). tables_in keys ms ++ list_of o) told)
+    map-append catalogue_of infos (info ∷ []) ∙ ap₂ (λ (a b : List RawTable). a ++ b) captured (ap (λ (r : RawTable). r ∷ []) is)
+    ∙ sym (ap₂ (λ (t : List RawTable) (o : Option RawTable). t ++ list_of o) (new_alters_none keys (tables_in keys ms) m raw told) told)
 
 not_false : (b : Bool) → not b ≡ true → b ≡ false
 not_false true is = cc
@@ -163,6 +225,12 @@ pub new_has_none : (keys : List TableKey) (ms : List Message) (infos : List Tabl
 new_has_none keys ms infos name test captured is new =
     let parts = or_false _ _ (sym (known_test keys ms infos name [] captured) ∙ not_false _ (sym is ∙ new)) in
     none_told keys name ms parts.0 parts.1
+
+-- the tests of a new table's name
+pub new_parts : (infos : List TableInfo) (name : TableName) (test : Bool)
+    → test ≡ not (is_watermark name || list_any (λ (info : TableInfo). same_name info.name name) infos) → test ≡ true
+    → (is_watermark name ≡ false) × (list_any (λ (info : TableInfo). same_name info.name name) infos ≡ false)
+new_parts infos name test is new = or_false _ _ (not_false _ (sym is ∙ new))
 
 -- ---- infos are determined by their entries
 

@@ -28,14 +28,13 @@ use Rattle.dbl_model_commit.proofs.ChangeFits.{commits_fit}
 use Rattle.dbl_model_commit.proofs.Learning.{commits_learnt, fault_learnt}
 use Rattle.dblog_replay.specs.declared.log_fault.LogFault.{LogFault}
 use Rattle.dblog_replay.specs.declared.options.LogOptions.{LogOptions}
-use Rattle.dblog_replay.specs.Captures.{table_told, tables_in, AreCaptured}
+use Rattle.dblog_replay.specs.Captures.{table_told, altered_by, tables_in, AreCaptured}
 use Rattle.dblog_replay.specs.Pieces.{Piece, Carries, Stops, CarryMessages, AllFitFields}
-use Rattle.dblog_replay.specs.Replay.{HaveNoFault, EndsLog, IsReplayed, CommitsAreWritten, ReplaysAreOne, ReplaysExist}
+use Rattle.dblog_replay.specs.Replay.{HaveNoFault, EndsLog, AreLinesOf, IsReplayed, KeptColumnsStateLines, CommitsAreWritten, ReplaysAreOne, ReplaysExist}
 use Rattle.dblog_replay.specs.Log.{lines_in, log_start, IsTaken, LogWrites}
 use Rattle.dblog_replay.proofs.CaptureLemmas.{infos_one, told_has_none}
 use Rattle.dblog_replay.proofs.ExistLemmas.{log_exists}
 use Rattle.dblog_replay.proofs.LogLemmas.{log_one}
-use Rattle.dblog_replay.proofs.PieceLemmas.{carried_fits}
 
 -- ---- records of earlier commits stay the same where a table is captured later
 
@@ -105,17 +104,16 @@ accepted_learnt infos info (m ∷ ms) none accepted =
     tail_has_none name (says.Logical f l p c) ns h = h
     tail_has_none name (says.Relation given namespace tname identity columns) ns h = h.1
 
--- messages that were read, with what they state so far
-record IsSoFar (options : LogOptions) (now : ℤ) (ms : List Message) (infos : List TableInfo) (lines : List (List ℕ)) : Type 0 where
+-- messages whose tables keep their columns, with what they state so far
+record AreStatedSoFar (options : LogOptions) (now : ℤ) (ms : List Message) (infos : List TableInfo) (lines : List (List ℕ)) : Type 0 where
   pub captured : AreCaptured options.keys ms infos
-  pub clean : HaveNoFault options ms
   pub accepted : AreWithoutFault infos log_start ms
   pub fields : AllByRecursion FitsFields ms
   pub commits : lines ≡ lines_in options.identity infos (commits_of infos ms) now
 
 -- the same where one more table is captured
 so_far_more : (options : LogOptions) (now : ℤ) (ms : List Message) (infos : List TableInfo) (info : TableInfo) (lines : List (List ℕ))
-    → HasNoRelation info.name ms → IsSoFar options now ms infos lines
+    → HasNoRelation info.name ms → AreStatedSoFar options now ms infos lines
     → AreWithoutFault (infos ++ info ∷ []) log_start ms × (lines ≡ lines_in options.identity (infos ++ info ∷ []) (commits_of (infos ++ info ∷ []) ms) now)
 so_far_more options now ms infos info lines none so_far = (
   accepted_learnt infos info ms none so_far.accepted,
@@ -146,95 +144,108 @@ one_more_is (x ∷ xs) (y ∷ ys) raw is =
 
 -- where one more message is read, with the tables captured then
 so_far_then : (options : LogOptions) (now : ℤ) (ms : List Message) (m : Message) (infos more : List TableInfo) (lines : List (List ℕ)) (told : Option RawTable)
-    → table_told options.keys (tables_in options.keys ms) m ≡ told → AreCaptured options.keys (m ∷ ms) more → IsSoFar options now ms infos lines
-    → AreWithoutFault more log_start ms × (lines ≡ lines_in options.identity more (commits_of more ms) now)
-so_far_then options now ms m infos more lines None is captured so_far =
-    let same = infos_one more infos (captured ∙ ap (λ (o : Option RawTable). tables_in options.keys ms ++ list_of o) is ∙ append-nil (tables_in options.keys ms) ∙ sym so_far.captured) in
+    → table_told options.keys (tables_in options.keys ms) m ≡ told → altered_by m (tables_in options.keys ms) ≡ tables_in options.keys ms → AreCaptured options.keys (m ∷ ms) more
+    → AreStatedSoFar options now ms infos lines → AreWithoutFault more log_start ms × (lines ≡ lines_in options.identity more (commits_of more ms) now)
+so_far_then options now ms m infos more lines None is kept captured so_far =
+    let same = infos_one more infos (captured ∙ ap₂ (λ (t : List RawTable) (o : Option RawTable). t ++ list_of o) kept is ∙ append-nil (tables_in options.keys ms) ∙ sym so_far.captured) in
     subst (λ (i : List TableInfo). AreWithoutFault i log_start ms × (lines ≡ lines_in options.identity i (commits_of i ms) now)) (sym same) (so_far.accepted, so_far.commits)
-so_far_then options now ms m infos more lines (Some raw) is captured so_far =
-    let one = one_more_is infos more raw (captured ∙ ap (λ (o : Option RawTable). tables_in options.keys ms ++ list_of o) is ∙ ap (λ (t : List RawTable). t ++ raw ∷ []) (sym so_far.captured)) in
+so_far_then options now ms m infos more lines (Some raw) is kept captured so_far =
+    let one = one_more_is infos more raw (captured ∙ ap₂ (λ (t : List RawTable) (o : Option RawTable). t ++ list_of o) kept is ∙ ap (λ (t : List RawTable). t ++ raw ∷ []) (sym so_far.captured)) in
     let none : HasNoRelation one.info.name ms = subst (λ (r : RawTable). HasNoRelation r.name ms) (sym one.is) (told_has_none options.keys ms m raw is) in
     subst (λ (i : List TableInfo). AreWithoutFault i log_start ms × (lines ≡ lines_in options.identity i (commits_of i ms) now)) (sym one.all_is) (so_far_more options now ms infos one.info lines none so_far)
 
-so_far_next : (options : LogOptions) (now : ℤ) (ms : List Message) (m : Message) (infos more : List TableInfo) (lines : List (List ℕ))
-    → IsTaken options ms m more → FitsFields m → IsSoFar options now ms infos lines
-    → IsSoFar options now (m ∷ ms) more (lines ++ lines_in options.identity more (list_of (ended_commit more m ms)) now)
-so_far_next options now ms m infos more lines taken fits so_far =
-    let then = so_far_then options now ms m infos more lines (table_told options.keys (tables_in options.keys ms) m) refl taken.tables.captured so_far in
+-- messages whose tables keep their columns state their lines
+pub kept_state : KeptColumnsStateLines
+kept_state options now [] lines fields kept have = record { infos = []; captured = refl; accepted = tt; commits = have.1 }
+kept_state options now (m ∷ ms) lines fields kept (((more, taken), clean), (infos, before, captured, below, split)) =
+    let past = kept_state options now ms before fields.1 kept.1 (clean, below) in
+    let then = so_far_then options now ms m past.infos more before (table_told options.keys (tables_in options.keys ms) m) refl kept.0 taken.tables.captured
+    (record { captured = past.captured; accepted = past.accepted; fields = fields.1; commits = past.commits }) in
+    let same : infos ≡ more = infos_one infos more (captured ∙ sym taken.tables.captured) in
     record {
+      infos = more;
       captured = taken.tables.captured;
-      clean = ((more, taken), so_far.clean);
       accepted = (taken.placed, then.0);
-      fields = (fits, so_far.fields);
-      commits = ap (λ (l : List (List ℕ)). l ++ lines_in options.identity more (list_of (ended_commit more m ms)) now) then.1 ∙ sym (lines_more options.identity more (commits_of more ms) (list_of (ended_commit more m ms)) now);
+      commits = split ∙ ap₂ (λ (l : List (List ℕ)) (i : List TableInfo). l ++ lines_in options.identity i (list_of (ended_commit i m ms)) now) then.1 same
+          ∙ sym (lines_more options.identity more (commits_of more ms) (list_of (ended_commit more m ms)) now);
     }
+
+-- ---- the lines so far
+
+record IsSoFar (options : LogOptions) (now : ℤ) (ms : List Message) (lines : List (List ℕ)) : Type 0 where
+  pub clean : HaveNoFault options ms
+  pub commits : AreLinesOf options now ms lines
+
+so_far_next : (options : LogOptions) (now : ℤ) (ms : List Message) (m : Message) (more : List TableInfo) (lines : List (List ℕ))
+    → IsTaken options ms m more → IsSoFar options now ms lines
+    → IsSoFar options now (m ∷ ms) (lines ++ lines_in options.identity more (list_of (ended_commit more m ms)) now)
+so_far_next options now ms m more lines taken so_far =
+    record { clean = ((more, taken), so_far.clean); commits = (more, lines, taken.tables.captured, so_far.commits, refl) }
+
+-- messages have one list of lines
+lines_one : (options : LogOptions) (now : ℤ) (ms : List Message) (a b : List (List ℕ)) → AreLinesOf options now ms a → AreLinesOf options now ms b → a ≡ b
+lines_one options now [] a b one other = one ∙ sym other
+lines_one options now (m ∷ ms) a b (i, below, captured, lines, split) (j, below', captured', lines', split') =
+    split ∙ ap₂ (λ (l : List (List ℕ)) (x : List TableInfo). l ++ lines_in options.identity x (list_of (ended_commit x m ms)) now) (lines_one options now ms below below' lines lines')
+    (infos_one i j (captured ∙ sym captured')) ∙ sym split'
 
 -- what pieces after messages write, with the messages that stand before
 record IsWhole (options : LogOptions) (now : ℤ) (ms : List Message) (pieces : List Piece) (lines : List (List ℕ)) (end : Option LogFault) : Type 0 where
   pub messages : List Message
   pub front : List Piece
   pub rest : List Piece
-  pub infos : List TableInfo
   pub parts : pieces ≡ front ++ rest
   pub carried : CarryMessages front messages
-  pub so_far : IsSoFar options now (onto ms messages) infos lines
+  pub so_far : IsSoFar options now (onto ms messages) lines
   pub ends : EndsLog options (onto ms messages) rest end
 
 -- no message more
-whole_ends : (options : LogOptions) (now : ℤ) (ms : List Message) (infos : List TableInfo) (before : List (List ℕ)) (pieces : List Piece)
+whole_ends : (options : LogOptions) (now : ℤ) (ms : List Message) (before : List (List ℕ)) (pieces : List Piece)
     (lines : List (List ℕ)) (end : Option LogFault)
-    → IsSoFar options now ms infos before → lines ≡ [] → EndsLog options ms pieces end
+    → IsSoFar options now ms before → lines ≡ [] → EndsLog options ms pieces end
     → IsWhole options now ms pieces (before ++ lines) end
-whole_ends options now ms infos before pieces lines end so_far none ends = record {
+whole_ends options now ms before pieces lines end so_far none ends = record {
   messages = [];
   front = [];
   rest = pieces;
-  infos = infos;
   parts = refl;
   carried = tt;
-  so_far = subst (IsSoFar options now ms infos) (sym (ap (λ (l : List (List ℕ)). before ++ l) none ∙ append-nil before)) so_far;
+  so_far = subst (IsSoFar options now ms) (sym (ap (λ (l : List (List ℕ)). before ++ l) none ∙ append-nil before)) so_far;
   ends = ends;
 }
 
-whole_from : (options : LogOptions) (now : ℤ) (ms : List Message) (infos : List TableInfo) (before : List (List ℕ)) (pieces : List Piece)
+whole_from : (options : LogOptions) (now : ℤ) (ms : List Message) (before : List (List ℕ)) (pieces : List Piece)
     (lines : List (List ℕ)) (end : Option LogFault)
-    → IsSoFar options now ms infos before → AllFitFields pieces
-    → LogWrites options now ms pieces lines end → IsWhole options now ms pieces (before ++ lines) end
-whole_from options now ms infos before [] lines end so_far fit writes = whole_ends options now ms infos before [] lines end so_far writes.0 writes.1
-whole_from options now ms infos before (Stops f ∷ pieces) lines end so_far fit writes =
-    whole_ends options now ms infos before (Stops f ∷ pieces) lines end so_far writes.0 writes.1
-whole_from options now ms infos before (Carries number m ∷ pieces) lines end so_far fit (inl stopped) =
-    whole_ends options now ms infos before (Carries number m ∷ pieces) lines end so_far stopped.none (stopped.fault, stopped.is, stopped.told)
-whole_from options now ms infos before (Carries number m ∷ pieces) lines end so_far fit (inr (more, next, taken, split, writes)) =
+    → IsSoFar options now ms before → LogWrites options now ms pieces lines end → IsWhole options now ms pieces (before ++ lines) end
+whole_from options now ms before [] lines end so_far writes = whole_ends options now ms before [] lines end so_far writes.0 writes.1
+whole_from options now ms before (Stops f ∷ pieces) lines end so_far writes =
+    whole_ends options now ms before (Stops f ∷ pieces) lines end so_far writes.0 writes.1
+whole_from options now ms before (Carries number m ∷ pieces) lines end so_far (inl stopped) =
+    whole_ends options now ms before (Carries number m ∷ pieces) lines end so_far stopped.none (stopped.fault, stopped.is, stopped.told)
+whole_from options now ms before (Carries number m ∷ pieces) lines end so_far (inr (more, next, taken, split, writes)) =
     let printed = lines_in options.identity more (list_of (ended_commit more m ms)) now in
-    let later = whole_from options now (m ∷ ms) more (before ++ printed) pieces next end
-    (so_far_next options now ms m infos more before taken fit.0 so_far) fit.1 writes in
+    let later = whole_from options now (m ∷ ms) (before ++ printed) pieces next end (so_far_next options now ms m more before taken so_far) writes in
     record {
       messages = m ∷ later.messages;
       front = Carries number m ∷ later.front;
       rest = later.rest;
-      infos = later.infos;
       parts = ap (λ (l : List Piece). Carries number m ∷ l) later.parts;
       carried = ((number, refl), later.carried);
-      so_far = subst (IsSoFar options now (onto (m ∷ ms) later.messages) later.infos) (append_assoc before printed next ∙ ap (λ (l : List (List ℕ)). before ++ l) (sym split)) later.so_far;
+      so_far = subst (IsSoFar options now (onto (m ∷ ms) later.messages)) (append_assoc before printed next ∙ ap (λ (l : List (List ℕ)). before ++ l) (sym split)) later.so_far;
       ends = later.ends;
     }
 
 pub commits_written : (options : LogOptions) (now : ℤ) (pieces : List Piece) (lines : List (List ℕ)) (end : Option LogFault) → AllFitFields pieces
     → LogWrites options now [] pieces lines end → IsReplayed options now pieces lines end
 commits_written options now pieces lines end fit writes =
-    let whole = whole_from options now [] [] [] pieces lines end
-    (record { captured = refl; clean = tt; accepted = tt; fields = tt; commits = refl }) fit writes in
+    let whole = whole_from options now [] [] pieces lines end (record { clean = tt; commits = refl }) writes in
     record {
       messages = whole.messages;
       front = whole.front;
       rest = whole.rest;
-      infos = whole.infos;
       parts = whole.parts;
       carried = whole.carried;
-      captured = whole.so_far.captured;
       clean = whole.so_far.clean;
-      accepted = whole.so_far.accepted;
       commits = whole.so_far.commits;
       ends = whole.ends;
     }
@@ -250,15 +261,14 @@ clean_before options ms (m ∷ messages) clean = (clean_before options (m ∷ ms
 record IsWalked (options : LogOptions) (now : ℤ) (ms messages : List Message) (pieces : List Piece) (before : List (List ℕ)) (end : Option LogFault)
     : Type 0 where
   pub lines : List (List ℕ)
-  pub infos : List TableInfo
   pub writes : LogWrites options now ms pieces lines end
-  pub so_far : IsSoFar options now (onto ms messages) infos (before ++ lines)
+  pub so_far : IsSoFar options now (onto ms messages) (before ++ lines)
 
-walked_end : (options : LogOptions) (now : ℤ) (ms : List Message) (infos : List TableInfo) (rest : List Piece) (before : List (List ℕ)) (end : Option LogFault)
-    → LogWrites options now ms rest [] end → IsSoFar options now ms infos before
+walked_end : (options : LogOptions) (now : ℤ) (ms : List Message) (rest : List Piece) (before : List (List ℕ)) (end : Option LogFault)
+    → LogWrites options now ms rest [] end → IsSoFar options now ms before
     → IsWalked options now ms [] rest before end
-walked_end options now ms infos rest before end writes so_far =
-    record { lines = []; infos = infos; writes = writes; so_far = subst (IsSoFar options now ms infos) (sym (append-nil before)) so_far }
+walked_end options now ms rest before end writes so_far =
+    record { lines = []; writes = writes; so_far = subst (IsSoFar options now ms) (sym (append-nil before)) so_far }
 
 ends_write : (options : LogOptions) (now : ℤ) (ms : List Message) (rest : List Piece) (end : Option LogFault) → EndsLog options ms rest end
     → LogWrites options now ms rest [] end
@@ -266,36 +276,32 @@ ends_write options now ms [] end ends = (refl, ends)
 ends_write options now ms (Stops f ∷ rest) end ends = (refl, ends)
 ends_write options now ms (Carries number m ∷ rest) end ends = inl (record { fault = ends.0; is = ends.1; none = refl; told = ends.2 })
 
-walked : (options : LogOptions) (now : ℤ) (ms messages : List Message) (infos : List TableInfo) (front rest : List Piece) (before : List (List ℕ))
+walked : (options : LogOptions) (now : ℤ) (ms messages : List Message) (front rest : List Piece) (before : List (List ℕ))
     (end : Option LogFault)
     → CarryMessages front messages → HaveNoFault options (onto ms messages)
-    → EndsLog options (onto ms messages) rest end → AllFitFields (front ++ rest) → IsSoFar options now ms infos before
+    → EndsLog options (onto ms messages) rest end → IsSoFar options now ms before
     → IsWalked options now ms messages (front ++ rest) before end
-walked options now ms [] infos [] rest before end carried clean ends fit so_far =
-    walked_end options now ms infos rest before end (ends_write options now ms rest end ends) so_far
-walked options now ms [] infos (p ∷ front) rest before end carried clean ends fit so_far = absurd carried
-walked options now ms (m ∷ messages) infos [] rest before end carried clean ends fit so_far = absurd carried
-walked options now ms (m ∷ messages) infos (p ∷ front) rest before end carried clean ends fit so_far =
+walked options now ms [] [] rest before end carried clean ends so_far =
+    walked_end options now ms rest before end (ends_write options now ms rest end ends) so_far
+walked options now ms [] (p ∷ front) rest before end carried clean ends so_far = absurd carried
+walked options now ms (m ∷ messages) [] rest before end carried clean ends so_far = absurd carried
+walked options now ms (m ∷ messages) (p ∷ front) rest before end carried clean ends so_far =
     let here = (clean_before options (m ∷ ms) messages clean).0 in
-    let fits = carried_fits p carried.0.0 m (front ++ rest) carried.0.1 fit in
     let printed = lines_in options.identity here.0 (list_of (ended_commit here.0 m ms)) now in
-    let later = walked options now (m ∷ ms) messages here.0 front rest (before ++ printed) end carried.1 clean ends fits.1
-    (so_far_next options now ms m infos here.0 before here.1 fits.0 so_far) in
+    let later = walked options now (m ∷ ms) messages front rest (before ++ printed) end carried.1 clean ends
+    (so_far_next options now ms m here.0 before here.1 so_far) in
     record {
       lines = printed ++ later.lines;
-      infos = later.infos;
       writes = subst (λ (x : Piece). LogWrites options now ms (x ∷ (front ++ rest)) (printed ++ later.lines) end) (sym carried.0.1)
           (inr (here.0, later.lines, here.1, refl, later.writes));
-      so_far = subst (IsSoFar options now (onto (m ∷ ms) messages) later.infos) (append_assoc before printed later.lines) later.so_far;
+      so_far = subst (IsSoFar options now (onto (m ∷ ms) messages)) (append_assoc before printed later.lines) later.so_far;
     }
 
 pub replayed_written : (options : LogOptions) (now : ℤ) (pieces : List Piece) (lines : List (List ℕ)) (end : Option LogFault) → AllFitFields pieces
     → IsReplayed options now pieces lines end → LogWrites options now [] pieces lines end
 replayed_written options now pieces lines end fit is =
-    let walk = walked options now [] is.messages [] is.front is.rest [] end is.carried is.clean is.ends (subst AllFitFields is.parts fit)
-    (record { captured = refl; clean = tt; accepted = tt; fields = tt; commits = refl }) in
-    let same = infos_one walk.infos is.infos (walk.so_far.captured ∙ sym is.captured) in
-    let lines_are : walk.lines ≡ lines = walk.so_far.commits ∙ ap (λ (i : List TableInfo). lines_in options.identity i (commits_of i (onto [] is.messages)) now) same ∙ sym is.commits in
+    let walk = walked options now [] is.messages is.front is.rest [] end is.carried is.clean is.ends (record { clean = tt; commits = refl }) in
+    let lines_are = lines_one options now (onto [] is.messages) walk.lines lines walk.so_far.commits is.commits in
     subst (λ (l : List Piece). LogWrites options now [] l lines end) (sym is.parts)
     (subst (λ (l : List (List ℕ)). LogWrites options now [] (is.front ++ is.rest) l end) lines_are walk.writes)
 

@@ -1,6 +1,6 @@
 -- The messages that were taken, one by one, and what their bytes write.
-use Rattle.std.proofs.Common.{◌≡◌, ◌≢◌, ◌⊎◌, inl, inr, ◌∙◌, ℕ, ℤ, ◌+◌, Option, Some, None, Result, Ok, Err, OnOk, IfOk, IfErr, List, [], ◌∷◌, ◌++◌, length, refl, sym, ap, ap₂, subst, append_assoc, append-nil, arith}
-use Rattle.std.specs.Prelude.{option_map, is_some, Bool, true, false, not, ◌||◌}
+use Rattle.std.proofs.Common.{◌≡◌, ◌≢◌, ◌⊎◌, inl, inr, ◌∙◌, ℕ, zero, suc, ℤ, ◌+◌, Option, Some, None, Result, Ok, Err, OnOk, IfOk, IfErr, List, [], ◌∷◌, ◌++◌, length, refl, sym, ap, ap₂, subst, append_assoc, append-nil, arith}
+use Rattle.std.specs.Prelude.{option_map, is_some, Bool, true, false, not, ◌||◌, if◌then◌else◌, Vec, slice_get, slice_set, get_or}
 use Rattle.std.specs.Option.{option_and_then}
 use Rattle.std.specs.List.{AllByRecursion, list_any}
 use Rattle.dbl_lines.specs.declared.error.PrintError.{PrintError}
@@ -17,26 +17,34 @@ use Rattle.dbl_model_table.specs.declared.table.TableInfo.{TableInfo}
 use Rattle.dbl_model_table.specs.declared.table.TableKey.{TableKey}
 use Rattle.dbl_model_table.specs.declared.table.TableName.{TableName}
 use Rattle.dbl_model_table.specs.Tables.{same_name, is_watermark}
-use Rattle.dbl_model_table.specs.Infos.{IsInfoOf}
+use Rattle.dbl_model_table.specs.Infos.{IsInfoOf, number_of}
 use Rattle.dbl_model_table.specs.declared.change.Commit.{Commit}
 use Rattle.dbl_model_commit.specs.declared.txn_error.TxnError.{TxnError}
 use Rattle.dbl_model_commit.specs.Past.{begin_of, table_named, schema_of, HasNoRelation}
-use Rattle.dbl_model_commit.specs.Stated.{list_of, ended_commit, transaction_fault}
+use Rattle.dbl_model_commit.specs.declared.message_parts.Target.{Target}
+use Rattle.dbl_model_commit.specs.declared.message_parts.Target.TheVariants.{Watermark, Passed}
+use Rattle.dbl_model_commit.specs.Stated.{captured_at, target, same_columns, list_of, ended_commit, transaction_fault}
+use Rattle.dbl_model_commit.specs.Pieces.{changes_so_far}
+use Rattle.dbl_model_commit.specs.Shapes.{entry_in, has_other_oid, changes_table, target_refused}
 use Rattle.dblog_replay.specs.declared.log_fault.LogFault.{LogFault}
 use Rattle.dblog_replay.specs.declared.log_fault.LogFault.TheVariants as log
 use Rattle.dblog_replay.specs.declared.options.LogOptions.{LogOptions}
 use Rattle.dbl_hooks_masks.specs.declared.masking.Masking.{Masking}
 use Rattle.dblog_replay.specs.declared.masking.MaskingReplayer.{MaskingReplayer}
 use Rattle.dblog_replay.specs.declared.replay.Replayer.{Replayer}
-use Rattle.dblog_replay.specs.Captures.{entry_of, capture_fault, tables_in, told_fault}
+use Rattle.dblog_replay.specs.declared.altering.TableOids.{TableOids}
+use Rattle.dblog_replay.specs.Captures.{or_else, entry_of, capture_fault, tables_in, told_fault}
+use Rattle.dblog_replay.specs.Altered.{remasking_fault, altered_fault, shape_cause, other_at, with_oid_of, KnowsOids}
 use Rattle.dblog_replay.specs.Pieces.{Piece, Carries, Stops, IsPiece, AreRead}
 use Rattle.dblog_replay.specs.Log.{log_start, lines_in, commit_fault, HasTables, records_fault, IsLogFault, no_table, no_place, no_records, IsTaken, end_fault}
 use Rattle.dblog_replay.specs.Log.{LogWrites}
-use Rattle.dblog_replay.specs.Following.{HasReplayed, FollowsMessages, FollowsMasked, IsReplaying, IsReplayerReady, AppendsMessage, IsNextMessage, IsNextMasked}
+use Rattle.dblog_replay.specs.Following.{HasReplayed, FollowsMessages, FollowsMasked, IsReplaying, IsToldBefore, IsTableFault, IsReplayerReady, AppendsMessage, IsNextMessage, IsNextMasked}
 use Rattle.dblog_replay.specs.Following.{TakesMessage, TakesMasked}
 use Rattle.dblog_replay.specs.Masked.{masked_with, all_masked, masked_pieces, AreMapped}
 use Rattle.dblog_replay.specs.LogPrinting.{masked_lines, IsTakenMasked, starved, cut, PutsCommit, IsStepped, step_starved, step_cut, StopsAt, StepsPrinting, StepsReading, IsLogPut}
-use Rattle.dblog_replay.proofs.CaptureLemmas.{count_is, captured_still, captured_more, is_known, is_new, new_has_none}
+use Rattle.dblog_replay.proofs.CaptureLemmas.{count_is, captured_still, captured_more, is_known, is_new, new_has_none, new_parts}
+use Rattle.dblog_replay.proofs.AlterLemmas.{IsNoRelation, other_tables, mark_tables, passed_tables, shape_fails, same_tables, unchanged, shaped_tables, shape_name}
+use Rattle.dblog_replay.proofs.OidLemmas.{IsNumbered, numbered, none_numbered, oids_passed, oids_learnt, oids_seen, oids_reshaped, Finds, finds}
 use Rattle.dblog_replay.proofs.LogLemmas.{goes}
 use Rattle.dblog_replay.proofs.PieceLemmas.{next_piece}
 
@@ -62,67 +70,198 @@ pub given_entry : (options : LogOptions) (ms : List Message) (r : Replayer) → 
     → entry ≡ entry_of keys table columns → entry ≡ entry_of options.keys table columns
 given_entry options ms r follows keys table columns entry same is = is ∙ ap (λ (k : List TableKey). entry_of k table columns) (same ∙ follows.replayed.keys)
 
-module _ (options : LogOptions) (ms : List Message) (r : Replayer) (oid identity : ℕ) (ns nm s n : List ℕ) (columns : List RelationColumn)
+module _ (options : LogOptions) (ms : List Message) (r : Replayer) (number oid identity : ℕ) (ns nm s n : List ℕ) (columns : List RelationColumn)
     (items : List TableInfo) (test : Bool) (follows : FollowsMessages options ms r)
     (schema : s ≡ schema_of ns) (name : n ≡ nm) (same : items ≡ follows.infos)
     (is : test ≡ not (is_watermark (record { schema = s; name = n }) || list_any (λ (info : TableInfo). same_name info.name (record { schema = s; name = n })) items)) where
+  abbrev here : TableName
+  here = table_named ns nm
+
+  abbrev told_now : Message
+  told_now = says.Relation oid ns nm identity columns
+
+  here_is : test ≡ not (is_watermark here || list_any (λ (info : TableInfo). same_name info.name here) follows.infos)
+  here_is = test_is s n ns nm items follows.infos test schema name same is
+
   -- the mask that is stored
   given_fault : (count : ℕ) (entry : RawTable) → capture_fault options.mask count entry ≡ capture_fault r.mask count entry
   given_fault count entry = ap (λ (mask : Option Masking). capture_fault mask count entry) (sym follows.replayed.mask)
 
-  -- the table is captured already
-  pub learn_known : test ≡ false → IsReplayerReady options ms (says.Relation oid ns nm identity columns) r
-  learn_known known =
-      let none = is_known options.keys ms follows.infos (table_named ns nm) columns test follows.captured (test_is s n ns nm items follows.infos test schema name same is) known in
-      record {
-        infos = follows.infos;
-        replayed = follows.replayed;
-        tables = record {
-          capturable = ap (option_and_then (capture_fault options.mask (length (tables_in options.keys ms)))) none;
-          captured = captured_still options.keys (says.Relation oid ns nm identity columns) ms follows.infos follows.captured none;
-        };
-      }
+  -- the table was described before
+  pub told_before : test ≡ false → IsToldBefore options ms ns nm columns
+  told_before known = is_known options.keys ms follows.infos here columns test follows.captured here_is known
 
   -- it can't be captured
   pub learn_fails : (entry : RawTable) (count : ℕ) (e : LogFault) → test ≡ true → entry ≡ entry_of options.keys (record { schema = s; name = n }) columns → count ≡ length items
-      → (e ≡ log.Memory) ⊎ (capture_fault r.mask count entry ≡ Some e) → (e ≡ log.Memory) ⊎ (told_fault options (tables_in options.keys ms) (says.Relation oid ns nm identity columns) ≡ Some e)
+      → (e ≡ log.Memory) ⊎ (capture_fault r.mask count entry ≡ Some e) → (e ≡ log.Memory) ⊎ IsTableFault options ms number told_now e
   learn_fails entry count e new entry_told counted (inl memory) = inl memory
   learn_fails entry count e new entry_told counted (inr fault) =
-      let told = is_new options.keys ms follows.infos (table_named ns nm) columns test follows.captured (test_is s n ns nm items follows.infos test schema name same is) new in
+      let told = is_new options.keys ms follows.infos here columns test follows.captured here_is new in
       let count_told : count ≡ length (tables_in options.keys ms) = counted ∙ ap length same ∙ count_is options.keys ms follows.infos follows.captured in
-      inr (ap (option_and_then (capture_fault options.mask (length (tables_in options.keys ms)))) told ∙ ap₂ (capture_fault options.mask) (sym count_told) (sym (entry_is options.keys s n ns nm columns entry schema name entry_told)) ∙ given_fault count entry ∙ fault)
+      let found : told_fault options (tables_in options.keys ms) told_now ≡ Some e =
+      ap (option_and_then (capture_fault options.mask (length (tables_in options.keys ms)))) told ∙ ap₂ (capture_fault options.mask) (sym count_told) (sym (entry_is options.keys s n ns nm columns entry schema name entry_told)) ∙ given_fault count entry ∙ fault in
+      inr (follows.infos, follows.captured, ap (λ (o : Option LogFault). or_else o (altered_fault options.mask follows.infos number told_now ms)) found)
 
   -- no Relation of it was taken
   pub learn_none : (entry : RawTable) (info : TableInfo) → test ≡ true → entry ≡ entry_of options.keys (record { schema = s; name = n }) columns → IsInfoOf entry info → HasNoRelation info.name ms
   learn_none entry info new entry_told info_told =
-      let none = new_has_none options.keys ms follows.infos (table_named ns nm) test follows.captured (test_is s n ns nm items follows.infos test schema name same is) new in
+      let none = new_has_none options.keys ms follows.infos here test follows.captured here_is new in
       subst (λ (t : RawTable). HasNoRelation t.name ms) (sym (info_told ∙ ap (λ (r : RawTable). record r { version = 1 }) (entry_is options.keys s n ns nm columns entry schema name entry_told))) none
 
   -- and it is captured now
   pub learn_more : (entry : RawTable) (count : ℕ) (info : TableInfo) (t : Replayer) → test ≡ true → entry ≡ entry_of options.keys (record { schema = s; name = n }) columns → count ≡ length items → IsInfoOf entry info
-      → capture_fault r.mask count entry ≡ None → HasReplayed options (follows.infos ++ info ∷ []) ms t → IsReplayerReady options ms (says.Relation oid ns nm identity columns) t
-  learn_more entry count info t new entry_told counted info_told clean replayed =
-      let told = is_new options.keys ms follows.infos (table_named ns nm) columns test follows.captured (test_is s n ns nm items follows.infos test schema name same is) new in
+      → capture_fault r.mask count entry ≡ None → HasReplayed options (follows.infos ++ info ∷ []) ms t
+      → t.oids.items ≡ r.oids.items ++ record { first = oid; several = false } ∷ [] → IsReplayerReady options ms told_now t
+  learn_more entry count info t new entry_told counted info_told clean replayed pushed =
+      let told = is_new options.keys ms follows.infos here columns test follows.captured here_is new in
+      let parts = new_parts follows.infos here test here_is new in
+      let fresh = none_numbered follows.infos here parts.1 in
+      let none = new_has_none options.keys ms follows.infos here test follows.captured here_is new in
       let entry_same = entry_is options.keys s n ns nm columns entry schema name entry_told in
       let count_told : count ≡ length (tables_in options.keys ms) = counted ∙ ap length same ∙ count_is options.keys ms follows.infos follows.captured in
+      let capturable : told_fault options (tables_in options.keys ms) told_now ≡ None =
+      ap (option_and_then (capture_fault options.mask (length (tables_in options.keys ms)))) told ∙ ap₂ (capture_fault options.mask) (sym count_told) (sym entry_same) ∙ given_fault count entry ∙ clean in
+      let passed : target follows.infos here ≡ Passed = ap₂ (λ (b : Bool) (o : Option ℕ). if b then Watermark else captured_at o) parts.0 fresh in
       record {
         infos = follows.infos ++ info ∷ [];
         replayed = replayed;
         tables = record {
-          capturable = ap (option_and_then (capture_fault options.mask (length (tables_in options.keys ms)))) told ∙ ap₂ (capture_fault options.mask) (sym count_told)
-              (sym entry_same) ∙ given_fault count entry ∙ clean;
-          captured = captured_more options.keys (says.Relation oid ns nm identity columns) ms follows.infos info
-              (entry_of options.keys (table_named ns nm) columns) follows.captured told (info_told ∙ ap (λ (r : RawTable). record r { version = 1 }) entry_same);
+          before = follows.infos;
+          known = follows.captured;
+          readable = λ k. ap₂ or_else capturable
+              (ap (λ (x : Target). or_else (option_map (log.Transaction k) (target_refused follows.infos oid columns ms x)) (remasking_fault options.mask follows.infos columns x)) passed);
+          captured = captured_more options.keys told_now ms follows.infos info
+              (entry_of options.keys here columns) follows.captured told (info_told ∙ ap (λ (r : RawTable). record r { version = 1 }) entry_same);
         };
+        oids = subst (λ (l : List TableOids). KnowsOids (follows.infos ++ info ∷ []) (told_now ∷ ms) l) (sym pushed)
+            (oids_learnt follows.infos ms r.oids.items oid ns nm identity columns follows.oids info
+            (ap (λ (t : RawTable). t.name) (info_told ∙ ap (λ (r : RawTable). record r { version = 1 }) entry_same)) none fresh);
+      }
+
+-- ---- the table of a Relation that was described before
+
+got : {X : Type 0} (xs : List X) (k : ℕ) (x y : X) → slice_get xs k ≡ Some x → y ≡ get_or xs k y → y ≡ x
+got [] k x y at is = cc
+got (z ∷ xs) zero x y at is = let e : z ≡ x = cc in is ∙ e
+got (z ∷ xs) (suc k) x y at is = got xs k x y at is
+
+module _ (options : LogOptions) (ms : List Message) (r : Replayer) (number given identity : ℕ) (ns nm s : List ℕ) (columns : List RelationColumn) (follows : FollowsMessages options ms r)
+    (schema : s ≡ schema_of ns) (told : IsToldBefore options ms ns nm columns) where
+  abbrev again : Message
+  again = says.Relation given ns nm identity columns
+
+  named_is : name_of s nm ≡ table_named ns nm
+  named_is = ap (λ (l : List ℕ). name_of l nm) schema
+
+  -- the table of the watermarks
+  pub altered_mark : (test : Bool) → test ≡ is_watermark (name_of s nm) → test ≡ true → IsReplayerReady options ms again r
+  altered_mark test is mark =
+      let marked : is_watermark (table_named ns nm) ≡ true = ap is_watermark (sym named_is) ∙ sym is ∙ mark in
+      record {
+        infos = follows.infos;
+        replayed = follows.replayed;
+        tables = mark_tables options ms given identity ns nm columns follows.infos follows.captured told marked;
+        oids = oids_passed follows.infos ms r.oids.items given ns nm identity columns follows.oids (inl marked);
+      }
+
+  module _ (test : Bool) (is : test ≡ is_watermark (name_of s nm)) (other_table : test ≡ false) (items : List TableInfo) (same : items ≡ follows.infos)
+      (found : Option ℕ) (found_is : found ≡ number_of items (name_of s nm)) where
+    no_mark : is_watermark (table_named ns nm) ≡ false
+    no_mark = ap is_watermark (sym named_is) ∙ sym is ∙ other_table
+
+    number_is : number_of follows.infos (table_named ns nm) ≡ found
+    number_is = sym (found_is ∙ ap₂ number_of same named_is)
+
+    -- a table that isn't captured
+    pub altered_passed : found ≡ None → IsReplayerReady options ms again r
+    altered_passed none = record {
+      infos = follows.infos;
+      replayed = follows.replayed;
+      tables = passed_tables options ms given identity ns nm columns follows.infos follows.captured told no_mark (number_is ∙ none);
+      oids = oids_passed follows.infos ms r.oids.items given ns nm identity columns follows.oids (inr (number_is ∙ none));
+    }
+
+    -- a captured table
+    module _ (place : ℕ) (at : found ≡ Some place) (list : List TableOids) (seen : list ≡ with_oid_of place given r.oids.items (slice_get r.oids.items place))
+        (other : Bool) (other_is : other ≡ other_at r.oids.items place given) (changed : Bool) (changed_is : changed ≡ changes_table place (changes_so_far follows.infos ms))
+        (info : TableInfo) (info_is : info ≡ get_or items place info) where
+      own : IsNumbered follows.infos (table_named ns nm) place
+      own = numbered follows.infos (table_named ns nm) place (number_is ∙ at)
+
+      there : slice_get follows.infos place ≡ Some info
+      there =
+          let is_own : info ≡ own.info = got follows.infos place own.info info own.at (info_is ∙ ap (λ (l : List TableInfo). get_or l place info) same) in
+          own.at ∙ ap (λ (x : TableInfo). Some x) (sym is_own)
+
+      info_name : info.name ≡ table_named ns nm
+      info_name =
+          let is_own : info ≡ own.info = got follows.infos place own.info info own.at (info_is ∙ ap (λ (l : List TableInfo). get_or l place info) same) in
+          ap (λ (x : TableInfo). x.name) is_own ∙ own.name_is
+
+      oids_found : Finds follows.infos ms r.oids.items (table_named ns nm) place given
+      oids_found = finds follows.infos ms r.oids.items (table_named ns nm) place given follows.oids no_mark (number_is ∙ at)
+
+      refused_is : (changed || other) ≡ (changes_table place (changes_so_far follows.infos ms) || has_other_oid given info.name ms)
+      refused_is = ap₂ (λ (a b : Bool). a || b) changed_is (other_is ∙ oids_found.other ∙ ap (λ (n : TableName). has_other_oid given n ms) (sym info_name))
+
+      knows_now : KnowsOids follows.infos (again ∷ ms) list
+      knows_now = subst (KnowsOids follows.infos (again ∷ ms)) (sym (seen ∙ oids_found.seen))
+          (oids_seen follows.infos ms r.oids.items given ns nm identity columns follows.oids place oids_found.oids (number_is ∙ at) oids_found.there oids_found.is)
+
+      cause_here : (n : ℕ) → shape_cause r.mask n (changed || other) info columns ≡ shape_cause options.mask n (changed || other) info columns
+      cause_here n = ap (λ (mask : Option Masking). shape_cause mask n (changed || other) info columns) follows.replayed.mask
+
+      pub altered_fails : (e : LogFault) → (e ≡ log.Memory) ⊎ (shape_cause r.mask number (changed || other) info columns ≡ Some e) → (e ≡ log.Memory) ⊎ IsTableFault options ms number again e
+      altered_fails e (inl memory) = inl memory
+      altered_fails e (inr cause) =
+          shape_fails options ms given identity ns nm columns follows.infos follows.captured told place no_mark (number_is ∙ at) info there (changed || other) refused_is number e
+          (inr (sym (cause_here number) ∙ cause))
+
+      pub altered_same : (t : Replayer) → same_columns info.columns columns ≡ true → HasReplayed options follows.infos ms t → t.oids.items ≡ list → IsReplayerReady options ms again t
+      altered_same t same_are replayed oids = record {
+        infos = follows.infos;
+        replayed = replayed;
+        tables = same_tables options ms given identity ns nm columns follows.infos follows.captured told place no_mark (number_is ∙ at) info there (changed || other) refused_is same_are;
+        oids = subst (KnowsOids follows.infos (again ∷ ms)) (sym oids) knows_now;
+      }
+
+      pub altered_there : slice_get follows.infos place ≡ Some info
+      altered_there = there
+
+      pub altered_unchanged : same_columns info.columns columns ≡ false → shape_cause r.mask number (changed || other) info columns ≡ None → changes_table place (changes_so_far follows.infos ms) ≡ false
+      altered_unchanged new none =
+          unchanged options ms given identity ns nm columns follows.infos follows.captured told place no_mark (number_is ∙ at) info there (changed || other) refused_is number new
+          (sym (cause_here number) ∙ none)
+
+      pub altered_shaped : (shape : TableInfo) (t : Replayer) → IsInfoOf (entry_in info columns) shape → shape_cause r.mask number (changed || other) info columns ≡ None
+          → HasReplayed options (slice_set follows.infos place shape) ms t → t.oids.items ≡ list → IsReplayerReady options ms again t
+      altered_shaped shape t made none replayed oids = record {
+        infos = slice_set follows.infos place shape;
+        replayed = replayed;
+        tables = shaped_tables options ms given identity ns nm columns follows.infos follows.captured told place no_mark (number_is ∙ at) info there (changed || other) refused_is number shape made
+            (sym (cause_here number) ∙ none);
+        oids = subst (KnowsOids (slice_set follows.infos place shape) (again ∷ ms)) (sym oids)
+            (oids_reshaped follows.infos (again ∷ ms) list place info shape there (shape_name info shape columns made) knows_now);
       }
 
 -- ---- one message
 
-pub prepare_fails : (options : LogOptions) (ms : List Message) (number : ℕ) (m : Message) (fault : LogFault) → (fault ≡ log.Memory)
-    ⊎ (told_fault options (tables_in options.keys ms) m ≡ Some fault)
+pub prepare_fails : (options : LogOptions) (ms : List Message) (number : ℕ) (m : Message) (fault : LogFault) → (fault ≡ log.Memory) ⊎ IsTableFault options ms number m fault
     → (fault ≡ log.Memory) ⊎ IsLogFault options ms number m fault
 prepare_fails options ms number m fault (inl memory) = inl memory
-prepare_fails options ms number m fault (inr told) = inr (no_table told)
+prepare_fails options ms number m fault (inr told) = inr (no_table told.0 told.1 told.2)
+
+-- a message that is no Relation
+pub other_ready : (options : LogOptions) (ms : List Message) (m : Message) (r : Replayer) → IsNoRelation m → FollowsMessages options ms r → IsReplayerReady options ms m r
+other_ready options ms m r none follows = record {
+  infos = follows.infos;
+  replayed = follows.replayed;
+  tables = other_tables options ms m follows.infos none follows.captured;
+  oids = record {
+    long = follows.oids.long;
+    each = λ name place no_mark at. let was = follows.oids.each name place no_mark at in (was.0, (was.1, λ oid. none.oids oid name ms ∙ was.2 oid));
+  };
+}
 
 no_fault_found : (number : ℕ) (fault : LogFault) → option_map (log.Transaction number) None ≡ Some fault → ⊥
 no_fault_found number fault told = cc
@@ -145,17 +284,18 @@ put_fails options ms number m r fault ready (inr told) = inr (misplaced options 
 
 pub put_takes : (options : LogOptions) (ms : List Message) (number : ℕ) (m : Message) (r s : Replayer) (result : Result (Option Commit) LogFault)
     (ready : IsReplayerReady options ms m r)
-    → FitsFields m → AllByRecursion FitsFields ms
+    → FitsFields m → AllByRecursion FitsFields ms → s.oids ≡ r.oids
     → AppendsMessage options ready.infos ms number m s result → TakesMessage options ms number m s result
-put_takes options ms number m r s (Ok o) ready fits fields put = record {
+put_takes options ms number m r s (Ok o) ready fits fields same put = record {
   infos = ready.infos;
   tables = ready.tables;
   placed = put.placed;
   commit = put.commit;
   replayed = put.replayed;
+  oids = subst (λ (v : Vec TableOids). KnowsOids ready.infos (m ∷ ms) v.items) (sym same) ready.oids;
   fields = (fits, fields);
 }
-put_takes options ms number m r s (Err fault) ready fits fields put = put_fails options ms number m r fault ready put
+put_takes options ms number m r s (Err fault) ready fits fields same put = put_fails options ms number m r fault ready put
 
 -- and so does a masked message
 pub masked_takes : (options : LogOptions) (ms : List Message) (number : ℕ) (m shown : Message) (r : MaskingReplayer)
@@ -192,7 +332,7 @@ next_taken options ms m r o is none = record { tables = is.tables; placed = is.p
 
 next_follows : (options : LogOptions) (ms : List Message) (m : Message) (r : Replayer) (o : Option Commit) (is : IsNextMessage options ms m r o)
     → FollowsMessages options (m ∷ ms) r
-next_follows options ms m r o is = record { infos = is.infos; replayed = is.replayed; captured = is.tables.captured; fields = is.fields }
+next_follows options ms m r o is = record { infos = is.infos; replayed = is.replayed; captured = is.tables.captured; oids = is.oids; fields = is.fields }
 
 -- what became of the commit is what became of the message
 pub steps : (options : LogOptions) (now : ℤ) (ms : List Message) (number : ℕ) (m : Message) (gathered later : List ℕ) (r : MaskingReplayer) (o : Option Commit)

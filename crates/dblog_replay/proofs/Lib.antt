@@ -1,3 +1,4 @@
+pub mod AlterLemmas
 pub mod ApplyLemmas
 pub mod CaptureLemmas
 pub mod CommitLaws
@@ -8,6 +9,7 @@ pub mod FollowLemmas
 pub mod LineLemmas
 pub mod LogLemmas
 pub mod MaskedLemmas
+pub mod OidLemmas
 pub mod PieceLemmas
 pub mod PrintLemmas
 pub mod SuitLemmas

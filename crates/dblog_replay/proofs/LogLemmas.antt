@@ -6,7 +6,8 @@ use Rattle.dbl_model_commit.specs.Stated.{list_of, ended_commit, transaction_fau
 use Rattle.dblog_replay.specs.declared.log_fault.LogFault.{LogFault}
 use Rattle.dblog_replay.specs.declared.options.LogOptions.{LogOptions}
 use Rattle.dblog_replay.specs.declared.log_fault.LogFault.TheVariants as log
-use Rattle.dblog_replay.specs.Captures.{tables_in, told_fault}
+use Rattle.dblog_replay.specs.Captures.{AreCaptured}
+use Rattle.dblog_replay.specs.Altered.{table_fault_of}
 use Rattle.dblog_replay.specs.Pieces.{Piece, Carries, Stops}
 use Rattle.dblog_replay.specs.Log.{lines_in, log_start, HasTables, records_fault, IsLogFault, no_table, no_place, no_records, IsTaken, LogWrites}
 use Rattle.dblog_replay.proofs.CaptureLemmas.{infos_one}
@@ -29,11 +30,18 @@ records_same : (options : LogOptions) (ms : List Message) (m : Message) (i j : L
     → records_fault options.identity i m ms ≡ records_fault options.identity j m ms
 records_same options ms m i j one two = ap (λ (infos : List TableInfo). records_fault options.identity infos m ms) (tables_one options ms m i j one two)
 
+-- the table of a message that has tables has no error
+readable_none : (options : LogOptions) (ms : List Message) (number : ℕ) (m : Message) (i before : List TableInfo) (fault : LogFault) → HasTables options ms m i
+    → AreCaptured options.keys ms before → table_fault_of options before number m ms ≡ Some fault → ⊥
+readable_none options ms number m i before fault tables known told =
+    none_some (table_fault_of options before number m ms) fault
+    (ap (λ (infos : List TableInfo). table_fault_of options infos number m ms) (infos_one before tables.before (known ∙ sym tables.known)) ∙ tables.readable number) told
+
 -- a message without an error has none
 pub taken_has_none : (options : LogOptions) (ms : List Message) (number : ℕ) (m : Message) (i : List TableInfo) (fault : LogFault) → IsTaken options ms m i
     → IsLogFault options ms number m fault → ⊥
-taken_has_none options ms number m i fault taken (no_table told) =
-    none_some (told_fault options (tables_in options.keys ms) m) fault taken.tables.capturable told
+taken_has_none options ms number m i fault taken (no_table before known told) =
+    readable_none options ms number m i before fault taken.tables known told
 taken_has_none options ms number m i fault taken (no_place j error tables told is) =
     none_some (transaction_fault j log_start m ms) error (place_same options ms m j i tables taken.tables ∙ taken.placed) told
 taken_has_none options ms number m i fault taken (no_records j tables placed told) =
@@ -42,19 +50,16 @@ taken_has_none options ms number m i fault taken (no_records j tables placed tol
 -- a message has one error
 pub log_fault_one : (options : LogOptions) (ms : List Message) (number : ℕ) (m : Message) (f g : LogFault) → IsLogFault options ms number m f
     → IsLogFault options ms number m g → f ≡ g
-log_fault_one options ms number m f g (no_table told) (no_table told') = some_one f g (sym told ∙ told')
-log_fault_one options ms number m f g (no_table told) (no_place j e tables told' is) =
-    absurd (none_some (told_fault options (tables_in options.keys ms) m) f tables.capturable told)
-log_fault_one options ms number m f g (no_table told) (no_records j tables placed told') =
-    absurd (none_some (told_fault options (tables_in options.keys ms) m) f tables.capturable told)
-log_fault_one options ms number m f g (no_place i d tables told is) (no_table told') =
-    absurd (none_some (told_fault options (tables_in options.keys ms) m) g tables.capturable told')
+log_fault_one options ms number m f g (no_table before known told) (no_table before' known' told') =
+    some_one f g (sym told ∙ ap (λ (infos : List TableInfo). table_fault_of options infos number m ms) (infos_one before before' (known ∙ sym known')) ∙ told')
+log_fault_one options ms number m f g (no_table before known told) (no_place j e tables told' is) = absurd (readable_none options ms number m j before f tables known told)
+log_fault_one options ms number m f g (no_table before known told) (no_records j tables placed told') = absurd (readable_none options ms number m j before f tables known told)
+log_fault_one options ms number m f g (no_place i d tables told is) (no_table before known told') = absurd (readable_none options ms number m i before g tables known told')
 log_fault_one options ms number m f g (no_place i d tables told is) (no_place j e tables' told' is') =
     is ∙ ap (log.Transaction number) (some_one d e (sym told ∙ place_same options ms m i j tables tables' ∙ told')) ∙ sym is'
 log_fault_one options ms number m f g (no_place i d tables told is) (no_records j tables' placed told') =
     absurd (none_some (transaction_fault i log_start m ms) d (place_same options ms m i j tables tables' ∙ placed) told)
-log_fault_one options ms number m f g (no_records i tables placed told) (no_table told') =
-    absurd (none_some (told_fault options (tables_in options.keys ms) m) g tables.capturable told')
+log_fault_one options ms number m f g (no_records i tables placed told) (no_table before known told') = absurd (readable_none options ms number m i before g tables known told')
 log_fault_one options ms number m f g (no_records i tables placed told) (no_place j e tables' told' is) =
     absurd (none_some (transaction_fault j log_start m ms) e (place_same options ms m j i tables' tables ∙ placed) told')
 log_fault_one options ms number m f g (no_records i tables placed told) (no_records j tables' placed' told') =

@@ -1,5 +1,5 @@
--- The tables that `replay` captures: each at its first Relation, except that of the watermarks. PostgreSQL's "Logical Replication Message
--- Formats", Relation. Lists of messages have the newest first.
+-- The tables that `replay` captures: each at its first Relation, except that of the watermarks, and in the columns of its last one.
+-- PostgreSQL's "Logical Replication Message Formats", Relation. Lists of messages have the newest first.
 use Rattle.std.specs.Prelude.{◌≡◌, ℕ, ◌%◌, ◌==◌, ◌||◌, nat_lt, Bool, if◌then◌else◌, Option, Some}
 use Rattle.std.specs.Prelude.{None, option_map, option_and_then, List, [], ◌∷◌, ◌++◌, length, map, filter}
 use Rattle.std.specs.List.{list_any}
@@ -7,7 +7,6 @@ use Rattle.dbl_pgmsg.specs.declared.messages.Message.{Message}
 use Rattle.dbl_pgmsg.specs.declared.messages.Message.TheVariants as says
 use Rattle.dbl_pgmsg.specs.declared.messages.RelationColumn.{RelationColumn}
 use Rattle.dbl_model_table.specs.declared.error.ModelError.{ModelError}
-use Rattle.dbl_model_table.specs.declared.table.RawColumn.{RawColumn}
 use Rattle.dbl_model_table.specs.declared.table.RawTable.{RawTable}
 use Rattle.dbl_model_table.specs.declared.table.TableInfo.{TableInfo}
 use Rattle.dbl_model_table.specs.declared.table.TableKey.{TableKey}
@@ -19,6 +18,7 @@ use Rattle.dbl_hooks_masks.specs.declared.masking.Masking.{Masking}
 use Rattle.dbl_hooks_masks.specs.Faults.{mask_fault}
 use Rattle.dbl_model_commit.specs.Past.{table_named}
 use Rattle.dbl_model_commit.specs.Stated.{list_of}
+use Rattle.dbl_model_commit.specs.Shapes.{columns_in}
 use Rattle.dblog_replay.specs.declared.log_fault.LogFault.{LogFault}
 use Rattle.dblog_replay.specs.declared.log_fault.LogFault.TheVariants.{Table, TooManyTables, Mask}
 use Rattle.dblog_replay.specs.declared.options.LogOptions.{LogOptions}
@@ -26,10 +26,6 @@ use Rattle.dblog_replay.specs.declared.options.LogOptions.{LogOptions}
 -- Whether a column is flagged as a key column: by the bit of value 1.
 abbrev pub is_key_flagged : RelationColumn → Bool
 is_key_flagged column = column.flags % 2 == 1
-
--- The column of the catalogue that a Relation's column describes.
-abbrev pub raw_column_of : RelationColumn → RawColumn
-raw_column_of column = record { name = column.name; oid = column.oid }
 
 -- The names of the flagged columns, in order.
 abbrev pub flagged_names : List RelationColumn → List (List ℕ)
@@ -42,7 +38,7 @@ key_names_of (key ∷ keys) name columns = if same_name key.table name then key.
 
 -- The catalogue's entry that a Relation describes, with the keys of the options.
 abbrev pub entry_of : List TableKey → TableName → List RelationColumn → RawTable
-entry_of keys name columns = record { name = name; columns = map raw_column_of columns; key = key_names_of keys name columns; version = 1 }
+entry_of keys name columns = record { name = name; columns = columns_in columns; key = key_names_of keys name columns; version = 1 }
 
 -- Whether a table of the list has this name.
 abbrev pub is_among : TableName → List RawTable → Bool
@@ -58,10 +54,23 @@ table_told keys tables (says.Relation oid namespace name identity columns) =
     new_table tables (entry_of keys (table_named namespace name) columns)
 table_told keys tables m = None
 
--- The tables that messages describe, in the order of their first Relations.
+-- The tables of a list, the first of this name in a Relation's columns.
+abbrev pub with_columns : TableName → List RelationColumn → List RawTable → List RawTable
+with_columns name columns [] = []
+with_columns name columns (table ∷ tables) = if same_name table.name name
+    then record table { columns = columns_in columns } ∷ tables else table ∷ with_columns name columns tables
+
+-- The tables after one more message: that of a Relation has its columns from there on, unless it is that of the watermarks.
+abbrev pub altered_by : Message → List RawTable → List RawTable
+altered_by (says.Relation oid namespace name identity columns) tables = if is_watermark (table_named namespace name)
+    then tables else with_columns (table_named namespace name) columns tables
+altered_by m tables = tables
+
+-- The tables that messages describe, in the order of their first Relations, each in the columns of its last one. A table's key is that of
+-- its first Relation.
 abbrev pub tables_in : List TableKey → List Message → List RawTable
 tables_in keys [] = []
-tables_in keys (m ∷ ms) = tables_in keys ms ++ list_of (table_told keys (tables_in keys ms) m)
+tables_in keys (m ∷ ms) = altered_by m (tables_in keys ms) ++ list_of (table_told keys (tables_in keys ms) m)
 
 -- The infos are what is captured of the tables that the messages describe.
 abbrev pub AreCaptured : List TableKey → List Message → List TableInfo → Type 0

@@ -2,34 +2,40 @@
 use Rattle.std.specs.Prelude.{◌≡◌, ◌⊎◌, ℕ, Option, None, Some, Result, Ok, Err, option_map, List, ◌∷◌}
 use Rattle.std.specs.List.{AllByRecursion}
 use Rattle.dbl_pgmsg.specs.declared.messages.Message.{Message}
+use Rattle.dbl_pgmsg.specs.declared.messages.RelationColumn.{RelationColumn}
 use Rattle.dbl_pgmsg.specs.Grammar.{FitsFields, Spells}
 use Rattle.dbl_model_table.specs.declared.table.TableInfo.{TableInfo}
 use Rattle.dbl_model_table.specs.declared.change.Commit.{Commit}
+use Rattle.dbl_model_commit.specs.Past.{table_named}
 use Rattle.dbl_model_commit.specs.Stated.{ended_commit, transaction_fault}
+use Rattle.dbl_model_commit.specs.Shapes.{IsOpenStated}
 use Rattle.dbl_txn.specs.Stands.{StandsWhole}
 use Rattle.dblog_replay.specs.declared.log_fault.LogFault.{LogFault}
 use Rattle.dblog_replay.specs.declared.log_fault.LogFault.TheVariants as log
 use Rattle.dblog_replay.specs.declared.options.LogOptions.{LogOptions}
 use Rattle.dblog_replay.specs.declared.masking.MaskingReplayer.{MaskingReplayer}
 use Rattle.dblog_replay.specs.declared.replay.Replayer.{Replayer}
-use Rattle.dblog_replay.specs.Captures.{tables_in, AreCaptured, told_fault}
+use Rattle.dblog_replay.specs.Altered.{table_fault_of, KnowsOids}
+use Rattle.dblog_replay.specs.Captures.{entry_of, new_table, tables_in, AreCaptured}
 use Rattle.dblog_replay.specs.Masked.{masked_with, all_masked, AreMapped}
 use Rattle.dblog_replay.specs.Pieces.{IsPiece, Stops}
 use Rattle.dblog_replay.specs.Log.{log_start, HasTables, IsLogFault}
 
--- The state after these messages, with these tables captured.
+-- The state after these messages, with these tables captured, each in the columns of its last Relation.
 pub record HasReplayed (options : LogOptions) (infos : List TableInfo) (ms : List Message) (r : Replayer) : Type 0 where
   pub stands : StandsWhole infos log_start ms r.assembler
   pub identity : r.writer.identity ≡ options.identity
   pub keys : r.keys ≡ options.keys
   pub mask : r.mask ≡ options.mask
   pub writes : r.writer.infos ≡ infos
+  pub stated : IsOpenStated infos ms
 
 -- The state after these messages, with the tables captured that they describe.
 pub record FollowsMessages (options : LogOptions) (ms : List Message) (r : Replayer) : Type 0 where
   pub infos : List TableInfo
   pub replayed : HasReplayed options infos ms r
   pub captured : AreCaptured options.keys ms infos
+  pub oids : KnowsOids infos ms r.oids.items
   pub fields : AllByRecursion FitsFields ms
 
 -- The state after these messages, each masked as the options request.
@@ -48,16 +54,27 @@ abbrev pub ReadsBytes : ℕ → List ℕ → Result Message LogFault → Type 0
 ReadsBytes number bytes (Ok m) = Spells bytes m
 ReadsBytes number bytes (Err e) = (e ≡ log.Memory) ⊎ IsPiece number bytes (Stops e)
 
--- The table of the next message is captured, if the message is the first to describe it.
+-- The table of the next message is captured, in its columns.
 pub record IsReplayerReady (options : LogOptions) (ms : List Message) (m : Message) (r : Replayer) : Type 0 where
   pub infos : List TableInfo
   pub replayed : HasReplayed options infos ms r
   pub tables : HasTables options ms m infos
+  pub oids : KnowsOids infos (m ∷ ms) r.oids.items
 
--- The result of capturing the table of the next message.
-abbrev pub Prepares : {A : Type 0} → LogOptions → List Message → Message → Replayer → Result A LogFault → Type 0
-Prepares options ms m r (Ok x) = IsReplayerReady options ms m r
-Prepares options ms m r (Err e) = (e ≡ log.Memory) ⊎ (told_fault options (tables_in options.keys ms) m ≡ Some e)
+-- The table of a Relation isn't described for the first time, or is that of the watermarks.
+abbrev pub IsToldBefore : LogOptions → List Message → List ℕ → List ℕ → List RelationColumn → Type 0
+IsToldBefore options ms namespace name columns =
+    new_table (tables_in options.keys ms) (entry_of options.keys (table_named namespace name) columns) ≡ None
+
+-- Why the table that the next message describes can't be captured, or not be read in its columns.
+abbrev pub IsTableFault : LogOptions → List Message → ℕ → Message → LogFault → Type 0
+IsTableFault options ms number m e =
+    (before : List TableInfo) × AreCaptured options.keys ms before × (table_fault_of options before number m ms ≡ Some e)
+
+-- The result of capturing the table of the next message, which has this number, or of reading it in other columns from there on.
+abbrev pub Prepares : {A : Type 0} → LogOptions → List Message → ℕ → Message → Replayer → Result A LogFault → Type 0
+Prepares options ms number m r (Ok x) = IsReplayerReady options ms m r
+Prepares options ms number m r (Err e) = (e ≡ log.Memory) ⊎ IsTableFault options ms number m e
 
 -- The next message was processed, and ends this commit.
 pub record IsAppended (options : LogOptions) (infos : List TableInfo) (ms : List Message) (m : Message) (r : Replayer) (o : Option Commit)
@@ -79,6 +96,7 @@ pub record IsNextMessage (options : LogOptions) (ms : List Message) (m : Message
   pub placed : transaction_fault infos log_start m ms ≡ None
   pub commit : o ≡ ended_commit infos m ms
   pub replayed : HasReplayed options infos (m ∷ ms) r
+  pub oids : KnowsOids infos (m ∷ ms) r.oids.items
   pub fields : AllByRecursion FitsFields (m ∷ ms)
 
 -- The result of processing the next message, which has this number.

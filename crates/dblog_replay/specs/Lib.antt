@@ -1,3 +1,4 @@
+pub mod Altered
 pub mod Applied
 pub mod Apply
 pub mod Captures

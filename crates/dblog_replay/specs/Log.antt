@@ -18,7 +18,8 @@ use Rattle.dbl_model_commit.specs.Stated.{list_of, ended_commit, transaction_fau
 use Rattle.dblog_replay.specs.declared.log_fault.LogFault.{LogFault}
 use Rattle.dblog_replay.specs.declared.log_fault.LogFault.TheVariants as log
 use Rattle.dblog_replay.specs.declared.options.LogOptions.{LogOptions}
-use Rattle.dblog_replay.specs.Captures.{tables_in, AreCaptured, told_fault}
+use Rattle.dblog_replay.specs.Altered.{table_fault_of}
+use Rattle.dblog_replay.specs.Captures.{AreCaptured}
 use Rattle.dblog_replay.specs.LogFaults.{log_status, log_line}
 use Rattle.dblog_replay.specs.Pieces.{Piece, Carries, Stops}
 
@@ -30,9 +31,12 @@ lines_in identity infos commits now = map line_of (flat_map (λ commit. envelope
 abbrev pub log_start : Lsn
 log_start = record { 0 = 0 }
 
--- After these messages a message's new table can be captured, if it describes one, and these are the captured tables then.
+-- After these messages the table that a message describes, if it describes one, can be captured or read in its columns, and these are the
+-- captured tables from the message on.
 pub record HasTables (options : LogOptions) (ms : List Message) (m : Message) (infos : List TableInfo) : Type 0 where
-  pub capturable : told_fault options (tables_in options.keys ms) m ≡ None
+  pub before : List TableInfo
+  pub known : AreCaptured options.keys ms before
+  pub readable : (number : ℕ) → table_fault_of options before number m ms ≡ None
   pub captured : AreCaptured options.keys (m ∷ ms) infos
 
 -- The error of a cell whose text is equal to the placeholder of unsent values.
@@ -47,10 +51,11 @@ commit_fault identity infos commit = option_map placeholder_fault (clash_of iden
 abbrev pub records_fault : Identity → List TableInfo → Message → List Message → Option LogFault
 records_fault identity infos m ms = option_and_then (commit_fault identity infos) (ended_commit infos m ms)
 
--- The error of a message of this number after these: its new table can't be captured, it can't follow them, or it ends a commit whose
--- records can't be made.
+-- The error of a message of this number after these: the table that it describes can't be captured, or not be read in its columns; it
+-- can't follow them; or it ends a commit whose records can't be made.
 pub data IsLogFault (options : LogOptions) (ms : List Message) (number : ℕ) (m : Message) (fault : LogFault) : Type 0 where
-  no_table : told_fault options (tables_in options.keys ms) m ≡ Some fault → IsLogFault options ms number m fault
+  no_table : (before : List TableInfo) → AreCaptured options.keys ms before → table_fault_of options before number m ms ≡ Some fault
+      → IsLogFault options ms number m fault
   no_place : (infos : List TableInfo) (error : TxnError) → HasTables options ms m infos
       → transaction_fault infos log_start m ms ≡ Some error
       → fault ≡ log.Transaction number error → IsLogFault options ms number m fault

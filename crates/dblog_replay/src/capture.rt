@@ -1,12 +1,13 @@
-//! The tables that `replay` captures: each is captured at its first Relation.
+//! The tables that `replay` captures, each at its first Relation.
 
 ghost use Rattle.std.specs.Prelude.{◌≡◌, ◌||◌, not, IfOk, option_map};
 ghost use Rattle.std.specs.List.{list_any};
 ghost use Rattle.dbl_model_table.specs.declared.table.TableName.{TableName};
 ghost use Rattle.dbl_model_table.specs.Tables.{same_name, is_watermark};
-ghost use Rattle.dbl_model_table.specs.Infos.{IsInfoOf};
+ghost use Rattle.dbl_model_table.specs.Infos.{IsInfoOf, number_of};
 ghost use Rattle.dbl_model_table.specs.Made.{table_fault};
 ghost use Rattle.dbl_model_commit.specs.Past.{schema_of};
+ghost use Rattle.dbl_model_commit.specs.Shapes.{columns_in};
 ghost use Rattle.dblog_replay.specs.Captures.{flagged_names, key_names_of, entry_of};
 ghost use Rattle.dblog_replay.specs.Captures.{column_fault, capture_fault};
 ghost use Rattle.dblog_replay.specs.Judged.{JudgesLog};
@@ -46,10 +47,21 @@ fn is_captured(infos: &Vec<TableInfo>, schema: &str, name: &str) -> bool
     infos.iter().any(|info| is_named(&info.name, schema, name))
 }
 
-fn is_watermark(schema: &str, name: &str) -> bool
+/// Whether the table of the watermarks has this name.
+pub fn is_watermark(schema: &str, name: &str) -> bool
     ensures { result ≡ is_watermark (record { schema = schema.now; name = name.now }) }
 {
     schema == "public" && name == "dblog_watermark"
+}
+
+/// The index of the captured table of this name. Takes no memory.
+pub fn place_of(infos: &Vec<TableInfo>, schema: &str, name: &str) -> Option<usize>
+    ensures { result ≡ number_of infos.now.items
+        (record { schema = schema.now; name = name.now }) }
+{
+    infos
+        .iter()
+        .position(|info| is_named(&info.name, schema, name))
 }
 
 /// Whether a table of this name isn't captured yet. Takes no memory.
@@ -91,6 +103,23 @@ fn key_names_of(
     flagged_names(alloc, columns)
 }
 
+/// A Relation's columns as the catalogue has them.
+pub fn raw_columns(
+    alloc: Global,
+    columns: &Vec<RelationColumn>,
+) -> Result<Vec<RawColumn>, AllocError>
+    ensures { IfOk result (λ raw. raw.items ≡ columns_in columns.now.items) }
+{
+    let mut raw_columns = Vec::with_capacity(alloc, columns.len())?;
+    for column in columns {
+        raw_columns.push(RawColumn {
+            name: column.name.copy(alloc)?,
+            oid: column.oid,
+        })?;
+    }
+    Ok(raw_columns)
+}
+
 /// The catalogue's entry that a Relation describes, with the keys of the options.
 pub fn entry_of(
     alloc: Global,
@@ -102,13 +131,7 @@ pub fn entry_of(
     ensures { IfOk result (λ raw. raw ≡ entry_of keys.now.items
         (record { schema = schema.now; name = name.now }) columns.now.items) }
 {
-    let mut raw_columns = Vec::with_capacity(alloc, columns.len())?;
-    for column in columns {
-        raw_columns.push(RawColumn {
-            name: column.name.copy(alloc)?,
-            oid: column.oid,
-        })?;
-    }
+    let raw_columns = raw_columns(alloc, columns)?;
     let key = key_names_of(alloc, keys, schema, name, columns)?;
     Ok(RawTable {
         name: TableName {
@@ -132,8 +155,8 @@ fn make_info(alloc: Global, raw: &RawTable) -> Result<TableInfo, LogFault>
     }
 }
 
-// Whether the table's column can be masked, if it is to be.
-fn check_mask(alloc: Global, mask: &Option<Masking>, raw: &RawTable) -> Result<(), LogFault>
+/// Checks that the table's column can be masked, if it is to be.
+pub fn check_mask(alloc: Global, mask: &Option<Masking>, raw: &RawTable) -> Result<(), LogFault>
     ensures { JudgesLog (column_fault mask.now raw.now) result }
 {
     let Some(masking) = mask else {

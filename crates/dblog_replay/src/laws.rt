@@ -5,7 +5,8 @@ ghost use Rattle.dblog_replay.specs.Pieces.{PiecesExist, PiecesFit};
 ghost use Rattle.dblog_replay.specs.Streams.{StreamPiecesAreOne, StreamPiecesExist};
 ghost use Rattle.dblog_replay.specs.Streams.{StreamPiecesFit, StreamsAreFlattened};
 ghost use Rattle.dblog_replay.specs.Masked.{MaskedPiecesFit};
-ghost use Rattle.dblog_replay.specs.Replay.{CommitsAreWritten, ReplaysAreOne, ReplaysExist};
+ghost use Rattle.dblog_replay.specs.Replay.{CommitsAreWritten, KeptColumnsStateLines};
+ghost use Rattle.dblog_replay.specs.Replay.{ReplaysAreOne, ReplaysExist};
 
 /// Byte strings are read as exactly one list of pieces, whose messages are within their formats'
 /// ranges.
@@ -44,6 +45,12 @@ pub fn masked_pieces_fit()
 /// the first error.
 pub fn commits_are_written()
     ensures { CommitsAreWritten }
+{}
+
+/// The lines of a log whose tables keep their columns are those of the commits that it states with
+/// all its tables captured.
+pub fn kept_columns_state_lines()
+    ensures { KeptColumnsStateLines }
 {}
 
 /// Pieces are replayed to exactly one list of lines and one end.

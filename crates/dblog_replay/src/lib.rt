@@ -2,6 +2,7 @@
 //! a consumer of lines.
 #![tactic(auto)]
 
+mod altering;
 mod apply;
 mod capture;
 pub mod laws;

@@ -1,16 +1,21 @@
 //! The messages of a log, one after another: their commits, and the first error.
 
 ghost use Rattle.std.specs.Prelude.{◌≡◌, ◌∷◌, ℕ, List, [], ◌++◌, IfOk, IfErr, OnOk, is_some};
+ghost use Rattle.std.specs.Prelude.{Some, false, slice_get, slice_set};
 ghost use Rattle.dbl_pgmsg.specs.declared.messages.Message.{Message};
 ghost use Rattle.dbl_pgmsg.specs.declared.messages.Message.TheVariants as says;
 ghost use Rattle.dbl_pgmsg.specs.Grammar.{FitsFields};
 ghost use Rattle.dbl_model_table.specs.declared.table.TableInfo.{TableInfo};
-ghost use Rattle.dbl_model_commit.specs.Past.{begin_of, HasNoRelation};
+ghost use Rattle.dbl_model_commit.specs.Past.{begin_of, schema_of, HasNoRelation};
+ghost use Rattle.dbl_model_commit.specs.Pieces.{changes_so_far};
+ghost use Rattle.dbl_model_commit.specs.Shapes.{changes_table};
 ghost use Rattle.dblog_replay.specs.declared.options.LogOptions.{LogOptions};
 ghost use Rattle.dblog_replay.specs.Following.{HasReplayed, FollowsMessages, Prepares};
+ghost use Rattle.dblog_replay.specs.Following.{IsToldBefore};
 ghost use Rattle.dblog_replay.specs.Following.{AppendsMessage, TakesMessage};
 
-use crate::capture::{capture_table, entry_of, is_new, schema_of};
+use crate::altering::{TableOids, learn_oid, see_oid, shape_of};
+use crate::capture::{capture_table, entry_of, is_new, is_watermark, place_of, schema_of};
 use crate::log_fault::LogFault;
 use crate::options::LogOptions;
 use dbl_base::{Lsn, Seq, Text};
@@ -22,12 +27,14 @@ use dbl_pgmsg::{Message, RelationColumn};
 use dbl_txn::Assembler;
 use std::alloc::{AllocError, Global};
 
-/// The state after the processed messages: the captured tables, and the open transaction.
+/// The state after the processed messages: the captured tables in their last columns, and the open
+/// transaction.
 #[derive(Drop)]
 pub struct Replayer {
     assembler: Assembler,
     keys: Seq<TableKey>,
     mask: Option<Masking>,
+    oids: Vec<TableOids>,
     pub writer: EventWriter,
 }
 
@@ -37,6 +44,22 @@ fn learn_in(writer: &mut EventWriter, alloc: Global, info: TableInfo) -> Result<
     ensures err { IfErr result (λ e. e ≡ LogFault.Memory) }
 {
     match writer.learn(alloc, info) {
+        Ok(()) => Ok(()),
+        Err(_) => Err(LogFault::Memory),
+    }
+}
+
+fn reshape_in(
+    writer: &mut EventWriter,
+    alloc: Global,
+    table: u32,
+    info: TableInfo,
+) -> Result<(), LogFault>
+    ensures reshaped { OnOk result
+        (writer.new ≡ record writer.old { infos = slice_set writer.old.infos table info }) }
+    ensures err { IfErr result (λ e. e ≡ LogFault.Memory) }
+{
+    match writer.reshape(alloc, table, info) {
         Ok(()) => Ok(()),
         Err(_) => Err(LogFault::Memory),
     }
@@ -60,6 +83,7 @@ impl Replayer {
             assembler: Assembler::make(alloc, Vec::new(alloc), Lsn(0)),
             keys,
             mask,
+            oids: Vec::new(alloc),
             writer,
         })
     }
@@ -77,6 +101,7 @@ impl Replayer {
             HasReplayed options infos ms self.old → HasNoRelation info.name ms →
             OnOk result (HasReplayed options (infos ++ info ∷ []) ms self.new) }
         ensures err { IfErr result (λ e. e ≡ LogFault.Memory) }
+        ensures oids { self.new.oids ≡ self.old.oids }
     {
         let copied = info.copy(alloc)?;
         match self.assembler.learn(info) {
@@ -88,42 +113,94 @@ impl Replayer {
         }
     }
 
-    // Captures the table of a Relation, if it is the first one of the table.
+    fn reshape(&mut self, alloc: Global, table: u32, info: TableInfo) -> Result<(), LogFault>
+        ensures reshaped { (options : LogOptions) (infos : List TableInfo) (ms : List Message)
+            (old : TableInfo) → HasReplayed options infos ms self.old →
+            slice_get infos table ≡ Some old → info.name ≡ old.name →
+            changes_table table (changes_so_far infos ms) ≡ false →
+            OnOk result (HasReplayed options (slice_set infos table info) ms self.new) }
+        ensures err { IfErr result (λ e. e ≡ LogFault.Memory) }
+        ensures oids { self.new.oids ≡ self.old.oids }
+    {
+        let copied = info.copy(alloc)?;
+        self.assembler.reshape(table, info);
+        reshape_in(&mut self.writer, alloc, table, copied)
+    }
+
+    // Reads the table of a Relation in its columns from here on, if it is captured and has others.
+    fn alter(
+        &mut self,
+        alloc: Global,
+        number: u64,
+        oid: u32,
+        schema: &str,
+        name: &str,
+        columns: &Vec<RelationColumn>,
+    ) -> Result<(), LogFault>
+        ensures { (options : LogOptions) (ms : List Message) (namespace : List ℕ) (identity : ℕ) →
+            FollowsMessages options ms self.old → schema.now ≡ schema_of namespace →
+            IsToldBefore options ms namespace name.now columns.now.items →
+            Prepares options ms number
+            (says.Relation oid namespace name.now identity columns.now.items) self.new result }
+    {
+        if is_watermark(schema, name) {
+            return Ok(());
+        }
+        let Some(place) = place_of(self.assembler.infos(), schema, name) else {
+            return Ok(());
+        };
+        let Ok(table) = u32::try_from(place) else {
+            return Err(LogFault::Memory);
+        };
+        let other = see_oid(&mut self.oids, place, oid);
+        let refused = self.assembler.has_changed(table) || other;
+        let info = &self.assembler.infos()[place];
+        match shape_of(alloc, &self.mask, number, refused, info, columns)? {
+            Some(shape) => self.reshape(alloc, table, shape),
+            None => Ok(()),
+        }
+    }
+
+    // Captures the table of a Relation, if it is the first one of the table, and otherwise reads it
+    // in the Relation's columns from here on.
     fn learn(
         &mut self,
         alloc: Global,
+        number: u64,
+        oid: u32,
         namespace: &Text,
         name: &Text,
         columns: &Vec<RelationColumn>,
     ) -> Result<(), LogFault>
-        ensures { (options : LogOptions) (ms : List Message) (oid identity : ℕ) →
-            FollowsMessages options ms self.old → Prepares options ms
+        ensures { (options : LogOptions) (ms : List Message) (identity : ℕ) →
+            FollowsMessages options ms self.old → Prepares options ms number
             (says.Relation oid namespace.now name.now identity columns.now.items) self.new result }
     {
         let schema = schema_of(namespace);
         let name = name.as_str();
         let infos = self.assembler.infos();
         if !is_new(infos, schema, name) {
-            return Ok(());
+            return self.alter(alloc, number, oid, schema, name, columns);
         }
         let entry = entry_of(alloc, self.keys.items(), schema, name, columns)?;
         let info = capture_table(alloc, &self.mask, infos.len(), &entry)?;
         self.add(alloc, info)?;
+        learn_oid(&mut self.oids, oid)?;
         Ok(())
     }
 
-    fn prepare(&mut self, alloc: Global, message: &Message) -> Result<(), LogFault>
+    fn prepare(&mut self, alloc: Global, number: u64, message: &Message) -> Result<(), LogFault>
         ensures { (options : LogOptions) (ms : List Message) → FollowsMessages options ms self.old →
-            Prepares options ms message.now self.new result }
+            Prepares options ms number message.now self.new result }
     {
         match message {
             Message::Relation {
-                oid: _,
+                oid,
                 namespace,
                 name,
                 identity: _,
                 columns,
-            } => self.learn(alloc, namespace, name, columns.items()),
+            } => self.learn(alloc, number, *oid, namespace, name, columns.items()),
             _ => Ok(()),
         }
     }
@@ -135,9 +212,10 @@ impl Replayer {
         number: u64,
         message: Message,
     ) -> Result<Option<Commit>, LogFault>
-        ensures { (options : LogOptions) (infos : List TableInfo) (ms : List Message) →
+        ensures appends { (options : LogOptions) (infos : List TableInfo) (ms : List Message) →
             HasReplayed options infos ms self.old →
             AppendsMessage options infos ms number message self.new result }
+        ensures oids { self.new.oids ≡ self.old.oids }
     {
         match self.assembler.take(alloc, message) {
             Ok(ended) => Ok(ended),
@@ -157,7 +235,7 @@ impl Replayer {
         ensures { (options : LogOptions) (ms : List Message) → FollowsMessages options ms self.old →
             TakesMessage options ms number message self.new result }
     {
-        match self.prepare(alloc, &message) {
+        match self.prepare(alloc, number, &message) {
             Ok(()) => self.append(alloc, number, message),
             Err(fault) => {
                 drop(message);

@@ -7,6 +7,6 @@ use Rattle.dblog_replay.proofs.replay.Replayer.prepare.Goals as goal
 pub returns-in-Relation : goal.returns-in-Relation
 returns-in-Relation c = λ options ms follows.
     let r = c.in-Relation in
-    subst (λ (m : Message). Prepares options ms m c.learn.new.self c.learn.result)
+    subst (λ (m : Message). Prepares options ms c.args.number m c.learn.new.self c.learn.result)
     (ap (says.Relation r.oid r.namespace r.name r.identity) c.items.ensures ∙ sym r.is)
-    (c.learn.ensures options ms r.oid r.identity follows)
+    (c.learn.ensures options ms r.identity follows)

@@ -8,5 +8,5 @@ returns-in-Err c = λ options ms follows.
 pub returns-in-Ok : goal.returns-in-Ok
 returns-in-Ok c = λ options ms follows.
     let ready = c.in-Ok.ensures options ms follows in
-    put_takes options ms c.args.number c.args.message c.prepare.new.self c.append.new.self c.append.result ready c.requires follows.fields
-    (c.append.ensures options ready.infos ms ready.replayed)
+    put_takes options ms c.args.number c.args.message c.prepare.new.self c.append.new.self c.append.result ready c.requires follows.fields c.append.ensures.oids
+    (c.append.ensures.appends options ready.infos ms ready.replayed)

@@ -67,7 +67,7 @@ with_set_from name columns i (x ∷ xs) n (suc place) info new is at there made 
 
 with_set : (name : TableName) (columns : List RelationColumn) (infos : List TableInfo) (place : ℕ) (info new : TableInfo) → number_of infos name ≡ Some place → slice_get infos place ≡ Some info
     → catalogue_of new ≡ record (catalogue_of info) { columns = columns_in columns } → map catalogue_of (slice_set infos place new) ≡ with_columns name columns (map catalogue_of infos)
-with_set name columns infos place info new is there made = with_set_from name columns 0 infos place place info new is refl there made
+with_set name columns infos place info new is there made = with_set_from name columns 0 infos place place info new is (omega arith) there made
 
 -- ---- causes
 
@@ -236,6 +236,78 @@ fit_columns mask n refused info columns new none =
     by : (o : Option ModelError) → (if (is_some o || not (keep_key info columns)) || refused then Some (errors.SchemaChanged info.name) else None) ≡ None → o ≡ None
     by None is = refl
     by (Some e) is = cc
+
+-- ---- the answer of a Relation with other columns, by its causes
+
+unfit_then : (t k r : Bool) → (r || not k) ≡ true → ((t || not k) || r) ≡ true
+unfit_then true k r is = refl
+unfit_then false true true is = refl
+unfit_then false true false is = cc
+unfit_then false false r is = refl
+
+fit_then : (t k r : Bool) → t ≡ false → (r || not k) ≡ false → ((t || not k) || r) ≡ false
+fit_then true k r none is = cc
+fit_then false true true none is = cc
+fit_then false true false none is = refl
+fit_then false false true none is = cc
+fit_then false false false none is = cc
+
+unmade_then : (t k r : Bool) → t ≡ true → ((t || not k) || r) ≡ true
+unmade_then true k r is = refl
+unmade_then false k r is = cc
+
+module _ (mask : Option Masking) (n : ℕ) (refused : Bool) (info : TableInfo) (columns : List RelationColumn) (new : same_columns info.columns columns ≡ false) where
+  abbrev change : LogFault
+  change = log.Transaction n (errors.SchemaChanged info.name)
+
+  abbrev cause : Bool → Bool → Option LogFault
+  cause same unfit = or_else (option_map (log.Transaction n) (if not same && unfit then Some (errors.SchemaChanged info.name) else None)) (if same then None else column_fault mask (entry_in info columns))
+
+  refused_cause : (are_unfit info columns || refused) ≡ true → shape_cause mask n refused info columns ≡ Some change
+  refused_cause unfit = ap₂ cause new unfit
+
+  fit_cause : (are_unfit info columns || refused) ≡ false → shape_cause mask n refused info columns ≡ column_fault mask (entry_in info columns)
+  fit_cause fit = ap₂ cause new fit
+
+  -- refused for the messages before, or for the key
+  pub key_judged : (e : LogFault) → (refused || not (keep_key info columns)) ≡ true → (e ≡ log.Memory) ⊎ (e ≡ change) → (e ≡ log.Memory) ⊎ (shape_cause mask n refused info columns ≡ Some e)
+  key_judged e lost (inl memory) = inl memory
+  key_judged e lost (inr is) =
+      inr (refused_cause (unfit_then (is_some (table_fault (entry_in info columns))) (keep_key info columns) refused lost) ∙ ap (λ (x : LogFault). Some x) (sym is))
+
+  made_none : (o : Option ModelError) → (if is_some o then Some change else None) ≡ None → is_some o ≡ false
+  made_none None is = refl
+  made_none (Some error) is = cc
+
+  unmade_is : (o : Option ModelError) (e : LogFault) → (if is_some o then Some change else None) ≡ Some e → (is_some o ≡ true) × (change ≡ e)
+  unmade_is None e is = cc
+  unmade_is (Some error) e is = let same : change ≡ e = cc in (refl, same)
+
+  -- the columns make no table
+  pub shape_judged : (raw : RawTable) (e : LogFault) → raw ≡ entry_in info columns → (e ≡ log.Memory) ⊎ ((if is_some (table_fault raw) then Some change else None) ≡ Some e)
+      → (e ≡ log.Memory) ⊎ (shape_cause mask n refused info columns ≡ Some e)
+  shape_judged raw e is (inl memory) = inl memory
+  shape_judged raw e is (inr unmade) =
+      let parts = unmade_is (table_fault raw) e unmade in
+      let none : is_some (table_fault (entry_in info columns)) ≡ true = ap (λ (r : RawTable). is_some (table_fault r)) (sym is) ∙ parts.0 in
+      inr (refused_cause (unmade_then (is_some (table_fault (entry_in info columns))) (keep_key info columns) refused none) ∙ ap (λ (x : LogFault). Some x) parts.1)
+
+  fit_is : (raw : RawTable) → raw ≡ entry_in info columns → (refused || not (keep_key info columns)) ≡ false → (if is_some (table_fault raw) then Some change else None) ≡ None
+      → shape_cause mask n refused info columns ≡ column_fault mask raw
+  fit_is raw is kept made =
+      let none : is_some (table_fault (entry_in info columns)) ≡ false = ap (λ (r : RawTable). is_some (table_fault r)) (sym is) ∙ made_none (table_fault raw) made in
+      fit_cause (fit_then (is_some (table_fault (entry_in info columns))) (keep_key info columns) refused none kept) ∙ ap (column_fault mask) (sym is)
+
+  -- the column to be masked can't be
+  pub mask_judged : (raw : RawTable) (e : LogFault) → raw ≡ entry_in info columns → (refused || not (keep_key info columns)) ≡ false → (if is_some (table_fault raw) then Some change else None) ≡ None
+      → (e ≡ log.Memory) ⊎ (column_fault mask raw ≡ Some e) → (e ≡ log.Memory) ⊎ (shape_cause mask n refused info columns ≡ Some e)
+  mask_judged raw e is kept made (inl memory) = inl memory
+  mask_judged raw e is kept made (inr fault) = inr (fit_is raw is kept made ∙ fault)
+
+  -- the table can be read in them
+  pub none_judged : (raw : RawTable) → raw ≡ entry_in info columns → (refused || not (keep_key info columns)) ≡ false → (if is_some (table_fault raw) then Some change else None) ≡ None
+      → column_fault mask raw ≡ None → shape_cause mask n refused info columns ≡ None
+  none_judged raw is kept made none = fit_is raw is kept made ∙ none
 
 -- what a message of one number has no error for it has none for at another
 pub readable_all : (options : LogOptions) (infos : List TableInfo) (n : ℕ) (m : Message) (ms : List Message) → table_fault_of options infos n m ms ≡ None → (k : ℕ) → table_fault_of options infos k m ms ≡ None

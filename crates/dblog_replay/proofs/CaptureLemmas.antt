@@ -52,11 +52,12 @@ new_other tables raw name no_mark none later is =
 -- names stay where columns change
 among_with : (name other : TableName) (columns : List RelationColumn) (tables : List RawTable) → is_among name (with_columns other columns tables) ≡ is_among name tables
 among_with name other columns [] = refl
-among_with name other columns (t ∷ ts) = by (same_name t.name other)
+among_with name other columns (t ∷ ts) = by (same_name t.name other) (among_with name other columns ts)
   where
-    by : (b : Bool) → is_among name (if b then record t { columns = columns_in columns } ∷ ts else t ∷ with_columns other columns ts) ≡ (same_name t.name name || is_among name ts)
-    by true = refl
-    by false = ap (λ (b : Bool). same_name t.name name || b) (among_with name other columns ts)
+    by : (b : Bool) → is_among name (with_columns other columns ts) ≡ is_among name ts
+        → is_among name (if b then record t { columns = columns_in columns } ∷ ts else t ∷ with_columns other columns ts) ≡ (same_name t.name name || is_among name ts)
+    by true rest = refl
+    by false rest = ap (λ (b : Bool). same_name t.name name || b) rest
 
 among_altered : (name : TableName) (m : Message) (tables : List RawTable) → is_among name (altered_by m tables) ≡ is_among name tables
 among_altered name (says.Relation oid namespace told identity columns) tables = by (is_watermark (table_named namespace told))

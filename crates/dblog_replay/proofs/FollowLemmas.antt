@@ -1,6 +1,6 @@
 -- The messages that were taken, one by one, and what their bytes write.
 use Rattle.std.proofs.Common.{◌≡◌, ◌≢◌, ◌⊎◌, inl, inr, ◌∙◌, ℕ, zero, suc, ℤ, ◌+◌, Option, Some, None, Result, Ok, Err, OnOk, IfOk, IfErr, List, [], ◌∷◌, ◌++◌, length, refl, sym, ap, ap₂, subst, append_assoc, append-nil, arith}
-use Rattle.std.specs.Prelude.{option_map, is_some, Bool, true, false, not, ◌||◌, if◌then◌else◌, Vec, slice_get, slice_set, get_or}
+use Rattle.std.specs.Prelude.{option_map, is_some, Bool, true, false, not, ◌||◌, if◌then◌else◌, slice_get, slice_set, get_or}
 use Rattle.std.specs.Option.{option_and_then}
 use Rattle.std.specs.List.{AllByRecursion, list_any}
 use Rattle.dbl_lines.specs.declared.error.PrintError.{PrintError}
@@ -38,7 +38,7 @@ use Rattle.dblog_replay.specs.Altered.{remasking_fault, altered_fault, shape_cau
 use Rattle.dblog_replay.specs.Pieces.{Piece, Carries, Stops, IsPiece, AreRead}
 use Rattle.dblog_replay.specs.Log.{log_start, lines_in, commit_fault, HasTables, records_fault, IsLogFault, no_table, no_place, no_records, IsTaken, end_fault}
 use Rattle.dblog_replay.specs.Log.{LogWrites}
-use Rattle.dblog_replay.specs.Following.{HasReplayed, FollowsMessages, FollowsMasked, IsReplaying, IsToldBefore, IsTableFault, IsReplayerReady, AppendsMessage, IsNextMessage, IsNextMasked}
+use Rattle.dblog_replay.specs.Following.{HasReplayed, FollowsMessages, FollowsMasked, IsReplaying, IsToldBefore, IsTableFault, IsReplayerReady, Prepares, AppendsMessage, IsNextMessage, IsNextMasked}
 use Rattle.dblog_replay.specs.Following.{TakesMessage, TakesMasked}
 use Rattle.dblog_replay.specs.Masked.{masked_with, all_masked, masked_pieces, AreMapped}
 use Rattle.dblog_replay.specs.LogPrinting.{masked_lines, IsTakenMasked, starved, cut, PutsCommit, IsStepped, step_starved, step_cut, StopsAt, StepsPrinting, StepsReading, IsLogPut}
@@ -244,6 +244,12 @@ module _ (options : LogOptions) (ms : List Message) (r : Replayer) (number given
             (oids_reshaped follows.infos (again ∷ ms) list place info shape there (shape_name info shape columns made) knows_now);
       }
 
+-- the answer once the table has other columns
+pub altered_answer : (options : LogOptions) (ms : List Message) (number : ℕ) (m : Message) (t : Replayer) (result : Result Unit LogFault) → OnOk result (IsReplayerReady options ms m t)
+    → IfErr result (λ e. e ≡ log.Memory) → Prepares options ms number m t result
+altered_answer options ms number m t (Ok x) ready err = ready
+altered_answer options ms number m t (Err e) ready err = inl err
+
 -- ---- one message
 
 pub prepare_fails : (options : LogOptions) (ms : List Message) (number : ℕ) (m : Message) (fault : LogFault) → (fault ≡ log.Memory) ⊎ IsTableFault options ms number m fault
@@ -259,7 +265,7 @@ other_ready options ms m r none follows = record {
   tables = other_tables options ms m follows.infos none follows.captured;
   oids = record {
     long = follows.oids.long;
-    each = λ name place no_mark at. let was = follows.oids.each name place no_mark at in (was.0, (was.1, λ oid. none.oids oid name ms ∙ was.2 oid));
+    each = λ name place no_mark at. let was = follows.oids.each name place no_mark at in (was.0, was.1, λ oid. none.oids oid name ms ∙ was.2 oid);
   };
 }
 
@@ -284,7 +290,7 @@ put_fails options ms number m r fault ready (inr told) = inr (misplaced options 
 
 pub put_takes : (options : LogOptions) (ms : List Message) (number : ℕ) (m : Message) (r s : Replayer) (result : Result (Option Commit) LogFault)
     (ready : IsReplayerReady options ms m r)
-    → FitsFields m → AllByRecursion FitsFields ms → s.oids ≡ r.oids
+    → FitsFields m → AllByRecursion FitsFields ms → s.oids.items ≡ r.oids.items
     → AppendsMessage options ready.infos ms number m s result → TakesMessage options ms number m s result
 put_takes options ms number m r s (Ok o) ready fits fields same put = record {
   infos = ready.infos;
@@ -292,7 +298,7 @@ put_takes options ms number m r s (Ok o) ready fits fields same put = record {
   placed = put.placed;
   commit = put.commit;
   replayed = put.replayed;
-  oids = subst (λ (v : Vec TableOids). KnowsOids ready.infos (m ∷ ms) v.items) (sym same) ready.oids;
+  oids = subst (KnowsOids ready.infos (m ∷ ms)) (sym same) ready.oids;
   fields = (fits, fields);
 }
 put_takes options ms number m r s (Err fault) ready fits fields same put = put_fails options ms number m r fault ready put

@@ -1,6 +1,7 @@
 -- The OIDs of the captured tables.
-use Rattle.std.proofs.Common.{◌≡◌, ◌⊎◌, inl, inr, ◌∙◌, ℕ, zero, suc, ◌+◌, ◌<◌, arith, eq-eqb, Bool, true, false, not, ◌||◌, ◌&&◌, Option, Some, None, List, [], ◌∷◌, ◌++◌, length, refl, sym, ap, ap₂, subst}
+use Rattle.std.proofs.Common.{◌≡◌, ◌⊎◌, inl, inr, ◌∙◌, ℕ, zero, suc, ◌+◌, ◌<◌, arith, eq-eqb, Bool, true, false, not, ◌||◌, ◌&&◌, Option, Some, None, List, [], ◌∷◌, ◌++◌, map, take, get_or, length, refl, sym, ap, ap₂, subst}
 use Rattle.std.proofs.lemmas.Bool.{eqb-true}
+use Rattle.std.proofs.lemmas.List.{take_more, map_push}
 use Rattle.std.specs.Prelude.{if◌then◌else◌, is_some, ◌==◌, option_map, unwrap_or, slice_get, slice_set}
 use Rattle.std.specs.List.{list_any, position_from}
 use Rattle.dbl_pgmsg.specs.declared.messages.Message.{Message}
@@ -59,12 +60,15 @@ learnt_at [] info name i n is = by (same_name info.name name) refl is
     by : (b : Bool) → same_name info.name name ≡ b → (if b then Some i else None) ≡ Some n → (None ≡ Some n) ⊎ ((n ≡ i + 0) × (same_name info.name name ≡ true))
     by true same told = let e : i ≡ n = cc in inr (omega (arith, e), same)
     by false same told = inl told
-learnt_at (x ∷ xs) info name i n is = by (same_name x.name name) is
+learnt_at (x ∷ xs) info name i n is = by (same_name x.name name) (λ told. learnt_at xs info name (i + 1) n told) is
   where
-    by : (b : Bool) → (if b then Some i else position_from (λ (x : TableInfo). same_name x.name name) (i + 1) (xs ++ info ∷ [])) ≡ Some n
+    by : (b : Bool)
+        → (position_from (λ (x : TableInfo). same_name x.name name) (i + 1) (xs ++ info ∷ []) ≡ Some n
+        → (position_from (λ (x : TableInfo). same_name x.name name) (i + 1) xs ≡ Some n) ⊎ ((n ≡ (i + 1) + length xs) × (same_name info.name name ≡ true)))
+        → (if b then Some i else position_from (λ (x : TableInfo). same_name x.name name) (i + 1) (xs ++ info ∷ [])) ≡ Some n
         → ((if b then Some i else position_from (λ (x : TableInfo). same_name x.name name) (i + 1) xs) ≡ Some n) ⊎ ((n ≡ i + suc (length xs)) × (same_name info.name name ≡ true))
-    by true told = inl told
-    by false told = elim (learnt_at xs info name (i + 1) n told) [
+    by true rest told = inl told
+    by false rest told = elim (rest told) [
       | inl there ↦ inl there
       | inr last ↦ (let long : n ≡ (i + 1) + length xs = last.0 in inr (omega (arith, long), last.1))
     ]
@@ -80,7 +84,7 @@ get_last : {X : Type 0} (xs : List X) (y : X) → slice_get (xs ++ y ∷ []) (le
 get_last [] y = refl
 get_last (x ∷ xs) y = get_last xs y
 
-length_push : {X : Type 0} (xs : List X) (y : X) → length (xs ++ y ∷ []) ≡ length xs + 1
+length_push : {X : Type 0} (xs : List X) (y : X) → length (xs ++ y ∷ []) ≡ suc (length xs)
 length_push [] y = refl
 length_push (x ∷ xs) y = ap suc (length_push xs y)
 
@@ -136,7 +140,7 @@ oids_passed infos ms list given ns nm identity columns knows passed = record {
   long = knows.long;
   each = λ name place no_mark at.
       let was = knows.each name place no_mark at in
-      (was.0, (was.1, λ oid. other_stays oid name given ns nm identity columns ms (apart name place no_mark at (same_name (table_named ns nm) name) refl passed) ∙ was.2 oid));
+      (was.0, was.1, λ oid. other_stays oid name given ns nm identity columns ms (apart name place no_mark at (same_name (table_named ns nm) name) refl passed) ∙ was.2 oid);
 }
   where
     apart : (name : TableName) (place : ℕ) → is_watermark name ≡ false → number_of infos name ≡ Some place → (b : Bool) → same_name (table_named ns nm) name ≡ b
@@ -187,12 +191,10 @@ module _ (infos : List TableInfo) (ms : List Message) (list : List TableOids) (g
           let both : Some j ≡ Some place = sym at_j ∙ ap (number_of infos) (sym names) ∙ at in
           let e : place ≡ j = cc in (
             with_oid given oids,
-            (
-              subst (λ (k : ℕ). slice_get (slice_set list place (with_oid given oids)) k ≡ Some (with_oid given oids)) e (set_here list place oids (with_oid given oids) there),
-              λ oid. ap (λ (b : Bool). b && not (given == oid) || has_other_oid oid name ms) same
-                  ∙ ap (λ (b : Bool). not (given == oid) || b) (ap (λ (n : TableName). has_other_oid oid n ms) (sym names) ∙ is oid)
-                  ∙ with_one oids.first oid given oids.several,
-            ),
+            subst (λ (k : ℕ). slice_get (slice_set list place (with_oid given oids)) k ≡ Some (with_oid given oids)) e (set_here list place oids (with_oid given oids) there),
+            λ oid. ap (λ (b : Bool). b && not (given == oid) || has_other_oid oid name ms) same
+                ∙ ap (λ (b : Bool). not (given == oid) || b) (ap (λ (n : TableName). has_other_oid oid n ms) (sym names) ∙ is oid)
+                ∙ with_one oids.first oid given oids.several,
           )
       by name j no_mark at_j false same =
           let was = knows.each name j no_mark at_j in
@@ -204,13 +206,13 @@ module _ (infos : List TableInfo) (ms : List Message) (list : List TableOids) (g
           let names : here ≡ name = sym mine.name_is ∙ ap (λ (i : TableInfo). i.name) (sym one) ∙ its.name_is in
           let no : true ≡ false = sym (same_name-self here) ∙ ap (same_name here) names ∙ same in
           cc) in
-          (was.0, (set_other list place j (with_oid given oids) apart ∙ was.1, λ oid. other_stays oid name given ns nm identity columns ms same ∙ was.2 oid))
+          (was.0, set_other list place j (with_oid given oids) apart ∙ was.1, λ oid. other_stays oid name given ns nm identity columns ms same ∙ was.2 oid)
 
   -- the first Relation of a table
   pub oids_learnt : (info : TableInfo) → info.name ≡ here → HasNoRelation here ms → number_of infos here ≡ None
       → KnowsOids (infos ++ info ∷ []) told (list ++ record { first = given; several = false } ∷ [])
   oids_learnt info named none fresh = record {
-    long = length_push list _ ∙ ap (λ (n : ℕ). n + 1) knows.long ∙ sym (length_push infos info);
+    long = length_push list _ ∙ ap suc knows.long ∙ sym (length_push infos info);
     each = λ name j no_mark at. by name j no_mark (learnt_at infos info name 0 j at);
   }
     where
@@ -219,7 +221,7 @@ module _ (infos : List TableInfo) (ms : List Message) (list : List TableOids) (g
       by name j no_mark (inl at) =
           let was = knows.each name j no_mark at in
           let other : same_name here name ≡ false = apart (same_name here name) refl in
-          (was.0, (get_front list _ j was.0 was.1, λ oid. other_stays oid name given ns nm identity columns ms other ∙ was.2 oid))
+          (was.0, get_front list _ j was.0 was.1, λ oid. other_stays oid name given ns nm identity columns ms other ∙ was.2 oid)
         where
           apart : (b : Bool) → same_name here name ≡ b → b ≡ false
           apart false same = refl
@@ -229,12 +231,10 @@ module _ (infos : List TableInfo) (ms : List Message) (list : List TableOids) (g
           let names : here ≡ name = sym named ∙ names_are info.name name last.1 in
           let e : length list ≡ j = omega (arith, last.0, knows.long) in (
             new,
-            (
-              subst (λ (k : ℕ). slice_get (list ++ new ∷ []) k ≡ Some new) e (get_last list new),
-              λ oid. ap (λ (b : Bool). b && not (given == oid) || has_other_oid oid name ms) (ap (same_name here) (sym names) ∙ same_name-self here)
-                  ∙ ap (λ (b : Bool). not (given == oid) || b) (ap (λ (n : TableName). has_other_oid oid n ms) (sym names) ∙ none_other oid here ms none)
-                  ∙ or_none (not (given == oid)),
-            ),
+            subst (λ (k : ℕ). slice_get (list ++ new ∷ []) k ≡ Some new) e (get_last list new),
+            λ oid. ap (λ (b : Bool). b && not (given == oid) || has_other_oid oid name ms) (ap (same_name here) (sym names) ∙ same_name-self here)
+                ∙ ap (λ (b : Bool). not (given == oid) || b) (ap (λ (n : TableName). has_other_oid oid n ms) (sym names) ∙ none_other oid here ms none)
+                ∙ or_none (not (given == oid)),
           )
 
 -- a table in other columns
@@ -265,3 +265,11 @@ finds infos ms list name place given knows no_mark at =
       other = ap (λ (o : Option TableOids). unwrap_or (option_map (λ oids. other_among oids given) o) false) was.1 ∙ sym (was.2 given);
       seen = ap (with_oid_of place given list) was.1;
     }
+
+-- ---- names of columns
+
+pub name_pushed : {A : Type 0} (name : ℕ → A) (places : List ℕ) (i : ℕ) (front more : List A) (x : A) → front ≡ map name (take i places) → i < length places → more ≡ front ++ x ∷ []
+    → x ≡ name (get_or places i 0) → more ≡ map name (take (i + 1) places)
+name_pushed {A = A} name places i front more x so_far lt pushed is =
+    pushed ∙ (ap₂ (λ (l : List A) (y : A). l ++ y ∷ []) so_far is
+    ∙ sym (ap (map name) (take_more places i 0 lt) ∙ map_push name (take i places) (get_or places i 0)))

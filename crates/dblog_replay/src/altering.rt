@@ -1,9 +1,11 @@
 //! Captured tables whose Relation has other columns, and the OIDs of tables.
 
 ghost use Rattle.std.specs.Prelude.{◌≡◌, ◌⊎◌, ◌++◌, ◌∷◌, [], IfOk, OnOk, Some, None, is_some};
-ghost use Rattle.std.specs.Prelude.{if◌then◌else◌, false, slice_get};
+ghost use Rattle.std.specs.Prelude.{if◌then◌else◌, false, not, ◌||◌, slice_get};
+ghost use Rattle.std.specs.List.{list_any};
 ghost use Rattle.dbl_model_table.specs.Infos.{IsInfoOf, key_names, name_at};
 ghost use Rattle.dbl_model_table.specs.Made.{table_fault};
+ghost use Rattle.dbl_model_commit.specs.Stated.{same_column};
 ghost use Rattle.dbl_model_commit.specs.Shapes.{has_column, keep_key, entry_in};
 ghost use Rattle.dblog_replay.specs.Altered.{other_among, other_at, with_oid_of};
 ghost use Rattle.dblog_replay.specs.Altered.{shape_cause, IsShaped};
@@ -60,13 +62,27 @@ pub fn see_oid(list: &mut Vec<TableOids>, place: usize, oid: u32) -> bool
     several
 }
 
+fn is_among(columns: &Vec<RelationColumn>, column: &Column) -> bool
+    ensures { result ≡ list_any (λ given. same_column (column.now, given)) columns.now.items }
+{
+    columns.iter().any(|given| is_same_column(column, given))
+}
+
 fn has_column(columns: &Vec<RelationColumn>, own: &Vec<Column>, place: usize) -> bool
     ensures { result ≡ has_column columns.now.items (slice_get own.now.items place) }
 {
     match own.get(place) {
-        Some(column) => columns.iter().any(|given| is_same_column(column, given)),
+        Some(column) => is_among(columns, column),
         None => false,
     }
+}
+
+/// Whether other columns of a table are refused for the messages before: the open transaction has
+/// changed the table, or an earlier Relation of it has another OID.
+pub fn refuses_columns(changed: bool, other: bool) -> bool
+    ensures { result ≡ (changed || other) }
+{
+    changed || other
 }
 
 // Whether a Relation's columns have each key column of the table, with its type.
@@ -79,10 +95,16 @@ fn keeps_key(info: &TableInfo, columns: &Vec<RelationColumn>) -> bool
         .all(|place| has_column(columns, own, *place as usize))
 }
 
-fn name_at(alloc: Global, columns: &Vec<Column>, place: usize) -> Result<Text, AllocError>
-    ensures { IfOk result (λ name. name ≡ name_at columns.now.items place) }
+fn loses_key(refused: bool, info: &TableInfo, columns: &Vec<RelationColumn>) -> bool
+    ensures { result ≡ (refused || not (keep_key info.now columns.now.items)) }
 {
-    match columns.get(place) {
+    refused || !keeps_key(info, columns)
+}
+
+fn name_at(alloc: Global, columns: &Seq<Column>, place: u32) -> Result<Text, AllocError>
+    ensures { IfOk result (λ name. name ≡ name_at columns.now place) }
+{
+    match columns.items().get(place as usize) {
         Some(column) => column.name.copy(alloc),
         None => Ok(Text::make(String::new(alloc))),
     }
@@ -91,10 +113,9 @@ fn name_at(alloc: Global, columns: &Vec<Column>, place: usize) -> Result<Text, A
 fn key_names(alloc: Global, info: &TableInfo) -> Result<Vec<Text>, AllocError>
     ensures { IfOk result (λ names. names.items ≡ key_names info.now) }
 {
-    let columns = info.columns.items();
     let mut names = Vec::new(alloc);
     for place in info.key.items() {
-        names.push(name_at(alloc, columns, *place as usize)?)?;
+        names.push(name_at(alloc, &info.columns, *place)?)?;
     }
     Ok(names)
 }
@@ -166,7 +187,7 @@ pub fn shape_of(
     if are_same_columns(info.columns.items(), columns) {
         return Ok(None);
     }
-    if refused || !keeps_key(info, columns) {
+    if loses_key(refused, info, columns) {
         return Err(schema_changed(alloc, number, info));
     }
     let entry = entry_in(alloc, info, columns)?;

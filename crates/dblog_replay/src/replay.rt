@@ -14,7 +14,7 @@ ghost use Rattle.dblog_replay.specs.Following.{HasReplayed, FollowsMessages, Pre
 ghost use Rattle.dblog_replay.specs.Following.{IsToldBefore};
 ghost use Rattle.dblog_replay.specs.Following.{AppendsMessage, TakesMessage};
 
-use crate::altering::{TableOids, learn_oid, see_oid, shape_of};
+use crate::altering::{TableOids, learn_oid, refuses_columns, see_oid, shape_of};
 use crate::capture::{capture_table, entry_of, is_new, is_watermark, place_of, schema_of};
 use crate::log_fault::LogFault;
 use crate::options::LogOptions;
@@ -101,7 +101,7 @@ impl Replayer {
             HasReplayed options infos ms self.old → HasNoRelation info.name ms →
             OnOk result (HasReplayed options (infos ++ info ∷ []) ms self.new) }
         ensures err { IfErr result (λ e. e ≡ LogFault.Memory) }
-        ensures oids { self.new.oids ≡ self.old.oids }
+        ensures oids { self.new.oids.items ≡ self.old.oids.items }
     {
         let copied = info.copy(alloc)?;
         match self.assembler.learn(info) {
@@ -120,7 +120,7 @@ impl Replayer {
             changes_table table (changes_so_far infos ms) ≡ false →
             OnOk result (HasReplayed options (slice_set infos table info) ms self.new) }
         ensures err { IfErr result (λ e. e ≡ LogFault.Memory) }
-        ensures oids { self.new.oids ≡ self.old.oids }
+        ensures oids { self.new.oids.items ≡ self.old.oids.items }
     {
         let copied = info.copy(alloc)?;
         self.assembler.reshape(table, info);
@@ -146,18 +146,22 @@ impl Replayer {
         if is_watermark(schema, name) {
             return Ok(());
         }
-        let Some(place) = place_of(self.assembler.infos(), schema, name) else {
-            return Ok(());
-        };
-        let Ok(table) = u32::try_from(place) else {
-            return Err(LogFault::Memory);
-        };
-        let other = see_oid(&mut self.oids, place, oid);
-        let refused = self.assembler.has_changed(table) || other;
-        let info = &self.assembler.infos()[place];
-        match shape_of(alloc, &self.mask, number, refused, info, columns)? {
-            Some(shape) => self.reshape(alloc, table, shape),
+        let infos = self.assembler.infos();
+        match place_of(infos, schema, name) {
             None => Ok(()),
+            Some(place) => {
+                let table = match u32::try_from(place) {
+                    Ok(table) => table,
+                    Err(_) => return Err(LogFault::Memory),
+                };
+                let other = see_oid(&mut self.oids, place, oid);
+                let changed = self.assembler.has_changed(table);
+                let refused = refuses_columns(changed, other);
+                match shape_of(alloc, &self.mask, number, refused, &infos[place], columns)? {
+                    Some(shape) => self.reshape(alloc, table, shape),
+                    None => Ok(()),
+                }
+            }
         }
     }
 
@@ -215,7 +219,7 @@ impl Replayer {
         ensures appends { (options : LogOptions) (infos : List TableInfo) (ms : List Message) →
             HasReplayed options infos ms self.old →
             AppendsMessage options infos ms number message self.new result }
-        ensures oids { self.new.oids ≡ self.old.oids }
+        ensures oids { self.new.oids.items ≡ self.old.oids.items }
     {
         match self.assembler.take(alloc, message) {
             Ok(ended) => Ok(ended),

@@ -1,5 +1,4 @@
 use Rattle.std.proofs.Common.{◌≡◌, ◌∙◌, ℕ, List, [], ◌∷◌, ◌++◌, false, length, sym, ap, subst, arith}
-use Rattle.std.specs.Prelude.{Vec}
 use Rattle.dbl_pgmsg.specs.declared.messages.Message.TheVariants as says
 use Rattle.dblog_replay.specs.declared.altering.TableOids.{TableOids}
 use Rattle.dblog_replay.specs.declared.replay.Replayer.{Replayer}
@@ -41,4 +40,4 @@ returns c = λ options ms identity follows.
     c.schema_of-schema.ensures c.as_str-name.ensures.value same c.is_new.ensures
     c.in_ok-entry.entry c.len.result c.in_ok-info.info now c.if-not-is_new.false told counted c.in_ok-info.ensures.info c.in_ok-info.ensures.fault
     (record { stands = added.stands; identity = added.identity; keys = added.keys; mask = added.mask; writes = added.writes; stated = added.stated })
-    (c.in_ok-learn_oid.ensures ∙ ap (λ (v : Vec TableOids). v.items ++ record { first = c.args.oid; several = false } ∷ []) c.add.ensures.oids)
+    (c.in_ok-learn_oid.ensures ∙ ap (λ (l : List TableOids). l ++ record { first = c.args.oid; several = false } ∷ []) c.add.ensures.oids)

@@ -8,13 +8,13 @@ use Rattle.dblog_connect.proofs.Gated.{ends_gated, ends_unbegun}
 use Rattle.dblog_connect.proofs.connecting.run_session.Goals as goal
 
 pub run_over_gate-end-requires-clause-log_live : goal.run_over_gate-end-requires-clause-log_live
-run_over_gate-end-requires-clause-log_live g c = subst (λ (log : OnDisk g.T). IsTrue log.live) (sym c.make-gate.ensures.sink) c.requires.log_live
+run_over_gate-end-requires-clause-log_live g c = subst (λ (log : OnDisk _). IsTrue log.live) (sym c.make-gate.ensures.sink) c.requires.log_live
 
 pub run_over_gate-end-requires-clause-rule : goal.run_over_gate-end-requires-clause-rule
 run_over_gate-end-requires-clause-rule g c = c.make-gate.ensures.rule ∙ c.rule_of-rule.ensures
 
 pub run_over_gate-end-requires-clause-log_opened : goal.run_over_gate-end-requires-clause-log_opened
-run_over_gate-end-requires-clause-log_opened g c = subst (λ (log : OnDisk g.T). IsOpenedLog g.T.Disk log) (sym c.make-gate.ensures.sink) c.requires.log_opened
+run_over_gate-end-requires-clause-log_opened g c = subst (IsOpenedLog g.T.Disk) (sym c.make-gate.ensures.sink) c.requires.log_opened
 
 pub returns-in-Ok : goal.returns-in-Ok
 returns-in-Ok g c =

@@ -25,3 +25,4 @@ pub mod PointLemmas
 pub mod CoursePoints
 pub mod KeyRowLemmas
 pub mod VersionLemmas
+pub mod BetweenLemmas

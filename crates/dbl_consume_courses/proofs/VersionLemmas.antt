@@ -32,12 +32,12 @@ use Rattle.dbl_consume_courses.proofs.Positions.{le_of, le_is, le_trans, upto_is
 
 -- ---- commits up to a position
 
-none_to : (position : ℕ) (vs : List Versioned) → AllByRecursion (λ v. position < v.lsn.0) vs → versions_to position vs ≡ []
+pub none_to : (position : ℕ) (vs : List Versioned) → AllByRecursion (λ v. position < v.lsn.0) vs → versions_to position vs ≡ []
 none_to position [] past = refl
 none_to position (v ∷ vs) past =
     ap (λ (b : Bool). if b then v ∷ versions_to position vs else versions_to position vs) (past_is v.lsn.0 position past.0) ∙ none_to position vs past.1
 
-all_to : (position : ℕ) (front later : List Versioned) → AllByRecursion (λ v. v.lsn.0 ≤ position) front → AllByRecursion (λ v. position < v.lsn.0) later → versions_to position (front ++ later) ≡ front
+pub all_to : (position : ℕ) (front later : List Versioned) → AllByRecursion (λ v. v.lsn.0 ≤ position) front → AllByRecursion (λ v. position < v.lsn.0) later → versions_to position (front ++ later) ≡ front
 all_to position [] later upto past = none_to position later past
 all_to position (v ∷ front) later upto past =
     ap (λ (b : Bool). if b then v ∷ versions_to position (front ++ later) else versions_to position (front ++ later)) (upto_is v.lsn.0 position upto.0)

@@ -14,4 +14,5 @@ pub mod TableAges
 pub mod CoursePoints
 pub mod KeyRows
 pub mod VersionStores
+pub mod AgesBetween
 pub mod Example

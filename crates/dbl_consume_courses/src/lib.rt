@@ -2,6 +2,7 @@
 #![tactic(auto)]
 
 mod age_laws;
+mod between_laws;
 mod course_laws;
 mod fit_laws;
 mod growth_laws;
@@ -15,6 +16,10 @@ mod version_laws;
 pub use age_laws::{
     aged_courses_are_own, altered_tables_age, late_logs_age_as_plain, late_logs_have_the_same_rows,
     new_courses_are_aged, nothing_is_known_at_first, plain_tables_age,
+};
+pub use between_laws::{
+    ages_between_stay_as_histories_grow, commits_move_ages_between, empty_logs_are_aged,
+    parts_of_commits_keep_ages_between,
 };
 pub use course_laws::{
     aged_tables_stand, altered_tables_stand, courses_begin_anew, courses_go_on, courses_have_infos,

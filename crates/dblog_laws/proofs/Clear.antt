@@ -25,9 +25,9 @@ use Rattle.dbl_model_commit.proofs.ChangeFits.{commits_fit}
 use Rattle.dbl_model_commit.proofs.Learning.{commits_learnt}
 use Rattle.dbl_consume_laws.proofs.Notices.{all_append}
 use Rattle.dblog_run.specs.Replay.declared.options.LogOptions.{LogOptions}
-use Rattle.dblog_run.specs.Replay.Captures.{table_told, tables_in, AreCaptured}
+use Rattle.dblog_run.specs.Replay.Captures.{altered_by, table_told, tables_in, AreCaptured}
 use Rattle.dblog_run.specs.Replay.Log.{placeholder_fault, commit_fault}
-use Rattle.dblog_run.specs.Replay.Replay.{HaveNoFault}
+use Rattle.dblog_run.specs.Replay.Replay.{HaveNoFault, KeepColumns}
 use Rattle.dblog_run.proofs.ReplayCaptureLemmas.{infos_one, told_has_none}
 
 abbrev pub IsClear : Identity → List TableInfo → Commit → Type 0
@@ -91,15 +91,17 @@ one_more_is (x ∷ xs) (y ∷ ys) raw is =
     let first = infos_one (y ∷ []) (x ∷ []) (ap (λ (r : RawTable). r ∷ []) (head_is _ _ _ _ is)) in
     record { info = rest.info; all_is = ap₂ (λ (a b : List TableInfo). a ++ b) first rest.all_is; is = rest.is }
 
--- what is captured of some messages, and of them and one more
+-- what is captured of some messages, and of them and one more that gives no table other columns
 clear_then : (options : LogOptions) (ms : List Message) (m : Message) (xs infos : List TableInfo) (told : Option RawTable)
-    → table_told options.keys (tables_in options.keys ms) m ≡ told → AreCaptured options.keys ms xs → AreCaptured options.keys (m ∷ ms) infos
-    → AllByRecursion FitsFields ms → AllByRecursion (IsClear options.identity xs) (commits_of xs ms) → AllByRecursion (IsClear options.identity infos) (commits_of infos ms)
-clear_then options ms m xs infos None is before captured fields clear =
-    let same = infos_one xs infos (before ∙ sym (captured ∙ ap (λ (o : Option RawTable). tables_in options.keys ms ++ list_of o) is ∙ append-nil (tables_in options.keys ms))) in
+    → altered_by m (tables_in options.keys ms) ≡ tables_in options.keys ms → table_told options.keys (tables_in options.keys ms) m ≡ told → AreCaptured options.keys ms xs
+    → AreCaptured options.keys (m ∷ ms) infos → AllByRecursion FitsFields ms → AllByRecursion (IsClear options.identity xs) (commits_of xs ms) → AllByRecursion (IsClear options.identity infos) (commits_of infos ms)
+clear_then options ms m xs infos None kept is before captured fields clear =
+    let told = captured ∙ ap₂ (λ (ts : List RawTable) (o : Option RawTable). ts ++ list_of o) kept is in
+    let same = infos_one xs infos (before ∙ sym (told ∙ append-nil (tables_in options.keys ms))) in
     subst (λ (i : List TableInfo). AllByRecursion (IsClear options.identity i) (commits_of i ms)) same clear
-clear_then options ms m xs infos (Some raw) is before captured fields clear =
-    let one = one_more_is xs infos raw (captured ∙ ap (λ (o : Option RawTable). tables_in options.keys ms ++ list_of o) is ∙ ap (λ (t : List RawTable). t ++ raw ∷ []) (sym before)) in
+clear_then options ms m xs infos (Some raw) kept is before captured fields clear =
+    let told = captured ∙ ap₂ (λ (ts : List RawTable) (o : Option RawTable). ts ++ list_of o) kept is in
+    let one = one_more_is xs infos raw (told ∙ ap (λ (t : List RawTable). t ++ raw ∷ []) (sym before)) in
     let none : HasNoRelation one.info.name ms = subst (λ (r : RawTable). HasNoRelation r.name ms) (sym one.is) (told_has_none options.keys ms m raw is) in
     let more = clear_more options.identity xs one.info (commits_of xs ms) (commits_fit xs ms fields) clear in
     subst (λ (i : List TableInfo). AllByRecursion (IsClear options.identity i) (commits_of i ms)) (sym one.all_is)
@@ -121,15 +123,15 @@ captured_before : (options : LogOptions) (ms : List Message) → HaveNoFault opt
 captured_before options [] clean = ([], refl)
 captured_before options (m ∷ ms) clean = (clean.0.0, clean.0.1.tables.captured)
 
-pub clear : (options : LogOptions) (ms : List Message) (infos : List TableInfo) → HaveNoFault options ms → AreCaptured options.keys ms infos
-    → AllByRecursion FitsFields ms → AllByRecursion (IsClear options.identity infos) (commits_of infos ms)
-clear options [] infos clean captured fields = tt
-clear options (m ∷ ms) infos clean captured fields =
+pub clear : (options : LogOptions) (ms : List Message) (infos : List TableInfo) → KeepColumns options ms → HaveNoFault options ms
+    → AreCaptured options.keys ms infos → AllByRecursion FitsFields ms → AllByRecursion (IsClear options.identity infos) (commits_of infos ms)
+clear options [] infos kept clean captured fields = tt
+clear options (m ∷ ms) infos kept clean captured fields =
     let here = clean.0 in
     let before = captured_before options ms clean.1 in
-    let earlier = clear options ms before.0 clean.1 before.1 fields.1 in
+    let earlier = clear options ms before.0 kept.1 clean.1 before.1 fields.1 in
     let same = infos_one here.0 infos (here.1.tables.captured ∙ sym captured) in
     let last = subst (λ (i : List TableInfo). AllByRecursion (IsClear options.identity i) (list_of (ended_commit i m ms))) same
     (ended_clear options.identity here.0 (ended_commit here.0 m ms) here.1.made) in
     all_append (IsClear options.identity infos) (commits_of infos ms) (list_of (ended_commit infos m ms))
-    (clear_then options ms m before.0 infos (table_told options.keys (tables_in options.keys ms) m) refl before.1 captured fields.1 earlier) last
+    (clear_then options ms m before.0 infos (table_told options.keys (tables_in options.keys ms) m) kept.0 refl before.1 captured fields.1 earlier) last

@@ -17,11 +17,11 @@ use Rattle.dbl_model_history.specs.Ranges.{HasRanges}
 use Rattle.dbl_model_history.specs.Fit.{AreFit, AreInfosOf, IsFitHistory}
 use Rattle.dbl_model_commit.specs.Tuples.{spelled_value, given_cell, row_of, change_of}
 use Rattle.dbl_model_commit.specs.Stated.{row_stated, commits_of}
-use Rattle.dbl_model_commit.specs.Blocks.{onto, AreWithoutFault}
-use Rattle.dblog_run.specs.Replay.Log.{lines_in, log_start}
+use Rattle.dbl_model_commit.specs.Blocks.{onto}
+use Rattle.dblog_run.specs.Replay.Log.{lines_in}
 use Rattle.dblog_run.specs.Replay.Pieces.{AreSpelled}
 use Rattle.dblog_run.proofs.ReplayPieceLemmas.{pieces_from, spelled_read, pieces_carry}
-use Rattle.dblog_run.specs.Replay.Replay.{HaveNoFault, IsReplayed}
+use Rattle.dblog_run.specs.Replay.Replay.{AreLinesOf, HaveNoFault, IsReplayed, KeepColumns}
 use Rattle.dblog_run.proofs.ReplayCaptureLemmas.{infos_one}
 use Rattle.dblog_laws.specs.Pipe.{AreNamesUtf8, IsWholeLog}
 use Rattle.dblog_laws.specs.Example.{example_identity, example_options, example_messages, example_log, example_entry, example_table, example_history, example_lines, WholeLogsStand}
@@ -115,36 +115,42 @@ spelled = (
 clean : HaveNoFault example_options (onto [] example_messages)
 unfolding type_of spelled_value given_cell row_of change_of row_stated
 clean = (
-  (example_table ∷ [], record { tables = record { captured = refl; capturable = refl }; placed = refl; made = refl }),
+  (example_table ∷ [], record { tables = record { before = example_table ∷ []; known = refl; readable = λ number. refl; captured = refl }; placed = refl; made = refl }),
   (
-    (example_table ∷ [], record { tables = record { captured = refl; capturable = refl }; placed = refl; made = refl }),
+    (example_table ∷ [], record { tables = record { before = example_table ∷ []; known = refl; readable = λ number. refl; captured = refl }; placed = refl; made = refl }),
     (
-      (example_table ∷ [], record { tables = record { captured = refl; capturable = refl }; placed = refl; made = refl }),
-      (([], record { tables = record { captured = refl; capturable = refl }; placed = refl; made = refl }), tt),
+      (example_table ∷ [], record { tables = record { before = []; known = refl; readable = λ number. refl; captured = refl }; placed = refl; made = refl }),
+      (([], record { tables = record { before = []; known = refl; readable = λ number. refl; captured = refl }; placed = refl; made = refl }), tt),
     ),
   ),
 )
 
-accepted : AreWithoutFault (example_table ∷ []) log_start (onto [] example_messages)
-unfolding type_of spelled_value given_cell row_of change_of row_stated
-accepted = (refl, (refl, (refl, (refl, tt))))
-
 stated : commits_of (example_table ∷ []) (onto [] example_messages) ≡ typed (example_table ∷ []) example_history
 unfolding type_of spelled_value given_cell row_of change_of row_stated
 stated = refl
+
+kept : KeepColumns example_options (onto [] example_messages)
+kept = (refl, (refl, (refl, (refl, tt))))
+
+lines : AreLinesOf example_options (pos 0) (onto [] example_messages) example_lines
+unfolding type_of spelled_value given_cell row_of change_of row_stated
+lines = (
+  example_table ∷ [],
+  [],
+  refl,
+  (example_table ∷ [], [], refl, (example_table ∷ [], [], refl, ([], [], refl, refl, refl), refl), refl),
+  ap (λ (cs : List Commit). lines_in example_identity (example_table ∷ []) cs (pos 0)) (sym stated),
+)
 
 replayed : IsReplayed example_options (pos 0) (pieces_from 1 example_messages) example_lines None
 replayed = record {
   messages = example_messages;
   front = pieces_from 1 example_messages;
   rest = [];
-  infos = example_table ∷ [];
   parts = refl;
   carried = pieces_carry 1 example_messages;
-  captured = refl;
   clean = clean;
-  accepted = accepted;
-  commits = ap (λ (cs : List Commit). lines_in example_identity (example_table ∷ []) cs (pos 0)) (sym stated);
+  commits = lines;
   ends = refl;
 }
 
@@ -165,6 +171,9 @@ whole =
       moment = at_zero;
       names = names;
       fit = fit;
+      kept = kept;
+      infos = example_table ∷ [];
+      tables = refl;
       captured = captured;
       stated = stated;
     }

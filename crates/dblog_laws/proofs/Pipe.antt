@@ -25,7 +25,12 @@ use Rattle.dblog_laws.specs.Pipe.{IsWholeLog, LastRowsAreApplied}
 use Rattle.dblog_laws.proofs.LineTexts.{AreLineTexts, lines_back}
 use Rattle.dblog_laws.proofs.Records.{IsPiped, no_fault, commits_piped}
 use Rattle.dblog_laws.proofs.Printed.{source_rows}
+use Rattle.dbl_pgmsg.specs.Grammar.{FitsFields}
+use Rattle.dbl_model_table.specs.declared.table.TableInfo.{TableInfo}
+use Rattle.dbl_model_commit.specs.Stated.{commits_of}
+use Rattle.dblog_replay.proofs.CommitLaws.{kept_state}
 use Rattle.dblog_run.specs.Replay.Pieces.{AllFitFields}
+use Rattle.dblog_run.proofs.ReplayCaptureLemmas.{infos_one}
 use Rattle.dblog_run.proofs.ReplayMaskedLemmas.{masked_pieces_fit}
 use Rattle.dblog_run.proofs.ReplayPieceLemmas.{fit_front, carried_fields}
 use Rattle.dblog_run.proofs.ReplayStreamLemmas.{reads_fit}
@@ -47,15 +52,27 @@ lines_clean number placeholder (item ∷ items) h = ap₂ (or_later_line number)
 
 -- ---- of a whole log
 
-told_whole : (options : LogOptions) (now : ℤ) (log lines : List (List ℕ)) (history : History) → (whole : IsWholeLog options now log lines history)
-    → IsToldWhole history whole.replayed.infos options.identity (λ commit. now)
-told_whole options now log lines history whole =
-    let infos = whole.replayed.infos in
-    let messages = whole.replayed.messages in
+whole_fields : (options : LogOptions) (now : ℤ) (log lines : List (List ℕ)) (history : History) → (whole : IsWholeLog options now log lines history)
+    → AllByRecursion FitsFields (onto [] whole.replayed.messages)
+whole_fields options now log lines history whole =
     let fit = fit_front whole.replayed.front whole.replayed.rest
     (subst AllFitFields whole.replayed.parts (masked_pieces_fit options.mask [] whole.pieces (reads_fit whole.stream log whole.pieces whole.read))) in
-    let none = clear options (onto [] messages) infos whole.replayed.clean whole.replayed.captured
-    (carried_fields whole.replayed.front [] messages whole.replayed.carried fit tt) in
+    carried_fields whole.replayed.front [] whole.replayed.messages whole.replayed.carried fit tt
+
+-- the lines are those of the commits that the log states with all its tables captured
+whole_lines : (options : LogOptions) (now : ℤ) (log lines : List (List ℕ)) (history : History) → (whole : IsWholeLog options now log lines history)
+    → lines ≡ lines_in options.identity whole.infos (commits_of whole.infos (onto [] whole.replayed.messages)) now
+whole_lines options now log lines history whole =
+    let ms = onto [] whole.replayed.messages in
+    let state = kept_state options now ms lines (whole_fields options now log lines history whole) whole.kept (whole.replayed.clean, whole.replayed.commits) in
+    state.commits
+    ∙ ap (λ (infos : List TableInfo). lines_in options.identity infos (commits_of infos ms) now) (infos_one state.infos whole.infos (state.captured ∙ sym whole.tables))
+
+told_whole : (options : LogOptions) (now : ℤ) (log lines : List (List ℕ)) (history : History) → (whole : IsWholeLog options now log lines history)
+    → IsToldWhole history whole.infos options.identity (λ commit. now)
+told_whole options now log lines history whole =
+    let infos = whole.infos in
+    let none = clear options (onto [] whole.replayed.messages) infos whole.kept whole.replayed.clean whole.tables (whole_fields options now log lines history whole) in
     record {
       fit = whole.fit;
       captured = whole.captured;
@@ -66,13 +83,13 @@ told_whole options now log lines history whole =
 
 pub last_rows_applied : LastRowsAreApplied
 last_rows_applied options now log lines history whole =
-    let infos = whole.replayed.infos in
+    let infos = whole.infos in
     let placeholder = options.identity.placeholder in
     let commits = typed infos history in
     let items : List Record = flat_map (λ commit. envelopes options.identity infos commit now) commits in
     let piped : AllByRecursion (IsPiped placeholder) items =
     commits_piped options.identity infos now commits whole.names whole.moment (infos_in_range infos history whole.fit.ranges whole.captured) (typed_in_range infos history whole.fit.ranges) in
-    let lines_are : lines ≡ map line_of items = whole.replayed.commits ∙ ap (λ (cs : List Commit). lines_in options.identity infos cs now) whole.stated in
+    let lines_are : lines ≡ map line_of items = whole_lines options now log lines history whole ∙ ap (λ (cs : List Commit). lines_in options.identity infos cs now) whole.stated in
     let back : lines_of (lines_text lines) ≡ map line_of items = ap (λ (ls : List (List ℕ)). lines_of (lines_text ls)) lines_are ∙ lines_back (map line_of items) (line_texts placeholder items piped) in
     let read : readings_of_lines (lines_of (lines_text lines)) ≡ map reading_of (map as_line items) = ap readings_of_lines back ∙ lines_read placeholder items piped in
     let told = told_whole options now log lines history whole in

@@ -29,7 +29,8 @@ use Rattle.dblog_run.specs.Replay.declared.options.LogOptions.{LogOptions}
 use Rattle.dblog_run.specs.Replay.Masked.{masked_pieces}
 use Rattle.dblog_run.specs.Replay.Pieces.{Piece}
 use Rattle.dblog_run.specs.Replay.Streams.{ReadsPieces}
-use Rattle.dblog_run.specs.Replay.Replay.{IsReplayed}
+use Rattle.dblog_run.specs.Replay.Captures.{AreCaptured}
+use Rattle.dblog_run.specs.Replay.Replay.{IsReplayed, KeepColumns}
 use Rattle.dblog_run.specs.Replay.Apply.{readings_of_lines}
 use Rattle.dblog_run.specs.Replay.Applied.{IsApplied}
 
@@ -40,8 +41,8 @@ pub record AreNamesUtf8 (identity : Identity) : Type 0 where
   pub placeholder : IsUtf8 identity.placeholder
 
 -- The bytes of the messages of a source's whole log, of either protocol version, for which `replay` writes these lines without an error,
--- masked as its options request. The source's history, masked likewise, is valid and begins with empty tables; its catalogue has the tables
--- as the log describes them; and its commits are exactly those that the masked log states.
+-- masked as its options request, and in which no table gets other columns. The source's history, masked likewise, is valid and begins with
+-- empty tables; its catalogue has the tables as the log describes them; and its commits are exactly those that the masked log states.
 pub record IsWholeLog (options : LogOptions) (now : ℤ) (log lines : List (List ℕ)) (history : History) : Type 0 where
   pub stream : Bool
   pub pieces : List Piece
@@ -50,8 +51,11 @@ pub record IsWholeLog (options : LogOptions) (now : ℤ) (log lines : List (List
   pub moment : IsMomentInRange now
   pub names : AreNamesUtf8 options.identity
   pub fit : IsFitHistory history
-  pub captured : AreInfosOf history replayed.infos
-  pub stated : commits_of replayed.infos (onto [] replayed.messages) ≡ typed replayed.infos history
+  pub kept : KeepColumns options (onto [] replayed.messages)
+  pub infos : List TableInfo
+  pub tables : AreCaptured options.keys (onto [] replayed.messages) infos
+  pub captured : AreInfosOf history infos
+  pub stated : commits_of infos (onto [] replayed.messages) ≡ typed infos history
 
 -- The line of a table's row: its topic, its key and its values, the last two as JSON, separated by spaces.
 abbrev pub source_line : Identity → TableInfo → Key → List Val → List ℕ
@@ -88,5 +92,4 @@ pub record AppliesTo (identity : Identity) (infos : List TableInfo) (source : Ro
 abbrev pub LastRowsAreApplied : Type 0
 LastRowsAreApplied =
     (options : LogOptions) (now : ℤ) (log lines : List (List ℕ)) (history : History) → (whole : IsWholeLog options now log lines history)
-    → AppliesTo options.identity whole.replayed.infos (last_rows whole.replayed.infos (typed whole.replayed.infos history))
-    (lines_text lines)
+    → AppliesTo options.identity whole.infos (last_rows whole.infos (typed whole.infos history)) (lines_text lines)

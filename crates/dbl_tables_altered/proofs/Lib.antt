@@ -1,0 +1,4 @@
+pub mod LeftLemmas
+pub mod LengthLemmas
+pub mod ColumnLemmas
+pub mod SlotLemmas

@@ -1,0 +1,2 @@
+pub mod Alterations
+pub mod Altered

@@ -15,10 +15,10 @@ use Rattle.dbl_tables_altered.proofs.altering.altered_slots.Goals as goal
 
 pub loop-key-init : goal.loop-key-init
 loop-key-init c = record {
-  sorted = subst (λ (es : List Entry). IsStrictlySortedBy key_cmp (keys_of es)) (sym c.iter.ensures.rest) (subst (λ (cmp : Key → Key → Ordering). IsOrdered cmp c.args.slots.now) orders c.iter.ensures.ordered);
+  sorted = subst (λ (es : List Entry). IsStrictlySortedBy key_cmp (keys_of es)) (sym (c.into_iter-key-iterator.ensures.into_iter_gives ∙ c.iter-key-items.ensures.rest)) (subst (λ (cmp : Key → Key → Ordering). IsOrdered cmp c.args.slots.now) orders c.iter-key-items.ensures.ordered);
   so_far = λ room q.
-      subst (λ (es : List Entry). IsSoFar c.args.alteration.now c.args.oid (catalogue_of c.args.info.now).columns c.args.slots.now.entries (slot_in es q) q c.new-altered.result) (sym c.iter.ensures.rest)
-      (none_so_far c.args.alteration.now c.args.oid (catalogue_of c.args.info.now).columns c.args.slots.now.entries c.new-altered.result c.new-altered.ensures q);
+      subst (λ (es : List Entry). IsSoFar c.args.alteration.now c.args.oid (catalogue_of c.args.info.now).columns c.args.slots.now.entries (slot_in es q) q c.new-altered.result) (sym (c.into_iter-key-iterator.ensures.into_iter_gives ∙ c.iter-key-items.ensures.rest))
+      (none_so_far c.args.alteration.now c.args.oid (catalogue_of c.args.info.now).columns c.args.slots.now.entries c.new-altered.result c.new-altered.ensures.empty q);
 }
 
 pub loop-key-preserved : goal.loop-key-preserved

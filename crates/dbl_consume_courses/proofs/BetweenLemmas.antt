@@ -44,7 +44,7 @@ use Rattle.dbl_consume_courses.proofs.VersionLemmas.{all_to, none_to}
 
 -- ---- the greatest position
 
-last_le : (position : ℕ) (records : List Record) → position ≤ last_position position records
+pub last_le : (position : ℕ) (records : List Record) → position ≤ last_position position records
 last_le position [] = omega arith
 last_le position (item ∷ records) = max_left_le position item.position (last_position (max position item.position) records) (last_le (max position item.position) records)
   where
@@ -78,7 +78,7 @@ last_none far at (item ∷ more) all le =
     max_is : (a b c : ℕ) → b ≡ c → c ≤ a → max a b ≡ a
     max_is a b c is less = omega (arith, is, less)
 
-last_more : (position at : ℕ) (records : List Record) (item : Record) (more : List Record) → AllByRecursion (λ x. x.position ≡ at) (item ∷ more)
+pub last_more : (position at : ℕ) (records : List Record) (item : Record) (more : List Record) → AllByRecursion (λ x. x.position ≡ at) (item ∷ more)
     → last_position position (records ++ item ∷ more) ≡ max (last_position position records) at
 last_more position at records item more all =
     last_append position records (item ∷ more)
@@ -97,15 +97,15 @@ each_below position at (item ∷ records) less =
 
 -- ---- the commits up to a position
 
-record IsCut (position : ℕ) (versions : List Versioned) : Type 0 where
-  rest : List Versioned
-  is : versions ≡ versions_to position versions ++ rest
-  past : AllByRecursion (λ v. position < v.lsn.0) rest
+pub record IsCut (position : ℕ) (versions : List Versioned) : Type 0 where
+  pub rest : List Versioned
+  pub is : versions ≡ versions_to position versions ++ rest
+  pub past : AllByRecursion (λ v. position < v.lsn.0) rest
 
 one_to : (position : ℕ) (v : Versioned) (vs : List Versioned) → v.lsn.0 ≤ position → versions_to position (v ∷ vs) ≡ v ∷ versions_to position vs
 one_to position v vs le = ap (λ (b : Bool). if b then v ∷ versions_to position vs else versions_to position vs) (upto_is v.lsn.0 position le)
 
-cut : (position low : ℕ) (vs : List Versioned) → AreRising low (lsns (map plain_commit vs)) → IsCut position vs
+pub cut : (position low : ℕ) (vs : List Versioned) → AreRising low (lsns (map plain_commit vs)) → IsCut position vs
 cut position low [] rise = record { rest = []; is = refl; past = tt }
 cut position low (v ∷ vs) rise = elim (cases_lt position v.lsn.0) [
   | inl lt ↦ (
@@ -120,7 +120,7 @@ front_to : (position : ℕ) (front rest : List Versioned) → AllByRecursion (λ
 front_to position [] rest upto = refl
 front_to position (v ∷ front) rest upto = one_to position v (front ++ rest) upto.0 ∙ ap (λ (l : List Versioned). v ∷ l) (front_to position front rest upto.1)
 
-to_append : (position : ℕ) (xs ys : List Versioned) → versions_to position (xs ++ ys) ≡ versions_to position xs ++ versions_to position ys
+pub to_append : (position : ℕ) (xs ys : List Versioned) → versions_to position (xs ++ ys) ≡ versions_to position xs ++ versions_to position ys
 to_append position [] ys = refl
 to_append position (v ∷ xs) ys = by (nat_le v.lsn.0 position) (to_append position xs ys)
   where
@@ -173,13 +173,13 @@ version_past (v ∷ versions) position place lt =
     step : (l p q n a b c : ℕ) → p < q → a ≤ b → (if nat_le l p then n + a else 0) ≤ (if nat_lt l q then n + b else (if l == q then c else 0))
     step l p q n a b c less le = grind (arith, nat_tests)
 
-reach_item : (infos : List TableInfo) (commits : List Commit) (far : ℕ) (xs : List Record) (item : Record) (ys : List Record) → record_moment infos commits item ≤ last_moment infos commits far (xs ++ item ∷ ys)
+pub reach_item : (infos : List TableInfo) (commits : List Commit) (far : ℕ) (xs : List Record) (item : Record) (ys : List Record) → record_moment infos commits item ≤ last_moment infos commits far (xs ++ item ∷ ys)
 reach_item infos commits far xs item ys =
     let parted : last_moment infos commits far (xs ++ item ∷ ys) ≡ last_moment infos commits (last_moment infos commits far xs) (item ∷ ys) = last_moment-append infos commits far xs (item ∷ ys) in
     let more : max (last_moment infos commits far xs) (record_moment infos commits item) ≤ last_moment infos commits (last_moment infos commits far xs) (item ∷ ys) = reach_grows infos commits (max (last_moment infos commits far xs) (record_moment infos commits item)) ys in
     omega (arith, parted, more)
 
-span_item : (versions : List Versioned) (from : ℕ) (xs : List Record) (item : Record) (ys : List Record) → version_moment versions (place_of item) ≤ version_span_end versions (xs ++ item ∷ ys) from
+pub span_item : (versions : List Versioned) (from : ℕ) (xs : List Record) (item : Record) (ys : List Record) → version_moment versions (place_of item) ≤ version_span_end versions (xs ++ item ∷ ys) from
 span_item versions from xs item ys =
     let parted : version_span_end versions (xs ++ item ∷ ys) from ≡ version_span_end versions (item ∷ ys) (version_span_end versions xs from) =
     fold-append (λ (x : ℕ) (r : Record). max x (version_moment versions (place_of r))) from xs (item ∷ ys) in

@@ -139,7 +139,7 @@ readings_do placeholder topic text (r ∷ rs) = by (reading_does placeholder top
         (rest (reading_after placeholder topic text held r))
         (shape_sym (fold (reading_after placeholder topic text) (reading_after placeholder topic text None r) rs) (fold (reading_after placeholder topic text) None rs) (rest (reading_after placeholder topic text None r))))
 
-held_parts : (identity : Identity) (topic text : List ℕ) (records more : List Record)
+pub held_parts : (identity : Identity) (topic text : List ℕ) (records more : List Record)
     → held_row identity (records ++ more) topic text ≡ fold (reading_after identity.placeholder topic text) (held_row identity records topic text) (map reading_of (map as_line more))
 held_parts identity topic text records more =
     ap (λ (l : List _). fold (reading_after identity.placeholder topic text) None (map reading_of l)) (map-append as_line records more)

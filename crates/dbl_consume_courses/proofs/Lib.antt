@@ -26,3 +26,7 @@ pub mod CoursePoints
 pub mod KeyRowLemmas
 pub mod VersionLemmas
 pub mod BetweenLemmas
+pub mod OtherWindows
+pub mod WindowsBetween
+pub mod AgreementLemmas
+pub mod StoreSteps

@@ -238,6 +238,12 @@ some_row : (o : Option (List Val)) (row : List Val) → o ≡ Some row → IsSom
 some_row None row is = cc
 some_row (Some x) row is = refl
 
+pub silent_tick : (table : ℕ) (v : Versioned) (body : Body) → v.body ≡ body → changes_of (plain_commit v) ≡ [] → changes_of (ticked_commit table v) ≡ []
+silent_tick table v (Changes changes) is none =
+    let gone : changes ≡ [] = ap (λ (b : Body). elim b [ Changes changes ↦ changes | Mark value ↦ [] ]) (sym is) ∙ none in
+    ap (λ (b : Body). elim (ticked_body v.infos table b) [ Changes changes ↦ changes | Mark value ↦ [] ]) is ∙ ap (flat_map (ticked v.infos table)) gone
+silent_tick table v (Mark value) is none = ap (λ (b : Body). elim (ticked_body v.infos table b) [ Changes changes ↦ changes | Mark value ↦ [] ]) is
+
 pub snapshots_keep_table : PartsOfSnapshotsKeepTableAge
 snapshots_keep_table identity infos versions shown start earlier mark later low above closed records listed now n is_in silent in_time is clear right after told upto aged =
     let table : ℕ = closed.table in
@@ -278,12 +284,6 @@ snapshots_keep_table identity infos versions shown start earlier mark later low 
           (subst (λ (m : ℕ). HasRowsThere identity infos versions (records ++ more) m table) (sym pos_is) rows_are);
     }
   where
-    silent_tick : (table : ℕ) (v : Versioned) (body : Body) → v.body ≡ body → changes_of (plain_commit v) ≡ [] → changes_of (ticked_commit table v) ≡ []
-    silent_tick table v (Changes changes) is none =
-        let gone : changes ≡ [] = ap (λ (b : Body). elim b [ Changes changes ↦ changes | Mark value ↦ [] ]) (sym is) ∙ none in
-        ap (λ (b : Body). elim (ticked_body v.infos table b) [ Changes changes ↦ changes | Mark value ↦ [] ]) is ∙ ap (flat_map (ticked v.infos table)) gone
-    silent_tick table v (Mark value) is none = ap (λ (b : Body). elim (ticked_body v.infos table b) [ Changes changes ↦ changes | Mark value ↦ [] ]) is
-
     quiet_end : (commits : List Commit) (commit : Commit) → changes_of commit ≡ [] → moment_after (commits ++ commit ∷ []) ≡ moment_after commits
     quiet_end commits commit none =
         ap length (all_changes-append commits (commit ∷ []))

@@ -139,7 +139,7 @@ none_altered old v (Some alteration) alters some =
     absurd (omega (arith, some, none))
 
 -- the point of a record of a commit
-moment_of_commit : (earlier : List Versioned) (v : Versioned) (later : List Versioned) (low o : ℕ) → AreRising low (lsns (map plain_commit (earlier ++ v ∷ later)))
+pub moment_of_commit : (earlier : List Versioned) (v : Versioned) (later : List Versioned) (low o : ℕ) → AreRising low (lsns (map plain_commit (earlier ++ v ∷ later)))
     → version_moment (earlier ++ v ∷ later) (v.lsn.0, o) ≡ changes_in earlier + changes_through v.infos (changes_of (plain_commit v)) o
 moment_of_commit [] v later low o rise =
     ap (λ (b : Bool). if b then length (changes_of (plain_commit v)) + version_moment later (v.lsn.0, o) else (if v.lsn.0 == v.lsn.0 then changes_through v.infos (changes_of (plain_commit v)) o else 0)) (lt_not v.lsn.0 v.lsn.0 0 (omega arith))

@@ -15,4 +15,7 @@ pub mod CoursePoints
 pub mod KeyRows
 pub mod VersionStores
 pub mod AgesBetween
+pub mod OtherWindows
+pub mod Agreement
+pub mod StoreSteps
 pub mod Example

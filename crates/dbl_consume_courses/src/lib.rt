@@ -9,9 +9,11 @@ mod growth_laws;
 mod row_laws;
 mod same_laws;
 mod since_laws;
+mod store_laws;
 mod table_laws;
 mod there_laws;
 mod version_laws;
+mod window_laws;
 
 pub use age_laws::{
     aged_courses_are_own, altered_tables_age, late_logs_age_as_plain, late_logs_have_the_same_rows,
@@ -33,8 +35,8 @@ pub use growth_laws::{
     parts_of_commits_keep_own_age, parts_of_snapshots_keep_own_age,
 };
 pub use row_laws::{
-    altered_tables_have_rows, no_records_have_rows_of_keys, parts_of_commits_keep_rows_of_keys,
-    parts_of_snapshots_keep_rows_of_keys,
+    altered_tables_agree, altered_tables_have_rows, no_records_have_rows_of_keys,
+    parts_of_commits_keep_rows_of_keys, parts_of_snapshots_keep_rows_of_keys,
 };
 pub use same_laws::{
     commits_move_same_cells, new_courses_have_same_cells, parts_of_commits_keep_same_cells,
@@ -43,6 +45,10 @@ pub use same_laws::{
 pub use since_laws::{
     early_records_end_all, late_logs_are_whole, late_records_are_appended, later_starts_keep_less,
     since_is_one, since_is_since,
+};
+pub use store_laws::{
+    agreement_goes_on, cursors_stay_as_histories_grow, cursors_stay_at_later_positions,
+    cursors_stay_with_more_records, reports_are_cursors,
 };
 pub use table_laws::{
     alterations_move_table_age, commits_move_table_age, parts_of_commits_keep_table_age,
@@ -58,3 +64,4 @@ pub use version_laws::{
     cursors_are_of_courses, plain_versions_have_plain_rows, unaltered_tables_have_version_one,
     windows_are_of_courses,
 };
+pub use window_laws::{other_windows_keep_table_age, parts_of_snapshots_keep_ages_between};

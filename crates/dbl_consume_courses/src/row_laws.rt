@@ -3,6 +3,7 @@ ghost use Rattle.dbl_consume_courses.specs.KeyRows.{NoRecordsHaveRowsOfKeys};
 ghost use Rattle.dbl_consume_courses.specs.KeyRows.{PartsOfCommitsKeepRowsOfKeys};
 ghost use Rattle.dbl_consume_courses.specs.KeyRows.{PartsOfSnapshotsKeepRowsOfKeys};
 ghost use Rattle.dbl_consume_courses.specs.KeyRows.{AlteredTablesHaveRows};
+ghost use Rattle.dbl_consume_courses.specs.Agreement.{AlteredTablesAgree};
 
 /// A consumer of no records has no row of a key.
 pub fn no_records_have_rows_of_keys()
@@ -23,4 +24,10 @@ pub fn parts_of_snapshots_keep_rows_of_keys()
 /// one at its end.
 pub fn altered_tables_have_rows()
     ensures { AlteredTablesHaveRows }
+{}
+
+/// A consumer of a log that is aged from its last position has exactly the source's rows there, at
+/// the known keys.
+pub fn altered_tables_agree()
+    ensures { AlteredTablesAgree }
 {}

@@ -8,10 +8,10 @@ use Rattle.std.specs.Cmp.Lexicographic.{slice_cmp}
 use Rattle.serde_json.specs.Data.{Data, number, string, Members, no_members, member, put}
 use Rattle.serde_json.specs.Find.{of_integer, is_float}
 use Rattle.serde_json.specs.Written.{has_float, members_have_float}
-use Rattle.dbl_value.specs.declared.value.Val.{Val}
-use Rattle.dbl_value.specs.declared.value.Val.TheVariants as val
-use Rattle.dbl_value.specs.Values.{json_data}
-use Rattle.dbl_value.specs.Time.Stamps.{is_instant, zulu_text}
+use Rattle.dbl_value_types.specs.declared.value.Val.{Val}
+use Rattle.dbl_value_types.specs.declared.value.Val.TheVariants as val
+use Rattle.dbl_value_types.specs.Values.{json_data}
+use Rattle.dbl_value_types.specs.Time.Stamps.{is_instant, zulu_text}
 use Rattle.dbl_model_table.specs.declared.identity.Identity.{Identity}
 use Rattle.dbl_model_table.specs.declared.table.TableName.{TableName}
 use Rattle.dbl_model_table.specs.declared.table.TableInfo.{TableInfo}

@@ -1,6 +1,6 @@
 -- Definitions for the plain functions that compute rows.
 use Rattle.std.specs.Prelude.{Option, Some, None}
-use Rattle.dbl_value.specs.declared.value.Val.{Val}
+use Rattle.dbl_value_types.specs.declared.value.Val.{Val}
 use Rattle.dbl_model_table.specs.declared.change.Cell.{Cell}
 use Rattle.dbl_model_table.specs.declared.change.Cell.TheVariants.{Given, Unchanged}
 

@@ -2,7 +2,7 @@
 
 ghost use Rattle.std.specs.Prelude.{◌≡◌, IfOk, IfErr, Option, None};
 ghost use Rattle.std.specs.Prelude.{option_map, option_and_then, slice_get};
-ghost use Rattle.dbl_value.specs.Values.{json_of};
+ghost use Rattle.dbl_value_types.specs.Values.{json_of};
 ghost use Rattle.dbl_model_table.specs.Infos.{column_of, columns_of};
 ghost use Rattle.dbl_model_table.specs.Rows.{rows};
 ghost use Rattle.dbl_model_history.specs.Image.{row_json_texts, image_at};

@@ -1,6 +1,6 @@
 //! Cases of the values of columns: a text of a type is given by the type's OID and a JSON string.
 
-ghost use Rattle.dbl_value.specs.Values.{IsOf};
+ghost use Rattle.dbl_value_types.specs.Values.{IsOf};
 
 use anyhow::Result;
 use cases_items::words;

@@ -1,7 +1,7 @@
 -- What never stops a session, over a source whose state is known, and over a conforming one.
 use Rattle.std.specs.Prelude.{◌≡◌, ◌⊎◌, ℕ, ◌+◌, ◌≤◌, length, not, position, map, Option, Some, IsSome, List, ◌++◌, slice_get}
 use Rattle.std.specs.List.{AllByRecursion}
-use Rattle.dbl_value.specs.declared.error.ValueError.{ValueError}
+use Rattle.dbl_value_types.specs.declared.error.ValueError.{ValueError}
 use Rattle.dbl_record.specs.declared.record.Record.{Record}
 use Rattle.dbl_record.specs.Cuts.{joined}
 use Rattle.dbl_model_table.specs.declared.config.Config.{Config}

@@ -1,7 +1,7 @@
 -- How many windows a session has read, compared with the rows of its tables.
 use Rattle.std.specs.Prelude.{◌≡◌, ℕ, ◌+◌, ◌*◌, ◌≤◌, false, Some, List, length, count_by, slice_get}
 use Rattle.std.specs.List.{AllByRecursion, AllZip}
-use Rattle.dbl_value.specs.declared.value.Val.{Val}
+use Rattle.dbl_value_types.specs.declared.value.Val.{Val}
 use Rattle.dbl_model_table.specs.declared.row.Key.{Key}
 use Rattle.dbl_model_table.specs.declared.table.TableInfo.{TableInfo}
 use Rattle.dbl_faithful.specs.ModelHistory.History.{History}

@@ -2,7 +2,7 @@
 -- A Watermark Based Change-Data-Capture Framework" (2020).
 use Rattle.std.specs.Prelude.{◌≡◌, ℕ, ◌+◌, ◌*◌, ◌/◌, ◌≤◌, max, true, Contains, Option, Some, None, List, ◌++◌, length}
 use Rattle.std.specs.List.{AllByRecursion}
-use Rattle.dbl_value.specs.declared.value.Val.{Val}
+use Rattle.dbl_value_types.specs.declared.value.Val.{Val}
 use Rattle.dbl_record.specs.declared.record.Record.{Record}
 use Rattle.dbl_record.specs.Cuts.{cut, joined}
 use Rattle.dbl_model_table.specs.declared.row.Key.{Key}

@@ -7,7 +7,7 @@ use dbl_offset::OffsetError;
 use dbl_pgmsg::MsgError;
 use dbl_source::SourceError;
 use dbl_topic::SinkError;
-use dbl_value::ValueError;
+use dbl_value_types::ValueError;
 use std::alloc::{AllocError, AllocFailed};
 use thiserror::Error;
 

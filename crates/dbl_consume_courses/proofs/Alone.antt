@@ -5,7 +5,7 @@ use Rattle.std.proofs.lemmas.List.Elements.{All-contains, All-from_recursion, Co
 use Rattle.std.specs.Prelude.{◌==◌, if◌then◌else◌, Contains, option_map, option_and_then, slice_get, codes}
 use Rattle.std.specs.List.{AllByRecursion}
 use Rattle.std.specs.Str.{bytes_eq}
-use Rattle.dbl_value.specs.declared.value.Val.{Val}
+use Rattle.dbl_value_types.specs.declared.value.Val.{Val}
 use Rattle.dbl_record.specs.declared.record.Record.{Record}
 use Rattle.dbl_record.specs.Acts.{act_of, reading_of, is_progress}
 use Rattle.dbl_record.specs.Consumers.{HeldCells, held_at, row_after_result, row_after as reading_after}

@@ -4,7 +4,7 @@ use Rattle.std.proofs.lemmas.Bool.{cases_lt, eqb-true}
 use Rattle.std.proofs.lemmas.Grind.{flat_map-append}
 use Rattle.std.specs.Prelude.{◌==◌, nat_lt, nat_le, if◌then◌else◌, option_map, option_and_then}
 use Rattle.std.specs.List.{AllByRecursion}
-use Rattle.dbl_value.specs.declared.value.Val.{Val}
+use Rattle.dbl_value_types.specs.declared.value.Val.{Val}
 use Rattle.dbl_record.specs.declared.acts.HeldCell.{HeldCell}
 use Rattle.dbl_record.specs.declared.acts.HeldCell.TheVariants.{Known, Unknown}
 use Rattle.dbl_record.specs.declared.record.Record.{Record}

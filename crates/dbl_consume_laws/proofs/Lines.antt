@@ -6,7 +6,7 @@ use Rattle.serde_json.specs.Data.{Data, null, depth}
 use Rattle.serde_json.specs.Find.{as_str, get}
 use Rattle.serde_json.specs.Read.{read}
 use Rattle.serde_json.specs.Written.{compact_text, has_float}
-use Rattle.dbl_value.specs.declared.value.Val.{Val}
+use Rattle.dbl_value_types.specs.declared.value.Val.{Val}
 use Rattle.dbl_record.specs.declared.record.Record.{Record}
 use Rattle.dbl_record.specs.Line.{text_or_null, line_of}
 use Rattle.dbl_record.specs.Whole.{IsWhole}

@@ -4,8 +4,8 @@ use Rattle.std.specs.Prelude.{IfSome, option_and_then, slice_get}
 use Rattle.serde_json.specs.Data.{boolean}
 use Rattle.serde_json.specs.Find.{get, as_str}
 use Rattle.serde_json.specs.Written.{compact_text}
-use Rattle.dbl_value.specs.declared.column_type.PgType.{PgType}
-use Rattle.dbl_value.specs.declared.value.Val.{Val}
+use Rattle.dbl_value_types.specs.declared.column_type.PgType.{PgType}
+use Rattle.dbl_value_types.specs.declared.value.Val.{Val}
 use Rattle.dbl_record.specs.Acts.{is_progress}
 use Rattle.dbl_record.proofs.Back.{texts_tell_data}
 use Rattle.dbl_model_table.specs.declared.identity.Identity.{Identity}

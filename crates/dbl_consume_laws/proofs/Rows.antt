@@ -5,8 +5,8 @@ use Rattle.std.specs.List.{list_all}
 use Rattle.std.specs.Str.{bytes_eq}
 use Rattle.std.proofs.lemmas.Bool.Decides.{Decides-ltb}
 use Rattle.std.proofs.lemmas.List.{length-map}
-use Rattle.dbl_value.specs.declared.value.Val.{Val}
-use Rattle.dbl_value.specs.Values.{json_of}
+use Rattle.dbl_value_types.specs.declared.value.Val.{Val}
+use Rattle.dbl_value_types.specs.Values.{json_of}
 use Rattle.dbl_record.specs.declared.acts.HeldCell.{HeldCell}
 use Rattle.dbl_record.specs.declared.acts.HeldCell.TheVariants.{Known, Unknown}
 use Rattle.dbl_record.specs.Consumers.{HeldCells, held_at}

@@ -4,7 +4,7 @@ use Rattle.std.specs.Prelude.{◌==◌, IsSome, IfSome, IsSomeAnd, option_map, u
 use Rattle.std.specs.List.{AllByRecursion}
 use Rattle.std.specs.Str.{bytes_eq}
 use Rattle.std.proofs.lemmas.Bool.Decides.{Decides-eqb}
-use Rattle.dbl_value.specs.declared.value.Val.{Val}
+use Rattle.dbl_value_types.specs.declared.value.Val.{Val}
 use Rattle.dbl_record.specs.declared.reading.Line.{Line}
 use Rattle.dbl_record.specs.Acts.{reading_of, cells_of}
 use Rattle.dbl_record.specs.Consumers.{HeldCells, row_of, row_after as reading_after}

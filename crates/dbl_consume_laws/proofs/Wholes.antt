@@ -10,9 +10,9 @@ use Rattle.std.proofs.Math.Nat.{div-le_self}
 use Rattle.serde_json.specs.Data.{Num, unsigned, negative, float, Data, null, boolean, number, string, array, object, Items, no_items, item, Members, no_members, member, put, depth, members_depth}
 use Rattle.serde_json.specs.Find.{of_integer, get_member, as_object, is_float}
 use Rattle.serde_json.specs.Written.{has_float, items_have_float, members_have_float}
-use Rattle.dbl_value.specs.declared.value.Val.{Val}
-use Rattle.dbl_value.specs.declared.value.Val.TheVariants as val
-use Rattle.dbl_value.specs.Values.{json_data}
+use Rattle.dbl_value_types.specs.declared.value.Val.{Val}
+use Rattle.dbl_value_types.specs.declared.value.Val.TheVariants as val
+use Rattle.dbl_value_types.specs.Values.{json_data}
 use Rattle.dbl_time.specs.Stamps.{is_instant, zulu_text}
 use Rattle.dbl_record.specs.declared.acts.ConsumeError.{ConsumeError}
 use Rattle.dbl_record.specs.Whole.{IsInteger, IsWhole, ItemsAreWhole, IsBelow, MembersAreWhole}

@@ -3,7 +3,7 @@ use Rattle.std.specs.Prelude.{◌≡◌, ℕ, ℤ, List, Bool, true, if◌then�
 use Rattle.std.specs.Prelude.{option_map, option_and_then, unwrap_or, slice_get, fold, Result, Ok, Err}
 use Rattle.std.specs.List.{AllByRecursion}
 use Rattle.std.specs.Str.{bytes_eq}
-use Rattle.dbl_value.specs.Values.{json_of}
+use Rattle.dbl_value_types.specs.Values.{json_of}
 use Rattle.dbl_record.specs.declared.acts.GivenCell.{GivenCell}
 use Rattle.dbl_record.specs.declared.acts.HeldCell.{HeldCell}
 use Rattle.dbl_record.specs.declared.acts.HeldCell.TheVariants.{Known, Unknown}

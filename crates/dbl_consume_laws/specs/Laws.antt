@@ -2,8 +2,8 @@
 use Rattle.std.specs.Prelude.{◌≡◌, ◌≢◌, ℕ, ℤ, ◌<◌, ◌^◌, Option, Some, None, IfSome, option_map, List, length, map, flat_map}
 use Rattle.std.specs.List.{AllByRecursion}
 use Rattle.serde_json.specs.Data.{string}
-use Rattle.dbl_value.specs.declared.value.Val.{Val}
-use Rattle.dbl_value.specs.Values.{json_data}
+use Rattle.dbl_value_types.specs.declared.value.Val.{Val}
+use Rattle.dbl_value_types.specs.Values.{json_data}
 use Rattle.dbl_record.specs.declared.acts.HeldCell.TheVariants.{Known}
 use Rattle.dbl_record.specs.declared.reading.Line.{Line}
 use Rattle.dbl_record.specs.declared.record.Record.{Record}

@@ -1,14 +1,14 @@
 -- A cell whose text encodes a value is one that does as it is read, too.
 use Rattle.std.proofs.Common.{◌≡◌, ◌∙◌, ℕ, zero, suc, Bool, true, false, Option, Some, None, List, [], ◌∷◌, map, refl, sym, ap, subst}
 use Rattle.std.specs.Prelude.{if◌then◌else◌, is_some, option_map, unwrap_or, slice_get}
-use Rattle.dbl_value.specs.declared.column_type.PgType.{PgType}
-use Rattle.dbl_value.specs.declared.column_type.PgType.TheVariants as type
-use Rattle.dbl_value.specs.declared.value.Val.{Val}
-use Rattle.dbl_value.specs.declared.value.Val.TheVariants as val
-use Rattle.dbl_value.specs.Types.{is_column_type}
-use Rattle.dbl_value.specs.Values.{value_of, is_uuid}
-use Rattle.dbl_value.specs.Faults.{fault_of, value_fault}
-use Rattle.dbl_value.proofs.TypeLemmas.{type_of-oid_of}
+use Rattle.dbl_value_types.specs.declared.column_type.PgType.{PgType}
+use Rattle.dbl_value_types.specs.declared.column_type.PgType.TheVariants as type
+use Rattle.dbl_value_types.specs.declared.value.Val.{Val}
+use Rattle.dbl_value_types.specs.declared.value.Val.TheVariants as val
+use Rattle.dbl_value_types.specs.Types.{is_column_type}
+use Rattle.dbl_value_types.specs.Values.{value_of, is_uuid}
+use Rattle.dbl_value_types.specs.Faults.{fault_of, value_fault}
+use Rattle.dbl_value_types.proofs.TypeLemmas.{type_of-oid_of}
 use Rattle.dbl_model_table.specs.declared.table.Column.{Column}
 use Rattle.dbl_model_table.specs.Infos.{raw_column}
 use Rattle.dbl_model_table.specs.Tables.{are_typed}

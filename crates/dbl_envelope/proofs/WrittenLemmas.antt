@@ -13,7 +13,7 @@ use Rattle.std.proofs.lemmas.Option.{slice_get-get_or}
 use Rattle.std.proofs.Math.Seq.{get_or-append_seam}
 use Rattle.serde_json.specs.Data.{string, number}
 use Rattle.serde_json.specs.Find.{of_integer}
-use Rattle.dbl_value.specs.declared.value.Val.TheVariants as val
+use Rattle.dbl_value_types.specs.declared.value.Val.TheVariants as val
 use Rattle.dbl_time.specs.Stamps.{zulu_text, day_of_stamp, clock_of_stamp, is_instant}
 use Rattle.dbl_model_table.specs.declared.change.Cell.TheVariants.{Given}
 use Rattle.dbl_model_event.specs.Clashes.{is_string, is_clash}

@@ -2,7 +2,7 @@ ghost use Rattle.std.specs.Prelude.{◌≡◌, ◌<◌, ◌≤◌, All, IfOk, le
 ghost use Rattle.serde_json.specs.Data.{object};
 ghost use Rattle.serde_json.specs.Written.{compact_text};
 ghost use Rattle.std.specs.Ordering.{is_eq};
-ghost use Rattle.dbl_value.specs.Order.{val_cmp};
+ghost use Rattle.dbl_value_types.specs.Order.{val_cmp};
 ghost use Rattle.dbl_model_event.specs.EventJson.{sent};
 ghost use Rattle.dbl_model_event.specs.ModelHistory.Image.{key_text};
 ghost use Rattle.dbl_model_table.specs.Infos.{width};

@@ -6,7 +6,7 @@ ghost use Rattle.serde_json.specs.Data.{object};
 ghost use Rattle.serde_json.specs.Written.{outline};
 ghost use Rattle.std.specs.String.{string_bytes};
 ghost use Rattle.json.specs.Print.{print as print_tokens};
-ghost use Rattle.dbl_value.specs.Values.{json_data};
+ghost use Rattle.dbl_value_types.specs.Values.{json_data};
 ghost use Rattle.dbl_model_event.specs.EventJson.{sent};
 ghost use Rattle.dbl_envelope_json.specs.Layouts.{members_at};
 

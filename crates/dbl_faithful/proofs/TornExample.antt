@@ -6,9 +6,9 @@ use Rattle.std.specs.Str.{IsUtf8}
 use Rattle.std.specs.declared.cmp.Ordering.TheVariants.{Less}
 use Rattle.json.proofs.Printed.Utf8.{IsUtf8-are_ascii}
 use Rattle.jiff_core.proofs.SignedLemmas.{signed_arith, fits_between}
-use Rattle.dbl_value.specs.declared.column_type.PgType.TheVariants as type
-use Rattle.dbl_value.specs.declared.value.Val.TheVariants as val
-use Rattle.dbl_value.specs.Values.{IsOf}
+use Rattle.dbl_value_types.specs.declared.column_type.PgType.TheVariants as type
+use Rattle.dbl_value_types.specs.declared.value.Val.TheVariants as val
+use Rattle.dbl_value_types.specs.Values.{IsOf}
 use Rattle.dbl_model_table.specs.declared.row.Key.{Key}
 use Rattle.dbl_model_table.specs.Keys.{key_cmp, same_key}
 use Rattle.dbl_model_table.specs.declared.change.Body.TheVariants.{Changes, Mark}

@@ -8,7 +8,7 @@ use Rattle.dbl_record.specs.declared.record.Record.{Record}
 use Rattle.dbl_record.specs.Consumers.{HeldCells}
 use Rattle.dbl_record.specs.Places.{Place, place_of, IsBefore}
 use Rattle.dbl_model_table.specs.declared.identity.Identity.{Identity}
-use Rattle.dbl_value.specs.declared.value.Val.{Val}
+use Rattle.dbl_value_types.specs.declared.value.Val.{Val}
 use Rattle.dbl_model_table.specs.declared.row.Key.{Key}
 use Rattle.dbl_model_table.specs.declared.row.Row.{Row}
 use Rattle.dbl_model_table.specs.declared.table.Column.{Column}

@@ -1,8 +1,8 @@
 -- The smallest history with a torn window: insert a, low watermark, insert b, high watermark; and a log that has only the row of a that the
 -- window read.
 use Rattle.std.specs.Prelude.{ℕ, pos, true, false, Some, List, [], ◌∷◌, codes}
-use Rattle.dbl_value.specs.declared.column_type.PgType.TheVariants as type
-use Rattle.dbl_value.specs.declared.value.Val.TheVariants as val
+use Rattle.dbl_value_types.specs.declared.column_type.PgType.TheVariants as type
+use Rattle.dbl_value_types.specs.declared.value.Val.TheVariants as val
 use Rattle.dbl_record.specs.declared.record.Record.{Record}
 use Rattle.dbl_model_table.specs.declared.identity.Identity.{Identity}
 use Rattle.dbl_model_table.specs.declared.row.Key.{Key}

@@ -10,11 +10,11 @@ use Rattle.dbl_pgmsg.specs.declared.messages.TupleCell.TheVariants as sent
 use Rattle.dbl_pgmsg.specs.Grammar.{cell, spelling}
 use Rattle.dbl_pgmsg.proofs.MessageSizes.{insert_size}
 use Rattle.dbl_pgmsg.proofs.Sizes.{text_size, tuple_size}
-use Rattle.dbl_value.specs.declared.column_type.PgType.TheVariants as type
-use Rattle.dbl_value.specs.declared.value.Val.TheVariants as val
-use Rattle.dbl_value.specs.Decimals.{integer_of}
-use Rattle.dbl_value.specs.Types.{type_of}
-use Rattle.dbl_value.proofs.Decimals.{integer_spelled}
+use Rattle.dbl_value_types.specs.declared.column_type.PgType.TheVariants as type
+use Rattle.dbl_value_types.specs.declared.value.Val.TheVariants as val
+use Rattle.dbl_value_types.specs.Decimals.{integer_of}
+use Rattle.dbl_value_types.specs.Types.{type_of}
+use Rattle.dbl_value_types.proofs.Decimals.{integer_spelled}
 use Rattle.dbl_model_table.specs.declared.row.Key.{Key}
 use Rattle.dbl_model_table.specs.declared.table.TableInfo.{TableInfo}
 use Rattle.dbl_model_table.specs.Keys.{same_key}

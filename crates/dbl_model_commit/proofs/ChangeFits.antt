@@ -10,7 +10,7 @@ use Rattle.dbl_pgmsg.specs.declared.messages.TupleCell.{TupleCell}
 use Rattle.dbl_pgmsg.specs.declared.messages.OldTuple.{OldTuple}
 use Rattle.dbl_pgmsg.specs.declared.messages.OldTuple.TheVariants as old
 use Rattle.dbl_pgmsg.specs.Grammar.{FitsCell, FitsTuple, FitsOld, FitsOptional, FitsFields}
-use Rattle.dbl_value.specs.declared.value.Val.{Val}
+use Rattle.dbl_value_types.specs.declared.value.Val.{Val}
 use Rattle.dbl_model_table.specs.declared.table.Column.{Column}
 use Rattle.dbl_model_table.specs.declared.table.TableName.{TableName}
 use Rattle.dbl_model_table.specs.declared.table.TableInfo.{TableInfo}

@@ -4,7 +4,7 @@ use Rattle.std.proofs.lemmas.Bool.{eqb-true}
 use Rattle.std.specs.Prelude.{◌==◌, bytes_eq}
 use Rattle.std.specs.List.{list_all, zip}
 use Rattle.dbl_pgmsg.specs.declared.messages.RelationColumn.{RelationColumn}
-use Rattle.dbl_value.specs.Values.{oid_of}
+use Rattle.dbl_value_types.specs.Values.{oid_of}
 use Rattle.dbl_model_table.specs.declared.table.Column.{Column}
 use Rattle.dbl_model_table.specs.declared.table.RawColumn.{RawColumn}
 use Rattle.dbl_model_table.specs.declared.table.TableInfo.{TableInfo}

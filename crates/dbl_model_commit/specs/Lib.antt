@@ -1,6 +1,6 @@
 pub use Rattle.dbl_model_history.specs as ModelHistory
 pub use Rattle.dbl_model_table.specs as ModelTable
-pub use Rattle.dbl_value.specs as Value
+pub use Rattle.dbl_value_types.specs as Value
 pub use Rattle.dbl_pgmsg.specs as Pgmsg
 pub mod Past
 pub mod Tuples

@@ -1,6 +1,6 @@
 use dbl_base::{Lsn, Text};
 use dbl_model_table::TableName;
-use dbl_value::ValueError;
+use dbl_value_types::ValueError;
 use std::alloc::{AllocError, AllocFailed};
 use thiserror::Error;
 

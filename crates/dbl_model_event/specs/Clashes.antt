@@ -4,7 +4,7 @@ use Rattle.std.specs.Prelude.{ℕ, List, [], ◌∷◌, Bool, false, if◌then�
 use Rattle.std.specs.Prelude.{option_map, unwrap_or, slice_get, map, flat_map, bytes_eq}
 use Rattle.std.specs.Option.{option_or}
 use Rattle.serde_json.specs.Data.{Data, null, boolean, number, string, array, object}
-use Rattle.dbl_value.specs.Values.{json_data}
+use Rattle.dbl_value_types.specs.Values.{json_data}
 use Rattle.dbl_model_table.specs.declared.identity.Identity.{Identity}
 use Rattle.dbl_model_table.specs.declared.row.Key.{Key}
 use Rattle.dbl_model_table.specs.declared.row.Row.{Row}

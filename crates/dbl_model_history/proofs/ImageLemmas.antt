@@ -17,12 +17,12 @@ use Rattle.serde_json.specs.Written.{compact_text}
 use Rattle.serde_json.proofs.Views.{get_member-put, get_member-put_other}
 use Rattle.dbl_record.specs.Whole.{IsWhole, MembersAreWhole, IsBelow}
 use Rattle.dbl_record.proofs.Back.{texts_tell_data}
-use Rattle.dbl_value.specs.declared.column_type.PgType.{PgType}
-use Rattle.dbl_value.specs.declared.value.Val.{Val}
-use Rattle.dbl_value.specs.declared.value.Val.TheVariants as val
-use Rattle.dbl_value.specs.Values.{json_data, IsOf}
-use Rattle.dbl_value.specs.Time.Stamps.{is_instant, zulu_text}
-use Rattle.dbl_value.proofs.JsonTexts.{IsInRange, IsOf-IsInRange, json_tells_cells}
+use Rattle.dbl_value_types.specs.declared.column_type.PgType.{PgType}
+use Rattle.dbl_value_types.specs.declared.value.Val.{Val}
+use Rattle.dbl_value_types.specs.declared.value.Val.TheVariants as val
+use Rattle.dbl_value_types.specs.Values.{json_data, IsOf}
+use Rattle.dbl_value_types.specs.Time.Stamps.{is_instant, zulu_text}
+use Rattle.dbl_value_types.proofs.JsonTexts.{IsInRange, IsOf-IsInRange, json_tells_cells}
 use Rattle.dbl_model_table.specs.declared.row.Key.{Key}
 use Rattle.dbl_model_table.specs.declared.table.TableName.{TableName}
 use Rattle.dbl_model_table.specs.declared.table.TableInfo.{TableInfo}

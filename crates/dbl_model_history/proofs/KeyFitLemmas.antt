@@ -8,13 +8,13 @@ use Rattle.std.proofs.lemmas.Bool.{ltb-true}
 use Rattle.std.proofs.lemmas.List.{drop_more, drop_all, take_more}
 use Rattle.std.proofs.lemmas.Fmt.{IsAscii-decimal}
 use Rattle.std.proofs.lemmas.Str.{IsUtf8-from_ascii, IsAscii-append}
-use Rattle.dbl_value.specs.declared.column_type.PgType.{PgType}
-use Rattle.dbl_value.specs.declared.column_type.PgType.TheVariants as type
-use Rattle.dbl_value.specs.declared.value.Val.{Val}
-use Rattle.dbl_value.specs.declared.value.Val.TheVariants as val
-use Rattle.dbl_value.specs.Decimals.{is_within, integer_of}
-use Rattle.dbl_value.specs.Values.{is_uuid, IsOf}
-use Rattle.dbl_value.proofs.Decimals.{integer_of-IsRead, integer_spelled}
+use Rattle.dbl_value_types.specs.declared.column_type.PgType.{PgType}
+use Rattle.dbl_value_types.specs.declared.column_type.PgType.TheVariants as type
+use Rattle.dbl_value_types.specs.declared.value.Val.{Val}
+use Rattle.dbl_value_types.specs.declared.value.Val.TheVariants as val
+use Rattle.dbl_value_types.specs.Decimals.{is_within, integer_of}
+use Rattle.dbl_value_types.specs.Values.{is_uuid, IsOf}
+use Rattle.dbl_value_types.proofs.Decimals.{integer_of-IsRead, integer_spelled}
 use Rattle.dbl_model_table.specs.declared.table.Column.{Column}
 use Rattle.dbl_model_table.specs.Tables.{type_at, is_key_type}
 use Rattle.dbl_model_history.specs.Fit.{AreOf}

@@ -7,16 +7,16 @@ use Rattle.std.specs.Int.{w64}
 use Rattle.std.proofs.lemmas.Bool.{eqb-false}
 use Rattle.std.proofs.lemmas.List.{length-map}
 use lib.Signed.{mag}
-use Rattle.dbl_value.specs.declared.column_type.PgType.{PgType}
-use Rattle.dbl_value.specs.declared.column_type.PgType.TheVariants as type
-use Rattle.dbl_value.specs.declared.value.Val.{Val}
-use Rattle.dbl_value.specs.declared.value.Val.TheVariants as val
-use Rattle.dbl_value.specs.Values.{value_of, is_uuid, SpellsValue, IsOf}
-use Rattle.dbl_value.specs.Time.Stamps.{is_instant}
-use Rattle.dbl_value.proofs.KindLemmas.{kind_of, spelled_kind}
+use Rattle.dbl_value_types.specs.declared.column_type.PgType.{PgType}
+use Rattle.dbl_value_types.specs.declared.column_type.PgType.TheVariants as type
+use Rattle.dbl_value_types.specs.declared.value.Val.{Val}
+use Rattle.dbl_value_types.specs.declared.value.Val.TheVariants as val
+use Rattle.dbl_value_types.specs.Values.{value_of, is_uuid, SpellsValue, IsOf}
+use Rattle.dbl_value_types.specs.Time.Stamps.{is_instant}
+use Rattle.dbl_value_types.proofs.KindLemmas.{kind_of, spelled_kind}
 use Rattle.dbl_time.proofs.CalendarSteps.{days_fit}
-use Rattle.dbl_value.proofs.RangeLemmas.{date_in_years}
-use Rattle.dbl_value.proofs.JsonTexts.{instant_mag, IsOf-IsInRange}
+use Rattle.dbl_value_types.proofs.RangeLemmas.{date_in_years}
+use Rattle.dbl_value_types.proofs.JsonTexts.{instant_mag, IsOf-IsInRange}
 use Rattle.dbl_model_table.specs.declared.table.Column.{Column}
 use Rattle.dbl_model_table.specs.declared.table.RawRow.{RawRow}
 use Rattle.dbl_model_table.specs.declared.table.RawTable.{RawTable}

@@ -1,12 +1,12 @@
 -- Whether a key is of its table's key types, as a test.
 use Rattle.std.specs.Prelude.{ℕ, ◌^◌, ◌&&◌, Bool, true, false, List, [], ◌∷◌}
 use Rattle.std.specs.Str.{IsUtf8}
-use Rattle.dbl_value.specs.declared.column_type.PgType.{PgType}
-use Rattle.dbl_value.specs.declared.column_type.PgType.TheVariants as type
-use Rattle.dbl_value.specs.declared.value.Val.{Val}
-use Rattle.dbl_value.specs.declared.value.Val.TheVariants as val
-use Rattle.dbl_value.specs.Decimals.{is_within}
-use Rattle.dbl_value.specs.Values.{is_uuid}
+use Rattle.dbl_value_types.specs.declared.column_type.PgType.{PgType}
+use Rattle.dbl_value_types.specs.declared.column_type.PgType.TheVariants as type
+use Rattle.dbl_value_types.specs.declared.value.Val.{Val}
+use Rattle.dbl_value_types.specs.declared.value.Val.TheVariants as val
+use Rattle.dbl_value_types.specs.Decimals.{is_within}
+use Rattle.dbl_value_types.specs.Values.{is_uuid}
 
 -- Whether a value is an integer at least -limit and below limit.
 abbrev pub is_integer : ℕ → Val → Bool

@@ -2,15 +2,15 @@
 
 ghost use Rattle.std.specs.Prelude.{◌≡◌, ◌↔◌, IsTrue, map};
 ghost use Rattle.std.specs.List.{AllByRecursion};
-ghost use Rattle.dbl_value.specs.Decimals.{is_within};
-ghost use Rattle.dbl_value.specs.Time.Shapes.{stands_for, has_shape};
+ghost use Rattle.dbl_value_types.specs.Decimals.{is_within};
+ghost use Rattle.dbl_value_types.specs.Time.Shapes.{stands_for, has_shape};
 ghost use Rattle.dbl_model_table.specs.Tables.{type_at};
 ghost use Rattle.dbl_model_history.specs.KeyFits.{is_integer, is_text, is_uuid_text};
 ghost use Rattle.dbl_model_history.specs.KeyFits.{is_key_cell, are_key_cells, HasUtf8};
 ghost use Rattle.dbl_model_history.specs.Fit.{IsKeyOf};
 
 use dbl_model_table::{Column, Key, TableInfo};
-use dbl_value::{PgType, Val};
+use dbl_value_types::{PgType, Val};
 
 fn is_within(limit: u64, number: i64) -> bool
     ensures { result ≡ is_within limit number }

@@ -5,7 +5,7 @@ ghost use Rattle.dbl_model_table.specs.Keys.{same_key, key_at, cell_or_null, giv
 
 use dbl_base::Seq;
 use dbl_model_table::{Cell, Key, compare};
-use dbl_value::Val;
+use dbl_value_types::Val;
 use std::alloc::{AllocError, Global};
 
 fn cell_or_null(alloc: Global, cells: &Seq<Val>, place: u32) -> Result<Val, AllocError>

@@ -5,8 +5,8 @@ use Rattle.std.specs.List.{find, list_any, list_all}
 use Rattle.std.specs.Str.{bytes_eq}
 use Rattle.std.proofs.lemmas.List.{length-map}
 use Rattle.std.proofs.lemmas.Bool.Decides.{Decides-ltb}
-use Rattle.dbl_value.specs.Types.{oid_of, is_column_type}
-use Rattle.dbl_value.proofs.TypeLemmas.{type_of-oid_of}
+use Rattle.dbl_value_types.specs.Types.{oid_of, is_column_type}
+use Rattle.dbl_value_types.proofs.TypeLemmas.{type_of-oid_of}
 use Rattle.dbl_model_table.specs.declared.table.Column.{Column}
 use Rattle.dbl_model_table.specs.declared.table.RawColumn.{RawColumn}
 use Rattle.dbl_model_table.specs.declared.table.RawTable.{RawTable}

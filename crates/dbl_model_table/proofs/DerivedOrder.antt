@@ -1,10 +1,10 @@
 -- The orders that are derived for values and for keys are those of the definitions.
 use Rattle.std.proofs.Common.{◌≡◌, refl}
 use Rattle.std.specs.Cmp.Lexicographic.{slice_cmp}
-use Rattle.dbl_value.specs.declared.value.Val.{Val}
-use Rattle.dbl_value.specs.declared.value.Val.TheVariants as val
-use Rattle.dbl_value.specs.contracts.value.ValOrd.TheImpl.{cmp-value}
-use Rattle.dbl_value.specs.Order.{val_cmp}
+use Rattle.dbl_value_types.specs.declared.value.Val.{Val}
+use Rattle.dbl_value_types.specs.declared.value.Val.TheVariants as val
+use Rattle.dbl_value_types.specs.contracts.value.ValOrd.TheImpl.{cmp-value}
+use Rattle.dbl_value_types.specs.Order.{val_cmp}
 use Rattle.dbl_model_table.specs.declared.row.Key.{Key}
 use Rattle.dbl_model_table.specs.Keys.{key_cmp}
 

@@ -8,9 +8,9 @@ use mathlib.Core.HLevel.{is_prop→PathP}
 use Rattle.std.proofs.lemmas.List.{append_cancel_left}
 use Rattle.std.proofs.lemmas.Slice.Eq.{bytes_eq-Decides}
 use Rattle.std.proofs.lemmas.Bool.Decides.{Decides-eqb, Decides-ltb}
-use Rattle.dbl_value.specs.declared.column_type.PgType.{PgType}
-use Rattle.dbl_value.specs.Values.{oid_of, type_of, is_column_type}
-use Rattle.dbl_value.proofs.TypeLemmas.{type_of-oid_of}
+use Rattle.dbl_value_types.specs.declared.column_type.PgType.{PgType}
+use Rattle.dbl_value_types.specs.Values.{oid_of, type_of, is_column_type}
+use Rattle.dbl_value_types.proofs.TypeLemmas.{type_of-oid_of}
 use Rattle.dbl_model_table.specs.declared.table.Column.{Column}
 use Rattle.dbl_model_table.specs.declared.table.RawColumn.{RawColumn}
 use Rattle.dbl_model_table.specs.declared.table.RawTable.{RawTable}

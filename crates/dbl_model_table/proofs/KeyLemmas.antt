@@ -4,9 +4,9 @@ use Rattle.std.specs.Bool.{Decides}
 use Rattle.std.specs.Ordering.{is_eq}
 use Rattle.std.specs.Cmp.{IsTotalOrder, on_total, Equal-is}
 use Rattle.std.specs.Cmp.Lexicographic.{pointwise, lists_ties, lists_total, pointwise_decides}
-use Rattle.dbl_value.specs.declared.value.Val.{Val}
-use Rattle.dbl_value.specs.Order.{val_cmp}
-use Rattle.dbl_value.proofs.Ordered.{values_are_ordered}
+use Rattle.dbl_value_types.specs.declared.value.Val.{Val}
+use Rattle.dbl_value_types.specs.Order.{val_cmp}
+use Rattle.dbl_value_types.proofs.Ordered.{values_are_ordered}
 use Rattle.dbl_model_table.specs.declared.row.Key.{Key}
 use Rattle.dbl_model_table.specs.Keys.{key_cmp, same_key}
 

@@ -1,4 +1,4 @@
-pub use Rattle.dbl_value.proofs as Value
+pub use Rattle.dbl_value_types.proofs as Value
 pub mod Lists
 pub mod Making
 pub mod KeyLemmas

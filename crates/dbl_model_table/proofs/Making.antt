@@ -7,10 +7,10 @@ use Rattle.std.proofs.lemmas.Option.{slice_get-map}
 use Rattle.std.specs.Str.{bytes_eq}
 use Rattle.std.proofs.lemmas.Slice.Eq.{bytes_eq-Decides}
 use Rattle.std.proofs.lemmas.Bool.Decides.{Decides-eqb, Decides-ltb}
-use Rattle.dbl_value.specs.declared.column_type.PgType.{PgType}
-use Rattle.dbl_value.specs.declared.column_type.PgType.TheVariants as type
-use Rattle.dbl_value.specs.Types.{oid_of, listed, is_float, has_oid, type_of, is_column_type}
-use Rattle.dbl_value.proofs.TypeLemmas.{type_of-oid_of, oids_name_types}
+use Rattle.dbl_value_types.specs.declared.column_type.PgType.{PgType}
+use Rattle.dbl_value_types.specs.declared.column_type.PgType.TheVariants as type
+use Rattle.dbl_value_types.specs.Types.{oid_of, listed, is_float, has_oid, type_of, is_column_type}
+use Rattle.dbl_value_types.proofs.TypeLemmas.{type_of-oid_of, oids_name_types}
 use Rattle.dbl_model_table.specs.declared.table.TableName.{TableName}
 use Rattle.dbl_model_table.specs.declared.table.Column.{Column}
 use Rattle.dbl_model_table.specs.declared.table.RawColumn.{RawColumn}

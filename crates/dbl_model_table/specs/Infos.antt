@@ -1,8 +1,8 @@
 -- Captured tables and their entries in the source's catalogue.
 use Rattle.std.specs.Prelude.{◌≡◌, ℕ, Option, option_map, unwrap_or, List, [], ◌++◌, length, map, slice_get, codes, bytes_eq}
 use Rattle.std.specs.List.{position_from}
-use Rattle.dbl_value.specs.declared.column_type.PgType.{PgType}
-use Rattle.dbl_value.specs.Values.{oid_of}
+use Rattle.dbl_value_types.specs.declared.column_type.PgType.{PgType}
+use Rattle.dbl_value_types.specs.Values.{oid_of}
 use Rattle.dbl_model_table.specs.declared.table.TableName.{TableName}
 use Rattle.dbl_model_table.specs.declared.table.Column.{Column}
 use Rattle.dbl_model_table.specs.declared.table.RawColumn.{RawColumn}

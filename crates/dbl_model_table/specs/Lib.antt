@@ -1,4 +1,4 @@
-pub use Rattle.dbl_value.specs as Value
+pub use Rattle.dbl_value_types.specs as Value
 pub mod Tables
 pub mod Identities
 pub mod Infos

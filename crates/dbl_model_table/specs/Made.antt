@@ -2,8 +2,8 @@
 use Rattle.std.specs.Prelude.{ℕ, ◌&&◌, nat_lt, not, Bool, false, if◌then◌else◌, Option, Some, None, option_map}
 use Rattle.std.specs.Prelude.{option_and_then, slice_get, List, [], ◌∷◌, ◌++◌, length, map, bytes_eq}
 use Rattle.std.specs.List.{find, list_any, list_all, position_from}
-use Rattle.dbl_value.specs.declared.column_type.PgType.{PgType}
-use Rattle.dbl_value.specs.Types.{is_float, type_of}
+use Rattle.dbl_value_types.specs.declared.column_type.PgType.{PgType}
+use Rattle.dbl_value_types.specs.Types.{is_float, type_of}
 use Rattle.dbl_model_table.specs.declared.table.TableName.{TableName}
 use Rattle.dbl_model_table.specs.declared.table.RawColumn.{RawColumn}
 use Rattle.dbl_model_table.specs.declared.table.RawTable.{RawTable}

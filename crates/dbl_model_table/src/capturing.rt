@@ -13,7 +13,7 @@ ghost use Rattle.dbl_model_table.specs.Made.{has_key, column_fault, key_type_fau
 use crate::ModelError;
 use crate::table::{Column, RawColumn, RawTable, TableInfo, TableName};
 use dbl_base::{Seq, Text};
-use dbl_value::PgType;
+use dbl_value_types::PgType;
 use std::alloc::{AllocError, Global};
 use std::collections::BTreeMap;
 
@@ -91,7 +91,7 @@ fn typed_columns(
 {
     let mut typed = Vec::new(alloc);
     for column in columns {
-        let Ok(ty) = dbl_value::of(column.oid) else {
+        let Ok(ty) = dbl_value_types::of(column.oid) else {
             return Err(ModelError::FloatColumn {
                 table: table.copy(alloc)?,
                 column: column.name.copy(alloc)?,

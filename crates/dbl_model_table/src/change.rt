@@ -4,7 +4,7 @@ ghost use Rattle.dbl_model_table.specs.Rows.{table_of};
 
 use crate::{Key, Row};
 use dbl_base::{Lsn, Seq, Text};
-use dbl_value::Val;
+use dbl_value_types::Val;
 
 /// A cell of an update: sent with a value, or left unsent because it is stored out of line and
 /// didn't change.

@@ -2,7 +2,7 @@ ghost use Rattle.std.specs.Prelude.{◌≡◌, IfOk};
 ghost use Rattle.dbl_model_table.specs.Keys.{key_cmp};
 
 use dbl_base::Seq;
-use dbl_value::Val;
+use dbl_value_types::Val;
 use std::alloc::{AllocError, Global};
 use std::cmp::Ordering;
 

@@ -4,7 +4,7 @@ ghost use Rattle.dbl_model_table.specs.Tables.{is_name_byte, is_name, is_waterma
 ghost use Rattle.dbl_model_table.specs.Tables.{is_good_name, is_table};
 
 use dbl_base::{DeepCopy, Seq, Text};
-use dbl_value::PgType;
+use dbl_value_types::PgType;
 use std::alloc::{AllocError, Global};
 use std::fmt;
 

@@ -11,15 +11,15 @@ use Rattle.std.proofs.lemmas.Fmt.{IsAscii-signed}
 use Rattle.std.proofs.lemmas.Int.{to_z-of_z, of_z-to_z}
 use Rattle.std.proofs.lemmas.Str.{IsUtf8-from_ascii}
 use Rattle.std.proofs.Math.Facts.{Fits-of_z, sfits_to_z}
-use Rattle.dbl_value.specs.declared.column_type.PgType.{PgType}
-use Rattle.dbl_value.specs.declared.column_type.PgType.TheVariants as type
-use Rattle.dbl_value.specs.declared.value.Val.{Val}
-use Rattle.dbl_value.specs.declared.value.Val.TheVariants as val
-use Rattle.dbl_value.specs.Decimals.{is_within}
-use Rattle.dbl_value.specs.Values.{SpellsValue, IsOf}
-use Rattle.dbl_value.specs.Order.{rank}
-use Rattle.dbl_value.proofs.Decimals.{decimals_spell_integers}
-use Rattle.dbl_value.proofs.KindLemmas.{kind_of, spelled_kind, text_spelled}
+use Rattle.dbl_value_types.specs.declared.column_type.PgType.{PgType}
+use Rattle.dbl_value_types.specs.declared.column_type.PgType.TheVariants as type
+use Rattle.dbl_value_types.specs.declared.value.Val.{Val}
+use Rattle.dbl_value_types.specs.declared.value.Val.TheVariants as val
+use Rattle.dbl_value_types.specs.Decimals.{is_within}
+use Rattle.dbl_value_types.specs.Values.{SpellsValue, IsOf}
+use Rattle.dbl_value_types.specs.Order.{rank}
+use Rattle.dbl_value_types.proofs.Decimals.{decimals_spell_integers}
+use Rattle.dbl_value_types.proofs.KindLemmas.{kind_of, spelled_kind, text_spelled}
 use Rattle.dbl_record.specs.Fields.{number64, text_form, truth_form, IsStored}
 use Rattle.dbl_record.specs.GroupReading.{◌>>=◌, truth_at}
 use Rattle.dbl_record.proofs.FieldLaws.{IsBytes, ok_is, bind_ok, guard_held, chosen, Takes, Takes-then, Reads, took, number64_reads, text_reads, truth_reads}

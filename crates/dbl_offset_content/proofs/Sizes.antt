@@ -5,9 +5,9 @@ use Rattle.std.specs.Int.{w64, cast_unsigned}
 use Rattle.std.specs.List.{flat_map, AllByRecursion}
 use Rattle.std.proofs.lemmas.List.{length-append}
 use Rattle.std.proofs.lemmas.List.Elements.{All-from_recursion, All-get_or}
-use Rattle.dbl_value.specs.declared.value.Val.{Val}
-use Rattle.dbl_value.specs.declared.value.Val.TheVariants as val
-use Rattle.dbl_value.specs.Types.{oid_of}
+use Rattle.dbl_value_types.specs.declared.value.Val.{Val}
+use Rattle.dbl_value_types.specs.declared.value.Val.TheVariants as val
+use Rattle.dbl_value_types.specs.Types.{oid_of}
 use Rattle.dbl_record.specs.Fields.{number32, number64, text_form, IsStored}
 use Rattle.dbl_record.proofs.Sizes.{number32_size, number64_size, next_item, no_item}
 use Rattle.dbl_model_table.specs.declared.table.Column.{Column}

@@ -5,9 +5,9 @@ use Rattle.std.specs.List.{AllByRecursion, list_all}
 use Rattle.std.specs.Prelude.{nat_eq, nat_lt}
 use Rattle.std.proofs.Math.Bool.{Bool-set}
 use mathlib.Core.HLevel.{is_prop→PathP}
-use Rattle.dbl_value.specs.declared.column_type.PgType.{PgType}
-use Rattle.dbl_value.specs.Types.{oid_of, type_of, is_column_type}
-use Rattle.dbl_value.proofs.TypeLemmas.{type_of-oid_of, oids_name_types}
+use Rattle.dbl_value_types.specs.declared.column_type.PgType.{PgType}
+use Rattle.dbl_value_types.specs.Types.{oid_of, type_of, is_column_type}
+use Rattle.dbl_value_types.proofs.TypeLemmas.{type_of-oid_of, oids_name_types}
 use Rattle.dbl_record.specs.declared.error.RecordError.{RecordError}
 use Rattle.dbl_record.specs.Fields.{number32, text_form, IsStored}
 use Rattle.dbl_record.specs.GroupReading.{◌>>=◌, text_at, number_at}

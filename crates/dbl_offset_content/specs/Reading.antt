@@ -3,13 +3,13 @@
 use Rattle.std.specs.Prelude.{◌≡◌, ℕ, ℤ, ◌==◌, ◌&&◌, ◌||◌, ◌^◌, nat_lt, nat_le, Bool, true, false, List, []}
 use Rattle.std.specs.Prelude.{◌∷◌, length, map, Option, Some, None, Result, Ok, Err, if◌then◌else◌}
 use Rattle.std.specs.Int.{w32, w64, cast_signed}
-use Rattle.dbl_value.specs.declared.column_type.PgType.{PgType}
-use Rattle.dbl_value.specs.declared.column_type.PgType.TheVariants as type
-use Rattle.dbl_value.specs.declared.value.Val.{Val}
-use Rattle.dbl_value.specs.declared.value.Val.TheVariants as val
-use Rattle.dbl_value.specs.Types.{type_of}
-use Rattle.dbl_value.specs.Decimals.{is_within}
-use Rattle.dbl_value.specs.Values.{value_of}
+use Rattle.dbl_value_types.specs.declared.column_type.PgType.{PgType}
+use Rattle.dbl_value_types.specs.declared.column_type.PgType.TheVariants as type
+use Rattle.dbl_value_types.specs.declared.value.Val.{Val}
+use Rattle.dbl_value_types.specs.declared.value.Val.TheVariants as val
+use Rattle.dbl_value_types.specs.Types.{type_of}
+use Rattle.dbl_value_types.specs.Decimals.{is_within}
+use Rattle.dbl_value_types.specs.Values.{value_of}
 use Rattle.dbl_record.specs.declared.error.RecordError.{RecordError}
 use Rattle.dbl_record.specs.GroupReading.{Read, ◌>>=◌, number_at, text_at, truth_at, many_at}
 use Rattle.dbl_model_table.specs.declared.table.TableName.{TableName}

@@ -1,5 +1,5 @@
 pub use Rattle.dbl_model_table.proofs as ModelTable
-pub use Rattle.dbl_value.proofs as Value
+pub use Rattle.dbl_value_types.proofs as Value
 pub mod PartLemmas
 pub mod Many
 pub mod TextLemmas

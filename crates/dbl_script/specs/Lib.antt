@@ -1,5 +1,5 @@
 pub use Rattle.dbl_model_table.specs as ModelTable
-pub use Rattle.dbl_value.specs as Value
+pub use Rattle.dbl_value_types.specs as Value
 pub mod Words
 pub mod Texts
 pub mod Reads

@@ -5,8 +5,8 @@ use Rattle.std.specs.Char.{is_ascii_digit, is_ascii_lowercase, digit_value}
 use Rattle.std.specs.List.{list_all, starts_with}
 use Rattle.std.specs.Str.{is_utf8}
 use Rattle.std.specs.Str.Parse.{digits_value}
-use Rattle.dbl_value.specs.declared.column_type.PgType.TheVariants as type
-use Rattle.dbl_value.specs.Types.{oid_of as type_oid}
+use Rattle.dbl_value_types.specs.declared.column_type.PgType.TheVariants as type
+use Rattle.dbl_value_types.specs.Types.{oid_of as type_oid}
 use Rattle.dbl_model_table.specs.declared.table.TableName.{TableName}
 use Rattle.dbl_script.specs.Words.{cut_at, parts_at}
 use Rattle.dbl_script.specs.Reads.{◌>>=◌}

@@ -14,7 +14,7 @@ use Rattle.dbl_model_table.specs.Value.declared.column_type.PgType.TheVariants a
 use Rattle.dbl_model_table.specs.Value.declared.value.Val.{Val}
 use Rattle.dbl_model_table.specs.Value.declared.value.Val.TheVariants as val
 use Rattle.dbl_model_table.specs.Value.Values.{value_of, oid_of, type_of, is_column_type}
-use Rattle.dbl_value.proofs.TypeLemmas.{type_of-oid_of}
+use Rattle.dbl_value_types.proofs.TypeLemmas.{type_of-oid_of}
 use Rattle.dbl_model_table.specs.Value.Faults.{fault_of}
 use Rattle.dbl_model_table.specs.declared.table.TableName.{TableName}
 use Rattle.dbl_model_table.specs.declared.table.Column.{Column}

@@ -5,7 +5,7 @@ use Rattle.std.specs.BTreeMap.{BTreeMap, get}
 use Rattle.std.proofs.lemmas.Bool.Decides.{nat_tests}
 use Rattle.std.proofs.lemmas.List.{length-map}
 use Rattle.dbl_base.specs.Texts.{text_cmp}
-use Rattle.dbl_value.specs.declared.column_type.PgType.{PgType}
+use Rattle.dbl_value_types.specs.declared.column_type.PgType.{PgType}
 use Rattle.dbl_model_table.specs.declared.error.ModelError.{ModelError}
 use Rattle.dbl_model_table.specs.declared.error.ModelError.TheVariants as model
 use Rattle.dbl_model_table.specs.declared.table.RawColumn.{RawColumn}

@@ -14,7 +14,7 @@ use crate::Alteration;
 use dbl_base::{DeepCopy, Seq, Text};
 use dbl_model_table::{Column, ModelError, RawColumn, RawTable, TableInfo, name_at};
 use dbl_tables_rows::{Rows, StepError, spells};
-use dbl_value::PgType;
+use dbl_value_types::PgType;
 use std::alloc::{AllocError, Global};
 
 /// The largest number of columns of a table.
@@ -35,7 +35,7 @@ fn raw_column(alloc: Global, column: &Column) -> Result<RawColumn, AllocError>
 {
     Ok(RawColumn {
         name: column.name.copy(alloc)?,
-        oid: dbl_value::oid(column.ty),
+        oid: dbl_value_types::oid(column.ty),
     })
 }
 
@@ -140,7 +140,7 @@ fn made(alloc: Global, raw: &RawTable) -> Result<TableInfo, StepError>
 fn type_of(column: &RawColumn) -> PgType
     ensures { result ≡ column_type column.now }
 {
-    match dbl_value::of(column.oid) {
+    match dbl_value_types::of(column.oid) {
         Ok(ty) => ty,
         Err(_) => PgType::Text,
     }

@@ -4,8 +4,8 @@ use Rattle.std.specs.Prelude.{◌||◌, ◌&&◌, nat_lt, is_some, option_map, o
 use Rattle.std.specs.List.{list_any, list_all}
 use Rattle.std.proofs.lemmas.Bool.Decides.{nat_tests}
 use Rattle.std.proofs.lemmas.Option.{slice_get-map, slice_get_past, slice_get_read}
-use Rattle.dbl_value.specs.declared.column_type.PgType.{PgType}
-use Rattle.dbl_value.specs.declared.column_type.PgType.TheVariants as type
+use Rattle.dbl_value_types.specs.declared.column_type.PgType.{PgType}
+use Rattle.dbl_value_types.specs.declared.column_type.PgType.TheVariants as type
 use Rattle.dbl_model_table.specs.declared.table.TableInfo.{TableInfo}
 use Rattle.dbl_model_table.specs.declared.named_cell.NamedCell.{NamedCell}
 use Rattle.dbl_model_table.specs.declared.row.Key.{Key}

@@ -7,11 +7,11 @@ use Rattle.std.proofs.lemmas.List.{drop-map, drop_more, map_more}
 use Rattle.std.proofs.lemmas.List.Folds.{list_all_at, list_all_more}
 use Rattle.std.proofs.lemmas.Option.{slice_get-map, slice_get_read}
 use Rattle.std.proofs.Math.ListN.{drop_of_length-le}
-use Rattle.dbl_value.specs.declared.column_type.PgType.{PgType}
-use Rattle.dbl_value.specs.declared.column_type.PgType.TheVariants as type
-use Rattle.dbl_value.specs.Values.{oid_of, is_column_type}
-use Rattle.dbl_value.specs.Types.{type_of}
-use Rattle.dbl_value.proofs.TypeLemmas.{type_of-oid_of}
+use Rattle.dbl_value_types.specs.declared.column_type.PgType.{PgType}
+use Rattle.dbl_value_types.specs.declared.column_type.PgType.TheVariants as type
+use Rattle.dbl_value_types.specs.Values.{oid_of, is_column_type}
+use Rattle.dbl_value_types.specs.Types.{type_of}
+use Rattle.dbl_value_types.proofs.TypeLemmas.{type_of-oid_of}
 use Rattle.dbl_model_table.specs.declared.named_cell.NamedCell.{NamedCell}
 use Rattle.dbl_model_table.specs.declared.table.Column.{Column}
 use Rattle.dbl_model_table.specs.declared.table.RawColumn.{RawColumn}

@@ -5,7 +5,7 @@ use Rattle.std.specs.declared.cmp.Ordering.{Ordering}
 use Rattle.std.specs.Cmp.Lexicographic.{slice_cmp}
 use Rattle.std.specs.BTreeMap.{get, is_at, Updates}
 use Rattle.std.specs.Map.{lookup}
-use Rattle.dbl_value.specs.contracts.value.ValOrd.TheImpl.{cmp-value}
+use Rattle.dbl_value_types.specs.contracts.value.ValOrd.TheImpl.{cmp-value}
 use Rattle.dbl_model_table.specs.declared.row.Key.{Key}
 use Rattle.dbl_model_table.specs.Keys.{key_cmp, same_key}
 use Rattle.dbl_model_table.proofs.DerivedOrder.{derived_order}

@@ -2,8 +2,8 @@
 use Rattle.std.specs.Prelude.{ℕ, ◌&&◌, ◌||◌, not, Bool, true, Option, None, Some, is_some}
 use Rattle.std.specs.Prelude.{option_and_then, find, List, [], ◌∷◌, map, bytes_eq}
 use Rattle.std.specs.List.{list_any, list_all}
-use Rattle.dbl_value.specs.declared.column_type.PgType.{PgType}
-use Rattle.dbl_value.specs.Values.{value_of}
+use Rattle.dbl_value_types.specs.declared.column_type.PgType.{PgType}
+use Rattle.dbl_value_types.specs.Values.{value_of}
 use Rattle.dbl_model_table.specs.declared.named_cell.NamedCell.{NamedCell}
 use Rattle.dbl_model_table.specs.declared.table.RawColumn.{RawColumn}
 use Rattle.dbl_model_table.specs.declared.table.RawTable.{RawTable}

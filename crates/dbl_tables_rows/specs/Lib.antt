@@ -3,7 +3,7 @@ pub use Rattle.dbl_source_log.specs.SourceModel
 pub use Rattle.dbl_source_log.specs.ModelCommit
 pub use Rattle.dbl_source_log.specs.ModelHistory
 pub use Rattle.dbl_model_table.specs as ModelTable
-pub use Rattle.dbl_value.specs as Value
+pub use Rattle.dbl_value_types.specs as Value
 pub use Rattle.dbl_pgmsg.specs as Pgmsg
 pub mod Acts
 pub mod Seen

@@ -10,9 +10,9 @@ use Rattle.dbl_pgmsg.specs.declared.messages.Tuple.{Tuple}
 use Rattle.dbl_pgmsg.specs.declared.messages.TupleCell.{TupleCell}
 use Rattle.dbl_pgmsg.specs.declared.messages.TupleCell.TheVariants as cell
 use Rattle.dbl_pgmsg.specs.Grammar.{spelling, message_limit}
-use Rattle.dbl_value.specs.declared.column_type.PgType.{PgType}
-use Rattle.dbl_value.specs.declared.column_type.PgType.TheVariants as type
-use Rattle.dbl_value.specs.Types.{type_of}
+use Rattle.dbl_value_types.specs.declared.column_type.PgType.{PgType}
+use Rattle.dbl_value_types.specs.declared.column_type.PgType.TheVariants as type
+use Rattle.dbl_value_types.specs.Types.{type_of}
 use Rattle.dbl_model_table.specs.declared.table.RawColumn.{RawColumn}
 use Rattle.dbl_model_table.specs.declared.table.RawTable.{RawTable}
 use Rattle.dbl_model_table.specs.Infos.{catalogue_of}

@@ -3,7 +3,7 @@
 ghost use Rattle.std.specs.Prelude.{◌≡◌, ◌≢◌, false, IsTrue, IfOk, option_copied};
 ghost use Rattle.std.specs.Prelude.{option_and_then, is_some, bytes_eq};
 ghost use Rattle.std.specs.BTreeMap.{IsEmpty};
-ghost use Rattle.dbl_value.specs.Values.{value_of};
+ghost use Rattle.dbl_value_types.specs.Values.{value_of};
 ghost use Rattle.dbl_model_table.specs.Tables.{are_distinct};
 ghost use Rattle.dbl_model_table.specs.Infos.{catalogue_of};
 ghost use Rattle.dbl_tables_rows.specs.Cells.{cell_named, text_given, row_given, key_texts};

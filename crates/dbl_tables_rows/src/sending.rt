@@ -5,7 +5,7 @@ ghost use Rattle.std.specs.Prelude.{IfSome, if◌then◌else◌, length, map, by
 ghost use Rattle.std.specs.List.{AllByRecursion};
 ghost use Rattle.dbl_model_table.specs.Tables.{are_typed};
 ghost use Rattle.dbl_model_table.specs.Infos.{raw_column, catalogue_of};
-ghost use Rattle.dbl_value.specs.Types.{is_column_type};
+ghost use Rattle.dbl_value_types.specs.Types.{is_column_type};
 ghost use Rattle.dbl_source_log.specs.ModelCommit.Tuples.{is_fixed};
 ghost use Rattle.dbl_tables_rows.specs.Cells.{is_key_name};
 ghost use Rattle.dbl_tables_rows.specs.Sending.{raw_of, sent_cell, whole_tuple, key_tuple};

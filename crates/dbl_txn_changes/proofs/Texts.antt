@@ -1,11 +1,11 @@
 -- The fault of a text that spells no value.
 use Rattle.std.proofs.Common.{◌≡◌, ℕ, List, Option, Some, None, refl}
 use Rattle.std.specs.Prelude.{is_some, if◌then◌else◌}
-use Rattle.dbl_value.specs.declared.column_type.PgType.{PgType}
-use Rattle.dbl_value.specs.declared.error.ValueError.{ValueError}
-use Rattle.dbl_value.specs.declared.value.Val.{Val}
-use Rattle.dbl_value.specs.Values.{value_of}
-use Rattle.dbl_value.specs.Faults.{fault_of, value_fault}
+use Rattle.dbl_value_types.specs.declared.column_type.PgType.{PgType}
+use Rattle.dbl_value_types.specs.declared.error.ValueError.{ValueError}
+use Rattle.dbl_value_types.specs.declared.value.Val.{Val}
+use Rattle.dbl_value_types.specs.Values.{value_of}
+use Rattle.dbl_value_types.specs.Faults.{fault_of, value_fault}
 
 -- no value, and this fault
 pub record IsUnread (ty : PgType) (text : List ℕ) (e : ValueError) : Type 0 where

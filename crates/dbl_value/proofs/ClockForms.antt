@@ -8,18 +8,18 @@ use Rattle.std.proofs.lemmas.Bool.{and_parts, and_from, eqb-true, ne_eqb, le-leb
 use Rattle.std.proofs.lemmas.List.{append_assoc, take-append-drop, drop_more, get_or_past}
 use Rattle.std.proofs.lemmas.Str.{digit_value_digit}
 use Rattle.std.proofs.lemmas.Slice.Eq.{bytes_eq-Decides}
-use Rattle.dbl_value.specs.declared.column_type.PgType.TheVariants as type
-use Rattle.dbl_value.specs.declared.value.Val.TheVariants as val
+use Rattle.dbl_value_types.specs.declared.column_type.PgType.TheVariants as type
+use Rattle.dbl_value_types.specs.declared.value.Val.TheVariants as val
 use Rattle.dbl_time.specs.Shapes.{has_shape, two_at, two_digits}
 use Rattle.dbl_time.specs.Clocks.{clock_seconds, seconds_of, is_fraction, fraction_micros, fraction_of, joined_clock, clock_of, day_micros, time_of}
 use Rattle.dbl_time.specs.Stamps.{joined_stamp, stamp_of}
 use Rattle.dbl_time.specs.Dates.{day_of, date_parts_text}
-use Rattle.dbl_value.specs.Values.{SpellsValue}
-use Rattle.dbl_value.specs.Forms.{IsFractionText, IsClockText, TimeTextsAreClocks, IsStampText, StampTextsAreMoments}
+use Rattle.dbl_value_types.specs.Values.{SpellsValue}
+use Rattle.dbl_value_types.specs.Forms.{IsFractionText, IsClockText, TimeTextsAreClocks, IsStampText, StampTextsAreMoments}
 use Rattle.dbl_time.proofs.ShapeLemmas.{IsDigit, digit_from, first_of, none_left}
 use Rattle.dbl_time.proofs.ClockLemmas.{clock_shape, clock_seconds-is}
 use Rattle.dbl_value.proofs.DateForms.{read_text, text_of_date}
-use Rattle.dbl_value.proofs.KindLemmas.{time_spelled, stamp_spelled}
+use Rattle.dbl_value_types.proofs.KindLemmas.{time_spelled, stamp_spelled}
 
 -- ---- fractions
 

@@ -2,15 +2,15 @@
 use Rattle.std.proofs.Common.{◌≡◌, ◌∙◌, ℕ, ℤ, pos, ◌+◌, ◌-◌, ◌*◌, ◌/◌, ◌%◌, List, [], ◌∷◌, Bool, true, false, if◌then◌else◌, Some, None, refl, sym, ap, subst, codes, arith, option_map}
 use Rattle.std.proofs.lemmas.Bool.{eqb-true}
 use Rattle.jiff_core.specs.Calendar.{days_from_civil}
-use Rattle.dbl_value.specs.declared.column_type.PgType.TheVariants as type
-use Rattle.dbl_value.specs.declared.value.Val.TheVariants as val
+use Rattle.dbl_value_types.specs.declared.column_type.PgType.TheVariants as type
+use Rattle.dbl_value_types.specs.declared.value.Val.TheVariants as val
 use Rattle.dbl_time.specs.Shapes.{has_shape, four_at, two_at}
 use Rattle.dbl_time.specs.Dates.{is_day, number_of_day, day_of, date_parts_text, year_of, month_of, day_in_month}
-use Rattle.dbl_value.specs.Forms.{IsDateText, DateTextsAreDays, DaysAreDates}
+use Rattle.dbl_value_types.specs.Forms.{IsDateText, DateTextsAreDays, DaysAreDates}
 use Rattle.dbl_time.proofs.ShapeLemmas.{IsDigit, digit_from, first_of, none_left}
 use Rattle.dbl_time.proofs.CalendarSteps.{IsDay, is_day-IsDay, IsDay-is_day, date_of, in_years, year_of-is, month_of-is, day_in_month-is}
 use Rattle.dbl_time.proofs.StampLemmas.{day_of-parts}
-use Rattle.dbl_value.proofs.KindLemmas.{date_spelled}
+use Rattle.dbl_value_types.proofs.KindLemmas.{date_spelled}
 
 same_ten : (a b c d e f g h i j a' b' c' d' e' f' g' h' i' j' : ℕ) → a ≡ a' → b ≡ b' → c ≡ c' → d ≡ d' → e ≡ e' → f ≡ f' → g ≡ g' → h ≡ h' → i ≡ i' → j ≡ j'
     → a ∷ b ∷ c ∷ d ∷ e ∷ f ∷ g ∷ h ∷ i ∷ j ∷ [] ≡ a' ∷ b' ∷ c' ∷ d' ∷ e' ∷ f' ∷ g' ∷ h' ∷ i' ∷ j' ∷ []

@@ -10,15 +10,15 @@ use Rattle.hex.specs.Hex.{IsBytes, decode_of, decode_pairs, encode_lower, encode
 use Rattle.hex.specs.declared.error.FromHexError.{FromHexError}
 use Rattle.hex.proofs.HexLemmas.{decode_of-ok, decode_of-even}
 use Rattle.hex.proofs.Pairs.{cons_byte, decode_pairs-ok_pair}
-use Rattle.dbl_value.specs.declared.column_type.PgType.TheVariants as type
-use Rattle.dbl_value.specs.declared.value.Val.TheVariants as val
+use Rattle.dbl_value_types.specs.declared.column_type.PgType.TheVariants as type
+use Rattle.dbl_value_types.specs.declared.value.Val.TheVariants as val
 use Rattle.dbl_time.specs.Shapes.{is_lower_hex, has_shape}
-use Rattle.dbl_value.specs.ByteTexts.{bytes_of, bytes_text}
-use Rattle.dbl_value.specs.Values.{is_uuid}
-use Rattle.dbl_value.specs.Forms.{ByteTextsAreHex, AreHex, IsUuidText, UuidTextsAreGroups}
+use Rattle.dbl_value_types.specs.ByteTexts.{bytes_of, bytes_text}
+use Rattle.dbl_value_types.specs.Values.{is_uuid}
+use Rattle.dbl_value_types.specs.Forms.{ByteTextsAreHex, AreHex, IsUuidText, UuidTextsAreGroups}
 use Rattle.dbl_time.proofs.ShapeLemmas.{digit_from, first_of, none_left, more_shape, no_shape}
-use Rattle.dbl_value.proofs.KindLemmas.{bytes_spelled}
-use Rattle.dbl_value.proofs.ByteLemmas.{bytes_of-text, ok_of}
+use Rattle.dbl_value_types.proofs.KindLemmas.{bytes_spelled}
+use Rattle.dbl_value_types.proofs.ByteLemmas.{bytes_of-text, ok_of}
 
 -- ---- a digit in lower case is that of its value
 

@@ -4,18 +4,18 @@ use Rattle.std.specs.List.{list_all, position}
 use Rattle.std.proofs.lemmas.Bool.{or_cases, or_left, or_right, eqb-true}
 use Rattle.std.proofs.lemmas.List.{append_assoc, take-append-drop, take_at, drop_at}
 use Rattle.jiff_core.proofs.SignedLemmas.{signed_arith}
-use Rattle.dbl_value.specs.declared.value.Val.TheVariants as val
+use Rattle.dbl_value_types.specs.declared.value.Val.TheVariants as val
 use Rattle.dbl_time.specs.Shapes.{has_shape, two_at, two_digits}
 use Rattle.dbl_time.specs.Dates.{date_parts_text}
 use Rattle.dbl_time.specs.Clocks.{clock_seconds}
 use Rattle.dbl_time.specs.Stamps.{stamp_of, is_sign, sign_place, is_offset_size, offset_size, signed_offset, offset_of, joined_instant, instant_at, instant_of, is_instant}
-use Rattle.dbl_value.specs.Values.{instant_if_any}
-use Rattle.dbl_value.specs.Forms.{IsFractionText, IsStampText, IsOffsetText, IsInstantText, InstantTextsAreInstants}
+use Rattle.dbl_value_types.specs.Values.{instant_if_any}
+use Rattle.dbl_value_types.specs.Forms.{IsFractionText, IsStampText, IsOffsetText, IsInstantText, InstantTextsAreInstants}
 use Rattle.dbl_time.proofs.ShapeLemmas.{digit_from, digit_is, first_of, none_left, more_shape, no_shape}
 use Rattle.dbl_time.proofs.ClockLemmas.{clock_shape, clock_seconds-is}
 use Rattle.dbl_value.proofs.ClockForms.{two_are, clock_bytes, AreSeconds, clock_seconds-are, stamp_form, stamp_read}
 use Rattle.dbl_time.proofs.StampLemmas.{no_sign, digits_no_sign, place_after}
-use Rattle.dbl_value.proofs.KindLemmas.{mapped}
+use Rattle.dbl_value_types.proofs.KindLemmas.{mapped}
 
 -- ---- offsets
 

@@ -6,17 +6,17 @@ use Rattle.std.specs.Str.{bytes_eq}
 use Rattle.std.proofs.lemmas.Bool.{and_parts, and_from, or_cases, or_from, lt-ltb, false_from_ne_true, not-true}
 use Rattle.std.proofs.lemmas.List.{append_assoc, length-append}
 use Rattle.std.proofs.lemmas.Slice.Eq.{bytes_eq-Decides}
-use Rattle.dbl_value.specs.declared.column_type.PgType.TheVariants as type
-use Rattle.dbl_value.specs.declared.value.Val.{Val}
-use Rattle.dbl_value.specs.declared.value.Val.TheVariants as val
+use Rattle.dbl_value_types.specs.declared.column_type.PgType.TheVariants as type
+use Rattle.dbl_value_types.specs.declared.value.Val.{Val}
+use Rattle.dbl_value_types.specs.declared.value.Val.TheVariants as val
 use Rattle.jiff_core.proofs.CalendarLemmas.{days_in_month_bounds}
 use Rattle.dbl_time.specs.Shapes.{two_digits, four_digits}
 use Rattle.dbl_time.specs.Dates.{day_of}
 use Rattle.dbl_time.specs.Stamps.{stamp_of, instant_of, is_instant}
-use Rattle.dbl_value.specs.Values.{instant_if_any}
-use Rattle.dbl_value.specs.Faults.{is_long_year, has_long_year, is_beyond, is_out, is_moved_out}
-use Rattle.dbl_value.specs.Forms.{IsDateText, IsFractionText, IsClockText, IsStampText, IsOffsetText, IsInstantText}
-use Rattle.dbl_value.specs.Laws.{DateRangesSpellNoValue}
+use Rattle.dbl_value_types.specs.Values.{instant_if_any}
+use Rattle.dbl_value_types.specs.Faults.{is_long_year, has_long_year, is_beyond, is_out, is_moved_out}
+use Rattle.dbl_value_types.specs.Forms.{IsDateText, IsFractionText, IsClockText, IsStampText, IsOffsetText, IsInstantText}
+use Rattle.dbl_value_types.specs.Laws.{DateRangesSpellNoValue}
 use Rattle.dbl_time.proofs.CalendarSteps.{is_day-IsDay}
 use Rattle.dbl_time.proofs.ShapeLemmas.{digit_is, digit_from}
 use Rattle.dbl_value.proofs.DateForms.{read_text}

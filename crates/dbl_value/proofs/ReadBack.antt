@@ -1,17 +1,17 @@
 -- The text of a value spells it.
 use Rattle.std.proofs.Common.{◌≡◌, ◌∙◌, ℕ, ℤ, pos, true, false, Some, option_map, refl, sym, ap, ◌≤◌, ◌++◌, unsigned_abs, subst, codes}
-use Rattle.dbl_value.specs.declared.column_type.PgType.TheVariants as type
-use Rattle.dbl_value.specs.declared.value.Val.TheVariants as val
+use Rattle.dbl_value_types.specs.declared.column_type.PgType.TheVariants as type
+use Rattle.dbl_value_types.specs.declared.value.Val.TheVariants as val
 use Rattle.std.specs.Fmt.{signed_decimal}
-use Rattle.dbl_value.specs.Values.{SpellsValue, instant_if_any}
-use Rattle.dbl_value.specs.ByteTexts.{bytes_text}
+use Rattle.dbl_value_types.specs.Values.{SpellsValue, instant_if_any}
+use Rattle.dbl_value_types.specs.ByteTexts.{bytes_text}
 use Rattle.dbl_time.specs.Dates.{date_text}
 use Rattle.dbl_time.specs.Stamps.{is_instant, stamp_text}
 use Rattle.dbl_time.specs.Clocks.{clock_text, day_micros}
-use Rattle.dbl_value.specs.Laws.{TextsReadBack}
-use Rattle.dbl_value.proofs.KindLemmas.{null_spelled, bool_spelled, int_spelled, limit_of, limit_top, bytes_spelled, date_spelled, time_spelled, stamp_spelled, instant_spelled, text_spelled}
-use Rattle.dbl_value.proofs.Decimals.{integer_of-IsRead, integer_spelled}
-use Rattle.dbl_value.proofs.ByteLemmas.{bytes_of-text, bytes_of-IsBytes}
+use Rattle.dbl_value_types.specs.Laws.{TextsReadBack}
+use Rattle.dbl_value_types.proofs.KindLemmas.{null_spelled, bool_spelled, int_spelled, limit_of, limit_top, bytes_spelled, date_spelled, time_spelled, stamp_spelled, instant_spelled, text_spelled}
+use Rattle.dbl_value_types.proofs.Decimals.{integer_of-IsRead, integer_spelled}
+use Rattle.dbl_value_types.proofs.ByteLemmas.{bytes_of-text, bytes_of-IsBytes}
 use Rattle.dbl_time.proofs.ClockLemmas.{time_of-text, time_of-bound}
 use Rattle.dbl_time.proofs.StampLemmas.{day_of-named, day_of-text, stamp_of-text, stamp_of-instant, instant_of-text}
 

@@ -1,13 +1,12 @@
 ghost use Rattle.std.specs.Prelude.{◌≡◌, ◌++◌, OnOk, OnErr, IfOk, IfErr};
 ghost use Rattle.json.specs.Tree.{json_tokens};
 ghost use Rattle.serde_json.specs.Written.{outline};
-ghost use Rattle.dbl_value.specs.Values.{json_data, json_of};
+ghost use Rattle.dbl_value_types.specs.Values.{json_data, json_of};
 
-use crate::error::ValueError;
-use crate::value::Val;
 use base64::engine::general_purpose::STANDARD;
 use dbl_base::{Bytes, Text};
 use dbl_time::{is_in_years, push_zulu};
+use dbl_value_types::{Val, ValueError};
 use json::Writer;
 use std::alloc::{AllocError, Global};
 

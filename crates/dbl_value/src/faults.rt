@@ -1,13 +1,12 @@
 ghost use Rattle.std.specs.Prelude.{◌≡◌, Some, None, not};
 ghost use Rattle.std.specs.List.{position};
 ghost use Rattle.std.specs.Char.{is_ascii_digit};
-ghost use Rattle.dbl_value.specs.Values.{value_of};
-ghost use Rattle.dbl_value.specs.Faults.{has_long_year, is_beyond, is_moved_out};
-ghost use Rattle.dbl_value.specs.Faults.{is_date_range, value_fault};
+ghost use Rattle.dbl_value_types.specs.Values.{value_of};
+ghost use Rattle.dbl_value_types.specs.Faults.{has_long_year, is_beyond, is_moved_out};
+ghost use Rattle.dbl_value_types.specs.Faults.{is_date_range, value_fault};
 
-use crate::column_type::PgType;
-use crate::error::ValueError;
 use dbl_time::{byte_at, is_in_years, parse_instant};
+use dbl_value_types::{PgType, ValueError};
 
 /// The index of the first byte that isn't a digit.
 fn place_after_digits(text: &[u8]) -> Option<usize>

@@ -1,5 +1,5 @@
 ghost use Rattle.std.specs.Prelude.{◌≡◌, ◌^◌, nat_lt, slice_index};
-ghost use Rattle.dbl_value.specs.Decimals.{integer_of, is_plain, digits_of};
+ghost use Rattle.dbl_value_types.specs.Decimals.{integer_of, is_plain, digits_of};
 
 use dbl_time::are_digits;
 

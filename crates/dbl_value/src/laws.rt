@@ -1,10 +1,10 @@
-ghost use Rattle.dbl_value.specs.Forms.{TimeTextsAreClocks, StampTextsAreMoments};
-ghost use Rattle.dbl_value.specs.Forms.{InstantTextsAreInstants, DateTextsAreDays};
-ghost use Rattle.dbl_value.specs.Forms.{DaysAreDates, ByteTextsAreHex, UuidTextsAreGroups};
-ghost use Rattle.dbl_value.specs.KindOrder.{KindsAreInOrder};
-ghost use Rattle.dbl_value.specs.Laws.{DateRangesSpellNoValue, OidsNameTypes};
-ghost use Rattle.dbl_value.specs.Laws.{TextsSpellOneValue, DecimalsSpellIntegers};
-ghost use Rattle.dbl_value.specs.Laws.{TextsReadBack, JsonTellsCells, ValuesAreOrdered};
+ghost use Rattle.dbl_value_types.specs.Forms.{TimeTextsAreClocks, StampTextsAreMoments};
+ghost use Rattle.dbl_value_types.specs.Forms.{InstantTextsAreInstants, DateTextsAreDays};
+ghost use Rattle.dbl_value_types.specs.Forms.{DaysAreDates, ByteTextsAreHex, UuidTextsAreGroups};
+ghost use Rattle.dbl_value_types.specs.KindOrder.{KindsAreInOrder};
+ghost use Rattle.dbl_value_types.specs.Laws.{DateRangesSpellNoValue, OidsNameTypes};
+ghost use Rattle.dbl_value_types.specs.Laws.{TextsSpellOneValue, DecimalsSpellIntegers};
+ghost use Rattle.dbl_value_types.specs.Laws.{TextsReadBack, JsonTellsCells, ValuesAreOrdered};
 
 /// An OID is that of at most one column type, and each column type has an OID.
 pub fn oids_name_types()

@@ -2,20 +2,16 @@
 //! as JSON.
 #![tactic(auto)]
 
-mod column_type;
 mod encoding;
-mod error;
 mod faults;
 mod integers;
 mod laws;
 mod printing;
 mod reading;
 mod tree;
-mod value;
 
-pub use column_type::{PgType, of, oid};
+pub use dbl_value_types::{PgType, Val, ValueError, of, oid};
 pub use encoding::{json, write_json};
-pub use error::ValueError;
 pub use laws::{
     byte_texts_are_hex, date_ranges_spell_no_value, date_texts_are_days, days_are_dates,
     decimals_spell_integers, instant_texts_are_instants, json_tells_cells, kinds_are_in_order,
@@ -25,4 +21,3 @@ pub use laws::{
 pub use printing::print;
 pub use reading::{read, read_owned};
 pub use tree::json_tree;
-pub use value::Val;

@@ -1,16 +1,14 @@
 ghost use Rattle.std.specs.Prelude.{◌≡◌, ◌++◌, pos, ◌≤ℤ◌, unsigned_abs, IsTrue, IfOk, IfErr};
 ghost use Rattle.std.specs.String.{string_bytes};
-ghost use Rattle.dbl_value.specs.ByteTexts.{bytes_text};
+ghost use Rattle.dbl_value_types.specs.ByteTexts.{bytes_text};
 ghost use Rattle.dbl_time.specs.Dates.{IsInYears, date_text};
 ghost use Rattle.dbl_time.specs.Clocks.{day_micros, clock_text};
 ghost use Rattle.dbl_time.specs.Stamps.{is_instant, stamp_text};
-ghost use Rattle.dbl_value.specs.Values.{IsOf, text_of};
+ghost use Rattle.dbl_value_types.specs.Values.{IsOf, text_of};
 
-use crate::column_type::PgType;
-use crate::error::ValueError;
-use crate::value::Val;
 use dbl_base::Text;
 use dbl_time::{push_date, push_time, push_timestamp};
+use dbl_value_types::{PgType, Val, ValueError};
 use std::alloc::{AllocError, Global};
 
 fn bytes_string(alloc: Global, bytes: &[u8]) -> Result<String, AllocError>

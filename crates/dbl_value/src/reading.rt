@@ -1,21 +1,19 @@
 ghost use Rattle.std.specs.Prelude.{◌≡◌, ◌≢◌, ◌⊎◌, Bool, true, Some, None, IfOk, IfErr, nat_eq};
 ghost use Rattle.std.specs.List.{list_all, starts_with};
 ghost use Rattle.dbl_time.specs.Shapes.{is_lower_hex};
-ghost use Rattle.dbl_value.specs.ByteTexts.{bytes_of};
-ghost use Rattle.dbl_value.specs.Values.{value_of, truth_of, is_uuid, SpellsValue};
-ghost use Rattle.dbl_value.specs.Faults.{value_fault};
-ghost use Rattle.dbl_value.specs.Kinds.{is_fixed};
+ghost use Rattle.dbl_value_types.specs.ByteTexts.{bytes_of};
+ghost use Rattle.dbl_value_types.specs.Values.{value_of, truth_of, is_uuid, SpellsValue};
+ghost use Rattle.dbl_value_types.specs.Faults.{value_fault};
+ghost use Rattle.dbl_value_types.specs.Kinds.{is_fixed};
 
-use crate::column_type::PgType;
-use crate::error::ValueError;
 use crate::faults::fault;
 use crate::integers::{int2, int4, int8};
-use crate::value::Val;
 use dbl_base::{Seq, Text};
 use dbl_time::{
     bytes_from, is_in_years, is_lower_hex_digit, is_shaped, parse_date, parse_instant, parse_time,
     parse_timestamp,
 };
+use dbl_value_types::{PgType, Val, ValueError};
 use hex::FromHexError;
 use std::alloc::{AllocError, Global};
 
@@ -105,7 +103,7 @@ fn are_lower_hex_digits(digits: &[u8]) -> bool
 }
 
 /// The bytes of a text in PostgreSQL's hex format, in lower case.
-#[tactic(auto, unfolding(crate::specs::ByteTexts::bytes_of))]
+#[tactic(auto, unfolding(dbl_value_types::specs::ByteTexts::bytes_of))]
 fn bytes_value(alloc: Global, text: &str) -> Result<Option<Val>, AllocError>
     ensures { IfOk result (λ o. o ≡ value_of PgType.Bytea text.now) }
 {

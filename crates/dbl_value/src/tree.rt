@@ -2,12 +2,12 @@
 
 ghost use Rattle.std.specs.Prelude.{◌≡◌, IfOk};
 ghost use Rattle.serde_json.specs.View.{view};
-ghost use Rattle.dbl_value.specs.Values.{json_data};
+ghost use Rattle.dbl_value_types.specs.Values.{json_data};
 
-use crate::value::Val;
 use base64::engine::general_purpose::STANDARD;
 use dbl_base::Bytes;
 use dbl_time::{is_in_years, push_zulu};
+use dbl_value_types::Val;
 use serde_json::Value;
 use std::alloc::{AllocError, Global};
 

@@ -3,13 +3,13 @@ use Rattle.std.proofs.Common.{◌≡◌, ◌∙◌, ◌+◌, ◌-◌, ◌<◌, �
 use Rattle.std.specs.Prelude.{Result, Ok, Err, if◌then◌else◌, ◌==◌, is_some, unwrap_or, slice_get, nat_eq, nat_lt, IfSome, IsSomeAnd, find}
 use Rattle.std.specs.List.{AllByRecursion, list_any}
 use Rattle.std.proofs.lemmas.Bool.Decides.{Decides-eqb, Decides-ltb}
-use Rattle.dbl_value.specs.declared.column_type.PgType.{PgType}
-use Rattle.dbl_value.specs.declared.value.Val.{Val}
-use Rattle.dbl_value.specs.declared.value.Val.TheVariants as val
-use Rattle.dbl_value.specs.declared.error.ValueError.{ValueError}
-use Rattle.dbl_value.specs.Values.{value_of, IsOf}
-use Rattle.dbl_value.specs.Faults.{fault_of, value_fault}
-use Rattle.dbl_value.proofs.KindLemmas.{null_spelled}
+use Rattle.dbl_value_types.specs.declared.column_type.PgType.{PgType}
+use Rattle.dbl_value_types.specs.declared.value.Val.{Val}
+use Rattle.dbl_value_types.specs.declared.value.Val.TheVariants as val
+use Rattle.dbl_value_types.specs.declared.error.ValueError.{ValueError}
+use Rattle.dbl_value_types.specs.Values.{value_of, IsOf}
+use Rattle.dbl_value_types.specs.Faults.{fault_of, value_fault}
+use Rattle.dbl_value_types.proofs.KindLemmas.{null_spelled}
 use Rattle.dbl_model_table.specs.declared.table.Column.{Column}
 use Rattle.dbl_model_table.specs.declared.table.TableName.{TableName}
 use Rattle.dbl_model_table.specs.declared.table.RawTable.{RawTable}

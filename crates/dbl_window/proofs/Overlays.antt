@@ -4,11 +4,11 @@ use Rattle.std.proofs.lemmas.List.{take_more, length-take-le}
 use Rattle.std.specs.Prelude.{nat_lt, option_map}
 use Rattle.std.specs.List.{list_all}
 use Rattle.std.proofs.lemmas.Bool.Decides.{Decides-ltb}
-use Rattle.dbl_value.specs.declared.column_type.PgType.{PgType}
-use Rattle.dbl_value.specs.declared.value.Val.{Val}
-use Rattle.dbl_value.specs.declared.value.Val.TheVariants as val
-use Rattle.dbl_value.specs.Values.{IsOf}
-use Rattle.dbl_value.proofs.KindLemmas.{null_spelled}
+use Rattle.dbl_value_types.specs.declared.column_type.PgType.{PgType}
+use Rattle.dbl_value_types.specs.declared.value.Val.{Val}
+use Rattle.dbl_value_types.specs.declared.value.Val.TheVariants as val
+use Rattle.dbl_value_types.specs.Values.{IsOf}
+use Rattle.dbl_value_types.proofs.KindLemmas.{null_spelled}
 use Rattle.dbl_model_table.specs.declared.change.Cell.{Cell}
 use Rattle.dbl_model_table.specs.declared.change.Cell.TheVariants.{Given, Unchanged}
 use Rattle.dbl_model_table.specs.Keys.{cell_or_null, given_or_null}

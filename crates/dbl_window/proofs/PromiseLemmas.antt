@@ -2,7 +2,7 @@
 use Rattle.std.proofs.Common.{◌≡◌, ◌∙◌, ◌+◌, ◌-◌, ◌<◌, ◌≤◌, ◌⊎◌, inl, inr, ℕ, Option, Some, None, List, ◌++◌, length, take, drop, refl, sym, ap, ap₂, subst, arith, length-append, append_assoc}
 use Rattle.std.specs.Prelude.{option_map, slice_get, IsTrue}
 use Rattle.std.proofs.lemmas.List.{take-append-drop, take-take, take_at, drop-drop, drop-take}
-use Rattle.dbl_value.specs.declared.value.Val.{Val}
+use Rattle.dbl_value_types.specs.declared.value.Val.{Val}
 use Rattle.dbl_model_table.specs.declared.row.Key.{Key}
 use Rattle.dbl_model_table.specs.declared.row.Row.{Row}
 use Rattle.dbl_model_table.specs.declared.change.Change.{Change}

@@ -1,7 +1,7 @@
 -- What a select of a conforming source leads to.
 use Rattle.std.proofs.Common.{◌≡◌, ◌∙◌, inl, inr, ℕ, Bool, true, false, Option, Some, None, List, [], length, refl, sym, ap, subst}
 use Rattle.std.specs.Prelude.{IsTrue, Result, Ok, Err, IfOk, OnOk, IfSome, nat_lt}
-use Rattle.dbl_value.specs.declared.error.ValueError.{ValueError}
+use Rattle.dbl_value_types.specs.declared.error.ValueError.{ValueError}
 use Rattle.dbl_model_table.specs.declared.table.RawRow.{RawRow}
 use Rattle.dbl_model_table.specs.declared.table.TableInfo.{TableInfo}
 use Rattle.dbl_model_table.specs.declared.table.TableName.{TableName}

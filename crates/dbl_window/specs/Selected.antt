@@ -1,9 +1,9 @@
 -- The rows of a window after its select.
 use Rattle.std.specs.Prelude.{◌≡◌, ◌⊎◌, ℕ, ◌≤◌, nat_lt, Option, Some, Result, Ok, Err, MatchResult, List, length, slice_get}
-use Rattle.dbl_value.specs.declared.value.Val.{Val}
-use Rattle.dbl_value.specs.declared.value.Val.TheVariants as val
-use Rattle.dbl_value.specs.declared.error.ValueError.{ValueError}
-use Rattle.dbl_value.specs.Faults.{value_fault}
+use Rattle.dbl_value_types.specs.declared.value.Val.{Val}
+use Rattle.dbl_value_types.specs.declared.value.Val.TheVariants as val
+use Rattle.dbl_value_types.specs.declared.error.ValueError.{ValueError}
+use Rattle.dbl_value_types.specs.Faults.{value_fault}
 use Rattle.dbl_model_table.specs.declared.row.Key.{Key}
 use Rattle.dbl_model_table.specs.declared.row.Row.{Row}
 use Rattle.dbl_model_table.specs.declared.table.Column.{Column}

@@ -4,7 +4,7 @@ ghost use Rattle.std.specs.Prelude.{◌≡◌, ◌≢◌, ◌⊎◌, ◌≤◌, 
 ghost use Rattle.std.specs.List.{AllByRecursion};
 ghost use Rattle.std.specs.Option.{option_copied};
 ghost use Rattle.dbl_model_table.specs.Infos.{width};
-ghost use Rattle.dbl_value.specs.Values.{IsOf, value_of};
+ghost use Rattle.dbl_value_types.specs.Values.{IsOf, value_of};
 ghost use Rattle.dbl_model_history.specs.KeyedRows.{last_key};
 ghost use Rattle.dbl_window.specs.Plans.{plan_of};
 ghost use Rattle.dbl_window.specs.Reading.{null_read, value_read, cell_read, cells_read};

@@ -5,7 +5,7 @@
 ghost use Rattle.std.specs.Prelude.{◌≡◌, ◌≢◌, ◌⊎◌, ◌↔◌, ◌≤◌, ℕ, List, [], length, nat_lt, IsTrue};
 ghost use Rattle.std.specs.Prelude.{IfOk, IfErr, IfSome, IsOk, OnOk};
 ghost use Rattle.std.specs.List.{AllByRecursion};
-ghost use Rattle.dbl_value.specs.declared.error.ValueError.{ValueError as SpecValueError};
+ghost use Rattle.dbl_value_types.specs.declared.error.ValueError.{ValueError as SpecValueError};
 ghost use Rattle.dbl_model_table.specs.declared.table.TableInfo.{TableInfo as SpecInfo};
 ghost use Rattle.dbl_model_table.specs.Rows.{table_of};
 ghost use Rattle.dbl_model_history.specs.Fit.{IsKeyOf};

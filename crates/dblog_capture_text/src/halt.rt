@@ -9,7 +9,7 @@ use dbl_capture_work::Halt;
 use dbl_lines::Status;
 use dbl_model_commit::TxnError;
 use dbl_model_table::TableName;
-use dbl_value::ValueError;
+use dbl_value_types::ValueError;
 use dblog_replay::{LogFault, transaction_status};
 use std::alloc::{AllocError, Global};
 

@@ -2,7 +2,7 @@
 use Rattle.std.proofs.Common.{◌≡◌, ℕ, ℤ, Option, Some, List, subst}
 use Rattle.std.specs.Prelude.{IfErr}
 use Rattle.dbl_disk.specs.Model.{DiskModel}
-use Rattle.dbl_value.specs.declared.error.ValueError.{ValueError}
+use Rattle.dbl_value_types.specs.declared.error.ValueError.{ValueError}
 use Rattle.dbl_model_table.specs.declared.table.TableName.{TableName}
 use Rattle.dbl_model_history.proofs.RowKeys.{is_some_value}
 use Rattle.dbl_demo_wal.specs.Wals.{IsWal}

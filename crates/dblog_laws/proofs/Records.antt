@@ -13,7 +13,7 @@ use Rattle.dbl_record.specs.Line.{Part, part_text, object_text, text_or_null, tr
 use Rattle.dbl_record.specs.Acts.{reading_of, act}
 use Rattle.dbl_record.specs.Reading.{IsReadFrom, as_line}
 use Rattle.dbl_record.proofs.ReadingLemmas.{lines_tell_records}
-use Rattle.dbl_value.specs.declared.value.Val.{Val}
+use Rattle.dbl_value_types.specs.declared.value.Val.{Val}
 use Rattle.dbl_model_table.specs.declared.identity.Identity.{Identity}
 use Rattle.dbl_model_table.specs.declared.row.Key.{Key}
 use Rattle.dbl_model_table.specs.declared.row.Row.{Row}

@@ -3,7 +3,7 @@
 use Rattle.std.proofs.Common.{ℕ, zero, suc, List, [], ◌∷◌, Bool, true, false, cond, Option, Some, None, map, flat_map}
 use Rattle.std.specs.Prelude.{IfSome, option_map, unwrap_or, slice_get}
 use Rattle.std.specs.List.{AllByRecursion}
-use Rattle.dbl_value.specs.declared.value.Val.{Val}
+use Rattle.dbl_value_types.specs.declared.value.Val.{Val}
 use Rattle.dbl_model_table.specs.declared.row.Key.{Key}
 use Rattle.dbl_model_table.specs.declared.row.Row.{Row}
 use Rattle.dbl_model_table.specs.declared.table.TableInfo.{TableInfo}

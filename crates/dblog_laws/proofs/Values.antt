@@ -17,9 +17,9 @@ use Rattle.dbl_time.specs.Clocks.{seconds_text, six_digits}
 use Rattle.dbl_time.specs.Stamps.{is_instant, day_of_stamp, clock_of_stamp, zulu_text}
 use Rattle.dbl_time.proofs.CalendarSteps.{IsDay, date_text-parts}
 use Rattle.dbl_time.proofs.StampLemmas.{named_of, day_in_years, clock_in_day}
-use Rattle.dbl_value.specs.declared.value.Val.{Val}
-use Rattle.dbl_value.specs.declared.value.Val.TheVariants as val
-use Rattle.dbl_value.specs.Values.{json_data}
+use Rattle.dbl_value_types.specs.declared.value.Val.{Val}
+use Rattle.dbl_value_types.specs.declared.value.Val.TheVariants as val
+use Rattle.dbl_value_types.specs.Values.{json_data}
 use Rattle.dbl_model_table.specs.declared.identity.Identity.{Identity}
 use Rattle.dbl_model_table.specs.declared.row.Key.{Key}
 use Rattle.dbl_model_table.specs.declared.table.Column.{Column}

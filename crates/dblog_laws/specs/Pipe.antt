@@ -8,7 +8,7 @@ use Rattle.std.specs.List.Sorted.{IsStrictlySortedBy}
 use Rattle.std.specs.Str.{IsUtf8}
 use Rattle.serde_json.specs.Written.{compact_text}
 use Rattle.dbl_base.specs.Lines.{lines_of, lines_text}
-use Rattle.dbl_value.specs.declared.value.Val.{Val}
+use Rattle.dbl_value_types.specs.declared.value.Val.{Val}
 use Rattle.dbl_record.specs.Consumers.{consumer_of}
 use Rattle.dbl_consume.specs.Printing.{HeldRow, spot_cmp, row_line}
 use Rattle.dbl_model_table.specs.declared.identity.Identity.{Identity}

@@ -4,7 +4,7 @@ use Rattle.dbl_lines.specs.declared.status.Status.{Status}
 use Rattle.dbl_lines.specs.declared.status.Status.TheVariants.{Done, BudgetSpent, OutOfMemory}
 use Rattle.dbl_base.specs.Streams.{FaultCounted, input_limit}
 use Rattle.dbl_disk.specs.Model.{DiskModel}
-use Rattle.dbl_value.specs.declared.error.ValueError.{ValueError}
+use Rattle.dbl_value_types.specs.declared.error.ValueError.{ValueError}
 use Rattle.dbl_model_table.specs.declared.table.TableName.{TableName}
 use Rattle.dbl_model_commit.specs.declared.txn_error.TxnError.{TxnError}
 use Rattle.dbl_model_commit.specs.declared.txn_error.TxnError.TheVariants.{MovedUnchanged}

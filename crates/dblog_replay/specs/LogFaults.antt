@@ -8,8 +8,8 @@ use Rattle.dbl_stream2.specs.declared.error.StreamError.{StreamError}
 use Rattle.dbl_stream2.specs.declared.error.StreamError.TheVariants as stream
 use Rattle.dbl_hooks_masks.specs.declared.fault.MaskFault.{MaskFault}
 use Rattle.dbl_hooks_masks.specs.declared.fault.MaskFault.TheVariants as mask
-use Rattle.dbl_value.specs.declared.error.ValueError.{ValueError}
-use Rattle.dbl_value.specs.declared.error.ValueError.TheVariants as value
+use Rattle.dbl_value_types.specs.declared.error.ValueError.{ValueError}
+use Rattle.dbl_value_types.specs.declared.error.ValueError.TheVariants as value
 use Rattle.dbl_model_table.specs.declared.error.ModelError.{ModelError}
 use Rattle.dbl_model_table.specs.declared.error.ModelError.TheVariants as table
 use Rattle.dbl_model_commit.specs.declared.txn_error.TxnError.{TxnError}

@@ -14,7 +14,7 @@ use dbl_model_commit::TxnError;
 use dbl_model_table::{ModelError, TableName};
 use dbl_pgmsg::MsgError;
 use dbl_stream2::StreamError;
-use dbl_value::ValueError;
+use dbl_value_types::ValueError;
 use std::alloc::{AllocError, Global};
 
 /// Why a log is replayed no further. Messages are counted from 1.

@@ -1,5 +1,5 @@
 use Rattle.std.proofs.Common.{◌≡◌, ◌∙◌, ◌++◌, ◌+◌, ◌<◌, ◌≤◌, List, length, drop, get_or, ap, subst}
-use Rattle.dbl_value.specs.declared.value.Val.{Val}
+use Rattle.dbl_value_types.specs.declared.value.Val.{Val}
 use Rattle.dbl_model_table.specs.Rows.{overlay}
 use Rattle.cases_ages.proofs.PlainRowLemmas.{overlay_more, overlay_whole}
 use Rattle.cases_ages.proofs.plain_rows.overlaid_cells.Goals as goal

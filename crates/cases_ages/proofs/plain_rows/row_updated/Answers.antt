@@ -1,6 +1,6 @@
 use Rattle.std.proofs.Common.{◌∙◌, Option, Some, List, sym, ap}
 use Rattle.std.specs.Prelude.{option_map}
-use Rattle.dbl_value.specs.declared.value.Val.{Val}
+use Rattle.dbl_value_types.specs.declared.value.Val.{Val}
 use Rattle.dbl_model_table.specs.Rows.{updated, overlay, row_after}
 use Rattle.dbl_model_history.specs.PlainRows.{plain_row_cells}
 use Rattle.dbl_model_history.proofs.PlainLemmas.{given_all, given_not}

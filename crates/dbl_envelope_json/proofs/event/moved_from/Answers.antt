@@ -1,6 +1,6 @@
 use Rattle.std.proofs.Common.{◌≡◌, ◌∙◌, List, ℕ, Some, ap, ap₂}
 use Rattle.dbl_record.specs.declared.record.Record.{Record}
-use Rattle.dbl_value.specs.declared.value.Val.{Val}
+use Rattle.dbl_value_types.specs.declared.value.Val.{Val}
 use Rattle.dbl_model_table.specs.Keys.{key_of}
 use Rattle.dbl_model_event.specs.ModelHistory.Image.{key_text}
 use Rattle.dbl_envelope_json.specs.Frames.{deleted_record}

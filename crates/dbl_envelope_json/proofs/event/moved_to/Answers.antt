@@ -2,7 +2,7 @@ use Rattle.std.proofs.Common.{◌∙◌, List, ℕ, Some, ap, ap₂, codes}
 use Rattle.serde_json.specs.Data.{null}
 use Rattle.serde_json.specs.Written.{compact_text}
 use Rattle.dbl_record.specs.declared.record.Record.{Record}
-use Rattle.dbl_value.specs.declared.value.Val.{Val}
+use Rattle.dbl_value_types.specs.declared.value.Val.{Val}
 use Rattle.dbl_model_table.specs.Keys.{key_of}
 use Rattle.dbl_model_event.specs.ModelHistory.Image.{key_text}
 use Rattle.dbl_model_event.specs.EventJson.{row_data}

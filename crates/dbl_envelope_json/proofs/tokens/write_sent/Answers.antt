@@ -5,7 +5,7 @@ use Rattle.std.specs.List.{slice_index_or}
 use Rattle.json.specs.Token.{key}
 use Rattle.json.specs.Tree.{json_tokens}
 use Rattle.serde_json.specs.Written.{outline}
-use Rattle.dbl_value.specs.Values.{json_data}
+use Rattle.dbl_value_types.specs.Values.{json_data}
 use Rattle.dbl_model_event.specs.EventJson.{sent}
 use Rattle.dbl_envelope_json.proofs.TokenLemmas.{cell_step, map_get}
 use Rattle.dbl_envelope_json.proofs.tokens.write_sent.Goals as goal

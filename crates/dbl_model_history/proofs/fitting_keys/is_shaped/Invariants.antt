@@ -1,5 +1,5 @@
 use Rattle.std.proofs.Common.{◌≡◌, drop}
-use Rattle.dbl_value.specs.Time.Shapes.{has_shape}
+use Rattle.dbl_value_types.specs.Time.Shapes.{has_shape}
 use Rattle.dbl_model_history.proofs.fitting_keys.is_shaped.Given as goal
 
 abbrev pub invariant-loop-place : goal.invariant-loop-place

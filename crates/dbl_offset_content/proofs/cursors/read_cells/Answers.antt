@@ -1,6 +1,6 @@
 use Rattle.std.proofs.Common.{◌≡◌, Ok, map, get_or, refl, ap, sym, subst, ◌∙◌}
 use Rattle.std.proofs.lemmas.Result.{err_from_is_err_and}
-use Rattle.dbl_value.specs.declared.column_type.PgType.{PgType}
+use Rattle.dbl_value_types.specs.declared.column_type.PgType.{PgType}
 use Rattle.dbl_model_table.specs.Tables.{type_at}
 use Rattle.dbl_record.specs.GroupReading.{Fails}
 use Rattle.dbl_offset_content.specs.Reading.{offset_cell_at, cells_at}

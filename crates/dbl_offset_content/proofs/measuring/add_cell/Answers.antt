@@ -1,5 +1,5 @@
 use Rattle.std.proofs.Common.{length, sym, subst, arith}
-use Rattle.dbl_value.specs.declared.value.Val.{Val}
+use Rattle.dbl_value_types.specs.declared.value.Val.{Val}
 use Rattle.dbl_offset_content.specs.Entries.{cell, FitsKeyCell}
 use Rattle.dbl_offset_content.specs.Measures.{Measures}
 use Rattle.dbl_offset_content.proofs.Sizes.{int_measured, text_measured, other_measured}

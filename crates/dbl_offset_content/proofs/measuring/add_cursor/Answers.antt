@@ -1,6 +1,6 @@
 use Rattle.std.proofs.Common.{◌∙◌, List, length, subst}
 use Rattle.std.specs.List.{AllByRecursion, flat_map}
-use Rattle.dbl_value.specs.declared.value.Val.{Val}
+use Rattle.dbl_value_types.specs.declared.value.Val.{Val}
 use Rattle.dbl_offset_content.specs.Entries.{cell, FitsKeyCell}
 use Rattle.dbl_offset_content.specs.Measures.{Measures}
 use Rattle.dbl_offset_content.proofs.Sizes.{key_measured, none_measured}

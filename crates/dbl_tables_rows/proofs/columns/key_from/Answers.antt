@@ -1,9 +1,9 @@
 use Rattle.std.proofs.Common.{◌≡◌, ◌∙◌, ◌++◌, [], ◌∷◌, get_or, List, ℕ, length, map, take, sym, ap, arith}
 use Rattle.std.specs.Prelude.{nat_lt, unwrap_or, slice_get}
 use Rattle.std.proofs.lemmas.List.{take_all, length-take-le}
-use Rattle.dbl_value.specs.declared.column_type.PgType.{PgType}
-use Rattle.dbl_value.specs.declared.column_type.PgType.TheVariants as type
-use Rattle.dbl_value.specs.declared.value.Val.{Val}
+use Rattle.dbl_value_types.specs.declared.column_type.PgType.{PgType}
+use Rattle.dbl_value_types.specs.declared.column_type.PgType.TheVariants as type
+use Rattle.dbl_value_types.specs.declared.value.Val.{Val}
 use Rattle.dbl_model_table.specs.declared.table.Column.{Column}
 use Rattle.dbl_model_table.specs.declared.row.Key.{Key}
 use Rattle.dbl_model_table.specs.Tables.{type_at}

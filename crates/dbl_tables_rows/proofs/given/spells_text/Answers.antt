@@ -1,10 +1,10 @@
 use Rattle.std.proofs.Common.{◌≡◌, ◌≢◌, ◌∙◌, ◌⊎◌, inl, inr, ℕ, Bool, true, false, Some, None, List, refl, sym}
 use Rattle.std.specs.Prelude.{IfOk, is_some, if◌then◌else◌, Result, Ok, Err}
-use Rattle.dbl_value.specs.declared.column_type.PgType.{PgType}
-use Rattle.dbl_value.specs.declared.error.ValueError.{ValueError}
-use Rattle.dbl_value.specs.declared.error.ValueError.TheVariants.{Memory}
-use Rattle.dbl_value.specs.Values.{value_of}
-use Rattle.dbl_value.specs.Faults.{value_fault, fault_of}
+use Rattle.dbl_value_types.specs.declared.column_type.PgType.{PgType}
+use Rattle.dbl_value_types.specs.declared.error.ValueError.{ValueError}
+use Rattle.dbl_value_types.specs.declared.error.ValueError.TheVariants.{Memory}
+use Rattle.dbl_value_types.specs.Values.{value_of}
+use Rattle.dbl_value_types.specs.Faults.{value_fault, fault_of}
 use Rattle.dbl_tables_rows.proofs.given.spells_text.Goals as goal
 
 -- a text with a fault has no value

@@ -1,7 +1,7 @@
 use Rattle.std.proofs.Common.{◌≡◌, ◌∙◌, ℕ, Bool, true, Option, Some, List, length, sym, ap}
 use Rattle.std.specs.Prelude.{◌&&◌, not, nat_le, bytes_eq}
-use Rattle.dbl_value.specs.declared.column_type.PgType.{PgType}
-use Rattle.dbl_value.specs.Types.{is_column_type}
+use Rattle.dbl_value_types.specs.declared.column_type.PgType.{PgType}
+use Rattle.dbl_value_types.specs.Types.{is_column_type}
 use Rattle.dbl_model_table.specs.declared.table.Column.{Column}
 use Rattle.dbl_model_table.specs.Infos.{raw_column}
 use Rattle.dbl_source_log.specs.ModelCommit.Tuples.{is_fixed}

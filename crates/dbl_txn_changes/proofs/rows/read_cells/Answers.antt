@@ -3,7 +3,7 @@ use Rattle.std.proofs.lemmas.Result.{err_from_is_err_and}
 use Rattle.std.specs.Prelude.{Ok}
 use Rattle.std.specs.Vec.Iter.{into_iter_items}
 use Rattle.dbl_model_table.specs.declared.table.Column.{Column}
-use Rattle.dbl_value.specs.declared.value.Val.{Val}
+use Rattle.dbl_value_types.specs.declared.value.Val.{Val}
 use Rattle.dbl_model_commit.specs.Tuples.{each_from, row_cell}
 use Rattle.dbl_txn_changes.proofs.Loops.{with_front, no_items, cell_more, cell_stopped, cells_end}
 use Rattle.dbl_txn_changes.proofs.rows.read_cells.Goals as goal

@@ -3,7 +3,7 @@ use Rattle.json.specs.Print.{print}
 use Rattle.json.specs.Tree.{json_tokens}
 use Rattle.serde_json.specs.Written.{outline}
 use Rattle.serde_json.proofs.Texts.{print-outline}
-use Rattle.dbl_value.specs.Values.{json_data}
+use Rattle.dbl_value_types.specs.Values.{json_data}
 use Rattle.dbl_value.proofs.encoding.json.Goals as goal
 
 pub returns-clause-ok : goal.returns-clause-ok

@@ -1,5 +1,5 @@
 use Rattle.std.proofs.Common.{sym, ◌∙◌, refl, w16}
-use Rattle.dbl_value.proofs.Decimals.{out_of_range}
+use Rattle.dbl_value_types.proofs.Decimals.{out_of_range}
 use Rattle.dbl_value.proofs.integers.int2.Goals as goal
 
 pub returns-in-Err : goal.returns-in-Err

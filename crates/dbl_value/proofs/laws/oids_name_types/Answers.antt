@@ -1,4 +1,4 @@
-use Rattle.dbl_value.proofs.TypeLemmas.{oids_name_types}
+use Rattle.dbl_value_types.proofs.TypeLemmas.{oids_name_types}
 use Rattle.dbl_value.proofs.laws.oids_name_types.Goals as goal
 
 pub returns : goal.returns

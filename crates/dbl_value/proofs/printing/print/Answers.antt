@@ -1,6 +1,6 @@
 use Rattle.std.proofs.Common.{subst}
-use Rattle.dbl_value.specs.Values.{IsOf}
-use Rattle.dbl_value.proofs.RangeLemmas.{date_in_years, time_in_day, stamp_in_years, instant_in_years}
+use Rattle.dbl_value_types.specs.Values.{IsOf}
+use Rattle.dbl_value_types.proofs.RangeLemmas.{date_in_years, time_in_day, stamp_in_years, instant_in_years}
 use Rattle.dbl_value.proofs.printing.print.Goals as goal
 
 pub date_string-requires : goal.date_string-requires

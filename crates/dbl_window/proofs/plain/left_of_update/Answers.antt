@@ -1,6 +1,6 @@
 use Rattle.std.proofs.Common.{◌∙◌, Option, Some, List, sym, ap}
 use Rattle.std.specs.Prelude.{option_map}
-use Rattle.dbl_value.specs.declared.value.Val.{Val}
+use Rattle.dbl_value_types.specs.declared.value.Val.{Val}
 use Rattle.dbl_model_table.specs.Rows.{updated, overlay}
 use Rattle.dbl_model_history.specs.KeyedRows.{row_left}
 use Rattle.dbl_model_history.specs.PlainRows.{plain_row_cells}

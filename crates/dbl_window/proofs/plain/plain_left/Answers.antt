@@ -1,6 +1,6 @@
 use Rattle.std.proofs.Common.{◌∙◌, ◌+◌, ◌∷◌, Option, List, drop, sym, ap, arith}
 use Rattle.std.proofs.lemmas.List.{drop_more, drop_all}
-use Rattle.dbl_value.specs.declared.value.Val.{Val}
+use Rattle.dbl_value_types.specs.declared.value.Val.{Val}
 use Rattle.dbl_model_table.specs.declared.change.Change.{Change}
 use Rattle.dbl_model_history.specs.PlainRows.{plain_row_cells}
 use Rattle.dbl_window.specs.Changing.{left_from}

@@ -1,7 +1,7 @@
 use Rattle.std.proofs.Common.{◌∙◌, sym, ap, subst}
 use Rattle.std.specs.Prelude.{Result, IfOk}
 use Rattle.std.proofs.lemmas.Result.{IfOk-weaker}
-use Rattle.dbl_value.specs.declared.value.Val.{Val}
+use Rattle.dbl_value_types.specs.declared.value.Val.{Val}
 use Rattle.dbl_window.specs.declared.error.WindowError.{WindowError}
 use Rattle.dbl_window.specs.Reading.{null_read, cell_read}
 use Rattle.dbl_window.specs.ReadParts.{FitsColumnCell}

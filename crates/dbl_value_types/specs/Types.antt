@@ -1,8 +1,8 @@
 -- Column types and their OIDs in PostgreSQL's catalogue pg_type.
 use Rattle.std.specs.Prelude.{ℕ, ◌==◌, ◌&&◌, ◌||◌, not, Bool, true, if◌then◌else◌, Option, Some, None, unwrap_or, List, [], ◌∷◌}
 use Rattle.std.specs.List.{find, list_any}
-use Rattle.dbl_value.specs.declared.column_type.PgType.{PgType}
-use Rattle.dbl_value.specs.declared.column_type.PgType.TheVariants as type
+use Rattle.dbl_value_types.specs.declared.column_type.PgType.{PgType}
+use Rattle.dbl_value_types.specs.declared.column_type.PgType.TheVariants as type
 
 -- the OID of a type
 abbrev pub oid_of : PgType → ℕ

@@ -1,6 +1,6 @@
 ghost use Rattle.std.specs.Prelude.{◌≡◌, None, Some, IfOk, IfErr};
 ghost use Rattle.std.specs.List.{find};
-ghost use Rattle.dbl_value.specs.Types.{oid_of, type_of, has_oid};
+ghost use Rattle.dbl_value_types.specs.Types.{oid_of, type_of, has_oid};
 
 use crate::error::ValueError;
 

@@ -1,7 +1,7 @@
 -- Types by the memory of their values.
 use Rattle.std.specs.Prelude.{Bool, true, false}
-use Rattle.dbl_value.specs.declared.column_type.PgType.{PgType}
-use Rattle.dbl_value.specs.declared.column_type.PgType.TheVariants as type
+use Rattle.dbl_value_types.specs.declared.column_type.PgType.{PgType}
+use Rattle.dbl_value_types.specs.declared.column_type.PgType.TheVariants as type
 
 -- the values of the type take no memory
 abbrev pub is_fixed : PgType → Bool

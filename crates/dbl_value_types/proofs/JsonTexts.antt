@@ -20,18 +20,18 @@ use Rattle.json.proofs.Printed.Decimals.{IsNumber-signed_decimal}
 use Rattle.serde_json.specs.Find.{of_integer}
 use Rattle.serde_json.specs.Written.{outline, number_text}
 use Rattle.serde_json.proofs.Texts.{print-outline}
-use Rattle.dbl_value.specs.declared.column_type.PgType.{PgType}
-use Rattle.dbl_value.specs.declared.value.Val.{Val}
-use Rattle.dbl_value.specs.declared.value.Val.TheVariants as val
-use Rattle.dbl_value.specs.Values.{json_data, json_of, IsOf}
-use Rattle.dbl_value.specs.Order.{rank}
-use Rattle.dbl_value.specs.Decimals.{is_within}
+use Rattle.dbl_value_types.specs.declared.column_type.PgType.{PgType}
+use Rattle.dbl_value_types.specs.declared.value.Val.{Val}
+use Rattle.dbl_value_types.specs.declared.value.Val.TheVariants as val
+use Rattle.dbl_value_types.specs.Values.{json_data, json_of, IsOf}
+use Rattle.dbl_value_types.specs.Order.{rank}
+use Rattle.dbl_value_types.specs.Decimals.{is_within}
 use Rattle.dbl_time.specs.Dates.{IsInYears}
 use Rattle.dbl_time.specs.Stamps.{is_instant, first_instant, last_instant, zulu_text}
-use Rattle.dbl_value.specs.Laws.{JsonTellsCells}
-use Rattle.dbl_value.proofs.KindLemmas.{limit_of, limit_top, spelled_kind, int_spelled, bytes_spelled, date_spelled, time_spelled, stamp_spelled, instant_spelled}
-use Rattle.dbl_value.proofs.Decimals.{integer_of-IsRead}
-use Rattle.dbl_value.proofs.ByteLemmas.{bytes_of-IsBytes}
+use Rattle.dbl_value_types.specs.Laws.{JsonTellsCells}
+use Rattle.dbl_value_types.proofs.KindLemmas.{limit_of, limit_top, spelled_kind, int_spelled, bytes_spelled, date_spelled, time_spelled, stamp_spelled, instant_spelled}
+use Rattle.dbl_value_types.proofs.Decimals.{integer_of-IsRead}
+use Rattle.dbl_value_types.proofs.ByteLemmas.{bytes_of-IsBytes}
 use Rattle.dbl_time.proofs.ClockLemmas.{time_of-bound}
 use Rattle.dbl_time.proofs.StampLemmas.{day_of-named, named_in_years, stamp_of-instant}
 use Rattle.dbl_time.proofs.ZuluLemmas.{zulu_text-tells}

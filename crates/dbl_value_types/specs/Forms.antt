@@ -5,14 +5,14 @@ use Rattle.std.specs.Char.{is_ascii_digit}
 use Rattle.std.specs.Str.Parse.{digits_value}
 use Rattle.jiff_core.specs.Calendar.{days_from_civil}
 use Rattle.hex.specs.Hex.{IsBytes}
-use Rattle.dbl_value.specs.declared.column_type.PgType.TheVariants as type
-use Rattle.dbl_value.specs.declared.value.Val.TheVariants as val
+use Rattle.dbl_value_types.specs.declared.column_type.PgType.TheVariants as type
+use Rattle.dbl_value_types.specs.declared.value.Val.TheVariants as val
 use Rattle.dbl_time.specs.Shapes.{is_lower_hex, two_digits}
 use Rattle.dbl_time.specs.Dates.{is_day, date_parts_text, IsInYears}
 use Rattle.dbl_time.specs.Clocks.{day_micros}
 use Rattle.dbl_time.specs.Stamps.{is_instant}
-use Rattle.dbl_value.specs.ByteTexts.{bytes_text}
-use Rattle.dbl_value.specs.Values.{SpellsValue}
+use Rattle.dbl_value_types.specs.ByteTexts.{bytes_text}
+use Rattle.dbl_value_types.specs.Values.{SpellsValue}
 
 -- the text is a calendar day as `YYYY-MM-DD`, and this is its number
 pub record IsDateText (text : List ℕ) (number : ℤ) : Type 0 where

@@ -4,8 +4,8 @@ use Rattle.std.specs.Ordering.{nat_cmp, int_cmp, bool_cmp}
 use Rattle.std.specs.declared.cmp.Ordering.{Ordering}
 use Rattle.std.specs.declared.cmp.Ordering.TheVariants.{Equal}
 use Rattle.dbl_base.specs.Texts.{text_cmp}
-use Rattle.dbl_value.specs.declared.value.Val.{Val}
-use Rattle.dbl_value.specs.declared.value.Val.TheVariants.{Null, Bool, Int, Text, Bytes, Date, Time, Stamp, StampTz}
+use Rattle.dbl_value_types.specs.declared.value.Val.{Val}
+use Rattle.dbl_value_types.specs.declared.value.Val.TheVariants.{Null, Bool, Int, Text, Bytes, Date, Time, Stamp, StampTz}
 
 -- the rank of a value's kind in the order
 abbrev pub rank : Val → ℕ

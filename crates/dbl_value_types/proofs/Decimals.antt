@@ -12,9 +12,9 @@ use Rattle.std.proofs.lemmas.Bool.{or_cases, or_right, and_parts, and_from, ltb-
 use Rattle.std.proofs.lemmas.Slice.Eq.{bytes_eq-Decides}
 use Rattle.std.proofs.lemmas.Fmt.{decimal-digits_value, decimal_digit, decimal_is_IsNumeral, first_decimal}
 use Rattle.std.proofs.lemmas.Str.Parse.{IsNumeralModel, numerals_by_value, without_leading_plus_none}
-use Rattle.dbl_value.specs.declared.value.Val.TheVariants as val
-use Rattle.dbl_value.specs.Decimals.{digits_of, is_plain, is_within, integer_of}
-use Rattle.dbl_value.specs.Laws.{DecimalsSpellIntegers}
+use Rattle.dbl_value_types.specs.declared.value.Val.TheVariants as val
+use Rattle.dbl_value_types.specs.Decimals.{digits_of, is_plain, is_within, integer_of}
+use Rattle.dbl_value_types.specs.Laws.{DecimalsSpellIntegers}
 
 -- a test of digits, and their value
 own : IsNumeralModel (λ ds. list_all is_ascii_digit ds ≡ true) (digits_value 10)

@@ -6,7 +6,7 @@ use Rattle.std.proofs.lemmas.Bool.{and_parts, and_from, cases_lt}
 use Rattle.hex.specs.Hex.{IsBytes, decode_of, encode_lower, encode_with, lower_digits}
 use Rattle.hex.proofs.HexLemmas.{decode_of-encode_lower, decode_of-ok}
 use Rattle.dbl_time.specs.Shapes.{is_lower_hex}
-use Rattle.dbl_value.specs.ByteTexts.{bytes_of, bytes_text}
+use Rattle.dbl_value_types.specs.ByteTexts.{bytes_of, bytes_text}
 
 -- each of the sixteen digits is one in lower case
 all_lower : ℕ → Bool

@@ -19,7 +19,7 @@ pub enum ValueError {
 
 impl From<AllocError> for ValueError {
     ghost use Rattle.std.specs.Prelude.{◌≡◌};
-    ghost use Rattle.dbl_value.specs.declared.error.ValueError.TheVariants.{Memory};
+    ghost use Rattle.dbl_value_types.specs.declared.error.ValueError.TheVariants.{Memory};
 
     ghost from_gives = { λ _ e. e ≡ Memory };
 
@@ -30,7 +30,7 @@ impl From<AllocError> for ValueError {
 
 impl<T: Drop> From<AllocFailed<T>> for ValueError {
     ghost use Rattle.std.specs.Prelude.{◌≡◌};
-    ghost use Rattle.dbl_value.specs.declared.error.ValueError.TheVariants.{Memory};
+    ghost use Rattle.dbl_value_types.specs.declared.error.ValueError.TheVariants.{Memory};
 
     ghost from_gives = { λ _ e. e ≡ Memory };
 

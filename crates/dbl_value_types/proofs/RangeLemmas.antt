@@ -1,13 +1,13 @@
 -- The values of a type are in its range.
 use Rattle.std.proofs.Common.{◌≡◌, ℤ, pos, ◌≤ℤ◌, true, arith}
 use Rattle.jiff_core.proofs.SignedLemmas.{signed_arith}
-use Rattle.dbl_value.specs.declared.column_type.PgType.{PgType}
-use Rattle.dbl_value.specs.declared.value.Val.TheVariants as val
-use Rattle.dbl_value.specs.Values.{IsOf}
+use Rattle.dbl_value_types.specs.declared.column_type.PgType.{PgType}
+use Rattle.dbl_value_types.specs.declared.value.Val.TheVariants as val
+use Rattle.dbl_value_types.specs.Values.{IsOf}
 use Rattle.dbl_time.specs.Dates.{IsInYears}
 use Rattle.dbl_time.specs.Clocks.{day_micros}
 use Rattle.dbl_time.specs.Stamps.{is_instant}
-use Rattle.dbl_value.proofs.KindLemmas.{date_spelled, time_spelled, stamp_spelled, instant_spelled}
+use Rattle.dbl_value_types.proofs.KindLemmas.{date_spelled, time_spelled, stamp_spelled, instant_spelled}
 use Rattle.dbl_time.proofs.ClockLemmas.{time_of-bound}
 use Rattle.dbl_time.proofs.StampLemmas.{day_of-named, named_in_years, stamp_of-instant}
 

@@ -3,14 +3,14 @@ use Rattle.std.specs.Prelude.{◌≡◌, ◌↔◌, ◌^◌, ℕ, ℤ, List, IsT
 use Rattle.std.specs.Fmt.{signed_decimal}
 use Rattle.std.specs.Cmp.{IsTotalOrder}
 use Rattle.std.specs.declared.cmp.Ordering.TheVariants.{Equal}
-use Rattle.dbl_value.specs.declared.column_type.PgType.{PgType}
-use Rattle.dbl_value.specs.declared.column_type.PgType.TheVariants as type
-use Rattle.dbl_value.specs.declared.value.Val.{Val}
-use Rattle.dbl_value.specs.declared.value.Val.TheVariants as val
-use Rattle.dbl_value.specs.Values.{oid_of, type_of, is_column_type, value_of, SpellsValue, IsOf, IsCellOf, text_of, json_of}
-use Rattle.dbl_value.specs.Decimals.{is_within}
-use Rattle.dbl_value.specs.Faults.{is_date_range}
-use Rattle.dbl_value.specs.Order.{val_cmp}
+use Rattle.dbl_value_types.specs.declared.column_type.PgType.{PgType}
+use Rattle.dbl_value_types.specs.declared.column_type.PgType.TheVariants as type
+use Rattle.dbl_value_types.specs.declared.value.Val.{Val}
+use Rattle.dbl_value_types.specs.declared.value.Val.TheVariants as val
+use Rattle.dbl_value_types.specs.Values.{oid_of, type_of, is_column_type, value_of, SpellsValue, IsOf, IsCellOf, text_of, json_of}
+use Rattle.dbl_value_types.specs.Decimals.{is_within}
+use Rattle.dbl_value_types.specs.Faults.{is_date_range}
+use Rattle.dbl_value_types.specs.Order.{val_cmp}
 
 -- an OID is that of at most one column type, and each column type has an OID
 abbrev pub OidsNameTypes : Type 0

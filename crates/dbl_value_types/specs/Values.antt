@@ -8,18 +8,18 @@ use Rattle.base64.specs.GeneralPurpose.{encode_of}
 use Rattle.serde_json.specs.Data.{Data, null, boolean, number, string}
 use Rattle.serde_json.specs.Find.{of_integer}
 use Rattle.serde_json.specs.Written.{compact_text}
-use Rattle.dbl_value.specs.declared.column_type.PgType.{PgType}
-use Rattle.dbl_value.specs.declared.column_type.PgType.TheVariants as type
-use Rattle.dbl_value.specs.declared.value.Val.{Val}
-use Rattle.dbl_value.specs.declared.value.Val.TheVariants as val
-pub use Rattle.dbl_value.specs.Types.{oid_of, listed, is_column_type}
-unfoldable pub use Rattle.dbl_value.specs.Types.{type_of}
-use Rattle.dbl_value.specs.Decimals.{integer_of}
+use Rattle.dbl_value_types.specs.declared.column_type.PgType.{PgType}
+use Rattle.dbl_value_types.specs.declared.column_type.PgType.TheVariants as type
+use Rattle.dbl_value_types.specs.declared.value.Val.{Val}
+use Rattle.dbl_value_types.specs.declared.value.Val.TheVariants as val
+pub use Rattle.dbl_value_types.specs.Types.{oid_of, listed, is_column_type}
+unfoldable pub use Rattle.dbl_value_types.specs.Types.{type_of}
+use Rattle.dbl_value_types.specs.Decimals.{integer_of}
 use Rattle.dbl_time.specs.Shapes.{has_shape}
 use Rattle.dbl_time.specs.Dates.{day_of, date_text}
 use Rattle.dbl_time.specs.Clocks.{time_of, clock_text}
 use Rattle.dbl_time.specs.Stamps.{stamp_of, instant_of, is_instant, stamp_text, zulu_text}
-use Rattle.dbl_value.specs.ByteTexts.{bytes_of, bytes_text}
+use Rattle.dbl_value_types.specs.ByteTexts.{bytes_of, bytes_text}
 
 -- the truth value of `t` or `f`
 abbrev pub truth_of : List ℕ → Option Bool

@@ -7,11 +7,11 @@ use Rattle.std.specs.declared.cmp.Ordering.TheVariants.{Less, Equal, Greater}
 use Rattle.std.proofs.lemmas.Cmp.{on_total, then_total, nat_cmp_total, int_cmp_total, nat_list_cmp_total, tied_itself, int_ranked}
 use Rattle.std.proofs.lemmas.Map.Text.{is_eq-slice_cmp}
 use Rattle.std.proofs.lemmas.Slice.Eq.{bytes_eq-Decides}
-use Rattle.dbl_value.specs.declared.value.Val.{Val}
-use Rattle.dbl_value.specs.declared.value.Val.TheVariants as val
+use Rattle.dbl_value_types.specs.declared.value.Val.{Val}
+use Rattle.dbl_value_types.specs.declared.value.Val.TheVariants as val
 use Rattle.dbl_base.specs.Texts.{text_cmp}
-use Rattle.dbl_value.specs.Order.{rank, val_cmp}
-use Rattle.dbl_value.specs.Laws.{ValuesAreOrdered}
+use Rattle.dbl_value_types.specs.Order.{rank, val_cmp}
+use Rattle.dbl_value_types.specs.Laws.{ValuesAreOrdered}
 
 abbrev truth_part : Val → Bool
 truth_part (val.Bool truth) = truth

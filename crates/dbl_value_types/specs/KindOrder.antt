@@ -2,8 +2,8 @@
 use Rattle.std.specs.Prelude.{◌≡◌, ℕ, ℤ, List}
 use Rattle.std.specs.Prelude.{Bool as Truth}
 use Rattle.std.specs.declared.cmp.Ordering.TheVariants.{Less}
-use Rattle.dbl_value.specs.declared.value.Val.TheVariants.{Null, Bool, Int, Text, Bytes, Date, Time, Stamp, StampTz}
-use Rattle.dbl_value.specs.Order.{val_cmp}
+use Rattle.dbl_value_types.specs.declared.value.Val.TheVariants.{Null, Bool, Int, Text, Bytes, Date, Time, Stamp, StampTz}
+use Rattle.dbl_value_types.specs.Order.{val_cmp}
 
 -- the kinds ascend: null, truth values, integers, texts, byte strings, dates, times of day, timestamps, instants
 pub record KindsAreInOrder : Type 0 where

@@ -4,12 +4,12 @@ use Rattle.std.specs.Prelude.{if◌then◌else◌, Option, Some, None, is_some, 
 use Rattle.std.specs.List.{position, starts_with, ends_with}
 use Rattle.std.specs.Char.{is_ascii_digit}
 use Rattle.std.specs.Str.{bytes_eq}
-use Rattle.dbl_value.specs.declared.column_type.PgType.{PgType}
-use Rattle.dbl_value.specs.declared.column_type.PgType.TheVariants as type
-use Rattle.dbl_value.specs.declared.error.ValueError.{ValueError}
-use Rattle.dbl_value.specs.declared.error.ValueError.TheVariants as error
+use Rattle.dbl_value_types.specs.declared.column_type.PgType.{PgType}
+use Rattle.dbl_value_types.specs.declared.column_type.PgType.TheVariants as type
+use Rattle.dbl_value_types.specs.declared.error.ValueError.{ValueError}
+use Rattle.dbl_value_types.specs.declared.error.ValueError.TheVariants as error
 use Rattle.dbl_time.specs.Stamps.{instant_of, is_instant}
-use Rattle.dbl_value.specs.Values.{value_of}
+use Rattle.dbl_value_types.specs.Values.{value_of}
 
 -- five or more digits, this many, are followed by a `-`
 abbrev pub is_long_year : List ℕ → Option ℕ → Bool

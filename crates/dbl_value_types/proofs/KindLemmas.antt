@@ -1,17 +1,17 @@
 -- Which kind of value a type's texts spell.
 use Rattle.std.proofs.Common.{subst, ◌≡◌, ◌∙◌, ℕ, ℤ, pos, List, Bool, true, false, if◌then◌else◌, Option, Some, None, option_map, refl, sym, ap, arith, ◌^◌, ◌≤◌}
 use Rattle.std.proofs.lemmas.Bool.{eqb-false}
-use Rattle.dbl_value.specs.declared.column_type.PgType.{PgType}
-use Rattle.dbl_value.specs.declared.column_type.PgType.TheVariants as type
-use Rattle.dbl_value.specs.declared.value.Val.{Val}
-use Rattle.dbl_value.specs.declared.value.Val.TheVariants as val
-use Rattle.dbl_value.specs.Values.{SpellsValue, truth_of, is_uuid, instant_if_any}
-use Rattle.dbl_value.specs.Decimals.{integer_of}
+use Rattle.dbl_value_types.specs.declared.column_type.PgType.{PgType}
+use Rattle.dbl_value_types.specs.declared.column_type.PgType.TheVariants as type
+use Rattle.dbl_value_types.specs.declared.value.Val.{Val}
+use Rattle.dbl_value_types.specs.declared.value.Val.TheVariants as val
+use Rattle.dbl_value_types.specs.Values.{SpellsValue, truth_of, is_uuid, instant_if_any}
+use Rattle.dbl_value_types.specs.Decimals.{integer_of}
 use Rattle.dbl_time.specs.Dates.{day_of}
 use Rattle.dbl_time.specs.Clocks.{time_of}
 use Rattle.dbl_time.specs.Stamps.{stamp_of, instant_of, is_instant}
-use Rattle.dbl_value.specs.ByteTexts.{bytes_of}
-use Rattle.dbl_value.specs.Order.{rank}
+use Rattle.dbl_value_types.specs.ByteTexts.{bytes_of}
+use Rattle.dbl_value_types.specs.Order.{rank}
 
 -- the kind of a type's values
 abbrev pub kind_of : PgType → ℕ

@@ -82,6 +82,13 @@ fn seen_window(armed: Armed, value: &Text) -> Window
     }
 }
 
+// Sets the window.
+fn set_window(place: &mut Window, window: Window)
+    ensures { place.new ≡ window }
+{
+    *place = window;
+}
+
 // The commit of a transaction that wrote this watermark.
 fn commit_of_mark(ended: &Ended, value: Text) -> Commit
     ensures { result ≡ commit_by (record ended.now { mark = Some value }) [] }
@@ -132,7 +139,7 @@ impl Follower {
         requires planned { IsPlanOfCaptured self.old.infos armed.plan }
         ensures { self.new ≡ record self.old { window = windows.Armed armed } }
     {
-        self.window = Window::Armed(armed);
+        set_window(&mut self.window, Window::Armed(armed));
     }
 
     /// The watermark for which its window waits: the low one while it is armed, the high one while
@@ -235,7 +242,7 @@ impl Follower {
         if opened.closes(value) {
             self.close(opened.finish(), commit, now_ms)
         } else {
-            self.window = Window::Open(opened);
+            set_window(&mut self.window, Window::Open(opened));
             Ok(Vec::new(self.alloc))
         }
     }
@@ -262,7 +269,7 @@ impl Follower {
         match mem::replace(&mut self.window, Window::Absent) {
             Window::Absent => Ok(Vec::new(self.alloc)),
             Window::Armed(armed) => {
-                self.window = seen_window(armed, value);
+                set_window(&mut self.window, seen_window(armed, value));
                 Ok(Vec::new(self.alloc))
             }
             Window::Open(opened) => self.see_high(opened, value, commit, now_ms),

@@ -18,7 +18,7 @@ returns-else-closes-clause-steps c =
     let other : value ≢ high_text opened.plan = λ same. (let contra : false ≡ true = sym c.if-closes.false ∙ c.closes.ensures.1 same in cc) in
     marked_steps (record { identity = f.identity; infos = f.infos; cursors = f.cursors; window = windows.Open opened; part = f.part }) _ c.args.commit.now value c.requires.none
     (ap (λ (x : Following). x.part) c.self.view_is ∙ c.requires.none) c.requires.mark (closing-other opened value other)
-    (sym (seen-other opened value other)) (ap (λ (x : Following). x.identity) c.self.view_is) (ap (λ (x : Following). x.infos) c.self.view_is) (ap (λ (x : Following). x.cursors) c.self.view_is)
+    (c.set_window.ensures ∙ sym (seen-other opened value other)) (ap (λ (x : Following). x.identity) c.self.view_is) (ap (λ (x : Following). x.infos) c.self.view_is) (ap (λ (x : Following). x.cursors) c.self.view_is)
 
 pub returns-else-closes-clause-no_clash : goal.returns-else-closes-clause-no_clash
 returns-else-closes-clause-no_clash c =

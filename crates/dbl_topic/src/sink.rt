@@ -34,8 +34,8 @@ pub trait Sink {
     /// The number of faults; it saturates at 2^64 - 1.
     ghost faults: { Self → ℕ };
 
-    /// What is known of a sink whose last append failed with `Failed`, of the group that it was
-    /// given: for a sink that can refuse a record, which one it refused.
+    /// What is known of a sink whose last append failed with `Failed`, and of that append's group:
+    /// for a sink that can refuse a record, which one it refused.
     ghost fails_at: { Self → List Record → Type 0 };
 
     /// Appends the group. After `Failed` some first records of it may have been appended, as a

@@ -1,5 +1,5 @@
 -- The state of an assembler after the messages that it has processed, the newest first.
-use Rattle.std.specs.Prelude.{◌≡◌, ◌⊎◌, List, [], ◌∷◌, Option, None, Some, Result, Ok, Err}
+use Rattle.std.specs.Prelude.{◌≡◌, ◌⊎◌, ℕ, Bool, false, List, [], ◌∷◌, Option, None, Some, Result, Ok, Err, slice_get, unwrap_or}
 use Rattle.dbl_base.specs.declared.lsn.Lsn.{Lsn}
 use Rattle.dbl_pgmsg.specs.declared.messages.Message.{Message}
 use Rattle.dbl_model_table.specs.declared.change.Change.{Change}
@@ -10,15 +10,25 @@ use Rattle.dbl_model_commit.specs.declared.txn_error.TxnError.{TxnError}
 use Rattle.dbl_model_commit.specs.declared.txn_error.TxnError.TheVariants as errors
 use Rattle.dbl_model_commit.specs.Past.{begin_of}
 use Rattle.dbl_model_commit.specs.Stated.{open_changes, ended_commit, transaction_fault}
-use Rattle.dbl_model_commit.specs.Pieces.{if_open, IsPieceOf}
+use Rattle.dbl_model_commit.specs.Pieces.{if_open, changes_so_far, IsPieceOf}
+use Rattle.dbl_model_commit.specs.Shapes.{changes_table}
 use Rattle.dbl_txn_pieces.specs.Reading.{HasReadMessages}
 use Rattle.dbl_txn.specs.declared.assembler.Assembler.{Assembler}
 
+-- The flag at an index; those after the last aren't set.
+abbrev pub flag_at : List Bool → ℕ → Bool
+flag_at flags table = unwrap_or (slice_get flags table) false
+
+-- The flag at each captured table's index says whether one of these changes is of the table.
+abbrev pub AreFlagged : List Change → List Bool → Type 0
+AreFlagged changes flags = (table : ℕ) → flag_at flags table ≡ changes_table table changes
+
 -- The state of the assembler of these tables, for reading after this LSN, after these messages, when it buffers these changes of the open
--- transaction. Between transactions it buffers none.
+-- transaction. Between transactions it buffers none. It flags the tables that the open transaction has changed, buffered or not.
 pub record Stands (infos : List TableInfo) (after : Lsn) (ms : List Message) (held : List Change) (a : Assembler) : Type 0 where
   pub reads : HasReadMessages infos after ms a.reader
   pub buffers : a.buffered.items ≡ if_open (begin_of ms) held
+  pub flags : AreFlagged (changes_so_far infos ms) a.changed.items
 
 -- The assembler buffers all changes of the open transaction.
 abbrev pub StandsWhole : List TableInfo → Lsn → List Message → Assembler → Type 0

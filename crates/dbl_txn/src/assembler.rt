@@ -1,4 +1,4 @@
-ghost use Rattle.std.specs.Prelude.{◌≡◌, List, [], ◌∷◌, ◌++◌, OnOk, OnErr, IfErr, is_some, not};
+ghost use Rattle.std.specs.Prelude.{◌≡◌, List, [], ◌∷◌, ◌++◌, OnOk, OnErr, IfOk, IfErr, is_some, not};
 ghost use Rattle.std.specs.Prelude.{Some, false, slice_get, slice_set};
 ghost use Rattle.dbl_base.specs.declared.lsn.Lsn.{Lsn};
 ghost use Rattle.dbl_pgmsg.specs.declared.messages.Message.{Message};
@@ -9,10 +9,13 @@ ghost use Rattle.dbl_model_table.specs.Heads.{commit_by};
 ghost use Rattle.dbl_model_commit.specs.Past.{begin_of, HasNoRelation};
 ghost use Rattle.dbl_model_commit.specs.Stated.{is_empty};
 ghost use Rattle.dbl_model_commit.specs.Blocks.{onto, States};
-ghost use Rattle.dbl_model_commit.specs.Pieces.{changes_so_far};
+ghost use Rattle.dbl_model_commit.specs.Pieces.{changes_so_far, with_piece};
 ghost use Rattle.dbl_model_commit.specs.Shapes.{changes_table, IsOpenStated};
-ghost use Rattle.dbl_txn.specs.Stands.{Stands, StandsWhole, StandsInPieces, Takes, TakesPiece};
+ghost use Rattle.dbl_txn_pieces.specs.Reading.{HasReadMessages, ReadsPiece};
+ghost use Rattle.dbl_txn.specs.Stands.{AreFlagged, Stands, StandsWhole, StandsInPieces};
+ghost use Rattle.dbl_txn.specs.Stands.{Takes, TakesPiece};
 
+use crate::flags::{flag_piece, is_flagged};
 use dbl_base::{Lsn, Seq};
 use dbl_model_commit::{Piece, TxnError};
 use dbl_model_table::{Body, Change, Commit, Ended, Head, TableInfo};
@@ -29,6 +32,8 @@ pub struct Assembler {
     reader: PieceReader,
     // The changes of the open transaction, if it is assembled whole.
     buffered: Vec<Change>,
+    // By index: whether the open transaction has changed the captured table.
+    changed: Vec<bool>,
 }
 
 fn buffer(buffered: &mut Vec<Change>, changes: Seq<Change>) -> Result<(), AllocError>
@@ -59,12 +64,6 @@ fn commit_by(ended: Ended, changes: Vec<Change>) -> Commit
     }
 }
 
-fn changes_table(changes: &Vec<Change>, table: u32) -> bool
-    ensures { result ≡ changes_table table changes.now.items }
-{
-    changes.iter().any(|change| change.table() == table)
-}
-
 impl Assembler {
     /// Makes an assembler of these captured tables that has received no message, for reading after
     /// the LSN `after`. Takes no memory.
@@ -74,6 +73,7 @@ impl Assembler {
         Assembler {
             reader: PieceReader::make(alloc, infos, after),
             buffered: Vec::new(alloc),
+            changed: Vec::new(alloc),
         }
     }
 
@@ -125,14 +125,14 @@ impl Assembler {
         self.reader.learn(info)
     }
 
-    /// Whether the open transaction has changed the captured table at an index so far, if it is
-    /// assembled whole. Takes no memory.
+    /// Whether the open transaction has changed the captured table at an index so far. Takes no
+    /// memory.
     pub fn has_changed(&self, table: u32) -> bool
-        ensures { (infos : List TableInfo) (after : Lsn) (ms : List Message) →
-            StandsWhole infos after ms self.now →
+        ensures { (infos : List TableInfo) (after : Lsn) (ms : List Message) (held : List Change) →
+            Stands infos after ms held self.now →
             result ≡ changes_table table (changes_so_far infos ms) }
     {
-        changes_table(&self.buffered, table)
+        is_flagged(&self.changed, table)
     }
 
     /// Replaces a captured table by the same one in other columns, in which its later changes are
@@ -147,6 +147,20 @@ impl Assembler {
         self.reader.reshape(table, info);
     }
 
+    // Reads the next message, and flags the tables that it changes.
+    fn read(&mut self, alloc: Global, message: Message) -> Result<Piece, TxnError>
+        ensures reads { (infos : List TableInfo) (after : Lsn) (ms : List Message) →
+            HasReadMessages infos after ms self.old.reader →
+            ReadsPiece infos after message ms self.new.reader result }
+        ensures flags { (so_far : List Change) → AreFlagged so_far self.old.changed.items →
+            IfOk result (λ piece. AreFlagged (with_piece so_far piece) self.new.changed.items) }
+        ensures buffered { self.new.buffered ≡ self.old.buffered }
+    {
+        let piece = self.reader.read(alloc, message)?;
+        flag_piece(&mut self.changed, &piece)?;
+        Ok(piece)
+    }
+
     /// Processes the next message, and returns its piece of the open transaction, of which nothing
     /// is buffered. The assembler must not be used after an error.
     pub fn piece(&mut self, alloc: Global, message: Message) -> Result<Piece, TxnError>
@@ -154,7 +168,7 @@ impl Assembler {
             StandsInPieces infos after ms self.old →
             TakesPiece infos after message ms self.new result }
     {
-        self.reader.read(alloc, message)
+        self.read(alloc, message)
     }
 
     // The commit that ends here.
@@ -162,6 +176,7 @@ impl Assembler {
         ensures commit { result ≡ commit_by ended self.old.buffered.items }
         ensures none { self.new.buffered.items ≡ [] }
         ensures reader { self.new.reader ≡ self.old.reader }
+        ensures changed { self.new.changed ≡ self.old.changed }
     {
         let changes = mem::replace(&mut self.buffered, Vec::new(alloc));
         commit_by(ended, changes)
@@ -173,7 +188,7 @@ impl Assembler {
         ensures { (infos : List TableInfo) (after : Lsn) (ms : List Message) →
             StandsWhole infos after ms self.old → Takes infos after message ms self.new result }
     {
-        let piece = self.reader.read(alloc, message)?;
+        let piece = self.read(alloc, message)?;
         match piece {
             Piece::Nothing => Ok(None),
             Piece::Changed(changes) => {

@@ -3,6 +3,7 @@
 #![tactic(auto)]
 
 mod assembler;
+mod flags;
 mod laws;
 mod whole;
 

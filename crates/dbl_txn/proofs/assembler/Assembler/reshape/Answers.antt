@@ -5,6 +5,6 @@ use Rattle.dbl_txn.proofs.assembler.Assembler.reshape.Goals as goal
 
 pub returns : goal.returns
 returns c = λ infos after ms old s at name all none. (
-    let now : Assembler = record { reader = c.reshape.new.self; buffered = c.args.self.now.buffered } in
-    whole_reshaped infos c.args.table old c.args.info after ms c.args.self.now now s at name all none refl
+    let now : Assembler = record c.args.self.now { reader = c.reshape.new.self } in
+    whole_reshaped infos c.args.table old c.args.info after ms c.args.self.now now s at name all none refl refl
     (c.reshape.ensures infos after ms old s.reads at name all none))

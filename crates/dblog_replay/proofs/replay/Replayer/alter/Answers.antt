@@ -3,6 +3,7 @@ use Rattle.std.proofs.lemmas.Result.{err_from_is_err_and, on_ok_weaker}
 use Rattle.std.specs.Prelude.{Bool, slice_get, slice_set}
 use Rattle.dbl_pgmsg.specs.declared.messages.Message.TheVariants as says
 use Rattle.dbl_model_table.proofs.Lists.{slice_get-lt}
+use Rattle.dbl_model_commit.specs.Stated.{open_changes}
 use Rattle.dbl_model_commit.specs.Pieces.{changes_so_far}
 use Rattle.dbl_model_commit.specs.Shapes.{changes_table}
 use Rattle.dblog_replay.specs.declared.log_fault.LogFault.TheVariants as log
@@ -35,7 +36,7 @@ returns-in_err-shape-in-Some c = λ options ms namespace identity follows schema
     let same = c.infos-infos.ensures follows.infos log_start ms _ follows.replayed.stands in
     let info = c.index.result.now in
     let e : c.in-Ok.table ≡ c.in-Some.place = omega (arith, c.in-Ok.ensures) in
-    let changed_is = c.has_changed-changed.ensures follows.infos log_start ms follows.replayed.stands ∙ ap (λ (k : ℕ). changes_table k (changes_so_far follows.infos ms)) e in
+    let changed_is = c.has_changed-changed.ensures follows.infos log_start ms (open_changes follows.infos ms) follows.replayed.stands ∙ ap (λ (k : ℕ). changes_table k (changes_so_far follows.infos ms)) e in
     let cause = subst (λ (b : Bool). (c.in_err-shape-in-Some.field-0.0 ≡ log.Memory) ⊎ (shape_cause c.args.self.now.mask c.args.number b info columns ≡ Some c.in_err-shape-in-Some.field-0.0))
     c.refuses_columns-refused.ensures c.in_err-shape-in-Some.ensures.fault in
     rw (p.1, p.2)
@@ -51,7 +52,7 @@ returns-in-None-2 c = λ options ms namespace identity follows schema told. (
     let same = c.infos-infos.ensures follows.infos log_start ms _ follows.replayed.stands in
     let info = c.index.result.now in
     let e : c.in-Ok.table ≡ c.in-Some.place = omega (arith, c.in-Ok.ensures) in
-    let changed_is = c.has_changed-changed.ensures follows.infos log_start ms follows.replayed.stands ∙ ap (λ (k : ℕ). changes_table k (changes_so_far follows.infos ms)) e in
+    let changed_is = c.has_changed-changed.ensures follows.infos log_start ms (open_changes follows.infos ms) follows.replayed.stands ∙ ap (λ (k : ℕ). changes_table k (changes_so_far follows.infos ms)) e in
     let now : Replayer = record c.args.self.now { oids = c.see_oid-other.new.list } in
     let h = follows.replayed in
     altered_same options ms c.args.self.now c.args.number c.args.oid identity namespace c.args.name.now c.args.schema.now columns follows schema told
@@ -69,7 +70,7 @@ returns-in-Some-2 c = λ options ms namespace identity follows schema told. (
     let info = c.index.result.now in
     let shape = c.in-Some-2.shape in
     let e : c.in-Ok.table ≡ c.in-Some.place = omega (arith, c.in-Ok.ensures) in
-    let changed_is = c.has_changed-changed.ensures follows.infos log_start ms follows.replayed.stands ∙ ap (λ (k : ℕ). changes_table k (changes_so_far follows.infos ms)) e in
+    let changed_is = c.has_changed-changed.ensures follows.infos log_start ms (open_changes follows.infos ms) follows.replayed.stands ∙ ap (λ (k : ℕ). changes_table k (changes_so_far follows.infos ms)) e in
     let shaped = subst (IsShaped info columns) c.in-Some-2.is c.in_ok-shape-in-Some.ensures.shaped in
     let fine = subst (λ (b : Bool). shape_cause c.args.self.now.mask c.args.number b info columns ≡ None) c.refuses_columns-refused.ensures c.in_ok-shape-in-Some.ensures.fault in
     let h = follows.replayed in

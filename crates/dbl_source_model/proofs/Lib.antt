@@ -9,4 +9,5 @@ pub mod ReadLemmas
 pub mod CallLemmas
 pub mod FitLemmas
 pub mod PlainLemmas
+pub mod ShapedLemmas
 mod SelectLemmas

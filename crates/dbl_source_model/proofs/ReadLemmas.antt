@@ -2,7 +2,7 @@
 use Rattle.std.proofs.Common.{◌≡◌, ◌∙◌, ◌≤◌, ◌<◌, ℕ, List, [], ◌∷◌, ◌++◌, length, map, take, drop, refl, sym, ap, subst, arith, append_assoc}
 use Rattle.std.specs.List.{AllByRecursion}
 use Rattle.std.specs.Prelude.{Bool, true, false, cond, Option, Some, None, IfSome, IsSomeAnd, is_some, not, nat_lt, slice_get}
-use Rattle.std.proofs.lemmas.List.{length-map, map-append, take-append-le, take-append-drop, take_at}
+use Rattle.std.proofs.lemmas.List.{map-append, take-append-le, take-append-drop, take_at}
 use Rattle.std.proofs.lemmas.List.Elements.{filter-append}
 use Rattle.std.proofs.lemmas.Bool.{ltb-false}
 use Rattle.std.proofs.lemmas.Bool.Decides.{nat_tests}
@@ -20,7 +20,7 @@ use Rattle.dbl_model_commit.proofs.Splitting.{states}
 use Rattle.dbl_model_commit.proofs.BlockLemmas.{one_inside}
 use Rattle.dbl_source_model.specs.Growth.{Grows}
 use Rattle.dbl_source_model.specs.Stated.{commits_after, to_state, StatesSome, ReadsRight}
-use Rattle.dbl_source_model.specs.Laws.{ReadMessagesAreBlocks, HistoriesPartAtAnLsn, ReadersGoOn, AllReadIsAllStated}
+use Rattle.dbl_source_model.specs.Laws.{ReadMessagesAreBlocks, HistoriesPartAtAnLsn, ReadersGoOn}
 
 -- the commits that messages have to state of a history that grew
 pub to_state-grown : (infos : List TableInfo) (after : Lsn) (old new : History) (g : Grows old new) → to_state infos after new ≡ to_state infos after old ++ map (typed_commit infos) (commits_after after g.others)
@@ -86,16 +86,6 @@ pub shorter : {A : Type 0} (xs xs_more ys ys_more : List A) → xs ++ xs_more �
 shorter xs xs_more ys ys_more is le =
     sym (take-append-drop (length xs) ys)
     ∙ ap (λ l. l ++ drop (length xs) ys) (sym (take-append-le (length xs) ys ys_more le) ∙ ap (take (length xs)) (sym is) ∙ take_at xs xs_more (length xs) refl)
-
-pub all_stated : AllReadIsAllStated
-all_stated infos s t reading g is captured right accepted all =
-    let some = states_so_far infos reading.after (to_state infos reading.after t.history) reading.messages (right infos captured) accepted in
-    let old : List Commit = to_state infos reading.after s.history in
-    let stated : List Commit = commits_of infos reading.messages in
-    let few : length old ≤ length stated = omega (arith, all.each reading is infos captured accepted, length-map (commits_after reading.after s.history.commits) (typed_commit infos)) in (
-      drop (length old) stated,
-      shorter old (map (typed_commit infos) (commits_after reading.after g.others)) stated some.later (sym (to_state-grown infos reading.after s.history t.history g) ∙ some.stated) few,
-    )
 
 -- ---- an LSN parts a history
 

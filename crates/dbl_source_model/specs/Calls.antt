@@ -5,12 +5,14 @@ use Rattle.dbl_model_commit.specs.Pgmsg.declared.messages.Message.{Message}
 use Rattle.dbl_model_commit.specs.ModelTable.declared.table.TableInfo.{TableInfo}
 use Rattle.dbl_model_commit.specs.ModelHistory.History.{RawCommit}
 use Rattle.dbl_model_commit.specs.ModelHistory.Fit.{AreInfosOf}
+use Rattle.dbl_model_commit.specs.ModelHistory.VersionRows.{WereInfosOf}
 use Rattle.dbl_model_commit.specs.Stated.{commits_of}
 use Rattle.dbl_model_commit.specs.Blocks.{AreWithoutFault}
 use Rattle.dbl_source_model.specs.declared.started.Started.{Started}
 use Rattle.dbl_source_model.specs.declared.started.Started.TheVariants.{Ready, Gone}
 use Rattle.dbl_source_model.specs.Standings.{Reading, SourceState}
 use Rattle.dbl_source_model.specs.Growth.{Grows, Marks}
+use Rattle.dbl_source_model.specs.Shaped.{AreReadable, shaped_commits}
 use Rattle.dbl_source_model.specs.Stated.{commits_after}
 
 -- Whether at most commits of other sessions were added.
@@ -81,9 +83,17 @@ pub record HasReadOneMore (message : Message) (s t : SourceState) : Type 0 where
   pub was : s.reading ≡ Some before
   pub is : t.reading ≡ Some (record { after = before.after; messages = message ∷ before.messages })
 
--- Whether all commits after the start that existed at the call were read. Stated for messages without an error, by the number of commits
--- that they state, which are the first ones after the start.
+-- Whether all commits after the start that existed at the call were read. Stated of messages without an error in the columns of the last
+-- Relations, for any captured tables as they were described at any positions, by the number of commits that the messages state, which are
+-- the first ones after the start.
 pub record HasReadAll (s t : SourceState) : Type 0 where
+  pub each : (reading : Reading) → t.reading ≡ Some reading
+      → (infos : List TableInfo) → WereInfosOf t.history (length t.history.commits) infos
+      → AreReadable infos reading.after reading.messages
+      → length (commits_after reading.after s.history.commits) ≤ length (shaped_commits infos reading.messages)
+
+-- Whether all commits after the start that existed at the call were read, of messages without an error in the columns of the catalogue.
+pub record HasReadAllPlainly (s t : SourceState) : Type 0 where
   pub each : (reading : Reading) → t.reading ≡ Some reading → (infos : List TableInfo) → AreInfosOf t.history infos
       → AreWithoutFault infos reading.after reading.messages
       → length (commits_after reading.after s.history.commits) ≤ length (commits_of infos reading.messages)

@@ -15,7 +15,7 @@ use Rattle.dbl_model_commit.specs.ModelTable.Rows.{rows, moment_of}
 use Rattle.dbl_model_commit.specs.ModelHistory.History.{History, IsRising, entry_of}
 use Rattle.dbl_model_commit.specs.ModelHistory.Typed.{typed}
 use Rattle.dbl_model_commit.specs.ModelHistory.Fit.{IsKeyOf, AreInfosOf, IsFitHistory}
-use Rattle.dbl_model_commit.specs.ModelHistory.InForce.{entry_at, version_at}
+use Rattle.dbl_model_commit.specs.ModelHistory.InForce.{entry_at, version_at, plain_commit, versioned}
 use Rattle.dbl_model_commit.specs.ModelHistory.VersionRows.{rows_in_force, infos_in_force, WereInfosOf}
 use Rattle.dbl_model_commit.specs.ModelHistory.KeyBounds.{IsAbove, IsUpTo}
 use Rattle.dbl_model_commit.specs.ModelHistory.KeyedRows.{row_in, last_key}
@@ -25,10 +25,11 @@ use Rattle.dbl_model_commit.specs.Blocks.{onto, States, AreWithoutFault}
 use Rattle.dbl_model_commit.specs.BegunCommits.{BeginsNext}
 use Rattle.dbl_source_model.specs.declared.selected.Selected.{Selected}
 use Rattle.dbl_source_model.specs.Standings.{Reading, SourceState, CrashState}
-use Rattle.dbl_source_model.specs.Growth.{Grows, Marks, marks_in}
-use Rattle.dbl_source_model.specs.Stated.{to_state, ReadsRight, IsReadRight}
+use Rattle.dbl_source_model.specs.Growth.{KeepsColumns, Grows, Marks, marks_in}
+use Rattle.dbl_source_model.specs.Shaped.{AreReadable, shaped_commits, HasOwnColumns}
+use Rattle.dbl_source_model.specs.Stated.{to_state, ReadsRight, IsReadPlainly, versions_after, IsReadRight}
 use Rattle.dbl_source_model.specs.Selected.{rows_up_to, keyed_row, AreRowsAt, AreAnswered}
-use Rattle.dbl_source_model.specs.Calls.{HasReadAll}
+use Rattle.dbl_source_model.specs.Calls.{HasReadAll, HasReadAllPlainly}
 use Rattle.dbl_source_model.specs.Leaves.{MayFollow, MayFollowMark}
 
 -- Growth of a history is transitive.
@@ -85,9 +86,26 @@ ReadersGoOn = (infos : List TableInfo) (after : Lsn) (old new : History) (ms : L
 -- If all was read, the messages state every commit after the start that existed at the call, possibly followed by others.
 abbrev pub AllReadIsAllStated : Type 0
 AllReadIsAllStated = (infos : List TableInfo) (s t : SourceState) (reading : Reading) → Grows s.history t.history → t.reading ≡ Some reading
-    → AreInfosOf t.history infos → IsReadRight t.history reading
-    → AreWithoutFault infos reading.after reading.messages → HasReadAll s t
-    → (more : List Commit) × (commits_of infos reading.messages ≡ to_state infos reading.after s.history ++ more)
+    → WereInfosOf t.history (length t.history.commits) infos → IsReadRight t.history reading
+    → AreReadable infos reading.after reading.messages → HasReadAll s t
+    → (more : List Commit) × (shaped_commits infos reading.messages
+    ≡ map plain_commit (versions_after reading.after (versioned infos s.history)) ++ more)
+
+-- If no commit alters a table, messages that are correct in the columns of the last Relations are correct in those of the catalogue.
+abbrev pub UnalteredTablesAreReadPlainly : Type 0
+UnalteredTablesAreReadPlainly = (history : History) (reading : Reading) → KeepsColumns history → IsReadRight history reading
+    → IsReadPlainly history reading
+
+-- If no commit alters a table and all was read, all was read of messages without an error in the columns of the catalogue.
+abbrev pub UnalteredTablesAreAllRead : Type 0
+UnalteredTablesAreAllRead = (s t : SourceState) → KeepsColumns t.history → HasReadAll s t → HasReadAllPlainly s t
+
+-- If no commit alters a table and each Relation has its table's own columns, messages that are correct in the columns of the catalogue are
+-- correct in those of the last Relations.
+abbrev pub OwnColumnsAreReadRight : Type 0
+OwnColumnsAreReadRight = (history : History) (reading : Reading) → KeepsColumns history
+    → ((infos : List TableInfo) → AreInfosOf history infos → AllByRecursion (HasOwnColumns infos) reading.messages)
+    → IsReadPlainly history reading → IsReadRight history reading
 
 -- Whether at a position each table is as the catalogue has it before all commits: its entry, its version, which is 1, what can be captured
 -- of it, its columns, and its rows.

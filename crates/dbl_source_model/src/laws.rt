@@ -9,6 +9,8 @@ ghost use Rattle.dbl_source_model.specs.Laws.{ReadersGoOn, AllReadIsAllStated};
 ghost use Rattle.dbl_source_model.specs.Laws.{AnswersAtAPlaceAreOne, NoRowsBeforeTheFirstCommit};
 ghost use Rattle.dbl_source_model.specs.Laws.{RowsOfNoPlaceAreUnanswered, StandingRowsAreAnswered};
 ghost use Rattle.dbl_source_model.specs.Laws.{ValidHistoriesKeepTables};
+ghost use Rattle.dbl_source_model.specs.Laws.{UnalteredTablesAreReadPlainly};
+ghost use Rattle.dbl_source_model.specs.Laws.{UnalteredTablesAreAllRead, OwnColumnsAreReadRight};
 
 /// Growth of a history is transitive.
 pub fn grown_histories_grow()
@@ -60,6 +62,24 @@ pub fn readers_go_on()
 /// A reader that has read all has read every commit that existed at the call.
 pub fn all_read_is_all_stated()
     ensures { AllReadIsAllStated }
+{}
+
+/// If no commit alters a table, messages that are correct in the columns of the last Relations are
+/// correct in those of the catalogue.
+pub fn unaltered_tables_are_read_plainly()
+    ensures { UnalteredTablesAreReadPlainly }
+{}
+
+/// If no commit alters a table and all was read, all was read of messages without an error in the
+/// columns of the catalogue.
+pub fn unaltered_tables_are_all_read()
+    ensures { UnalteredTablesAreAllRead }
+{}
+
+/// If no commit alters a table and each Relation has its table's own columns, messages that are
+/// correct in the columns of the catalogue are correct in those of the last Relations.
+pub fn own_columns_are_read_right()
+    ensures { OwnColumnsAreReadRight }
 {}
 
 /// In a valid history each table stays as the catalogue has it before all commits: no commit alters

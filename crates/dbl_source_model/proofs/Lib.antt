@@ -10,4 +10,5 @@ pub mod CallLemmas
 pub mod FitLemmas
 pub mod PlainLemmas
 pub mod ShapedLemmas
+mod StatedColumns
 mod SelectLemmas

@@ -35,7 +35,7 @@ use Rattle.dbl_source_model.proofs.ReadLemmas.{shorter}
 
 -- ---- lists
 
-set_itself : {X : Type 0} (xs : List X) (k : ℕ) (x : X) → slice_get xs k ≡ Some x → slice_set xs k x ≡ xs
+pub set_itself : {X : Type 0} (xs : List X) (k : ℕ) (x : X) → slice_get xs k ≡ Some x → slice_set xs k x ≡ xs
 set_itself [] k x at = refl
 set_itself (y ∷ xs) zero x at = let same : x ≡ y = cc in ap (λ (z : _). z ∷ xs) same
 set_itself (y ∷ xs) (suc k) x at = ap (λ (l : List _). y ∷ l) (set_itself xs k x at)

@@ -1,5 +1,5 @@
 -- Theorems over the definitions of a source's history and answers.
-use Rattle.std.specs.Prelude.{◌≡◌, ◌↔◌, ◌⊎◌, ◌<◌, ◌≤◌, ℕ, is_some, not, Option, Some, None, IfSome}
+use Rattle.std.specs.Prelude.{◌≡◌, ◌↔◌, ◌⊎◌, ◌<◌, ◌≤◌, ℕ, is_some, not, Option, Some, None, IfSome, IsSomeAnd}
 use Rattle.std.specs.Prelude.{List, [], ◌∷◌, ◌++◌, length, map, slice_get}
 use Rattle.std.specs.List.{AllByRecursion}
 use Rattle.dbl_base.specs.declared.lsn.Lsn.{Lsn}
@@ -11,23 +11,23 @@ use Rattle.dbl_model_commit.specs.ModelTable.declared.table.TableInfo.{TableInfo
 use Rattle.dbl_model_commit.specs.ModelTable.declared.row.Key.{Key}
 use Rattle.dbl_model_commit.specs.ModelTable.declared.change.Commit.{Commit}
 use Rattle.dbl_model_commit.specs.ModelTable.Infos.{number_of}
-use Rattle.dbl_model_commit.specs.ModelTable.Rows.{rows, moment_of}
+use Rattle.dbl_model_commit.specs.ModelTable.Rows.{table_of, changes_of, rows, moment_of}
 use Rattle.dbl_model_commit.specs.ModelHistory.History.{History, IsRising, entry_of}
 use Rattle.dbl_model_commit.specs.ModelHistory.Typed.{typed}
 use Rattle.dbl_model_commit.specs.ModelHistory.Fit.{IsKeyOf, AreInfosOf, IsFitHistory}
-use Rattle.dbl_model_commit.specs.ModelHistory.InForce.{entry_at, version_at, plain_commit, versioned}
+use Rattle.dbl_model_commit.specs.ModelHistory.InForce.{entry_at, version_at, Versioned, plain_commit, versioned}
 use Rattle.dbl_model_commit.specs.ModelHistory.VersionRows.{rows_in_force, infos_in_force, WereInfosOf}
 use Rattle.dbl_model_commit.specs.ModelHistory.KeyBounds.{IsAbove, IsUpTo}
 use Rattle.dbl_model_commit.specs.ModelHistory.KeyedRows.{row_in, last_key}
 use Rattle.dbl_model_commit.specs.Past.{begin_of}
-use Rattle.dbl_model_commit.specs.Stated.{is_empty, commits_of}
+use Rattle.dbl_model_commit.specs.Stated.{is_empty, ended_commit, commits_of}
 use Rattle.dbl_model_commit.specs.Blocks.{onto, States, AreWithoutFault}
 use Rattle.dbl_model_commit.specs.BegunCommits.{BeginsNext}
 use Rattle.dbl_source_model.specs.declared.selected.Selected.{Selected}
 use Rattle.dbl_source_model.specs.Standings.{Reading, SourceState, CrashState}
 use Rattle.dbl_source_model.specs.Growth.{KeepsColumns, Grows, Marks, marks_in}
-use Rattle.dbl_source_model.specs.Shaped.{AreReadable, shaped_commits, HasOwnColumns}
-use Rattle.dbl_source_model.specs.Stated.{to_state, ReadsRight, IsReadPlainly, versions_after, IsReadRight}
+use Rattle.dbl_source_model.specs.Shaped.{shapes, AreReadable, shaped_commits, HasOwnColumns}
+use Rattle.dbl_source_model.specs.Stated.{to_state, ReadsRight, IsReadPlainly, versions_after, ReadsInForce, IsReadRight}
 use Rattle.dbl_source_model.specs.Selected.{rows_up_to, keyed_row, AreRowsAt, AreAnswered}
 use Rattle.dbl_source_model.specs.Calls.{HasReadAll, HasReadAllPlainly}
 use Rattle.dbl_source_model.specs.Leaves.{MayFollow, MayFollowMark}
@@ -90,6 +90,25 @@ AllReadIsAllStated = (infos : List TableInfo) (s t : SourceState) (reading : Rea
     → AreReadable infos reading.after reading.messages → HasReadAll s t
     → (more : List Commit) × (shaped_commits infos reading.messages
     ≡ map plain_commit (versions_after reading.after (versioned infos s.history)) ++ more)
+
+-- Whether a commit that messages state, read by these captured tables, is a version's, with each table that it changes in the columns in
+-- force there.
+pub record IsReadAs (now : List TableInfo) (commit : Commit) (v : Versioned) : Type 0 where
+  pub is : plain_commit v ≡ commit
+  pub columns : AllByRecursion (λ change. slice_get now (table_of change) ≡ slice_get v.infos (table_of change)) (changes_of commit)
+
+-- Whether the commits that the messages state are read as the first of the versions.
+abbrev pub AreOfVersions : List TableInfo → List Versioned → List Message → Type 0
+AreOfVersions infos versions [] = Unit {0}
+AreOfVersions infos versions (m ∷ ms) =
+    IfSome (ended_commit (shapes infos (m ∷ ms)) m ms)
+    (λ commit. IsSomeAnd (slice_get versions (length (shaped_commits infos ms))) (IsReadAs (shapes infos (m ∷ ms)) commit))
+    × AreOfVersions infos versions ms
+
+-- Correct messages without an error state commits that are read in the columns in force.
+abbrev pub StatedCommitsAreInForce : Type 0
+StatedCommitsAreInForce = (infos : List TableInfo) (after : Lsn) (versions : List Versioned) (ms : List Message)
+    → ReadsInForce infos after versions ms → AreReadable infos after ms → AreOfVersions infos versions ms
 
 -- If no commit alters a table, messages that are correct in the columns of the last Relations are correct in those of the catalogue.
 abbrev pub UnalteredTablesAreReadPlainly : Type 0

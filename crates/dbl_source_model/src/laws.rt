@@ -9,6 +9,7 @@ ghost use Rattle.dbl_source_model.specs.Laws.{ReadersGoOn, AllReadIsAllStated};
 ghost use Rattle.dbl_source_model.specs.Laws.{AnswersAtAPlaceAreOne, NoRowsBeforeTheFirstCommit};
 ghost use Rattle.dbl_source_model.specs.Laws.{RowsOfNoPlaceAreUnanswered, StandingRowsAreAnswered};
 ghost use Rattle.dbl_source_model.specs.Laws.{ValidHistoriesKeepTables};
+ghost use Rattle.dbl_source_model.specs.Laws.{StatedCommitsAreInForce};
 ghost use Rattle.dbl_source_model.specs.Laws.{UnalteredTablesAreReadPlainly};
 ghost use Rattle.dbl_source_model.specs.Laws.{UnalteredTablesAreAllRead, OwnColumnsAreReadRight};
 
@@ -62,6 +63,11 @@ pub fn readers_go_on()
 /// A reader that has read all has read every commit that existed at the call.
 pub fn all_read_is_all_stated()
     ensures { AllReadIsAllStated }
+{}
+
+/// Correct messages without an error state commits that are read in the columns in force.
+pub fn stated_commits_are_in_force()
+    ensures { StatedCommitsAreInForce }
 {}
 
 /// If no commit alters a table, messages that are correct in the columns of the last Relations are

@@ -11,7 +11,8 @@ pub use laws::{
     marks_are_written_once, no_rows_before_the_first_commit, others_write_no_mark,
     own_columns_are_read_right, read_messages_are_blocks, readers_go_on,
     rows_of_no_place_are_unanswered, rows_up_to_are_rows, standing_rows_are_answered,
-    unaltered_tables_are_all_read, unaltered_tables_are_read_plainly, valid_histories_keep_tables,
+    stated_commits_are_in_force, unaltered_tables_are_all_read, unaltered_tables_are_read_plainly,
+    valid_histories_keep_tables,
 };
 pub use selected::Selected;
 pub use started::Started;

@@ -11,3 +11,4 @@ pub mod BegunCommits
 pub mod StatedChanges
 pub mod Pieces
 pub mod Shapes
+pub mod Shaped

@@ -27,7 +27,7 @@ use Rattle.dbl_model_commit.specs.Shapes.{is_refused, columns_refused, target_re
 use Rattle.dbl_model_commit.proofs.ShapeLemmas.{read_alike}
 use Rattle.dbl_model_history.proofs.InForceLemmas.{plain_versions}
 use Rattle.dbl_source_model.specs.Growth.{Grows, KeepsColumns}
-use Rattle.dbl_source_model.specs.Shaped.{reshape_at, reshape_target, shapes_after, shapes, message_fault, AreReadable, shaped_commits, changed_targets, HasSameColumns, HasOwnColumns}
+use Rattle.dbl_model_commit.specs.Shaped.{reshape_at, reshape_target, shapes_after, shapes, message_fault, AreReadable, shaped_commits, changed_targets, HasSameColumns, HasOwnColumns}
 use Rattle.dbl_source_model.specs.Stated.{commits_after, to_state, MayStand, StatesSome, ReadsRight, versions_after, IsInForce, StatesFirst, ReadsInForce}
 use Rattle.dbl_source_model.specs.Laws.{AllReadIsAllStated, UnalteredTablesAreReadPlainly, UnalteredTablesAreAllRead, OwnColumnsAreReadRight}
 use Rattle.dbl_source_model.proofs.PlainLemmas.{captured_were, were_captured}

@@ -33,7 +33,7 @@ use Rattle.dbl_model_commit.proofs.ChangeFits.{bound, change_table}
 use Rattle.dbl_model_commit.proofs.MarkedLemmas.{was_ok, first_none}
 use Rattle.dbl_model_commit.proofs.Reshaping.{set_other, may_be_reshaped, open_stated_more}
 use Rattle.dbl_model_commit.proofs.ShapeLemmas.{read_alike}
-use Rattle.dbl_source_model.specs.Shaped.{reshape_at, reshape_target, shapes, message_fault, AreReadable, shaped_commits, changed_targets, HasSameColumns}
+use Rattle.dbl_model_commit.specs.Shaped.{reshape_at, reshape_target, shapes, message_fault, AreReadable, shaped_commits, changed_targets, HasSameColumns}
 use Rattle.dbl_source_model.specs.Stated.{IsInForce, StatesFirst, ReadsInForce}
 use Rattle.dbl_source_model.specs.Laws.{IsReadAs, AreOfVersions, StatedCommitsAreInForce}
 use Rattle.dbl_source_model.proofs.ShapedLemmas.{set_itself}

@@ -12,7 +12,7 @@ use Rattle.dbl_source_model.specs.declared.started.Started.{Started}
 use Rattle.dbl_source_model.specs.declared.started.Started.TheVariants.{Ready, Gone}
 use Rattle.dbl_source_model.specs.Standings.{Reading, SourceState}
 use Rattle.dbl_source_model.specs.Growth.{Grows, Marks}
-use Rattle.dbl_source_model.specs.Shaped.{AreReadable, shaped_commits}
+use Rattle.dbl_model_commit.specs.Shaped.{AreReadable, shaped_commits}
 use Rattle.dbl_source_model.specs.Stated.{commits_after}
 
 -- Whether at most commits of other sessions were added.

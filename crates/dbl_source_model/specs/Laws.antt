@@ -26,7 +26,7 @@ use Rattle.dbl_model_commit.specs.BegunCommits.{BeginsNext}
 use Rattle.dbl_source_model.specs.declared.selected.Selected.{Selected}
 use Rattle.dbl_source_model.specs.Standings.{Reading, SourceState, CrashState}
 use Rattle.dbl_source_model.specs.Growth.{KeepsColumns, Grows, Marks, marks_in}
-use Rattle.dbl_source_model.specs.Shaped.{shapes, AreReadable, shaped_commits, HasOwnColumns}
+use Rattle.dbl_model_commit.specs.Shaped.{shapes, AreReadable, shaped_commits, HasOwnColumns}
 use Rattle.dbl_source_model.specs.Stated.{to_state, ReadsRight, IsReadPlainly, versions_after, ReadsInForce, IsReadRight}
 use Rattle.dbl_source_model.specs.Selected.{rows_up_to, keyed_row, AreRowsAt, AreAnswered}
 use Rattle.dbl_source_model.specs.Calls.{HasReadAll, HasReadAllPlainly}

@@ -2,7 +2,6 @@ pub use Rattle.dbl_model_commit.specs as ModelCommit
 pub use Rattle.dbl_model_commit.specs.ModelHistory
 pub mod Standings
 pub mod Growth
-pub mod Shaped
 pub mod Stated
 pub mod Selected
 pub mod Calls

@@ -17,7 +17,7 @@ use Rattle.dbl_model_commit.specs.Stated.{commits_of, transaction_fault}
 use Rattle.dbl_model_commit.specs.Blocks.{AreWithoutFault}
 use Rattle.dbl_model_commit.specs.BegunCommits.{BeginsNext}
 use Rattle.dbl_source_model.specs.Standings.{Reading}
-use Rattle.dbl_source_model.specs.Shaped.{shapes, message_fault, AreReadable, shaped_commits, changed_targets, HasSameColumns}
+use Rattle.dbl_model_commit.specs.Shaped.{shapes, message_fault, AreReadable, shaped_commits, changed_targets, HasSameColumns}
 
 -- The commits after an LSN.
 abbrev pub commits_after : Lsn → List RawCommit → List RawCommit

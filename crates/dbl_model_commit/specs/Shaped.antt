@@ -2,11 +2,11 @@
 -- "Logical Replication Message Formats", Relation.
 use Rattle.std.specs.Prelude.{◌≡◌, ℕ, Option, Some, None, List, [], ◌∷◌, ◌++◌, slice_get, slice_set}
 use Rattle.dbl_base.specs.declared.lsn.Lsn.{Lsn}
-use Rattle.dbl_model_commit.specs.Pgmsg.declared.messages.Message.{Message}
-use Rattle.dbl_model_commit.specs.Pgmsg.declared.messages.Message.TheVariants as says
-use Rattle.dbl_model_commit.specs.Pgmsg.declared.messages.RelationColumn.{RelationColumn}
-use Rattle.dbl_model_commit.specs.ModelTable.declared.table.TableInfo.{TableInfo}
-use Rattle.dbl_model_commit.specs.ModelTable.declared.change.Commit.{Commit}
+use Rattle.dbl_pgmsg.specs.declared.messages.Message.{Message}
+use Rattle.dbl_pgmsg.specs.declared.messages.Message.TheVariants as says
+use Rattle.dbl_pgmsg.specs.declared.messages.RelationColumn.{RelationColumn}
+use Rattle.dbl_model_table.specs.declared.table.TableInfo.{TableInfo}
+use Rattle.dbl_model_table.specs.declared.change.Commit.{Commit}
 use Rattle.dbl_model_commit.specs.declared.message_parts.Target.{Target}
 use Rattle.dbl_model_commit.specs.declared.message_parts.Target.TheVariants.{Watermark, Captured, Passed}
 use Rattle.dbl_model_commit.specs.declared.txn_error.TxnError.{TxnError}

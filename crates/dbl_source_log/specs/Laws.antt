@@ -1,15 +1,18 @@
 -- Theorems over the definitions of logs, for both a played source and that of a demo.
-use Rattle.std.specs.Prelude.{◌≡◌, ◌≤◌, ℕ, Bool, Some, None, option_map, Ok, IsSome}
-use Rattle.std.specs.Prelude.{filter_map, slice_get, List, [], ◌++◌, length, map, reverse}
+use Rattle.std.specs.Prelude.{◌≡◌, ◌≤◌, ℕ, Bool, Some, None, option_map, unwrap_or, Ok, IsSome}
+use Rattle.std.specs.Prelude.{filter_map, slice_get, List, [], ◌++◌, length, take, reverse}
 use Rattle.std.specs.List.{AllByRecursion}
 use Rattle.dbl_base.specs.declared.lsn.Lsn.{Lsn}
 use Rattle.dbl_pgmsg.specs.declared.messages.Message.{Message}
 use Rattle.dbl_model_table.specs.declared.row.Key.{Key}
 use Rattle.dbl_model_table.specs.declared.table.TableInfo.{TableInfo}
+use Rattle.dbl_model_table.specs.declared.table.TableName.{TableName}
 use Rattle.dbl_model_table.specs.Infos.{column_types}
 use Rattle.dbl_model_table.specs.declared.change.Change.{Change}
 use Rattle.dbl_source_model.specs.ModelHistory.Typed.{typed_cells, typed_change}
 use Rattle.dbl_source_model.specs.ModelHistory.Fit.{IsKeyOf, AreInfosOf, IsFitHistory}
+use Rattle.dbl_source_model.specs.ModelHistory.InForce.{entry_at, version_at}
+use Rattle.dbl_source_model.specs.ModelHistory.KeptKeys.{entry_in}
 use Rattle.dbl_source_model.specs.ModelCommit.Past.{relation_of}
 use Rattle.dbl_source_model.specs.ModelCommit.Stated.{list_of, stated_in, commits_of}
 use Rattle.dbl_source_model.specs.Growth.{Grows}
@@ -18,8 +21,8 @@ use Rattle.dbl_source_model.specs.Selected.{rows_up_to}
 use Rattle.dbl_source_log.specs.declared.logged.LogTable.{LogTable}
 use Rattle.dbl_source_log.specs.declared.logged.Logged.{Logged}
 use Rattle.dbl_source_log.specs.declared.reader_position.ReaderPosition.{ReaderPosition}
-use Rattle.dbl_source_log.specs.Relations.{relation_at}
-use Rattle.dbl_source_log.specs.declared.logged.Logged.TheVariants.{Changes}
+use Rattle.dbl_source_log.specs.Relations.{catalogue, relation_at}
+use Rattle.dbl_source_log.specs.Alterations.{tables_through, IsOthers}
 use Rattle.dbl_source_log.specs.Sent.{oids_of, sent_after, index_of, told_at, IsPlaceIn}
 use Rattle.dbl_source_log.specs.TextRows.{TextRows}
 use Rattle.dbl_source_log.specs.RawChanges.{raw_changes}
@@ -69,8 +72,15 @@ ReadMessagesStay = (tables : List LogTable) (log more : List Logged) (place : Re
 
 -- The history of a log grows with it, unless a watermark was written.
 abbrev pub LogsThatGrowHaveHistoriesThatGrow : Type 0
-LogsThatGrowHaveHistoriesThatGrow = (tables : List LogTable) (log : List Logged) (more : List (List Message))
-    → Grows (history_of tables log) (history_of tables (log ++ map Changes more))
+LogsThatGrowHaveHistoriesThatGrow = (tables : List LogTable) (log more : List Logged) → AllByRecursion IsOthers more
+    → Grows (history_of tables log) (history_of tables (log ++ more))
+
+-- After some commits of a log its history has the catalogue of the tables after these commits.
+abbrev pub EntriesAreOfTables : Type 0
+EntriesAreOfTables = (tables : List LogTable) (log : List Logged) (place : ℕ) (name : TableName)
+    → (entry_at (history_of tables log) place name ≡ entry_in (catalogue (tables_through (take place log) tables)) name)
+    × (version_at (history_of tables log) place name
+    ≡ unwrap_or (option_map (λ raw. raw.version) (entry_in (catalogue (tables_through (take place log) tables)) name)) 1)
 
 -- The messages that were read are a prefix of those that are sent.
 abbrev pub ReadersReadWhatIsSent : Type 0

@@ -6,6 +6,7 @@ ghost use Rattle.dbl_source_log.specs.Laws.{FitLogsHaveTheirRows, FairLogsAreRea
 ghost use Rattle.dbl_source_log.specs.Laws.{ReadersAtTheEndHaveReadAll, ReadMessagesStay};
 ghost use Rattle.dbl_source_log.specs.Laws.{LogsThatGrowHaveHistoriesThatGrow};
 ghost use Rattle.dbl_source_log.specs.Laws.{ReadersReadWhatIsSent, SentMessagesStay};
+ghost use Rattle.dbl_source_log.specs.Laws.{EntriesAreOfTables};
 
 /// A change message without an error states the changes that the history has for it.
 pub fn changes_state_themselves()
@@ -41,6 +42,11 @@ pub fn read_messages_stay()
 /// If other sessions' commits are appended to a log, its history grows by them.
 pub fn logs_that_grow_have_histories_that_grow()
     ensures { LogsThatGrowHaveHistoriesThatGrow }
+{}
+
+/// After some commits of a log its history has the catalogue of the tables after these commits.
+pub fn entries_are_of_tables()
+    ensures { EntriesAreOfTables }
 {}
 
 /// The messages that a reader has read are a prefix of those that are sent.

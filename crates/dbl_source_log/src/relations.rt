@@ -1,7 +1,9 @@
 //! The Relations that describe a log's tables, and the Update of a watermark.
 
-ghost use Rattle.std.specs.Prelude.{◌≡◌, negsuc, IfOk, map, bytes_eq};
-ghost use Rattle.std.specs.List.{list_any};
+ghost use Rattle.std.specs.Prelude.{◌≡◌, ◌&&◌, ◌==◌, negsuc, Some, IfOk, map, zip, bytes_eq};
+ghost use Rattle.std.specs.List.{list_any, list_all};
+ghost use Rattle.dbl_source_model.specs.ModelCommit.declared.message_parts.Relation.{Relation};
+ghost use Rattle.dbl_source_log.specs.Sent.{same_given, have_same_columns, is_present};
 ghost use Rattle.dbl_source_log.specs.Relations.{is_in_identity, identity_of, relation_column};
 ghost use Rattle.dbl_source_log.specs.Relations.{relation_message, watermark_columns};
 ghost use Rattle.dbl_source_log.specs.Relations.{watermark_relation, mark_message, relation_at};
@@ -108,6 +110,56 @@ pub fn relation_at(
     match tables.get((oid - FIRST_OID) as usize) {
         Some(table) => Ok(Some(relation_message(alloc, oid, table)?)),
         None => Ok(None),
+    }
+}
+
+fn is_same_column(name: &str, oid: u32, given: &RelationColumn) -> bool
+    ensures { result ≡ (bytes_eq name.now given.now.name && oid == given.now.oid) }
+{
+    name == given.name.as_str() && oid == given.oid
+}
+
+fn are_watermark_columns(columns: &Vec<RelationColumn>) -> bool
+    ensures { result ≡ have_same_columns watermark_columns columns.now.items }
+{
+    match columns.as_slice() {
+        [id, value] => is_same_column("id", 23, id) && is_same_column("value", 25, value),
+        _ => false,
+    }
+}
+
+fn are_same_in_pairs(table: &LogTable, columns: &Vec<RelationColumn>) -> bool
+    ensures { result ≡ list_all same_given
+        (zip (map (relation_column table.now) table.now.raw.columns) columns.now.items) }
+{
+    table.raw.columns.items().iter().zip(columns.iter()).all(|(column, given)| is_same_column(
+        column.name.as_str(),
+        column.oid,
+        given,
+    ))
+}
+
+fn are_table_columns(table: &LogTable, columns: &Vec<RelationColumn>) -> bool
+    ensures { result ≡ have_same_columns
+        (map (relation_column table.now) table.now.raw.columns) columns.now.items }
+{
+    table.raw.columns.items().len() == columns.len() && are_same_in_pairs(table, columns)
+}
+
+/// Whether the Relation of the table with this OID has these columns, in number, names and types.
+pub(crate) fn has_columns(tables: &[LogTable], oid: u32, columns: &Vec<RelationColumn>) -> bool
+    ensures { (relation : Relation) → relation.columns ≡ columns.now.items
+        → result ≡ is_present (Some relation) (relation_at tables.now oid) }
+{
+    if oid == WATERMARK_OID {
+        return are_watermark_columns(columns);
+    }
+    if oid < FIRST_OID {
+        return false;
+    }
+    match tables.get((oid - FIRST_OID) as usize) {
+        Some(table) => are_table_columns(table, columns),
+        None => false,
     }
 }
 

@@ -23,13 +23,15 @@ use Rattle.dbl_source_model.specs.ModelHistory.Fit.{AreFit, AreInfosOf}
 use Rattle.dbl_model_history.proofs.RowLemmas.{rows_from-append, AreFit-append}
 use Rattle.dbl_source_log.specs.declared.logged.LogTable.{LogTable}
 use Rattle.dbl_source_log.specs.declared.logged.Logged.{Logged}
-use Rattle.dbl_source_log.specs.declared.logged.Logged.TheVariants.{Changes, Mark}
+use Rattle.dbl_source_log.specs.declared.logged.Logged.TheVariants.{Changes, Mark, Alter}
 use Rattle.dbl_source_log.specs.Relations.{catalogue}
 use Rattle.dbl_source_log.specs.TextRows.{TextRows, no_text_rows, log_table_named, text_rows_after, text_rows_with}
 use Rattle.dbl_source_log.specs.RawChanges.{raw_changes, changes_from, text_rows_from}
+use Rattle.dbl_source_log.specs.Alterations.{HasNoAlteration, IsUnaltered, tables_after}
 use Rattle.dbl_source_log.specs.Histories.{body_at, raw_commit_at, text_rows_at, commits_from, text_rows_through, history_of}
 use Rattle.dbl_source_log.specs.FitLogs.{IsFitText, AreFitChanges, AreFitEntries, AreFitLog}
 use Rattle.dbl_source_log.specs.Laws.{FitLogsHaveFitHistories, FitLogsHaveTheirRows}
+use Rattle.dbl_source_log.proofs.AlterationLemmas.{after_unaltered}
 use Rattle.dbl_source_log.proofs.LogLemmas.{is_rising, keeps_columns, length-history}
 use Rattle.dbl_source_log.proofs.RowTexts.{Agree, Stepped, stepped, entry_named}
 
@@ -45,13 +47,15 @@ message_rows tables (m ∷ ms) rows =
     let next : TextRows = text_rows_with tables (raw_changes tables rows m) rows in
     message_rows tables ms next ∙ sym (text_rows-append tables (raw_changes tables rows m) (changes_from tables next ms) rows)
 
-entry_rows : (tables : List LogTable) (rows : TextRows) (entry : Logged) → text_rows_at tables rows entry ≡ text_rows_with tables (raw_changes_of (body_at tables rows entry)) rows
-entry_rows tables rows (Changes ms) = message_rows tables ms rows
-entry_rows tables rows (Mark value) = refl
+entry_rows : (tables : List LogTable) (rows : TextRows) (entry : Logged) → HasNoAlteration entry → text_rows_at tables rows entry ≡ text_rows_with tables (raw_changes_of (body_at tables rows entry)) rows
+entry_rows tables rows (Changes ms) none = message_rows tables ms rows
+entry_rows tables rows (Mark value) none = refl
+entry_rows tables rows (Alter name columns list) none = absurd none
 
 changes_in_range : (tables : List LogTable) (rows : TextRows) (entry : Logged) → IsRawBodyInRange (body_at tables rows entry) → AllByRecursion IsRawChangeInRange (raw_changes_of (body_at tables rows entry))
 changes_in_range tables rows (Changes ms) range = range.1
 changes_in_range tables rows (Mark value) range = tt
+changes_in_range tables rows (Alter name columns list) range = tt
 
 -- ---- fit for every list of captured tables
 
@@ -76,26 +80,29 @@ module _ (tables : List LogTable) (infos : List TableInfo) (captured : AreInfosO
   typed_of_entry : (at : TextRows) (n : ℕ) (entry : Logged) → changes_of (typed_commit infos (raw_commit_at tables at n entry)) ≡ filter_map (typed_change infos) (raw_changes_of (body_at tables at entry))
   typed_of_entry at n (Changes ms) = refl
   typed_of_entry at n (Mark value) = refl
+  typed_of_entry at n (Alter name columns list) = refl
 
-  walk_log : (log : List Logged) (n : ℕ) (rows : Rows) (at : TextRows) → Agree tables infos captured rows at → AreFitEntries tables at log
+  walk_log : (log : List Logged) (n : ℕ) (rows : Rows) (at : TextRows) → Agree tables infos captured rows at → AreFitEntries tables at log → IsUnaltered log
       → Walked tables infos captured rows (text_rows_through tables at log) (all_changes (map (typed_commit infos) (commits_from tables at n log)))
-  walk_log [] n rows at agree fit = record { fits = tt; agrees = agree }
-  walk_log (entry ∷ log) n rows at agree fit =
+  walk_log [] n rows at agree fit none = record { fits = tt; agrees = agree }
+  walk_log (entry ∷ log) n rows at agree fit none =
+      let same : tables_after entry tables ≡ tables = after_unaltered entry tables none.0 in
       let cs : List RawChange = raw_changes_of (body_at tables at entry) in
       let ds : List Change = filter_map (typed_change infos) cs in
       let first = walk cs rows at agree fit.0.changes (changes_in_range tables at entry fit.0.ranges) in
       let next : TextRows = text_rows_at tables at entry in
-      let agree_next : Agree tables infos captured (rows_from infos rows ds) next = subst (Agree tables infos captured (rows_from infos rows ds)) (sym (entry_rows tables at entry)) first.agrees in
-      let rest = walk_log log (n + 1) (rows_from infos rows ds) next agree_next fit.1 in
+      let agree_next : Agree tables infos captured (rows_from infos rows ds) next = subst (Agree tables infos captured (rows_from infos rows ds)) (sym (entry_rows tables at entry none.0)) first.agrees in
+      let rest = walk_log log (n + 1) (rows_from infos rows ds) next agree_next (subst (λ (ts : List LogTable). AreFitEntries ts next log) same fit.1) none.1 in
       let more : List Change = all_changes (map (typed_commit infos) (commits_from tables next (n + 1) log)) in
       let whole : Walked tables infos captured rows (text_rows_through tables next log) (ds ++ more) = record {
         fits = AreFit-append infos rows ds more first.fits rest.fits;
         agrees = subst (λ (r : Rows). Agree tables infos captured r (text_rows_through tables next log)) (sym (rows_from-append infos rows ds more)) rest.agrees;
       } in
-      subst (λ (l : List Change). Walked tables infos captured rows (text_rows_through tables next log) (l ++ more)) (sym (typed_of_entry at n entry)) whole
+      subst (λ (ts : List LogTable). Walked tables infos captured rows (text_rows_through ts next log) (changes_of (typed_commit infos (raw_commit_at tables at n entry)) ++ all_changes (map (typed_commit infos) (commits_from ts next (n + 1) log)))) (sym same)
+      (subst (λ (l : List Change). Walked tables infos captured rows (text_rows_through tables next log) (l ++ more)) (sym (typed_of_entry at n entry)) whole)
 
   walk_all : (log : List Logged) → AreFitLog tables log → Walked tables infos captured no_rows (text_rows_through tables no_text_rows log) (all_changes (typed infos (history_of tables log)))
-  walk_all log fit = walk_log log 1 no_rows no_text_rows (λ i info key there. refl) fit.entries
+  walk_all log fit = walk_log log 1 no_rows no_text_rows (λ i info key there. refl) fit.entries fit.unaltered
 
 -- ---- the rest of a fit history
 
@@ -133,10 +140,13 @@ known_changes : (tables : List LogTable) (cs : List RawChange) (at : TextRows) �
 known_changes tables [] at fit = tt
 known_changes tables (c ∷ cs) at fit = (known_by tables (log_table_named tables (name_of c)) at c refl fit.0.1 fit.0.0, known_changes tables cs (text_rows_after tables c at) fit.1)
 
-known_from : (tables : List LogTable) (log : List Logged) (n : ℕ) (at : TextRows) → AreFitEntries tables at log
+known_from : (tables : List LogTable) (log : List Logged) (n : ℕ) (at : TextRows) → AreFitEntries tables at log → IsUnaltered log
     → AllByRecursion (λ commit. AllByRecursion (λ c. IsSome (entry_of (history_of tables []) (name_of c))) (raw_changes_of commit.body)) (commits_from tables at n log)
-known_from tables [] n at fit = tt
-known_from tables (entry ∷ log) n at fit = (known_changes tables (raw_changes_of (body_at tables at entry)) at fit.0.changes, known_from tables log (n + 1) (text_rows_at tables at entry) fit.1)
+known_from tables [] n at fit none = tt
+known_from tables (Changes ms ∷ log) n at fit none =
+    (known_changes tables (raw_changes_of (body_at tables at (Changes ms))) at fit.0.changes, known_from tables log (n + 1) (text_rows_at tables at (Changes ms)) fit.1 none.1)
+known_from tables (Mark value ∷ log) n at fit none = (tt, known_from tables log (n + 1) (text_rows_at tables at (Mark value)) fit.1 none.1)
+known_from tables (Alter name columns list ∷ log) n at fit none = absurd none.0
 
 -- LSNs, times and numbers of fewer than 2^41 commits
 pub commit_in_range : (tables : List LogTable) (at : TextRows) (n : ℕ) (entry : Logged) → n < 2 ^ 41 → IsRawBodyInRange (body_at tables at entry) → IsRawCommitInRange (raw_commit_at tables at n entry)
@@ -152,7 +162,7 @@ commit_in_range tables at n entry few range =
 
 commits_in_range : (tables : List LogTable) (log : List Logged) (n : ℕ) (at : TextRows) → n + length log < 2 ^ 41 → AreFitEntries tables at log → AllByRecursion IsRawCommitInRange (commits_from tables at n log)
 commits_in_range tables [] n at few fit = tt
-commits_in_range tables (entry ∷ log) n at few fit = (commit_in_range tables at n entry (omega arith) fit.0.ranges, commits_in_range tables log (n + 1) (text_rows_at tables at entry) (omega arith) fit.1)
+commits_in_range tables (entry ∷ log) n at few fit = (commit_in_range tables at n entry (omega arith) fit.0.ranges, commits_in_range (tables_after entry tables) log (n + 1) (text_rows_at tables at entry) (omega arith) fit.1)
 
 -- what is captured: the catalogue alone counts
 captured_of : (tables : List LogTable) (log : List Logged) (infos : List TableInfo) → AreInfosOf (history_of tables log) infos → AreInfosOf (history_of tables []) infos
@@ -166,8 +176,8 @@ fit_histories tables log fit =
       opening = fit.opening;
       rising = is_rising tables log;
       distinct = catalogue_distinct tables fit.distinct;
-      unaltered = keeps_columns tables log;
-      known = known_from tables log 1 no_text_rows fit.entries;
+      unaltered = keeps_columns tables log fit.unaltered;
+      known = known_from tables log 1 no_text_rows fit.entries fit.unaltered;
       fit = λ infos captured. (walk_all tables infos (captured_of tables log infos captured) log fit).fits;
     }
 

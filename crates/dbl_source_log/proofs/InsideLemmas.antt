@@ -39,7 +39,8 @@ use Rattle.dbl_source_log.specs.declared.logged.LogTable.{LogTable}
 use Rattle.dbl_source_log.specs.declared.logged.Logged.{Logged}
 use Rattle.dbl_source_log.specs.Numbers.{lsn_of, end_lsn_of, xid_of, time_of, commits_upto}
 use Rattle.dbl_source_log.specs.Relations.{watermark_oid, watermark_columns, relation_at, mark_message}
-use Rattle.dbl_source_log.specs.Sent.{described_in, oids_of, onto_relation, onto_relations, told_changes, begin_message, commit_message}
+use Rattle.dbl_source_log.specs.Alterations.{tables_after, tables_through}
+use Rattle.dbl_source_log.specs.Sent.{described_in, oids_of, is_present, is_described, onto_relation, onto_relations, told_changes, begin_message, commit_message}
 use Rattle.dbl_source_log.specs.TextRows.{TextRows, text_rows_with}
 use Rattle.dbl_source_log.specs.RawChanges.{raw_changes, changes_from}
 use Rattle.dbl_source_log.specs.Histories.{raw_commit_at, text_rows_at, commits_from, text_rows_through, history_of}
@@ -76,28 +77,29 @@ after_lsn after n = elim (nat_cases (after / 256) n) [
   | inr le ↦ lt_false after (256 * n) (omega (arith, le, div-mul-le_self after 256)) ∙ sym (lt_false (after / 256) n le)
 ]
 
-module _ (tables : List LogTable) (after : Lsn) where
+module _ (after : Lsn) where
   passed : (c : RawCommit) (cs : List RawCommit) (b : Bool) → nat_lt after.0 c.lsn.0 ≡ b → commits_after after (c ∷ cs) ≡ cond b (c ∷ commits_after after cs) (commits_after after cs)
   passed c cs b is = ap (λ (t : Bool). cond t (c ∷ commits_after after cs) (commits_after after cs)) is
 
   -- the filter keeps the commits after the start
-  none_before : (rows : TextRows) (n : ℕ) (log : List Logged) → commits_upto after < n → commits_after after (commits_from tables rows n log) ≡ commits_from tables rows n log
-  none_before rows n [] lt = refl
-  none_before rows n (entry ∷ log) lt =
+  none_before : (tables : List LogTable) (rows : TextRows) (n : ℕ) (log : List Logged) → commits_upto after < n → commits_after after (commits_from tables rows n log) ≡ commits_from tables rows n log
+  none_before tables rows n [] lt = refl
+  none_before tables rows n (entry ∷ log) lt =
+      let next : List LogTable = tables_after entry tables in
       let c : RawCommit = raw_commit_at tables rows n entry in
-      let cs : List RawCommit = commits_from tables (text_rows_at tables rows entry) (n + 1) log in
-      passed c cs true (after_lsn after.0 n ∙ lt_true (after.0 / 256) n lt) ∙ ap (λ (l : List RawCommit). c ∷ l) (none_before (text_rows_at tables rows entry) (n + 1) log (omega (arith, lt)))
+      let cs : List RawCommit = commits_from next (text_rows_at tables rows entry) (n + 1) log in
+      passed c cs true (after_lsn after.0 n ∙ lt_true (after.0 / 256) n lt) ∙ ap (λ (l : List RawCommit). c ∷ l) (none_before next (text_rows_at tables rows entry) (n + 1) log (omega (arith, lt)))
 
-  -- and passes over those before it
-  pub commits_after-from : (k : ℕ) (rows : TextRows) (n : ℕ) (log : List Logged) → n + k ≡ commits_upto after + 1
-      → commits_after after (commits_from tables rows n log) ≡ commits_from tables (text_rows_through tables rows (take k log)) (commits_upto after + 1) (drop k log)
-  commits_after-from zero rows n log is =
-      let same : n ≡ commits_upto after + 1 = omega (arith, is) in
-      none_before rows n log (omega (arith, is)) ∙ ap (λ (m : ℕ). commits_from tables rows m log) same
-  commits_after-from (suc k) rows n [] is = refl
-  commits_after-from (suc k) rows n (entry ∷ log) is =
-      passed (raw_commit_at tables rows n entry) (commits_from tables (text_rows_at tables rows entry) (n + 1) log) false (after_lsn after.0 n ∙ lt_false (after.0 / 256) n (omega (arith, is)))
-      ∙ commits_after-from k (text_rows_at tables rows entry) (n + 1) log (omega (arith, is))
+-- and passes over those before it
+pub commits_after-from : (tables : List LogTable) (after : Lsn) (k : ℕ) (rows : TextRows) (n : ℕ) (log : List Logged) → n + k ≡ commits_upto after + 1
+    → commits_after after (commits_from tables rows n log) ≡ commits_from (tables_through (take k log) tables) (text_rows_through tables rows (take k log)) (commits_upto after + 1) (drop k log)
+commits_after-from tables after zero rows n log is =
+    let same : n ≡ commits_upto after + 1 = omega (arith, is) in
+    none_before after tables rows n log (omega (arith, is)) ∙ ap (λ (m : ℕ). commits_from tables rows m log) same
+commits_after-from tables after (suc k) rows n [] is = refl
+commits_after-from tables after (suc k) rows n (entry ∷ log) is =
+    passed after (raw_commit_at tables rows n entry) (commits_from (tables_after entry tables) (text_rows_at tables rows entry) (n + 1) log) false (after_lsn after.0 n ∙ lt_false (after.0 / 256) n (omega (arith, is)))
+    ∙ commits_after-from (tables_after entry tables) after k (text_rows_at tables rows entry) (n + 1) log (omega (arith, is))
 
 -- ---- a reader
 
@@ -285,7 +287,7 @@ module _ (tables : List LogTable) (infos : List TableInfo) (after : Lsn) (n : �
   relation_on (says.Logical f l p c) oid past so_far rest mark own i told = absurd (no_number oid own)
 
   onto_step : (oid : ℕ) (past : List Message) (so_far rest : List Change) (mark : Option (List ℕ)) → Inside tables infos after n done commit later so_far rest mark past → Inside tables infos after n done commit later so_far rest mark (onto_relation tables oid past)
-  onto_step oid past so_far rest mark i = by (is_some (relation_of oid past))
+  onto_step oid past so_far rest mark i = by (is_described tables oid past)
     where
       by_one : (o : Option Message) → relation_at tables oid ≡ o → Inside tables infos after n done commit later so_far rest mark (list_of o ++ past)
       by_one None is = i
@@ -342,13 +344,13 @@ module _ (tables : List LogTable) (infos : List TableInfo) (after : Lsn) (n : �
 
   -- after its Relation the table of the watermarks is described
   watermark_there : (past : List Message) → AreTold tables past → relation_of watermark_oid (onto_relation tables watermark_oid past) ≡ Some watermark
-  watermark_there past told = by (is_some (relation_of watermark_oid past)) refl
+  watermark_there past told = by (is_described tables watermark_oid past) refl
     where
-      was_there : (o : Option Relation) → relation_of watermark_oid past ≡ o → is_some o ≡ true → relation_of watermark_oid past ≡ Some watermark
-      was_there None none some = cc
-      was_there (Some r) is some = elim (told watermark_oid) [ inl none ↦ absurd (none_is_some (relation_of watermark_oid past) r none is) | inr same ↦ same ]
+      was_there : (o : Option Relation) → relation_of watermark_oid past ≡ o → is_present o (relation_at tables watermark_oid) ≡ true → relation_of watermark_oid past ≡ Some watermark
+      was_there None none present = cc
+      was_there (Some r) is present = elim (told watermark_oid) [ inl none ↦ absurd (none_is_some (relation_of watermark_oid past) r none is) | inr same ↦ same ]
 
-      by : (b : Bool) → is_some (relation_of watermark_oid past) ≡ b → relation_of watermark_oid (if b then past else list_of (relation_at tables watermark_oid) ++ past) ≡ Some watermark
+      by : (b : Bool) → is_described tables watermark_oid past ≡ b → relation_of watermark_oid (if b then past else list_of (relation_at tables watermark_oid) ++ past) ≡ Some watermark
       by true is = was_there (relation_of watermark_oid past) refl is
       by false is = refl
 

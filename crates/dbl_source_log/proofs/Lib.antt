@@ -3,6 +3,7 @@ pub use Rattle.dbl_source_model.proofs.PlainLemmas as SourceModelPlainLemmas
 pub use Rattle.dbl_source_model.proofs.ModelHistoryBoundLemmas
 pub use Rattle.dbl_source_model.proofs.ModelHistoryRangeLemmas
 pub use Rattle.dbl_source_model.proofs.ModelHistoryRowKeys
+pub mod AlterationLemmas
 pub mod LogLemmas
 pub mod SentLemmas
 pub mod PlaceLemmas

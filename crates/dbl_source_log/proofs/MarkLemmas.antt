@@ -4,7 +4,6 @@ use Rattle.std.specs.Prelude.{IsSome}
 use Rattle.std.specs.List.{AllByRecursion}
 use Rattle.std.specs.Str.{IsUtf8}
 use Rattle.std.proofs.lemmas.List.{append-nil, map-append}
-use Rattle.dbl_pgmsg.specs.declared.messages.Message.{Message}
 use Rattle.dbl_model_table.specs.declared.table.TableInfo.{TableInfo}
 use Rattle.dbl_model_table.specs.Rows.{no_rows, all_changes}
 use Rattle.dbl_source_model.specs.ModelHistory.History.{RawChange, RawCommit, History, IsRising, name_of, raw_changes_of, entry_of}
@@ -18,7 +17,9 @@ use Rattle.dbl_source_log.specs.declared.logged.Logged.TheVariants.{Mark}
 use Rattle.dbl_source_log.specs.Relations.{catalogue}
 use Rattle.dbl_source_log.specs.TextRows.{no_text_rows}
 use Rattle.dbl_source_log.specs.Histories.{raw_commit_at, text_rows_through, history_of}
-use Rattle.dbl_source_log.specs.Fair.{IsChangeOf, HasFewFaults, changes_given, IsFairLog}
+use Rattle.dbl_source_log.specs.Alterations.{tables_after, tables_through}
+use Rattle.dbl_source_log.specs.Fair.{AreFairEntries, IsFairLog}
+use Rattle.dbl_source_log.proofs.AlterationLemmas.{unaltered_both}
 use Rattle.dbl_source_log.proofs.LogLemmas.{is_rising, history_grown}
 use Rattle.dbl_source_log.proofs.FitLogLemmas.{commit_in_range}
 
@@ -26,9 +27,13 @@ all_since : {A : Type 0} (P : A → Type 0) (xs : List A) (x : A) → AllByRecur
 all_since P [] x all one = (one, tt)
 all_since P (y ∷ ys) x all one = (all.0, all_since P ys x all.1 one)
 
+fair_since : (tables : List LogTable) (log : List Logged) (value : List ℕ) → AreFairEntries tables log → AreFairEntries tables (log ++ Mark value ∷ [])
+fair_since tables [] value fair = (tt, tt)
+fair_since tables (entry ∷ log) value fair = (fair.0, fair_since (tables_after entry tables) log value fair.1)
+
 module _ (tables : List LogTable) (log : List Logged) (value : List ℕ) where
   abbrev mark : RawCommit
-  mark = raw_commit_at tables (text_rows_through tables no_text_rows log) (1 + length log) (Mark value)
+  mark = raw_commit_at (tables_through log tables) (text_rows_through tables no_text_rows log) (1 + length log) (Mark value)
 
   abbrev commits : List RawCommit
   commits = (history_of tables log).commits
@@ -59,7 +64,7 @@ module _ (tables : List LogTable) (log : List Logged) (value : List ℕ) where
       subst IsFitHistory (sym marked_is) (record {
         ranges = record {
           tables = fit.ranges.tables;
-          commits = all_since IsRawCommitInRange commits mark fit.ranges.commits (commit_in_range tables (text_rows_through tables no_text_rows log) (1 + length log) (Mark value) small plain);
+          commits = all_since IsRawCommitInRange commits mark fit.ranges.commits (commit_in_range (tables_through log tables) (text_rows_through tables no_text_rows log) (1 + length log) (Mark value) small plain);
         };
         rising = subst IsRising marked_is (is_rising tables marked_log);
         distinct = fit.distinct;
@@ -73,5 +78,6 @@ module _ (tables : List LogTable) (log : List Logged) (value : List ℕ) where
   fair_marked fair = record {
     named = fair.named;
     relations = fair.relations;
-    changes = all_since (λ (entry : Logged). AllByRecursion (λ (message : Message). IsChangeOf tables message × HasFewFaults tables message) (changes_given entry)) log (Mark value) fair.changes tt;
+    entries = fair_since tables log value fair.entries;
+    unaltered = unaltered_both log (Mark value ∷ []) fair.unaltered (tt, tt);
   }

@@ -1,16 +1,18 @@
 -- The Relations that a reader of a log has read: each is the one that the log has of its table, and after those of a change's tables
 -- the change finds each of them.
-use Rattle.std.proofs.Common.{◌≡◌, ◌∙◌, ◌-◌, ◌⊎◌, inl, inr, ℕ, zero, suc, Bool, true, false, Option, Some, None, List, [], ◌∷◌, ◌++◌, map, refl, sym, ap, subst, arith}
+use Rattle.std.proofs.Common.{◌≡◌, ◌∙◌, ◌-◌, ◌⊎◌, inl, inr, ℕ, zero, suc, Bool, true, false, Option, Some, None, List, [], ◌∷◌, ◌++◌, length, map, zip, refl, sym, ap, subst, arith}
 use Rattle.std.specs.Prelude.{◌≢◌, ◌==◌, is_some, IsSome, IsSomeAnd, nat_lt, if◌then◌else◌, option_map, slice_get, Result, Ok}
-use Rattle.std.specs.List.{AllByRecursion}
+use Rattle.std.specs.List.{AllByRecursion, list_all}
 use Rattle.std.proofs.lemmas.Bool.{eqb-true}
 use Rattle.std.proofs.lemmas.Bool.Decides.{nat_tests}
 use Rattle.dbl_pgmsg.specs.declared.messages.Message.{Message}
 use Rattle.dbl_pgmsg.specs.declared.messages.Message.TheVariants as says
+use Rattle.dbl_pgmsg.specs.declared.messages.RelationColumn.{RelationColumn}
 use Rattle.dbl_model_table.specs.declared.table.TableName.{TableName}
 use Rattle.dbl_model_table.specs.declared.table.TableInfo.{TableInfo}
 use Rattle.dbl_model_table.specs.Tables.{is_watermark}
 use Rattle.dbl_model_table.specs.Infos.{number_of}
+use Rattle.dbl_model_table.proofs.Lists.{and_both, text_itself}
 use Rattle.dbl_source_model.specs.ModelCommit.declared.message_parts.Relation.{Relation}
 use Rattle.dbl_source_model.specs.ModelCommit.declared.message_parts.RowChange.{RowChange}
 use Rattle.dbl_source_model.specs.ModelCommit.declared.message_parts.RowChange.TheVariants as row
@@ -23,7 +25,7 @@ use Rattle.dbl_source_model.specs.ModelCommit.Tuples.{◌>>=◌, some_or}
 use Rattle.dbl_source_model.specs.ModelCommit.Stated.{captured_at, target, list_of, row_stated, targets_at, truncate_stated, stated_row, stated_in}
 use Rattle.dbl_source_log.specs.declared.logged.LogTable.{LogTable}
 use Rattle.dbl_source_log.specs.Relations.{first_oid, watermark_oid, table_at, identity_of, relation_column, relation_message, watermark_relation, relation_at}
-use Rattle.dbl_source_log.specs.Sent.{described_in, oids_of, onto_relation, onto_relations}
+use Rattle.dbl_source_log.specs.Sent.{described_in, oids_of, same_given, have_same_columns, is_present, is_described, onto_relation, onto_relations}
 use Rattle.dbl_source_log.specs.Fair.{AreNamed, IsChange}
 use Rattle.dbl_source_log.specs.Laws.{AreDescribed}
 
@@ -102,7 +104,7 @@ module _ (tables : List LogTable) where
   push_told (says.Logical f l p c) oid past is own told q = absurd (no_number oid own)
 
   pub onto_told : (oid : ℕ) (past : List Message) → AreTold tables past → AreTold tables (onto_relation tables oid past)
-  onto_told oid past told = by (is_some (relation_of oid past))
+  onto_told oid past told = by (is_described tables oid past)
     where
       by_one : (o : Option Message) → relation_at tables oid ≡ o → AreTold tables (list_of o ++ past)
       by_one None is = told
@@ -132,26 +134,100 @@ module _ (tables : List LogTable) where
   other_stays (says.Truncate p q) oid o past own other = absurd (no_number oid own)
   other_stays (says.Logical f l p c) oid o past own other = absurd (no_number oid own)
 
-  keep_one : (oid o : ℕ) (r : Relation) (past : List Message) → relation_of o past ≡ Some r → relation_of o (onto_relation tables oid past) ≡ Some r
-  keep_one oid o r past there = by (is_some (relation_of oid past)) refl
+  -- a Relation that is read is the last one of its table
+  newest : (m : Message) (oid o : ℕ) (past : List Message) → described_in m ≡ Some oid → (oid == o) ≡ true → relation_of o (m ∷ past) ≡ relation_of o (m ∷ [])
+  newest (says.Relation given namespace name identity columns) oid o past own here =
+      let r : Option Relation = Some (described namespace name identity columns) in
+      let same : (given == o) ≡ true = ap (λ (n : ℕ). n == o) (same_number given oid own) ∙ here in
+      ap (λ (b : Bool). if b then r else relation_of o past) same ∙ sym (ap (λ (b : Bool). if b then r else None) same)
+  newest (says.Begin l t x) oid o past own here = absurd (no_number oid own)
+  newest (says.Commit f l e t) oid o past own here = absurd (no_number oid own)
+  newest (says.Origin l n) oid o past own here = absurd (no_number oid own)
+  newest (says.TypeName p n m) oid o past own here = absurd (no_number oid own)
+  newest (says.Insert p r) oid o past own here = absurd (no_number oid own)
+  newest (says.Update p b r) oid o past own here = absurd (no_number oid own)
+  newest (says.Delete p b) oid o past own here = absurd (no_number oid own)
+  newest (says.Truncate p q) oid o past own here = absurd (no_number oid own)
+  newest (says.Logical f l p c) oid o past own here = absurd (no_number oid own)
+
+  -- what was told of a table is the log's Relation of it
+  told_is : (o : ℕ) (r : Relation) (past : List Message) → AreTold tables past → relation_of o past ≡ Some r → relation_in tables o ≡ Some r
+  told_is o r past told there = elim (told o) [ inl none ↦ absurd (none_is_some (relation_of o past) r none there) | inr same ↦ sym same ∙ there ]
+
+  keep_one : (oid o : ℕ) (r : Relation) (past : List Message) → AreTold tables past → relation_of o past ≡ Some r → relation_of o (onto_relation tables oid past) ≡ Some r
+  keep_one oid o r past told there = by (is_described tables oid past)
     where
-      by_oid : (m : Message) (b : Bool) → (oid == o) ≡ b → described_in m ≡ Some oid → is_some (relation_of oid past) ≡ false → relation_of o (m ∷ past) ≡ Some r
-      by_oid m true same own new =
-          let here : is_some (relation_of oid past) ≡ true = ap (λ (n : ℕ). is_some (relation_of n past)) (eqb-true oid o same) ∙ ap is_some there in
-          cc
-      by_oid m false other own new = other_stays m oid o past own other ∙ there
+      by_oid : (m : Message) (b : Bool) → (oid == o) ≡ b → relation_at tables oid ≡ Some m → relation_of o (m ∷ past) ≡ Some r
+      by_oid m true same is =
+          newest m oid o past (described_at oid m is) same
+          ∙ sym (ap (λ (l : Option Message). relation_of o (list_of l)) is)
+          ∙ ap (λ (n : ℕ). relation_of o (list_of (relation_at tables n))) (eqb-true oid o same)
+          ∙ told_is o r past told there
+      by_oid m false other is = other_stays m oid o past (described_at oid m is) other ∙ there
 
-      by_one : (l : Option Message) → relation_at tables oid ≡ l → is_some (relation_of oid past) ≡ false → relation_of o (list_of l ++ past) ≡ Some r
-      by_one None is new = there
-      by_one (Some m) is new = by_oid m (oid == o) refl (described_at oid m is) new
+      by_one : (l : Option Message) → relation_at tables oid ≡ l → relation_of o (list_of l ++ past) ≡ Some r
+      by_one None is = there
+      by_one (Some m) is = by_oid m (oid == o) refl is
 
-      by : (b : Bool) → is_some (relation_of oid past) ≡ b → relation_of o (if b then past else list_of (relation_at tables oid) ++ past) ≡ Some r
-      by true is = there
-      by false is = by_one (relation_at tables oid) refl is
+      by : (b : Bool) → relation_of o (if b then past else list_of (relation_at tables oid) ++ past) ≡ Some r
+      by true = there
+      by false = by_one (relation_at tables oid) refl
 
-  keep_all : (oids : List ℕ) (o : ℕ) (r : Relation) (past : List Message) → relation_of o past ≡ Some r → relation_of o (onto_relations tables oids past) ≡ Some r
-  keep_all [] o r past there = there
-  keep_all (oid ∷ oids) o r past there = keep_all oids o r (onto_relation tables oid past) (keep_one oid o r past there)
+  keep_all : (oids : List ℕ) (o : ℕ) (r : Relation) (past : List Message) → AreTold tables past → relation_of o past ≡ Some r → relation_of o (onto_relations tables oids past) ≡ Some r
+  keep_all [] o r past told there = there
+  keep_all (oid ∷ oids) o r past told there = keep_all oids o r (onto_relation tables oid past) (onto_told oid past told) (keep_one oid o r past told there)
+
+  -- ---- what was told of a table isn't told again
+
+  in_pairs : (columns : List RelationColumn) → list_all same_given (zip columns columns) ≡ true
+  in_pairs [] = refl
+  in_pairs (column ∷ columns) = and_both _ _ (and_both _ _ (text_itself column.name) (same_is_true column.oid)) (in_pairs columns)
+
+  have_own_columns : (columns : List RelationColumn) → have_same_columns columns columns ≡ true
+  have_own_columns columns = and_both _ _ (same_is_true (length columns)) (in_pairs columns)
+
+  present_one : (m : Message) (oid : ℕ) (r : Relation) → described_in m ≡ Some oid → relation_of oid (m ∷ []) ≡ Some r → is_present (Some r) (Some m) ≡ true
+  present_one (says.Relation given namespace name identity columns) oid r own there =
+      let own_one : Relation = described namespace name identity columns in
+      let same : (given == oid) ≡ true = ap (λ (n : ℕ). n == oid) (same_number given oid own) ∙ same_is_true oid in
+      let r_is : Some own_one ≡ Some r = sym (ap (λ (b : Bool). if b then Some own_one else None) same) ∙ there in
+      subst (λ (o : Option Relation). is_present o (Some (says.Relation given namespace name identity columns)) ≡ true) r_is (have_own_columns columns)
+  present_one (says.Begin l t x) oid r own there = absurd (no_number oid own)
+  present_one (says.Commit f l e t) oid r own there = absurd (no_number oid own)
+  present_one (says.Origin l n) oid r own there = absurd (no_number oid own)
+  present_one (says.TypeName p n m) oid r own there = absurd (no_number oid own)
+  present_one (says.Insert p q) oid r own there = absurd (no_number oid own)
+  present_one (says.Update p b q) oid r own there = absurd (no_number oid own)
+  present_one (says.Delete p b) oid r own there = absurd (no_number oid own)
+  present_one (says.Truncate p q) oid r own there = absurd (no_number oid own)
+  present_one (says.Logical f l p c) oid r own there = absurd (no_number oid own)
+
+  present_in : (oid : ℕ) (r : Relation) → relation_in tables oid ≡ Some r → is_present (Some r) (relation_at tables oid) ≡ true
+  present_in oid r own = by (relation_at tables oid) refl
+    where
+      no_relation : None ≡ Some r → ⊥
+      no_relation same = cc
+
+      by : (l : Option Message) → relation_at tables oid ≡ l → is_present (Some r) l ≡ true
+      by None is = absurd (no_relation (sym (ap (λ (l : Option Message). relation_of oid (list_of l)) is) ∙ own))
+      by (Some m) is = present_one m oid r (described_at oid m is) (sym (ap (λ (l : Option Message). relation_of oid (list_of l)) is) ∙ own)
+
+  pub told_once : (oid : ℕ) (r : Relation) (past : List Message) → AreTold tables past → relation_of oid past ≡ Some r → is_described tables oid past ≡ true
+  told_once oid r past told there = ap (λ (o : Option Relation). is_present o (relation_at tables oid)) there ∙ present_in oid r (told_is oid r past told there)
+
+  pub described_same : (oid : ℕ) (past : List Message) → relation_of oid past ≡ relation_in tables oid → is_some (relation_of oid past) ≡ true → is_described tables oid past ≡ true
+  described_same oid past same some = by (relation_of oid past) refl some
+    where
+      by : (o : Option Relation) → relation_of oid past ≡ o → is_some o ≡ true → is_described tables oid past ≡ true
+      by None is none = cc
+      by (Some r) is there = ap (λ (o : Option Relation). is_present o (relation_at tables oid)) is ∙ present_in oid r (sym same ∙ is)
+
+  pub described_some : (oid : ℕ) (past : List Message) → is_described tables oid past ≡ true → is_some (relation_of oid past) ≡ true
+  described_some oid past is = by (relation_of oid past) is
+    where
+      by : (o : Option Relation) → is_present o (relation_at tables oid) ≡ true → is_some o ≡ true
+      by None present = cc
+      by (Some r) present = refl
 
   -- ---- a known table's Relation
 
@@ -185,13 +261,13 @@ module _ (tables : List LogTable) where
 
   -- after its Relation the table is described, as the log does
   here_described : (oid : ℕ) (past : List Message) (k : KnownAt oid) → AreTold tables past → relation_of oid (onto_relation tables oid past) ≡ relation_in tables oid
-  here_described oid past k told = by (is_some (relation_of oid past)) refl
+  here_described oid past k told = by (is_described tables oid past) refl
     where
-      was_there : (o : Option Relation) → relation_of oid past ≡ o → is_some o ≡ true → relation_of oid past ≡ relation_in tables oid
-      was_there None none some = cc
-      was_there (Some r) is some = elim (told oid) [ inl none ↦ absurd (none_is_some (relation_of oid past) r none is) | inr same ↦ same ]
+      was_there : (o : Option Relation) → relation_of oid past ≡ o → is_present o (relation_at tables oid) ≡ true → relation_of oid past ≡ relation_in tables oid
+      was_there None none present = cc
+      was_there (Some r) is present = is ∙ sym (told_is oid r past told is)
 
-      by : (b : Bool) → is_some (relation_of oid past) ≡ b → relation_of oid (if b then past else list_of (relation_at tables oid) ++ past) ≡ relation_in tables oid
+      by : (b : Bool) → is_described tables oid past ≡ b → relation_of oid (if b then past else list_of (relation_at tables oid) ++ past) ≡ relation_in tables oid
       by true is = was_there (relation_of oid past) refl is
       by false is =
           ap (λ (l : Option Message). relation_of oid (list_of l ++ past)) k.message
@@ -204,7 +280,7 @@ module _ (tables : List LogTable) where
       let k = known_at oid known.0 in
       let now : List Message = onto_relation tables oid past in
       let r : Relation = table_relation k.table in
-      let kept : relation_of oid (onto_relations tables oids now) ≡ Some r = keep_all oids oid r now (here_described oid past k told ∙ k.relation) in
+      let kept : relation_of oid (onto_relations tables oids now) ≡ Some r = keep_all oids oid r now (onto_told oid past told) (here_described oid past k told ∙ k.relation) in
       ((kept ∙ sym k.relation, subst IsSome (sym kept) refl), described_onto oids now (onto_told oid past told) known.1)
 
 -- ---- two readers that have the same Relations of a change's tables find the same changes and faults

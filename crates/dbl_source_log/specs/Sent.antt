@@ -8,6 +8,7 @@ use Rattle.dbl_base.specs.declared.lsn.Lsn.{Lsn}
 use Rattle.dbl_pgmsg.specs.declared.messages.Message.{Message}
 use Rattle.dbl_pgmsg.specs.declared.messages.Message.TheVariants as says
 use Rattle.dbl_pgmsg.specs.declared.messages.RelationColumn.{RelationColumn}
+use Rattle.dbl_model_table.specs.declared.table.RawColumn.{RawColumn}
 use Rattle.dbl_source_model.specs.ModelCommit.declared.message_parts.Relation.{Relation}
 use Rattle.dbl_source_model.specs.ModelCommit.Past.{relation_of}
 use Rattle.dbl_source_model.specs.ModelCommit.Stated.{list_of}
@@ -41,6 +42,10 @@ messages_in (Alter name columns rows) = []
 -- Whether two columns of Relations have the same name and type.
 abbrev pub same_given : RelationColumn × RelationColumn → Bool
 same_given pair = bytes_eq pair.0.name pair.1.name && pair.0.oid == pair.1.oid
+
+-- Whether a column of a table has the name and type of a Relation's.
+abbrev pub same_raw : RawColumn × RelationColumn → Bool
+same_raw pair = bytes_eq pair.0.name pair.1.name && pair.0.oid == pair.1.oid
 
 -- Whether columns of Relations are the same in number, names and types.
 abbrev pub have_same_columns : List RelationColumn → List RelationColumn → Bool

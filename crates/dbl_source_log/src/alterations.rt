@@ -63,8 +63,8 @@ fn altered_tables(
     Ok(altered)
 }
 
-/// The tables after a commit, each at the same index.
-pub fn alter_tables(
+// The tables after a commit, each at the same index.
+fn alter_tables(
     alloc: Global,
     entry: &Logged,
     tables: Vec<LogTable>,

@@ -10,7 +10,7 @@ mod reading;
 mod relations;
 mod transactions;
 
-pub use alterations::{alter_tables, tables_through};
+pub use alterations::tables_through;
 pub use error::SourceError;
 pub use laws::{
     changes_state_themselves, entries_are_of_tables, fair_logs_are_read_right,

@@ -307,7 +307,8 @@ pub fn remember(
     ensures ok { OnOk result ((message : Message) (past : List Message)
         → description_in message ≡ description
         → Describes described.old past → Describes described.new (message ∷ past)) }
-    ensures err { OnErr result (described.new ≡ described.old) }
+    ensures err { OnErr result ((past : List Message)
+        → Describes described.old past → Describes described.new past) }
 {
     match description {
         Some(Description { oid, columns }) => {

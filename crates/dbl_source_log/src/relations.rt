@@ -3,7 +3,7 @@
 ghost use Rattle.std.specs.Prelude.{◌≡◌, ◌&&◌, ◌==◌, negsuc, Some, IfOk, map, zip, bytes_eq};
 ghost use Rattle.std.specs.List.{list_any, list_all};
 ghost use Rattle.dbl_source_model.specs.ModelCommit.declared.message_parts.Relation.{Relation};
-ghost use Rattle.dbl_source_log.specs.Sent.{same_given, have_same_columns, is_present};
+ghost use Rattle.dbl_source_log.specs.Sent.{same_raw, have_same_columns, is_present};
 ghost use Rattle.dbl_source_log.specs.Relations.{is_in_identity, identity_of, relation_column};
 ghost use Rattle.dbl_source_log.specs.Relations.{relation_message, watermark_columns};
 ghost use Rattle.dbl_source_log.specs.Relations.{watermark_relation, mark_message, relation_at};
@@ -128,13 +128,12 @@ fn are_watermark_columns(columns: &Vec<RelationColumn>) -> bool
     }
 }
 
-fn are_same_in_pairs(table: &LogTable, columns: &Vec<RelationColumn>) -> bool
-    ensures { result ≡ list_all same_given
-        (zip (map (relation_column table.now) table.now.raw.columns) columns.now.items) }
+fn are_same_in_pairs(own: &Vec<RawColumn>, columns: &Vec<RelationColumn>) -> bool
+    ensures { result ≡ list_all same_raw (zip own.now.items columns.now.items) }
 {
-    table.raw.columns.items().iter().zip(columns.iter()).all(|(column, given)| is_same_column(
-        column.name.as_str(),
-        column.oid,
+    own.iter().zip(columns.iter()).all(|(own, given)| is_same_column(
+        own.name.as_str(),
+        own.oid,
         given,
     ))
 }
@@ -143,7 +142,8 @@ fn are_table_columns(table: &LogTable, columns: &Vec<RelationColumn>) -> bool
     ensures { result ≡ have_same_columns
         (map (relation_column table.now) table.now.raw.columns) columns.now.items }
 {
-    table.raw.columns.items().len() == columns.len() && are_same_in_pairs(table, columns)
+    table.raw.columns.items().len() == columns.len()
+        && are_same_in_pairs(table.raw.columns.items(), columns)
 }
 
 /// Whether the Relation of the table with this OID has these columns, in number, names and types.

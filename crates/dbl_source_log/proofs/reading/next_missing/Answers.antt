@@ -1,25 +1,28 @@
-use Rattle.std.proofs.Common.{◌∙◌, ◌∷◌, ℕ, List, sym, ap, subst, arith}
+use Rattle.std.proofs.Common.{◌∙◌, ◌∷◌, ℕ, List, take, sym, ap, subst, arith}
 use Rattle.dbl_pgmsg.specs.declared.messages.Message.{Message}
 use Rattle.dbl_source_log.specs.Sent.{oids_of, onto_relations}
 use Rattle.dbl_source_log.specs.Readings.{Describes}
 use Rattle.dbl_source_log.proofs.ReadingLemmas.{passed_over, none_to_tell, one_missing, oid_within, all_looked_at}
 use Rattle.dbl_source_log.proofs.reading.next_missing.Goals as goal
 
-pub loop-oid-preserved-then-contains : goal.loop-oid-preserved-then-contains
-loop-oid-preserved-then-contains c base all =
+pub loop-oid-preserved-then-is_described : goal.loop-oid-preserved-then-is_described
+loop-oid-preserved-then-is_described c base all =
     let same = c.loop-oid.invariant base all in
-    passed_over c.args.tables.now (oids_of c.args.message.now) c.loop-oid.table c.in-Some.oid base (sym c.in-Some.ensures.oid) c.args.described.now (subst (Describes c.args.described.now) (sym same) all) (sym c.contains.ensures ∙ c.if-contains.true)
+    let past = onto_relations c.args.tables.now (take c.loop-oid.table (oids_of c.args.message.now)) base in
+    passed_over c.args.tables.now (oids_of c.args.message.now) c.loop-oid.table c.in-Some.oid base (sym c.in-Some.ensures.oid)
+    (sym (c.is_described.ensures past (subst (Describes c.args.described.now) (sym same) all)) ∙ c.if-is_described.true)
     ∙ same
 
 pub returns-in-Some-2-clause-next : goal.returns-in-Some-2-clause-next
 returns-in-Some-2-clause-next c base all =
     let same = c.loop-oid.invariant base all in
     let told = sym c.in_ok-relation.ensures ∙ c.in-Some-2.is in
+    let past = onto_relations c.args.tables.now (take c.loop-oid.table (oids_of c.args.message.now)) base in
     record {
       told =
-          one_missing c.args.tables.now (oids_of c.args.message.now) c.loop-oid.table c.in-Some.oid base (sym c.in-Some.ensures.oid) c.args.described.now c.in-Some-2.relation
-          (subst (Describes c.args.described.now) (sym same) all) (sym c.contains.ensures ∙ c.if-contains.false) told
-          ∙ ap (λ (past : List Message). c.in-Some-2.relation ∷ past) same;
+          one_missing c.args.tables.now (oids_of c.args.message.now) c.loop-oid.table c.in-Some.oid base (sym c.in-Some.ensures.oid) c.in-Some-2.relation
+          (sym (c.is_described.ensures past (subst (Describes c.args.described.now) (sym same) all)) ∙ c.if-is_described.false) told
+          ∙ ap (λ (l : List Message). c.in-Some-2.relation ∷ l) same;
     }
 
 pub loop-oid-smaller : goal.loop-oid-smaller

@@ -142,7 +142,7 @@ name_kept name columns list entry = by (same_name entry.name name)
 catalogue_altered : (name : TableName) (columns : List RawColumn) (list : List RawRow) (tables : List LogTable) → map (entry_after (raw.Alter name columns list)) (catalogue tables) ≡ catalogue (map (altered_table name columns) tables)
 catalogue_altered name columns list [] = refl
 catalogue_altered name columns list (table ∷ tables) =
-    shown (is_watermark table.raw.name)
+    shown (catalogue_altered name columns list tables) (is_watermark table.raw.name)
     ∙ ap (λ (b : Bool). cond (not b) (change table.raw ∷ catalogue others) (catalogue others)) (sym (ap is_watermark (name_kept name columns list table.raw)))
     ∙ ap (λ (r : RawTable). cond (not (is_watermark r.name)) (r ∷ catalogue others) (catalogue others)) (sym (raw_altered name columns list table))
   where
@@ -152,9 +152,9 @@ catalogue_altered name columns list (table ∷ tables) =
     others : List LogTable
     others = map (altered_table name columns) tables
 
-    shown : (b : Bool) → map change (cond (not b) (table.raw ∷ catalogue tables) (catalogue tables)) ≡ cond (not b) (change table.raw ∷ catalogue others) (catalogue others)
-    shown true = catalogue_altered name columns list tables
-    shown false = ap (λ (l : List RawTable). change table.raw ∷ l) (catalogue_altered name columns list tables)
+    shown : map change (catalogue tables) ≡ catalogue others → (b : Bool) → map change (cond (not b) (table.raw ∷ catalogue tables) (catalogue tables)) ≡ cond (not b) (change table.raw ∷ catalogue others) (catalogue others)
+    shown rest true = rest
+    shown rest false = ap (λ (l : List RawTable). change table.raw ∷ l) rest
 
 catalogue_kept : (change : RawTable → RawTable) → ((entry : RawTable) → change entry ≡ entry) → (entries : List RawTable) → map change entries ≡ entries
 catalogue_kept change same [] = refl

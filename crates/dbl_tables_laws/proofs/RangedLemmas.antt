@@ -14,6 +14,7 @@ use Rattle.dbl_tables_rows.specs.ModelHistory.History as raw
 use Rattle.dbl_tables_rows.specs.ModelHistory.Ranges.{IsNameInRange, IsEntryInRange, AreTextsInRange, IsRawChangeInRange, IsRawBodyInRange}
 use Rattle.dbl_tables_rows.specs.SourceLog.declared.logged.LogTable.{LogTable}
 use Rattle.dbl_tables_rows.specs.SourceLog.declared.logged.Logged.TheVariants.{Changes}
+use Rattle.dbl_tables_rows.specs.SourceLog.Alterations.{IsUnaltered}
 use Rattle.dbl_tables_rows.specs.SourceLog.FitLogs.{AreFitEntries}
 use Rattle.dbl_tables_rows.specs.SourceLog.RawChanges.{raw_changes, changes_from, text_rows_from}
 use Rattle.dbl_tables_rows.specs.SourceLog.Relations.{first_oid, table_at, catalogue}
@@ -221,7 +222,12 @@ initial_given (row ∷ rows) given = (tt, all-append IsStepInRange (map (λ (r :
 
 entries_fit : (tables : List LogTable) (rows : TextRows) (log : List (List Message)) → HaveFitChanges tables rows log → AreRangedCommits tables rows log → AreFitEntries tables rows (map Changes log)
 entries_fit tables rows [] fit range = tt
-entries_fit tables rows (ms ∷ log) fit range = (record { ranges = range.0; changes = fit.0 }, entries_fit tables (text_rows_from tables rows ms) log fit.1 range.1)
+entries_fit tables rows (ms ∷ log) fit range = (record { ranges = range.0; changes = fit.0; alters = tt }, entries_fit tables (text_rows_from tables rows ms) log fit.1 range.1)
+
+-- no commit of a session alters a table
+pub changes_unaltered : (log : List (List Message)) → IsUnaltered (map Changes log)
+changes_unaltered [] = tt
+changes_unaltered (ms ∷ log) = (tt, changes_unaltered log)
 
 -- the versions of the catalogue's tables
 opening_of : (tables : List DemoTable) → AllByRecursion (λ (r : RawTable). r.version ≡ 1) (catalogue (log_tables tables))
@@ -244,5 +250,6 @@ runs_fit tables rows steps can entries rows_in steps_in short =
       ranges = entries;
       opening = opening_of tables;
       distinct = names_distinct tables (acts_after tables [] all) can both.0.orderly;
+      unaltered = changes_unaltered log;
       entries = entries_fit (log_tables tables) no_text_rows log both.0.fit.log both.1.log;
     }

@@ -29,7 +29,7 @@ use Rattle.dbl_tables_rows.specs.SourceLog.Histories.{text_rows_at, text_rows_th
 use Rattle.dbl_source_log.proofs.FitLogLemmas.{message_rows}
 use Rattle.dbl_source_log.proofs.ThemselvesLemmas.{name_itself}
 use Rattle.dbl_tables_rows.specs.declared.demo_table.DemoTable.{DemoTable}
-use Rattle.dbl_tables_rows.specs.Acts.{Accepted, messages_by, log_in, accepted_log}
+use Rattle.dbl_tables_rows.specs.Acts.{Accepted, messages_by, log_in}
 use Rattle.dbl_tables_rows.specs.Acts.Accepted.{Did, Committed, RolledBack}
 use Rattle.dbl_tables_rows.specs.Seen.{committed_rows, changes_by, seen_rows}
 use Rattle.dbl_tables_rows.specs.Locks.{locks, holds_key}
@@ -123,9 +123,9 @@ module _ (tables : List LogTable) (distinct : are_distinct same_name (names_in t
 
 -- ---- commits
 
-through-append : (tables : List LogTable) (rows : TextRows) (log more : List Logged) → text_rows_through tables rows (log ++ more) ≡ text_rows_through tables (text_rows_through tables rows log) more
+through-append : (tables : List LogTable) (rows : TextRows) (log : List (List Message)) (more : List Logged) → text_rows_through tables rows (map Changes log ++ more) ≡ text_rows_through tables (text_rows_through tables rows (map Changes log)) more
 through-append tables rows [] more = refl
-through-append tables rows (entry ∷ log) more = through-append tables (text_rows_at tables rows entry) log more
+through-append tables rows (ms ∷ log) more = through-append tables (text_rows_at tables rows (Changes ms)) log more
 
 logged-push : (log : List (List Message)) (ms : List Message) → map Changes (log ++ ms ∷ []) ≡ map Changes log ++ Changes ms ∷ []
 logged-push [] ms = refl
@@ -135,7 +135,7 @@ pub shows : CommitsShowWhatWasSeen
 shows tables past session =
     let ms : List Message = messages_by session past in
     ap (text_rows_through tables no_text_rows) (logged-push (log_in past) ms)
-    ∙ through-append tables no_text_rows (accepted_log past) (Changes ms ∷ [])
+    ∙ through-append tables no_text_rows (log_in past) (Changes ms ∷ [])
     ∙ message_rows tables ms (committed_rows tables past)
 
 -- ---- steps

@@ -19,9 +19,8 @@ use Rattle.dbl_tables_rows.specs.ModelCommit.declared.txn_error.TxnError.{TxnErr
 use Rattle.dbl_tables_rows.specs.ModelHistory.Ranges.{IsEntryInRange, AreTextsInRange}
 use Rattle.dbl_tables_rows.specs.SourceModel.Stated.{MayStand}
 use Rattle.dbl_tables_rows.specs.SourceLog.declared.logged.LogTable.{LogTable}
-use Rattle.dbl_tables_rows.specs.SourceLog.declared.logged.Logged.{Logged}
 use Rattle.dbl_tables_rows.specs.SourceLog.declared.logged.Logged.TheVariants.{Changes}
-use Rattle.dbl_tables_rows.specs.SourceLog.Fair.{IsChangeOf, HasFewFaults, changes_given}
+use Rattle.dbl_tables_rows.specs.SourceLog.Fair.{IsChangeOf, HasFewFaults, AreFairEntries}
 use Rattle.dbl_tables_rows.specs.SourceLog.Relations.{first_oid, catalogue}
 use Rattle.dbl_tables_rows.specs.SourceLog.Texts.{Texts}
 use Rattle.dbl_tables_rows.specs.declared.demo_table.DemoTable.{DemoTable}
@@ -45,7 +44,7 @@ use Rattle.dbl_tables_laws.proofs.JudgedLemmas.{bound, passed, was_some}
 use Rattle.dbl_tables_laws.proofs.MessageLemmas.{found_there}
 use Rattle.dbl_tables_laws.proofs.MovedLemmas.{AreSent, sent_none, sent_begins, sent_rolls_back, sent_commits, sent_does, all-append, oids_known, named_tables, all_moved}
 use Rattle.dbl_tables_laws.proofs.RangeLemmas.{row_given_ranged, row_set_ranged}
-use Rattle.dbl_tables_laws.proofs.RangedLemmas.{IsRanged, ranged_none, ranged_on, seen_ranged, initial_given}
+use Rattle.dbl_tables_laws.proofs.RangedLemmas.{IsRanged, changes_unaltered, ranged_none, ranged_on, seen_ranged, initial_given}
 use Rattle.dbl_tables_rows.proofs.SizeLemmas.{short_fits}
 use Rattle.dbl_tables_laws.proofs.StandingLemmas.{has_key, stands_none}
 use Rattle.dbl_tables_laws.proofs.ToldLemmas.{known_found}
@@ -221,7 +220,7 @@ both_in tables [] changes moved = tt
 both_in tables (m ∷ ms) changes moved = ((changes.0, λ infos captured. may_stand _ (moved.0 infos captured)), both_in tables ms changes.1 moved.1)
 
 entries_fair : (tables : List LogTable) (log : List (List Message)) → AllByRecursion (λ (ms : List Message). AllByRecursion (IsChangeOf tables) ms) log → AllByRecursion (λ (ms : List Message). AllByRecursion (MovesAtMost tables) ms) log
-    → AllByRecursion (λ (entry : Logged). AllByRecursion (λ (m : Message). IsChangeOf tables m × HasFewFaults tables m) (changes_given entry)) (map Changes log)
+    → AreFairEntries tables (map Changes log)
 entries_fair tables [] changes moved = tt
 entries_fair tables (ms ∷ log) changes moved = (both_in tables ms changes.0 moved.0, entries_fair tables log changes.1 moved.1)
 
@@ -232,5 +231,6 @@ runs_fair tables rows steps described rows_in steps_in =
     record {
       named = named_tables tables (acts_after tables [] all) described.can (stands_since tables described.can all);
       relations = described.relations;
-      changes = entries_fair (log_tables tables) (serial tables rows steps) (all_changes tables described.can described.ranges all given).log (all_moved tables described.can all).log;
+      entries = entries_fair (log_tables tables) (serial tables rows steps) (all_changes tables described.can described.ranges all given).log (all_moved tables described.can all).log;
+      unaltered = changes_unaltered (serial tables rows steps);
     }

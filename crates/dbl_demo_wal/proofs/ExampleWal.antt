@@ -1,7 +1,7 @@
 -- The log of the example, its bytes, and what its select shows.
 use Rattle.std.proofs.Common.{◌≡◌, ◌∙◌, ℕ, ◌≤◌, Bool, true, false, None, Some, List, [], ◌∷◌, ◌++◌, length, map, refl, sym, ap, subst, arith}
 use Rattle.std.specs.Prelude.{if◌then◌else◌, codes}
-use Rattle.std.specs.List.{All, AllByRecursion}
+use Rattle.std.specs.List.{All}
 use Rattle.std.proofs.lemmas.List.{append-nil}
 use Rattle.std.proofs.lemmas.List.Elements.{All-cons, All-nil}
 use Rattle.dbl_base.specs.Lines.{lines_text}
@@ -14,9 +14,8 @@ use Rattle.dbl_script.specs.Value.declared.value.Val.TheVariants as val
 use Rattle.dbl_script.specs.Value.Types.{type_of}
 use Rattle.dbl_journal.specs.Form.{IsEntry, up_to_gate}
 use Rattle.dbl_script.specs.Scripts.{first_bad, script_of}
-use Rattle.dbl_tables_laws.specs.SourceLog.declared.logged.Logged.{Logged}
 use Rattle.dbl_tables_laws.specs.SourceLog.declared.logged.Logged.TheVariants.{Changes}
-use Rattle.dbl_tables_laws.specs.SourceLog.Fair.{HasFewFaults, IsChangeOf, changes_given}
+use Rattle.dbl_tables_laws.specs.SourceLog.Fair.{AreFairEntries}
 use Rattle.dbl_demo_wal.specs.declared.entry.Entry.{Entry}
 use Rattle.dbl_demo_wal.specs.declared.entry.Entry.TheVariants.{Commits}
 use Rattle.dbl_demo_wal.specs.Entries.{FitsWalEntry, HoldsChange, entry_form, workload_form}
@@ -79,11 +78,11 @@ left_is = ap (λ (more : List Entry). with_entries wal more) (append-nil _ ∙ r
 abbrev log : List (List Message)
 log = (put (codes "a") ∷ []) ∷ (put (codes "b") ∷ []) ∷ (removed (codes "a") ∷ []) ∷ []
 
-fair : AllByRecursion (λ (entry : Logged). AllByRecursion (λ (message : Message). IsChangeOf (log_tables (demo ∷ [])) message × HasFewFaults (log_tables (demo ∷ [])) message) (changes_given entry)) (map Changes log)
+fair : AreFairEntries (log_tables (demo ∷ [])) (map Changes log)
 fair =
     let ranged = workload_in_range (lines_text example_workload_lines) workload is_workload 7 in
-    subst (λ (l : List (List Message)). AllByRecursion (λ (entry : Logged). AllByRecursion (λ (message : Message). IsChangeOf (log_tables (demo ∷ [])) message × HasFewFaults (log_tables (demo ∷ [])) message) (changes_given entry)) (map Changes l))
-    (ap log_in last_is) (runs_fair (demo ∷ []) (workload_rows workload) (session_steps_at workload 7) ranged.described ranged.rows ranged.steps).changes
+    subst (λ (l : List (List Message)). AreFairEntries (log_tables (demo ∷ [])) (map Changes l))
+    (ap log_in last_is) (runs_fair (demo ∷ []) (workload_rows workload) (session_steps_at workload 7) ranged.described ranged.rows ranged.steps).entries
 
 holds_a : HoldsChange (put (codes "a"))
 holds_a = let of = fair.0.0.0 in (of.fits, of.change)

@@ -3,12 +3,11 @@ use Rattle.std.proofs.Common.{◌≡◌, ℕ, ◌<◌, ◌≤◌, ◌^◌, List,
 use Rattle.std.specs.List.{AllByRecursion}
 use Rattle.dbl_pgmsg.specs.declared.messages.Message.{Message}
 use Rattle.dbl_tables_laws.specs.SourceLog.declared.logged.LogTable.{LogTable}
-use Rattle.dbl_tables_laws.specs.SourceLog.declared.logged.Logged.{Logged}
 use Rattle.dbl_tables_laws.specs.SourceLog.declared.logged.Logged.TheVariants.{Changes}
 use Rattle.dbl_tables_laws.specs.SourceLog.TextRows.{TextRows, no_text_rows}
 use Rattle.dbl_tables_laws.specs.SourceLog.Histories.{text_rows_at}
 use Rattle.dbl_tables_laws.specs.SourceLog.FitLogs.{AreFitEntries, AreFitLog}
-use Rattle.dbl_tables_laws.specs.SourceLog.Fair.{HasFewFaults, IsChangeOf, IsFairLog, changes_given}
+use Rattle.dbl_tables_laws.specs.SourceLog.Fair.{AreFairEntries, IsFairLog}
 use Rattle.dbl_source_log.proofs.FitLogLemmas.{fit_histories}
 use Rattle.dbl_demo_wal.specs.declared.entry.Entry.{Entry}
 use Rattle.dbl_demo_wal.specs.declared.entry.Entry.TheVariants.{Commits, Marks, Confirms}
@@ -21,6 +20,7 @@ use Rattle.dbl_demo_wal.specs.Sound.{session_commits, logged_in, steps_in}
 use Rattle.dbl_demo_wal.specs.Wals.{Wal, IsWal}
 use Rattle.dbl_demo_wal.specs.Standings.{tables_of}
 use Rattle.dbl_demo_wal.specs.SoundLaws.{WalsAreFit, WalsAreFair, WalsHaveFitHistories, WorkloadsAreInRange}
+use Rattle.dbl_demo_wal.proofs.KeptTables.{logged_kept}
 use Rattle.dbl_demo_wal.proofs.RangeLaws.{workload_in_range}
 use Rattle.dbl_demo_wal.proofs.SerialLaws.{sound_serial}
 
@@ -29,13 +29,10 @@ use Rattle.dbl_demo_wal.proofs.SerialLaws.{sound_serial}
 with_marks : (tables : List LogTable) (rows : TextRows) (entries : List Entry) → AllByRecursion FitsWalEntry entries → AreFitEntries tables rows (map Changes (session_commits entries)) → AreFitEntries tables rows (logged_in entries)
 with_marks tables rows [] fits are = tt
 with_marks tables rows (Commits steps messages ∷ entries) fits are = (are.0, with_marks tables (text_rows_at tables rows (Changes messages)) entries fits.1 are.1)
-with_marks tables rows (Marks steps value ∷ entries) fits are = (record { ranges = fits.0.stored.utf8; changes = tt }, with_marks tables rows entries fits.1 are)
+with_marks tables rows (Marks steps value ∷ entries) fits are = (record { ranges = fits.0.stored.utf8; changes = tt; alters = tt }, with_marks tables rows entries fits.1 are)
 with_marks tables rows (Confirms upto ∷ entries) fits are = with_marks tables rows entries fits.1 are
 
-abbrev AreFairChanges : List LogTable → Logged → Type 0
-AreFairChanges tables entry = AllByRecursion (λ message. IsChangeOf tables message × HasFewFaults tables message) (changes_given entry)
-
-fair_with_marks : (tables : List LogTable) (entries : List Entry) → AllByRecursion (AreFairChanges tables) (map Changes (session_commits entries)) → AllByRecursion (AreFairChanges tables) (logged_in entries)
+fair_with_marks : (tables : List LogTable) (entries : List Entry) → AreFairEntries tables (map Changes (session_commits entries)) → AreFairEntries tables (logged_in entries)
 fair_with_marks tables [] are = tt
 fair_with_marks tables (Commits steps messages ∷ entries) are = (are.0, fair_with_marks tables entries are.1)
 fair_with_marks tables (Marks steps value ∷ entries) are = (tt, fair_with_marks tables entries are)
@@ -72,6 +69,7 @@ module _ (fit : SerialRunsAreFit) (fair : SerialRunsAreFair) (ranges : Workloads
         ranges = run.ranges;
         opening = run.opening;
         distinct = run.distinct;
+        unaltered = logged_kept wal.entries;
         entries = with_marks (tables_of wal) no_text_rows wal.entries is.are.fits run.entries;
       }
 
@@ -81,7 +79,7 @@ module _ (fit : SerialRunsAreFit) (fair : SerialRunsAreFair) (ranges : Workloads
       let run : IsFairLog (tables_of wal) (map Changes (session_commits wal.entries)) =
       subst (λ (log : List (List Message)). IsFairLog (tables_of wal) (map Changes log)) (sym serial_is)
       (fair wal.workload.tables (workload_rows wal.workload) (session_steps_at wal.workload (steps_in wal.entries)) ranged.described ranged.rows ranged.steps) in
-      record { named = run.named; relations = run.relations; changes = fair_with_marks (tables_of wal) wal.entries run.changes }
+      record { named = run.named; relations = run.relations; entries = fair_with_marks (tables_of wal) wal.entries run.entries; unaltered = logged_kept wal.entries }
 
 pub wal_is_fit : WalsAreFit
 wal_is_fit = fit_of runs_fit runs_fair workload_in_range

@@ -15,6 +15,7 @@ pub mod SizeLemmas
 pub mod ContentLemmas
 pub mod TableLemmas
 pub mod RangeLaws
+pub mod KeptTables
 pub mod FitLaws
 pub mod EndLemmas
 pub mod ExampleLemmas

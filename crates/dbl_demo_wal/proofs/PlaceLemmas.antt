@@ -69,10 +69,10 @@ module _ (tables : List DemoTable) (log : List Logged) (fit : AreFitLog (log_tab
     -- a row that stands there has a key of the table's
     row_fit : (row : RawRow) → rows_of logs log at.table.info.name (key_in (raw_of at.table) row.cells) ≡ Some row.cells → IsKeyOf at.table.info (key_in (raw_of at.table) row.cells)
     row_fit row is =
-        let kept = log_keyed logs log no_text_rows fit.entries (keyed_none logs) at.table.info.name (key_in (raw_of at.table) row.cells) row.cells is in
+        let kept = log_keyed logs log no_text_rows fit.unaltered fit.entries (keyed_none logs) at.table.info.name (key_in (raw_of at.table) row.cells) row.cells is in
         let e : kept.table ≡ log_table at.table = (let there = kept.there in cc) in
         key_fit (log_table at.table) at.table.info refl (raw_key (raw_of at.table) row.cells) (subst (λ (t : LogTable). IsTextKey t.raw (raw_key t.raw row.cells)) e kept.text_key)
-        (raw_key_ranged (raw_of at.table) row.cells (log_ranged logs log no_text_rows fit.entries (λ name key r none. cc) at.table.info.name (key_in (raw_of at.table) row.cells) row.cells is))
+        (raw_key_ranged (raw_of at.table) row.cells (log_ranged logs log no_text_rows fit.unaltered fit.entries (λ name key r none. cc) at.table.info.name (key_in (raw_of at.table) row.cells) row.cells is))
 
     module _ (infos : List TableInfo) (captured : AreInfosOf (history_of logs log) infos) (t : ℕ) (there : slice_get infos t ≡ Some at.table.info) where
       first_of : (above : Option Key) (limit : ℕ) (rows : List RawRow) → AreShown at.table.info (rows_of logs log at.table.info.name) above limit rows → AreFirstOf infos t at.table.info (rows_up_to infos (history_of logs log) (length log)) above limit rows

@@ -19,7 +19,7 @@ use Rattle.dbl_tables_laws.specs.SourceLog.declared.logged.Logged.TheVariants.{C
 use Rattle.dbl_tables_laws.specs.SourceLog.FitLogs.{AreFitLog}
 use Rattle.dbl_tables_laws.specs.SourceLog.Histories.{rows_of}
 use Rattle.dbl_tables_laws.specs.SourceLog.TextRows.{TextRows, no_text_rows}
-use Rattle.dbl_tables_laws.proofs.SourceLogLogLemmas.{keeps_columns, length-history}
+use Rattle.dbl_tables_laws.proofs.SourceLogLogLemmas.{length-history}
 use Rattle.dbl_tables_laws.specs.TablesRows.Seen.{committed_rows}
 use Rattle.dbl_tables_laws.specs.TablesRows.Sending.{log_tables}
 use Rattle.dbl_tables_laws.specs.TablesRows.Steps.{FoundTable, found}
@@ -37,6 +37,7 @@ use Rattle.dbl_demo_wal.proofs.GrowsLemmas.{history_grows}
 use Rattle.dbl_demo_wal.proofs.ReleaseLaws.{steps_run}
 use Rattle.dbl_demo_wal.specs.SelectLaws.{AreOneAt, RowsShownAreOne, SelectsAreAnswered}
 use Rattle.dbl_demo_wal.specs.Shown.{AreRowsShown, ShownAt}
+use Rattle.dbl_demo_wal.proofs.KeptTables.{columns_kept}
 use Rattle.dbl_demo_wal.proofs.LogRows.{front_fit, without_marks}
 use Rattle.dbl_demo_wal.proofs.PlaceLemmas.{none_here, rows_here}
 
@@ -119,9 +120,9 @@ module _ (bytes : List ℕ) (wal : Wal) (done between upto : ℕ) (silent : IsSi
           place = length (logged_in middle.entries);
           not_before = omega (arith, place, grown_length (history_in wal) (history_in middle) before);
           not_after = omega (arith, place, grown_length (history_in middle) (history_in whole) subsequent);
-          version = first_version ∙ sym (version_kept (history_in whole) (length (logged_in middle.entries)) name (keeps_columns (tables_of whole) (logged_in whole.entries)) (wal_is_fit bytes whole is).opening);
+          version = first_version ∙ sym (version_kept (history_in whole) (length (logged_in middle.entries)) name (columns_kept (tables_of whole) whole.entries) (wal_is_fit bytes whole is).opening);
           are =
-              rows_of_typed (history_in whole) (length (logged_in middle.entries)) name above limit rows (keeps_columns (tables_of whole) (logged_in whole.entries))
+              rows_of_typed (history_in whole) (length (logged_in middle.entries)) name above limit rows (columns_kept (tables_of whole) whole.entries)
               (still middle name above limit rows whole (length (logged_in middle.entries)) (λ infos. same_rows infos (history_in middle) (history_in whole) (length (logged_in middle.entries)) subsequent (omega (arith, place)))
               (λ infos captured. record { distinct = captured.distinct; each = captured.each }) (rows_here wal.workload.tables (logged_in middle.entries) fit name above limit rows shown_here));
         }

@@ -17,8 +17,9 @@ use Rattle.dbl_source_log.proofs.RelationLemmas.{described_onto}
 use Rattle.dbl_tables_laws.specs.Laws.{MovesAtMost}
 use Rattle.dbl_tables_laws.specs.SourceLog.declared.logged.LogTable.{LogTable}
 use Rattle.dbl_tables_laws.specs.SourceLog.declared.logged.Logged.{Logged}
-use Rattle.dbl_tables_laws.specs.SourceLog.declared.logged.Logged.TheVariants.{Changes, Mark}
-use Rattle.dbl_tables_laws.specs.SourceLog.Fair.{AreNamed, HasFewFaults, IsChangeOf, changes_given}
+use Rattle.dbl_tables_laws.specs.SourceLog.declared.logged.Logged.TheVariants.{Changes, Mark, Alter}
+use Rattle.dbl_tables_laws.specs.SourceLog.Alterations.{HasNoAlteration, IsUnaltered}
+use Rattle.dbl_tables_laws.specs.SourceLog.Fair.{AreNamed, HasFewFaults, IsChangeOf, IsFairEntry, changes_given}
 use Rattle.dbl_tables_laws.specs.SourceLog.Histories.{commits_from, history_of, raw_commit_at, text_rows_at, text_rows_through}
 use Rattle.dbl_tables_laws.specs.SourceLog.Numbers.{commits_upto}
 use Rattle.dbl_tables_laws.specs.SourceLog.RawChanges.{changes_from, raw_changes}
@@ -34,6 +35,7 @@ use Rattle.dbl_demo_wal.specs.Standings.{tables_of}
 use Rattle.dbl_demo_wal.specs.Wals.{Wal, IsWal}
 use Rattle.dbl_demo_wal.specs.Workloads.{session_steps_at, workload_rows}
 use Rattle.dbl_demo_wal.proofs.FitLaws.{wal_is_fair}
+use Rattle.dbl_demo_wal.proofs.KeptTables.{fair_each, sent_plain}
 use Rattle.dbl_demo_wal.proofs.RangeLaws.{described_tables}
 use Rattle.dbl_demo_wal.proofs.SerialLaws.{sound_serial}
 use Rattle.dbl_demo_wal_laws.specs.Moved.{HaveMovedAtMost, TransactionsOfWalsMoveAtMost}
@@ -41,10 +43,7 @@ use Rattle.dbl_demo_wal_laws.proofs.MovedRelations.{begin_moved, change_moved, c
 
 -- ---- messages of a log, one commit after the other
 
--- an entry's changes are such as a server sends, and have no error but a moved key with an unsent cell
-abbrev IsFairEntry : List LogTable → Logged → Type 0
-IsFairEntry tables entry = AllByRecursion (λ message. IsChangeOf tables message × HasFewFaults tables message) (changes_given entry)
-
+-- an entry's changes have no error but a moved key with an unsent cell
 abbrev MovesInEntry : List LogTable → Logged → Type 0
 MovesInEntry tables entry = AllByRecursion (MovesAtMost tables) (changes_given entry)
 
@@ -74,10 +73,10 @@ module _ (tables : List LogTable) (infos : List TableInfo) (after : Lsn) (named 
     pub between : Between tables infos after n done later past
     pub moved : HaveMovedAtMost infos after past
 
-  entry_on : (n : ℕ) (rows : TextRows) (done later : List Commit) (entry : Logged) (past : List Message) → IsFairEntry tables entry → MovesInEntry tables entry
+  entry_on : (n : ℕ) (rows : TextRows) (done later : List Commit) (entry : Logged) (past : List Message) → HasNoAlteration entry → IsFairEntry tables entry → MovesInEntry tables entry
       → Moved n done (typed_commit infos (raw_commit_at tables rows n entry) ∷ later) past
       → Moved (n + 1) (done ++ typed_commit infos (raw_commit_at tables rows n entry) ∷ []) later (told_commit tables n entry past)
-  entry_on n rows done later (Changes ms) past fair moves m =
+  entry_on n rows done later (Changes ms) past kept fair moves m =
       let commit : Commit = typed_commit infos (raw_commit_at tables rows n (Changes ms)) in
       let begun = begin_step tables infos after n done commit later past refl refl refl m.between in
       let first = begin_moved tables infos after named captured n past m.between.closed m.between.below m.moved in
@@ -87,7 +86,7 @@ module _ (tables : List LogTable) (infos : List TableInfo) (after : Lsn) (named 
         moved = commit_moved tables infos after named captured n (told_changes tables ms (begin_message n ∷ past)) all.begun
             (changes_moved n done commit later ms (begin_message n ∷ past) rows [] fair moves begun first);
       }
-  entry_on n rows done later (Mark value) past fair moves m =
+  entry_on n rows done later (Mark value) past kept fair moves m =
       let commit : Commit = typed_commit infos (raw_commit_at tables rows n (Mark value)) in
       let begun = begin_step tables infos after n done commit later past refl refl refl m.between in
       let first = begin_moved tables infos after named captured n past m.between.closed m.between.below m.moved in
@@ -98,14 +97,23 @@ module _ (tables : List LogTable) (infos : List TableInfo) (after : Lsn) (named 
         moved = commit_moved tables infos after named captured n (mark_message value ∷ onto_relation tables watermark_oid (begin_message n ∷ past)) marked.begun
             (mark_moved tables infos after named captured value (begin_message n ∷ past) _ j.told j.begun j.marked (λ accepted. (j.stated accepted).1) first);
       }
+  entry_on n rows done later (Alter name columns list) past kept fair moves m = absurd kept
 
-  log_on : (n : ℕ) (rows : TextRows) (done : List Commit) (log : List Logged) (past : List Message) → AllByRecursion (IsFairEntry tables) log → AllByRecursion (MovesInEntry tables) log
+  -- a log that alters no table
+  log_on : (n : ℕ) (rows : TextRows) (done : List Commit) (log : List Logged) (past : List Message) → IsUnaltered log → AllByRecursion (IsFairEntry tables) log → AllByRecursion (MovesInEntry tables) log
       → Moved n done (map (typed_commit infos) (commits_from tables rows n log)) past → HaveMovedAtMost infos after (told_from tables n log past)
-  log_on n rows done [] past fair moves m = m.moved
-  log_on n rows done (entry ∷ log) past fair moves m =
+  log_on n rows done [] past kept fair moves m = m.moved
+  log_on n rows done (Changes ms ∷ log) past kept fair moves m =
+      let entry : Logged = Changes ms in
       let first : Commit = typed_commit infos (raw_commit_at tables rows n entry) in
       let rest : List Commit = map (typed_commit infos) (commits_from tables (text_rows_at tables rows entry) (n + 1) log) in
-      log_on (n + 1) (text_rows_at tables rows entry) (done ++ first ∷ []) log (told_commit tables n entry past) fair.1 moves.1 (entry_on n rows done rest entry past fair.0 moves.0 m)
+      log_on (n + 1) (text_rows_at tables rows entry) (done ++ first ∷ []) log (told_commit tables n entry past) kept.1 fair.1 moves.1 (entry_on n rows done rest entry past kept.0 fair.0 moves.0 m)
+  log_on n rows done (Mark value ∷ log) past kept fair moves m =
+      let entry : Logged = Mark value in
+      let first : Commit = typed_commit infos (raw_commit_at tables rows n entry) in
+      let rest : List Commit = map (typed_commit infos) (commits_from tables rows (n + 1) log) in
+      log_on (n + 1) rows (done ++ first ∷ []) log (told_commit tables n entry past) kept.1 fair.1 moves.1 (entry_on n rows done rest entry past kept.0 fair.0 moves.0 m)
+  log_on n rows done (Alter name columns list ∷ log) past kept fair moves m = absurd kept.0
 
   nothing_yet : (rows : TextRows) (log : List Logged) → Moved (commits_upto after + 1) [] (map (typed_commit infos) (commits_from tables rows (commits_upto after + 1) log)) []
   nothing_yet rows log = record {
@@ -122,16 +130,16 @@ module _ (tables : List LogTable) (infos : List TableInfo) (after : Lsn) (named 
   all_after P (suc n) [] all = tt
   all_after P (suc n) (entry ∷ log) all = all_after P n log all.1
 
-  pub front_moved : (log : List Logged) (messages rest : List Message) → AllByRecursion (IsFairEntry tables) log → AllByRecursion (MovesInEntry tables) log
+  pub front_moved : (log : List Logged) (messages rest : List Message) → IsUnaltered log → AllByRecursion (IsFairEntry tables) log → AllByRecursion (MovesInEntry tables) log
       → reverse (told_from tables (commits_upto after + 1) (drop (commits_upto after) log) []) ≡ reverse messages ++ rest → HaveMovedAtMost infos after messages
-  front_moved log messages rest fair moves front =
+  front_moved log messages rest kept fair moves front =
       let first : ℕ = commits_upto after in
       let whole : List Message = told_from tables (first + 1) (drop first log) [] in
       let split : whole ≡ reverse rest ++ messages =
       sym (reverse-reverse whole) ∙ ap reverse front ∙ reverse-append (reverse messages) rest ∙ ap (λ (l : List Message). reverse rest ++ l) (reverse-reverse messages) in
       moved_before (reverse rest) messages
       (subst (HaveMovedAtMost infos after) split
-      (log_on (first + 1) (text_rows_through tables no_text_rows (take first log)) [] (drop first log) []
+      (log_on (first + 1) (text_rows_through tables no_text_rows (take first log)) [] (drop first log) [] (all_after HasNoAlteration first log kept)
       (all_after (IsFairEntry tables) first log fair) (all_after (MovesInEntry tables) first log moves)
       (nothing_yet (text_rows_through tables no_text_rows (take first log)) (drop first log))))
 
@@ -152,5 +160,6 @@ module _ (bytes : List ℕ) (wal : Wal) (is : IsWal bytes wal) where
 pub transactions_move : TransactionsOfWalsMoveAtMost
 transactions_move bytes wal infos after messages rest is captured front =
     let fair = wal_is_fair bytes wal is in
-    front_moved (tables_of wal) infos after fair.named (record { distinct = captured.distinct; each = captured.each }) (logged_in wal.entries) messages rest fair.changes
-    (entries_move (tables_of wal) wal.entries (commits_move bytes wal is)) front
+    front_moved (tables_of wal) infos after fair.named (record { distinct = captured.distinct; each = captured.each }) (logged_in wal.entries) messages rest fair.unaltered
+    (fair_each (tables_of wal) (logged_in wal.entries) fair.unaltered fair.entries) (entries_move (tables_of wal) wal.entries (commits_move bytes wal is))
+    (sym (sent_plain (tables_of wal) after (logged_in wal.entries) fair.unaltered) ∙ front)

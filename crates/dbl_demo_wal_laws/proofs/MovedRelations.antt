@@ -28,7 +28,7 @@ use Rattle.dbl_tables_laws.specs.SourceLog.Histories.{history_of}
 use Rattle.dbl_tables_laws.specs.SourceLog.Laws.{AreDescribed}
 use Rattle.dbl_tables_laws.specs.SourceLog.Numbers.{lsn_of}
 use Rattle.dbl_tables_laws.specs.SourceLog.Relations.{first_oid, mark_message, relation_at, relation_column, relation_message, watermark_columns, watermark_oid, watermark_relation}
-use Rattle.dbl_tables_laws.specs.SourceLog.Sent.{begin_message, commit_message, oids_of, onto_relation, onto_relations}
+use Rattle.dbl_tables_laws.specs.SourceLog.Sent.{begin_message, commit_message, is_described, is_present, oids_of, onto_relation, onto_relations}
 use Rattle.dbl_tables_laws.specs.SourceLog.TextRows.{log_table_named}
 use Rattle.dbl_tables_laws.specs.SourceModel.ModelCommit.declared.message_parts.Relation.{Relation}
 use Rattle.dbl_tables_laws.specs.SourceModel.ModelCommit.declared.message_parts.RowChange.{RowChange}
@@ -100,7 +100,7 @@ module _ (tables : List LogTable) (infos : List TableInfo) (after : Lsn) (named 
   fine m past none moved = (λ accepted. subst IsMovedAtMost (sym none) tt, moved)
 
   relation_moved : (oid : ℕ) (past : List Message) → IsKnown tables oid → HaveMovedAtMost infos after past → HaveMovedAtMost infos after (onto_relation tables oid past)
-  relation_moved oid past known moved = by (is_some (relation_of oid past))
+  relation_moved oid past known moved = by (is_described tables oid past)
     where
       k : KnownAt tables oid
       k = known_at tables oid known
@@ -116,7 +116,7 @@ module _ (tables : List LogTable) (infos : List TableInfo) (after : Lsn) (named 
   relations_moved (oid ∷ oids) past known moved = relations_moved oids (onto_relation tables oid past) known.1 (relation_moved oid past known.0 moved)
 
   pub marks_relation_moved : (past : List Message) → HaveMovedAtMost infos after past → HaveMovedAtMost infos after (onto_relation tables watermark_oid past)
-  marks_relation_moved past moved = by (is_some (relation_of watermark_oid past))
+  marks_relation_moved past moved = by (is_described tables watermark_oid past)
     where
       by : (b : Bool) → HaveMovedAtMost infos after (if b then past else list_of (relation_at tables watermark_oid) ++ past)
       by true = moved
@@ -170,11 +170,15 @@ module _ (tables : List LogTable) (infos : List TableInfo) (after : Lsn) (named 
       by None none some = cc
       by (Some r) is some = elim (told watermark_oid) [ inl none ↦ absurd (none_is_some (relation_of watermark_oid past) r none is) | inr same ↦ same ]
 
+  some_present : (o : Option Relation) (now : Option Message) → is_present o now ≡ true → is_some o ≡ true
+  some_present None now is = absurd (let wrong : false ≡ true = is in cc)
+  some_present (Some r) now is = refl
+
   relation_known : (past : List Message) → is_some (relation_of watermark_oid (onto_relation tables watermark_oid past)) ≡ true
-  relation_known past = by (is_some (relation_of watermark_oid past)) refl
+  relation_known past = by (is_described tables watermark_oid past) refl
     where
-      by : (b : Bool) → is_some (relation_of watermark_oid past) ≡ b → is_some (relation_of watermark_oid (if b then past else list_of (relation_at tables watermark_oid) ++ past)) ≡ true
-      by true is = is
+      by : (b : Bool) → is_described tables watermark_oid past ≡ b → is_some (relation_of watermark_oid (if b then past else list_of (relation_at tables watermark_oid) ++ past)) ≡ true
+      by true is = some_present (relation_of watermark_oid past) (relation_at tables watermark_oid) is
       by false is = refl
 
   marking_states : (value : List ℕ) → row_stated infos None false watermark (marking value) (target infos watermark.name) ≡ Ok []

@@ -23,6 +23,7 @@ use Rattle.dbl_source_log.proofs.RowTexts.{IsHere, here_at, number_at}
 use Rattle.dbl_tables_laws.specs.SourceModel.Selected.{rows_up_to}
 use Rattle.dbl_tables_laws.specs.SourceLog.declared.logged.LogTable.{LogTable}
 use Rattle.dbl_tables_laws.specs.SourceLog.declared.logged.Logged.{Logged}
+use Rattle.dbl_tables_laws.specs.SourceLog.Alterations.{tables_after}
 use Rattle.dbl_tables_laws.specs.SourceLog.FitLogs.{AreFitLog}
 use Rattle.dbl_tables_laws.specs.SourceLog.Histories.{commits_from, history_of, raw_commit_at, rows_of, text_rows_at}
 use Rattle.dbl_tables_laws.specs.SourceLog.Texts.{Texts}
@@ -46,7 +47,7 @@ use Rattle.dbl_demo_wal_laws.proofs.SpelledCommits.{AreSpelledCommits, commits_s
 front_commits : (tables : List LogTable) (rows : TextRows) (n : ℕ) (log : List Logged) (count : ℕ) → take count (commits_from tables rows n log) ≡ commits_from tables rows n (take count log)
 front_commits tables rows n log zero = refl
 front_commits tables rows n [] (suc count) = refl
-front_commits tables rows n (entry ∷ log) (suc count) = ap (λ (cs : List RawCommit). raw_commit_at tables rows n entry ∷ cs) (front_commits tables (text_rows_at tables rows entry) (n + 1) log count)
+front_commits tables rows n (entry ∷ log) (suc count) = ap (λ (cs : List RawCommit). raw_commit_at tables rows n entry ∷ cs) (front_commits (tables_after entry tables) (text_rows_at tables rows entry) (n + 1) log count)
 
 take-map : {A B : Type 0} (f : A → B) (xs : List A) (count : ℕ) → take count (map f xs) ≡ map f (take count xs)
 take-map f xs zero = refl

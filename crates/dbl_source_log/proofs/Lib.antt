@@ -16,6 +16,7 @@ pub mod FairLemmas
 pub mod InsideLemmas
 pub mod ReaderLemmas
 pub mod RowTexts
+pub mod OwnColumns
 pub mod FitLogLemmas
 pub mod MarkLemmas
 pub mod ReadingLemmas

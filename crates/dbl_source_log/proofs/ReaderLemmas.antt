@@ -13,7 +13,8 @@ use Rattle.dbl_source_model.specs.ModelHistory.Typed.{typed_change, typed_commit
 use Rattle.dbl_source_model.specs.ModelHistory.Fit.{AreInfosOf}
 use Rattle.dbl_source_model.specs.ModelCommit.Past.{Head, begin_of, open_mark}
 use Rattle.dbl_source_model.specs.ModelCommit.Stated.{list_of, open_changes, commit_of, ended_commit, commits_of}
-use Rattle.dbl_source_model.specs.Stated.{commits_after, to_state, ReadsRight, IsReadRight}
+use Rattle.dbl_source_model.specs.Stated.{commits_after, to_state, ReadsRight, IsReadPlainly, IsReadRight}
+use Rattle.dbl_source_model.proofs.ShapedLemmas.{read_in_force}
 use Rattle.dbl_source_log.specs.declared.logged.LogTable.{LogTable}
 use Rattle.dbl_source_log.specs.declared.logged.Logged.{Logged}
 use Rattle.dbl_source_log.specs.declared.logged.Logged.TheVariants.{Changes, Mark, Alter}
@@ -29,7 +30,8 @@ use Rattle.dbl_source_log.specs.Fair.{AreNamed, IsChange, IsChangeOf, HasFewFaul
 use Rattle.dbl_source_log.specs.Laws.{FairLogsAreReadRight, ReadersAtTheEndHaveReadAll}
 use Rattle.dbl_source_log.proofs.AlterationLemmas.{after_unaltered, take_unaltered, unaltered_drop}
 use Rattle.dbl_source_log.proofs.SentLemmas.{none_left, at_front}
-use Rattle.dbl_source_log.proofs.LogLemmas.{length-commits_from}
+use Rattle.dbl_source_log.proofs.OwnColumns.{told_own}
+use Rattle.dbl_source_log.proofs.LogLemmas.{keeps_columns, length-commits_from}
 use Rattle.dbl_source_log.proofs.RelationLemmas.{no_number, described_at}
 use Rattle.dbl_source_log.proofs.ChangeLemmas.{change_facts}
 use Rattle.dbl_source_log.proofs.InsideLemmas.{right_front, commits_after-from, begun_of, Between, begin_step, commit_step, changes_step, mark_step}
@@ -83,8 +85,8 @@ fair_drop zero log tables fair = fair
 fair_drop (suc n) [] tables fair = tt
 fair_drop (suc n) (entry ∷ log) tables fair = fair_drop n log (tables_after entry tables) fair.1
 
-pub read_right : (tables : List LogTable) (log : List Logged) (place : ReaderPosition) → IsFairLog tables log → IsReadRight (history_of tables log) (record { after = place.after; messages = told_at tables log place })
-read_right tables log place fair infos captured =
+read_plain : (tables : List LogTable) (log : List Logged) (place : ReaderPosition) → IsFairLog tables log → IsReadPlainly (history_of tables log) (record { after = place.after; messages = told_at tables log place })
+read_plain tables log place fair infos captured =
     right_front infos place.after commits (told_at tables log place) (told_from start (first + 1) subsequent []) (at_front tables log place)
     (subst (λ (ts : List LogTable). ReadsRight infos place.after commits (told_from ts (first + 1) subsequent [])) (sym start_is) whole_right)
   where
@@ -117,6 +119,12 @@ read_right tables log place fair infos captured =
     whole_right =
         let all = log_right tables infos place.after (first + 1) rows [] subsequent [] fair.named (subst (λ (ts : List LogTable). AreFairEntries ts subsequent) start_is (fair_drop first log tables fair.entries)) (unaltered_drop first log fair.unaltered) (captured_of tables log infos captured) nothing_yet in
         subst (λ (cs : List Commit). ReadsRight infos place.after cs (told_from tables (first + 1) subsequent [])) (append-nil (map (typed_commit infos) (commits_from tables rows (first + 1) subsequent)) ∙ sym commits_are) all.right
+
+-- each Relation has its table's own columns
+pub read_right : (tables : List LogTable) (log : List Logged) (place : ReaderPosition) → IsFairLog tables log → IsReadRight (history_of tables log) (record { after = place.after; messages = told_at tables log place })
+read_right tables log place fair =
+    read_in_force (history_of tables log) (record { after = place.after; messages = told_at tables log place }) (keeps_columns tables log fair.unaltered)
+    (λ infos captured. told_own tables log place infos fair captured) (read_plain tables log place fair)
 
 pub reads_right : FairLogsAreReadRight
 reads_right tables log place fair = read_right tables log place fair

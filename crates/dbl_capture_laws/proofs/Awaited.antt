@@ -26,10 +26,10 @@ use Rattle.dbl_capture_work.specs.ModelCommit.Blocks.{AreWithoutFault}
 use Rattle.dbl_capture_work.specs.ModelCommit.Past as past
 use Rattle.dbl_capture_work.specs.ModelCommit.Past.{Head, begin_of}
 use Rattle.dbl_capture_work.specs.ModelCommit.Stated.{body_of, commit_of, commits_of, ended_commit, list_of, open_changes}
-use Rattle.dbl_capture_work.specs.SourceModel.Calls.{HasReadAll, IsBegun, IsHead, Moved, HasReadOneMore, head_after, head_of}
+use Rattle.dbl_capture_work.specs.SourceModel.Calls.{HasReadAllPlainly, IsBegun, IsHead, Moved, HasReadOneMore, head_after, head_of}
 use Rattle.dbl_capture_work.specs.SourceModel.Growth.{Grows, Marks}
 use Rattle.dbl_capture_work.specs.SourceModel.Standings.{Reading, SourceState}
-use Rattle.dbl_capture_work.specs.SourceModel.Stated.{IsReadRight, StatesSome, commits_after, to_state}
+use Rattle.dbl_capture_work.specs.SourceModel.Stated.{IsReadPlainly, StatesSome, commits_after, to_state}
 use Rattle.dbl_capture_work.specs.SourceModel.Trace.{Trace}
 use Rattle.dbl_capture_work.proofs.SourceModelGrowthLemmas.{marks_on}
 use Rattle.dbl_capture_work.proofs.SourceModelReadLemmas.{states_so_far}
@@ -361,7 +361,7 @@ module _ {S : Type 0} (source_model : SourceModel S) where
 
     -- or one that is followed
     pub awaits_commit : (next new : SessionState) (commit : Commit) (ahead : HasOpen a.reading.messages old) → WasTaken a.reading.after a.reading.messages bytes old next (Some commit) → AreWithoutFault old.offset.infos a.reading.after a.reading.messages
-        → WasStepped commit (resting ahead.start next) new → (t.reading ≡ Some next_reading → IsReadRight t.history next_reading) → Awaits source_model.stands new src2
+        → WasStepped commit (resting ahead.start next) new → (t.reading ≡ Some next_reading → IsReadPlainly t.history next_reading) → Awaits source_model.stands new src2
     awaits_commit next new commit ahead w accepted st right = record {
       standing = t;
       is = is;
@@ -419,7 +419,7 @@ module _ {S : Type 0} (source_model : SourceModel S) where
   all_read n k [] is le = refl
   all_read n k (x ∷ later) is le = absurd (omega (arith, is, le))
 
-  pub awaits_nothing : (work : SessionState) (src : S) (t : SourceState) (a : Awaits source_model.stands work src) → AreWithoutFault work.offset.infos a.reading.after a.reading.messages → Moved a.standing t → HasReadAll a.standing t
+  pub awaits_nothing : (work : SessionState) (src : S) (t : SourceState) (a : Awaits source_model.stands work src) → AreWithoutFault work.offset.infos a.reading.after a.reading.messages → Moved a.standing t → HasReadAllPlainly a.standing t
       → work.follower.window ≡ Absent
   awaits_nothing work src t a accepted moved all =
       none_awaited work.follower.window (subst (λ (l : MarkList). AreAwaited l work.follower.window)

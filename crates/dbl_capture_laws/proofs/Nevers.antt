@@ -19,7 +19,7 @@ use Rattle.dbl_capture_work.specs.ModelEvent.Clashes.{Clash}
 use Rattle.dbl_capture_work.proofs.FaithfulItems.{first_some}
 use Rattle.dbl_capture_work.specs.SourceModel.Calls.{HasReadOneMore}
 use Rattle.dbl_capture_work.specs.SourceModel.Standings.{Reading, SourceState}
-use Rattle.dbl_capture_work.specs.SourceModel.Stated.{IsReadRight}
+use Rattle.dbl_capture_work.specs.SourceModel.Stated.{IsReadPlainly}
 use Rattle.dbl_capture_work.specs.SourceModel.Trace.{Trace}
 use Rattle.dbl_capture_work.specs.Offset.declared.offset.Offset.{Offset}
 use Rattle.dbl_capture_work.specs.Window.declared.error.WindowError.{WindowError}
@@ -112,7 +112,7 @@ module _ (entry : SessionStart) (stands : SourceState → Type 0) where
   open_honest clash records h (inr (inr (inr long))) = subst Honest (sym long.1.long.is) tt
 
   pub taken_honest : (infos : List TableInfo) (t : SourceState) (after : Lsn) (ms : List Message) (m : Message) (bytes : List ℕ) (number : ℕ) (work : SessionState) (h : Halt) → IsCapturing entry infos → stands t
-      → t.reading ≡ Some (record { after = after; messages = m ∷ ms }) → AreInfosOf t.history infos → IsReadRight t.history (record { after = after; messages = m ∷ ms }) → work.offset.infos ≡ infos → AreWithoutFault infos after ms
+      → t.reading ≡ Some (record { after = after; messages = m ∷ ms }) → AreInfosOf t.history infos → IsReadPlainly t.history (record { after = after; messages = m ∷ ms }) → work.offset.infos ≡ infos → AreWithoutFault infos after ms
       → Spells bytes m → number ≡ length (m ∷ ms) → (h ≡ halt.Memory) ⊎ (IsMessageHalt number bytes h ⊎ IsTxnHalt number after ms bytes work h) → Honest h
   taken_honest infos t after ms m bytes number work h captured stood reading are right same accepted spells many cause = by cause
     where

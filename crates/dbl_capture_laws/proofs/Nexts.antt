@@ -21,10 +21,10 @@ use Rattle.dbl_capture_work.specs.ModelCommit.Stated.{ended_commit, transaction_
 use Rattle.dbl_capture_work.specs.ModelEvent.SnapshotLists.{IsSnapshot}
 use Rattle.dbl_capture_work.specs.Txn.Stands.{StandsInPieces}
 use Rattle.dbl_capture_work.specs.Txn.declared.assembler.Assembler.{Assembler}
-use Rattle.dbl_capture_work.specs.SourceModel.Calls.{Moved, HasReadOneMore, HasReadAll}
+use Rattle.dbl_capture_work.specs.SourceModel.Calls.{Moved, HasReadOneMore, HasReadAllPlainly}
 use Rattle.dbl_capture_work.specs.SourceModel.Leaves.{MayFollow}
 use Rattle.dbl_capture_work.specs.SourceModel.Standings.{Reading, SourceState, CrashState, left_of}
-use Rattle.dbl_capture_work.specs.SourceModel.Stated.{commits_after, to_state, IsReadRight}
+use Rattle.dbl_capture_work.specs.SourceModel.Stated.{commits_after, to_state, IsReadPlainly}
 use Rattle.dbl_capture_work.proofs.SourceModelReadLemmas.{states_so_far}
 use Rattle.dbl_capture_work.specs.Offset.declared.offset.Offset.{Offset}
 use Rattle.dbl_capture_work.specs.OffsetStore.Stores.{StoreOn, disk_of}
@@ -112,7 +112,7 @@ module _ {S K D : Type 0} {tell : Bool} {source_model : SourceModel S} {sink_mod
     pub taken_standing : t ≡ state_at_stage (record s.stage { history = t.history; messages = m ∷ s.stage.messages })
     taken_standing = ap₂ (λ (c : Lsn) (r : Option Reading). record { history = t.history; confirmed = c; reading = r }) took.confirmed reading_is
 
-    module _ (fit : IsFitHistory t.history) (right : (r : Reading) → t.reading ≡ Some r → IsReadRight t.history r) (bytes : List ℕ) (spells : Spells bytes m) where
+    module _ (fit : IsFitHistory t.history) (right : (r : Reading) → t.reading ≡ Some r → IsReadPlainly t.history r) (bytes : List ℕ) (spells : Spells bytes m) where
       moved_going : IsGoing entry moved_stage
       moved_going = others_keep_going entry s.stage t.history took.grows fit s.going
 
@@ -324,7 +324,7 @@ module _ {S K D : Type 0} {tell : Bool} {source_model : SourceModel S} {sink_mod
   -- ---- as the session has it
 
   -- others may have committed, and a message was given
-  module _ (m : Message) (t : SourceState) (took : HasReadOneMore m (state_at_stage s.stage) t) (fit : IsFitHistory t.history) (right : (r : Reading) → t.reading ≡ Some r → IsReadRight t.history r) (bytes : List ℕ) (spells : Spells bytes m)
+  module _ (m : Message) (t : SourceState) (took : HasReadOneMore m (state_at_stage s.stage) t) (fit : IsFitHistory t.history) (right : (r : Reading) → t.reading ≡ Some r → IsReadPlainly t.history r) (bytes : List ℕ) (spells : Spells bytes m)
       (work2 : SessionState) (commit : Option Commit) (w : WasTaken s.stage.first.lsn s.stage.messages bytes work work2 commit) where
     own_message : w.message ≡ m
     own_message = one_is m t took fit right bytes spells w.message w.spells
@@ -396,7 +396,7 @@ module _ {S K D : Type 0} {tell : Bool} {source_model : SourceModel S} {sink_mod
 
   -- ---- everything was read
 
-  module _ (t : SourceState) (moved : Moved (state_at_stage s.stage) t) (all : HasReadAll (state_at_stage s.stage) t) (right : (r : Reading) → t.reading ≡ Some r → IsReadRight t.history r) where
+  module _ (t : SourceState) (moved : Moved (state_at_stage s.stage) t) (all : HasReadAllPlainly (state_at_stage s.stage) t) (right : (r : Reading) → t.reading ≡ Some r → IsReadPlainly t.history r) where
     abbrev own_reading : Reading
     own_reading = record { after = s.stage.first.lsn; messages = s.stage.messages }
 

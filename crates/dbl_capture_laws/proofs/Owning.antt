@@ -25,7 +25,7 @@ use Rattle.dbl_capture_work.specs.ModelEvent.EventJson.{envelopes}
 use Rattle.dbl_capture_work.proofs.FaithfulItems.{first_some}
 use Rattle.dbl_capture_work.specs.SourceModel.Calls.{Moved, HasReadOneMore}
 use Rattle.dbl_capture_work.specs.SourceModel.Standings.{Reading, SourceState}
-use Rattle.dbl_capture_work.specs.SourceModel.Stated.{IsReadRight}
+use Rattle.dbl_capture_work.specs.SourceModel.Stated.{IsReadPlainly}
 use Rattle.dbl_capture_work.specs.SourceModel.Trace.{Trace}
 use Rattle.dbl_capture_work.specs.Offset.declared.offset.Offset.{Offset}
 use Rattle.dbl_capture_work.specs.OffsetStore.Stores.{StoreOn}
@@ -145,7 +145,7 @@ module _ {S K D : Type 0} {source_model : SourceModel S} {sink_model : SinkModel
 
   -- ---- the records of the newest message
 
-  module _ (m : Message) (t : SourceState) (took : HasReadOneMore m (state_at_stage s.stage) t) (fit : IsFitHistory t.history) (right : (r : Reading) → t.reading ≡ Some r → IsReadRight t.history r)
+  module _ (m : Message) (t : SourceState) (took : HasReadOneMore m (state_at_stage s.stage) t) (fit : IsFitHistory t.history) (right : (r : Reading) → t.reading ≡ Some r → IsReadPlainly t.history r)
       (bytes : List ℕ) (spells : Spells bytes m) (next : SessionState) (ended : Option Commit) (w : WasTaken s.stage.first.lsn s.stage.messages bytes work next ended) where
     abbrev stage : Stage
     stage = record s.stage { history = t.history }

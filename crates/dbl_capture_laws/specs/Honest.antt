@@ -13,7 +13,7 @@ use Rattle.dbl_capture_work.specs.ModelCommit.Blocks.{AreWithoutFault}
 use Rattle.dbl_capture_work.specs.ModelCommit.declared.txn_error.TxnError.{TxnError}
 use Rattle.dbl_capture_work.specs.ModelCommit.Stated.{transaction_fault}
 use Rattle.dbl_capture_work.specs.SourceModel.Standings.{SourceState}
-use Rattle.dbl_capture_work.specs.SourceModel.Stated.{IsReadRight}
+use Rattle.dbl_capture_work.specs.SourceModel.Stated.{IsReadPlainly}
 use Rattle.dbl_capture_work.specs.declared.halt.Halt.{Halt}
 use Rattle.dbl_capture_work.specs.Begins.{CanBeCaptured}
 use Rattle.dbl_capture_work.specs.Takes.{IsMessageHalt}
@@ -28,7 +28,7 @@ abbrev pub HonestTransactionsFail : Type 0
 HonestTransactionsFail = (infos : List TableInfo) (t : SourceState) (after : Lsn) (ms : List Message) (m : Message) (number : ℕ)
     (error : TxnError)
     → t.reading ≡ Some (record { after = after; messages = m ∷ ms }) → AreInfosOf t.history infos
-    → IsReadRight t.history (record { after = after; messages = m ∷ ms })
+    → IsReadPlainly t.history (record { after = after; messages = m ∷ ms })
     → AreWithoutFault infos after ms → transaction_fault infos after m ms ≡ Some error → number ≡ length (m ∷ ms)
     → IsOwnTxnFault infos t number error
 

@@ -41,6 +41,7 @@ pub use Rattle.dbl_model_history.proofs.RowKeys as ModelHistoryRowKeys
 pub use Rattle.dbl_offset.proofs.StoreLaws as OffsetStoreLaws
 pub use Rattle.dbl_source_model.proofs.GrowthLemmas as SourceModelGrowthLemmas
 pub use Rattle.dbl_source_model.proofs.ReadLemmas as SourceModelReadLemmas
+pub use Rattle.dbl_source_model.proofs.ShapedLemmas as SourceModelShapedLemmas
 pub use Rattle.dbl_window.proofs.ConsumeLawsActs
 pub use Rattle.dbl_window.proofs.ConsumeLawsCellEvents
 pub use Rattle.dbl_window.proofs.ConsumeLawsCommits

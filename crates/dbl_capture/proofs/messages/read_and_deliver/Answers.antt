@@ -30,6 +30,7 @@ use Rattle.dbl_offset_content.specs.declared.offset.Offset.{Offset}
 use Rattle.dbl_source.specs.ModelCommit.Blocks.{AreWithoutFault}
 use Rattle.dbl_capture_laws.specs.Nevers.{IsHonestHalt}
 use Rattle.dbl_capture_work.proofs.WindowHonestLemmas.{captured_stays}
+use Rattle.dbl_capture_work.proofs.SourceModelShapedLemmas.{all_plainly, read_plainly}
 use Rattle.dbl_capture_laws.proofs.StepMarks.{others_leave_few_marks}
 use Rattle.dbl_capture_laws.proofs.Lasting.{leaves_most, left_grows, same_most, torn_more, step_more, open_more}
 use Rattle.dbl_capture_laws.proofs.Asking.{failure_asks, newest_asks, read_quiet, source_fails}
@@ -81,7 +82,7 @@ returns-in_err-take_message-in-Some-clause-session g c = record {
       residual_of c.from_residual-in_err-take_message-in-Some.result _ (IsHonestHalt entry (g.S.Source.stands c.read.new.self)) c.from_residual-in_err-take_message-in-Some.ensures.1
       (taken_honest entry (g.S.Source.stands c.read.new.self) s.stage.first.infos T.2.standing s.stage.first.lsn s.stage.messages T.0 c.in-Some.bytes (c.args.report.now.messages + 1) c.args.work.now _ (capturing s) T.2.is reading
       (captured_stays s.stage.history T.2.standing.history s.stage.first.infos T.2.holds.grows.tables s.going.reading.infos)
-      (g.met.S.Source.right c.read.new.self T.2.standing _ T.2.is honest reading) infos_are (subst (λ (l : List TableInfo). AreWithoutFault l s.stage.first.lsn s.stage.messages) infos_are s.work_is.is.accepted) T.1
+      (read_plainly T.2.standing.history _ (g.met.S.Source.fit _ _ (g.met.S.Source.may _ T.2.standing T.2.is) honest).unaltered (g.met.S.Source.right c.read.new.self T.2.standing _ T.2.is honest reading)) infos_are (subst (λ (l : List TableInfo). AreWithoutFault l s.stage.first.lsn s.stage.messages) infos_are s.work_is.is.accepted) T.1
       (let many = many_at g.S.Source g.met.S.Source.one at found b c.args.store.now.offset c.args.work.now c.args.report.now c.args.src.now first s.stage.first.lsn s.stage.messages u is (state_at_stage s.stage) s.source_is refl in sym (one_longer (length s.stage.messages) c.args.report.now.messages many))
       (c.in_err-take_message-in-Some.ensures.halt s.stage.first.lsn s.stage.messages s.ahead s.work_is.is));
   most = λ tell entry s closed.
@@ -106,7 +107,7 @@ returns-clause-session g c = record {
   left = λ tell entry x x1. tt;
   whole = λ tell entry s honest is.
       let T = none_read _ _ _ c.in-None.is (c.in_ok-bytes.ensures.took (state_at_stage s.stage) s.source_is) in
-      read_whole s T.standing T.holds.0 (T.holds.1 honest) (λ r at. g.met.S.Source.right _ T.standing r T.is honest at) (g.met.S.Source.fit _ _ (g.met.S.Source.may _ T.standing T.is) honest) c.read.new.self T.is;
+      read_whole s T.standing T.holds.0 (all_plainly (state_at_stage s.stage) T.standing (g.met.S.Source.fit _ _ (g.met.S.Source.may _ T.standing T.is) honest).unaltered (T.holds.1 honest)) (λ r at. read_plainly T.standing.history r (g.met.S.Source.fit _ _ (g.met.S.Source.may _ T.standing T.is) honest).unaltered (g.met.S.Source.right _ T.standing r T.is honest at)) (g.met.S.Source.fit _ _ (g.met.S.Source.may _ T.standing T.is) honest) c.read.new.self T.is;
   own = λ tell entry at found b x x1 s x2 x3. tt;
   most = λ tell entry x x1. tt;
   content = λ entry at found b x x1 x2 x3. tt;
@@ -122,7 +123,7 @@ returns-in_err-deliver_changes-in-Changed-clause-session g c = record {
       let p = (subst (λ (x : Piece). HasTakenPiece s.stage.first.lsn s.stage.messages c.in-Some.bytes c.args.work.now c.take_message.new.work x) c.in-Changed.is (c.in_ok-take_message-in-Some.ensures.taken s.stage.first.lsn s.stage.messages s.ahead s.work_is.is)) in
       let d = c.deliver_changes.ensures.delivers s.stage.first.lsn p.taken.message s.stage.messages s.ahead.start s.ahead.put (stated_now s.stage.first.lsn s.stage.messages c.in-Some.bytes c.args.work.now c.take_message.new.work c.in-Changed.changes p) (taken_open p.taken s.ahead.is) in
       on_err _ _
-      (change_fails s T.0 T.2.standing T.2.holds (g.met.S.Source.fit _ _ (g.met.S.Source.may _ T.2.standing T.2.is) honest) (λ r at. g.met.S.Source.right _ T.2.standing r T.2.is honest at) c.in-Some.bytes T.1 c.take_message.new.work None p.taken refl c.requires.time c.requires.since c.read.new.self c.deliver_changes.new.sink
+      (change_fails s T.0 T.2.standing T.2.holds (g.met.S.Source.fit _ _ (g.met.S.Source.may _ T.2.standing T.2.is) honest) (λ r at. read_plainly T.2.standing.history r (g.met.S.Source.fit _ _ (g.met.S.Source.may _ T.2.standing T.2.is) honest).unaltered (g.met.S.Source.right _ T.2.standing r T.2.is honest at)) c.in-Some.bytes T.1 c.take_message.new.work None p.taken refl c.requires.time c.requires.since c.read.new.self c.deliver_changes.new.sink
       (λ left is. g.met.S.Source.only _ T.2.standing left T.2.is is) (λ left is. c.read.ensures.left (state_at_stage s.stage) left s.source_is is) (λ left is. g.met.S.Source.fit _ left is honest)
       (λ t groups is. left_part s.stage.first.lsn s.stage.messages c.in-Some.bytes c.args.work.now c.take_message.new.work c.in-Changed.changes p g.K.Sink s.ahead.start s.ahead.put c.deliver_changes.new.work c.args.sink.now c.deliver_changes.new.sink (record c.args.report.now { messages = c.args.report.now.messages + 1 }) c.deliver_changes.new.report c.deliver_changes.result d s.stage.groups groups (s.sink_is t) is)
       (c.read.ensures.some (state_at_stage s.stage) s.source_is) (λ t. d.some (s.stage.groups ++ cut s.ahead.put) (s.sink_is t)));
@@ -143,7 +144,7 @@ returns-in_err-deliver_changes-in-Changed-clause-session g c = record {
       let d = c.in_err-deliver_changes-in-Changed.ensures.delivers s.stage.first.lsn p.taken.message s.stage.messages s.ahead.start s.ahead.put (stated_now s.stage.first.lsn s.stage.messages c.in-Some.bytes c.args.work.now c.take_message.new.work c.in-Changed.changes p) (taken_open p.taken s.ahead.is) in
       let e = by_offset s.stage.first.lsn s.stage.messages c.in-Some.bytes c.args.work.now c.take_message.new.work c.in-Changed.changes p g.K.Sink s.ahead.start s.ahead.put c.deliver_changes.new.work c.args.sink.now c.deliver_changes.new.sink (record c.args.report.now { messages = c.args.report.now.messages + 1 }) c.deliver_changes.new.report _ s.work_is.is d in
       residual_of c.from_residual-in_err-deliver_changes-in-Changed.result _ (IsFaithfulHalt entry c.args.store.now.offset c.deliver_changes.new.report (g.S.Source.stands c.read.new.self) (g.K.Sink.holds c.deliver_changes.new.sink)) c.from_residual-in_err-deliver_changes-in-Changed.ensures.1
-      (part_own s faithful T.0 T.2.standing T.2.holds (g.met.S.Source.fit _ _ (g.met.S.Source.may _ T.2.standing T.2.is) honest) (λ r at. g.met.S.Source.right _ T.2.standing r T.2.is honest at) c.in-Some.bytes T.1 c.take_message.new.work None p.taken
+      (part_own s faithful T.0 T.2.standing T.2.holds (g.met.S.Source.fit _ _ (g.met.S.Source.may _ T.2.standing T.2.is) honest) (λ r at. read_plainly T.2.standing.history r (g.met.S.Source.fit _ _ (g.met.S.Source.may _ T.2.standing T.2.is) honest).unaltered (g.met.S.Source.right _ T.2.standing r T.2.is honest at)) c.in-Some.bytes T.1 c.take_message.new.work None p.taken
       b u.messages c.args.store.now.offset c.args.report.now c.deliver_changes.new.report u.ahead u.is c.read.new.self c.deliver_changes.new.sink T.2.is c.in-Changed.changes p.is.0 p.is.1 _ e.causes);
   unclosed = λ entry first found b s u faithful honest t now.
       let T = some_read _ _ _ _ c.in-Some.is (c.in_ok-bytes.ensures.took (state_at_stage s.stage) s.source_is) in
@@ -161,7 +162,7 @@ returns-in_err-closed-in-Ended-clause-session g c = record {
       let p = (subst (λ (x : Piece). HasTakenPiece s.stage.first.lsn s.stage.messages c.in-Some.bytes c.args.work.now c.take_message.new.work x) c.in-Ended.is (c.in_ok-take_message-in-Some.ensures.taken s.stage.first.lsn s.stage.messages s.ahead s.work_is.is)) in
       let d = delivers_now s.stage.first.lsn s.stage.messages c.in-Some.bytes c.args.work.now c.take_message.new.work c.in-Ended.ended p g.K.Sink s.ahead.start s.ahead.put c.deliver_commit.new.work c.args.sink.now c.deliver_commit.new.sink (record c.args.report.now { messages = c.args.report.now.messages + 1 }) c.deliver_commit.new.report c.deliver_commit.result (c.deliver_commit.ensures.delivers s.stage.messages s.ahead.start s.ahead.put (taken_open p.taken s.ahead.is) (begun_now s.stage.first.lsn s.stage.messages c.in-Some.bytes c.args.work.now c.take_message.new.work c.in-Ended.ended p)) in
       on_err _ _
-      (step_fails s T.0 T.2.standing T.2.holds (g.met.S.Source.fit _ _ (g.met.S.Source.may _ T.2.standing T.2.is) honest) (λ r at. g.met.S.Source.right _ T.2.standing r T.2.is honest at) c.in-Some.bytes T.1 c.take_message.new.work (Some (commit_by c.in-Ended.ended (changes_so_far c.args.work.now.offset.infos s.stage.messages))) p.taken (commit_by c.in-Ended.ended (changes_so_far c.args.work.now.offset.infos s.stage.messages)) refl c.requires.time c.requires.since c.read.new.self c.deliver_commit.new.sink
+      (step_fails s T.0 T.2.standing T.2.holds (g.met.S.Source.fit _ _ (g.met.S.Source.may _ T.2.standing T.2.is) honest) (λ r at. read_plainly T.2.standing.history r (g.met.S.Source.fit _ _ (g.met.S.Source.may _ T.2.standing T.2.is) honest).unaltered (g.met.S.Source.right _ T.2.standing r T.2.is honest at)) c.in-Some.bytes T.1 c.take_message.new.work (Some (commit_by c.in-Ended.ended (changes_so_far c.args.work.now.offset.infos s.stage.messages))) p.taken (commit_by c.in-Ended.ended (changes_so_far c.args.work.now.offset.infos s.stage.messages)) refl c.requires.time c.requires.since c.read.new.self c.deliver_commit.new.sink
       (λ left is. g.met.S.Source.only _ T.2.standing left T.2.is is) (λ left is. c.read.ensures.left (state_at_stage s.stage) left s.source_is is) (λ left is. g.met.S.Source.fit _ left is honest)
       (λ t groups is. d.left s.stage.groups groups (s.sink_is t) is) (c.read.ensures.some (state_at_stage s.stage) s.source_is) (λ t. d.some (s.stage.groups ++ cut s.ahead.put) (s.sink_is t)));
   whole = λ tell entry x x1 x2. absurd (not_ok c.from_residual-in_err-closed-in-Ended.result _ _ c.from_residual-in_err-closed-in-Ended.ensures.1 x2);
@@ -182,7 +183,7 @@ returns-in_err-closed-in-Ended-clause-session g c = record {
       let p = (subst (λ (x : Piece). HasTakenPiece s.stage.first.lsn s.stage.messages c.in-Some.bytes c.args.work.now c.take_message.new.work x) c.in-Ended.is (c.in_ok-take_message-in-Some.ensures.taken s.stage.first.lsn s.stage.messages s.ahead s.work_is.is)) in
       let d = delivers_now s.stage.first.lsn s.stage.messages c.in-Some.bytes c.args.work.now c.take_message.new.work c.in-Ended.ended p g.K.Sink s.ahead.start s.ahead.put c.deliver_commit.new.work c.args.sink.now c.deliver_commit.new.sink (record c.args.report.now { messages = c.args.report.now.messages + 1 }) c.deliver_commit.new.report _ (c.in_err-closed-in-Ended.ensures.delivers s.stage.messages s.ahead.start s.ahead.put (taken_open p.taken s.ahead.is) (begun_now s.stage.first.lsn s.stage.messages c.in-Some.bytes c.args.work.now c.take_message.new.work c.in-Ended.ended p)) in
       residual_of c.from_residual-in_err-closed-in-Ended.result _ (IsFaithfulHalt entry c.args.store.now.offset c.deliver_commit.new.report (g.S.Source.stands c.read.new.self) (g.K.Sink.holds c.deliver_commit.new.sink)) c.from_residual-in_err-closed-in-Ended.ensures.1
-      (follow_own s faithful T.0 T.2.standing T.2.holds (g.met.S.Source.fit _ _ (g.met.S.Source.may _ T.2.standing T.2.is) honest) (λ r at. g.met.S.Source.right _ T.2.standing r T.2.is honest at) c.in-Some.bytes T.1 c.take_message.new.work (Some (commit_by c.in-Ended.ended (changes_so_far c.args.work.now.offset.infos s.stage.messages))) p.taken
+      (follow_own s faithful T.0 T.2.standing T.2.holds (g.met.S.Source.fit _ _ (g.met.S.Source.may _ T.2.standing T.2.is) honest) (λ r at. read_plainly T.2.standing.history r (g.met.S.Source.fit _ _ (g.met.S.Source.may _ T.2.standing T.2.is) honest).unaltered (g.met.S.Source.right _ T.2.standing r T.2.is honest at)) c.in-Some.bytes T.1 c.take_message.new.work (Some (commit_by c.in-Ended.ended (changes_so_far c.args.work.now.offset.infos s.stage.messages))) p.taken
       b u.messages c.args.store.now.offset c.args.report.now c.deliver_commit.new.report u.ahead u.is c.read.new.self c.deliver_commit.new.sink T.2.is (commit_by c.in-Ended.ended (changes_so_far c.args.work.now.offset.infos s.stage.messages)) refl d.counts _ d.causes);
   unclosed = λ entry first found b s u faithful honest t now.
       let T = some_read _ _ _ _ c.in-Some.is (c.in_ok-bytes.ensures.took (state_at_stage s.stage) s.source_is) in
@@ -201,7 +202,7 @@ returns-in-Some-clause-session g c = record {
       let T = some_read _ _ _ _ c.in-Some.is (c.in_ok-bytes.ensures.took (state_at_stage s.stage) s.source_is) in
       let p = (subst (λ (x : Piece). HasTakenPiece s.stage.first.lsn s.stage.messages c.in-Some.bytes c.args.work.now c.take_message.new.work x) c.in-Ended.is (c.in_ok-take_message-in-Some.ensures.taken s.stage.first.lsn s.stage.messages s.ahead s.work_is.is)) in
       let d = delivers_now s.stage.first.lsn s.stage.messages c.in-Some.bytes c.args.work.now c.take_message.new.work c.in-Ended.ended p g.K.Sink s.ahead.start s.ahead.put c.deliver_commit.new.work c.args.sink.now c.deliver_commit.new.sink (record c.args.report.now { messages = c.args.report.now.messages + 1 }) c.deliver_commit.new.report _ (c.in_ok-closed-in-Ended.ensures.delivers s.stage.messages s.ahead.start s.ahead.put (taken_open p.taken s.ahead.is) (begun_now s.stage.first.lsn s.stage.messages c.in-Some.bytes c.args.work.now c.take_message.new.work c.in-Ended.ended p)) in
-      stepped_on s T.0 T.2.standing T.2.holds (g.met.S.Source.fit _ _ (g.met.S.Source.may _ T.2.standing T.2.is) honest) (λ r at. g.met.S.Source.right _ T.2.standing r T.2.is honest at) c.in-Some.bytes T.1 c.take_message.new.work (Some (commit_by c.in-Ended.ended (changes_so_far c.args.work.now.offset.infos s.stage.messages))) p.taken (commit_by c.in-Ended.ended (changes_so_far c.args.work.now.offset.infos s.stage.messages)) refl c.requires.time c.requires.since c.deliver_commit.new.work d.stepped d.long c.read.new.self c.deliver_commit.new.sink T.2.is
+      stepped_on s T.0 T.2.standing T.2.holds (g.met.S.Source.fit _ _ (g.met.S.Source.may _ T.2.standing T.2.is) honest) (λ r at. read_plainly T.2.standing.history r (g.met.S.Source.fit _ _ (g.met.S.Source.may _ T.2.standing T.2.is) honest).unaltered (g.met.S.Source.right _ T.2.standing r T.2.is honest at)) c.in-Some.bytes T.1 c.take_message.new.work (Some (commit_by c.in-Ended.ended (changes_so_far c.args.work.now.offset.infos s.stage.messages))) p.taken (commit_by c.in-Ended.ended (changes_so_far c.args.work.now.offset.infos s.stage.messages)) refl c.requires.time c.requires.since c.deliver_commit.new.work d.stepped d.long c.read.new.self c.deliver_commit.new.sink T.2.is
       (λ t. d.put_all s.stage.groups (s.sink_is t));
   left = λ tell entry x x1. tt;
   whole = λ tell entry s honest is. absurd (ok_some _ _ refl is);
@@ -217,7 +218,7 @@ returns-in-Changed-clause-session g c = record {
       let T = some_read _ _ _ _ c.in-Some.is (c.in_ok-bytes.ensures.took (state_at_stage s.stage) s.source_is) in
       let p = (subst (λ (x : Piece). HasTakenPiece s.stage.first.lsn s.stage.messages c.in-Some.bytes c.args.work.now c.take_message.new.work x) c.in-Changed.is (c.in_ok-take_message-in-Some.ensures.taken s.stage.first.lsn s.stage.messages s.ahead s.work_is.is)) in
       let d = c.in_ok-deliver_changes-in-Changed.ensures.delivers s.stage.first.lsn p.taken.message s.stage.messages s.ahead.start s.ahead.put (stated_now s.stage.first.lsn s.stage.messages c.in-Some.bytes c.args.work.now c.take_message.new.work c.in-Changed.changes p) (taken_open p.taken s.ahead.is) in
-      changed_on s T.0 T.2.standing T.2.holds (g.met.S.Source.fit _ _ (g.met.S.Source.may _ T.2.standing T.2.is) honest) (λ r at. g.met.S.Source.right _ T.2.standing r T.2.is honest at) c.in-Some.bytes T.1 c.take_message.new.work None p.taken refl c.deliver_changes.new.work c.deliver_changes.new.sink (record c.args.report.now { messages = c.args.report.now.messages + 1 }) c.deliver_changes.new.report c.deliver_changes.ensures.same d.next c.read.new.self T.2.is;
+      changed_on s T.0 T.2.standing T.2.holds (g.met.S.Source.fit _ _ (g.met.S.Source.may _ T.2.standing T.2.is) honest) (λ r at. read_plainly T.2.standing.history r (g.met.S.Source.fit _ _ (g.met.S.Source.may _ T.2.standing T.2.is) honest).unaltered (g.met.S.Source.right _ T.2.standing r T.2.is honest at)) c.in-Some.bytes T.1 c.take_message.new.work None p.taken refl c.deliver_changes.new.work c.deliver_changes.new.sink (record c.args.report.now { messages = c.args.report.now.messages + 1 }) c.deliver_changes.new.report c.deliver_changes.ensures.same d.next c.read.new.self T.2.is;
   left = λ tell entry x x1. tt;
   whole = λ tell entry s honest is. absurd (ok_some _ _ refl is);
   own = λ tell entry at found b x x1 s x2 x3. tt;
@@ -231,7 +232,7 @@ returns-in-Nothing-clause-session g c = record {
   next = λ tell entry s honest.
       let T = some_read _ _ _ _ c.in-Some.is (c.in_ok-bytes.ensures.took (state_at_stage s.stage) s.source_is) in
       let p = (subst (λ (x : Piece). HasTakenPiece s.stage.first.lsn s.stage.messages c.in-Some.bytes c.args.work.now c.take_message.new.work x) c.in-Nothing.is (c.in_ok-take_message-in-Some.ensures.taken s.stage.first.lsn s.stage.messages s.ahead s.work_is.is)) in
-      taken_on s T.0 T.2.standing T.2.holds (g.met.S.Source.fit _ _ (g.met.S.Source.may _ T.2.standing T.2.is) honest) (λ r at. g.met.S.Source.right _ T.2.standing r T.2.is honest at) c.in-Some.bytes T.1 c.take_message.new.work None p.taken refl (nothing_open s.stage.first.lsn s.stage.messages c.in-Some.bytes c.args.work.now c.take_message.new.work s.work_is.is.accepted p s.ahead.start s.ahead.put s.ahead.is) c.read.new.self T.2.is;
+      taken_on s T.0 T.2.standing T.2.holds (g.met.S.Source.fit _ _ (g.met.S.Source.may _ T.2.standing T.2.is) honest) (λ r at. read_plainly T.2.standing.history r (g.met.S.Source.fit _ _ (g.met.S.Source.may _ T.2.standing T.2.is) honest).unaltered (g.met.S.Source.right _ T.2.standing r T.2.is honest at)) c.in-Some.bytes T.1 c.take_message.new.work None p.taken refl (nothing_open s.stage.first.lsn s.stage.messages c.in-Some.bytes c.args.work.now c.take_message.new.work s.work_is.is.accepted p s.ahead.start s.ahead.put s.ahead.is) c.read.new.self T.2.is;
   left = λ tell entry x x1. tt;
   whole = λ tell entry s honest is. absurd (ok_some _ _ refl is);
   own = λ tell entry at found b x x1 s x2 x3. tt;
@@ -568,7 +569,7 @@ returns-in-Some-clause-report g c = record {
       let p = (subst (λ (x : Piece). HasTakenPiece a.reading.after a.reading.messages c.in-Some.bytes c.args.work.now c.take_message.new.work x) c.in-Ended.is (c.in_ok-take_message-in-Some.ensures.taken a.reading.after a.reading.messages own.0 own.1)) in
       let d = delivers_now a.reading.after a.reading.messages c.in-Some.bytes c.args.work.now c.take_message.new.work c.in-Ended.ended p g.K.Sink own.0.start own.0.put c.deliver_commit.new.work c.args.sink.now c.deliver_commit.new.sink (record c.args.report.now { messages = c.args.report.now.messages + 1 }) c.deliver_commit.new.report _ (c.in_ok-closed-in-Ended.ensures.delivers a.reading.messages own.0.start own.0.put (taken_open p.taken own.0.is) (begun_now a.reading.after a.reading.messages c.in-Some.bytes c.args.work.now c.take_message.new.work c.in-Ended.ended p)) in
       awaits_commit g.S.Source c.args.work.now c.args.src.now c.read.new.self a c.in-Some.bytes read.0 read.2.standing read.1 read.2.is read.2.holds c.take_message.new.work c.deliver_commit.new.work (commit_by c.in-Ended.ended (changes_so_far c.args.work.now.offset.infos a.reading.messages)) own.0
-      p.taken own.1.accepted d.stepped (λ is. g.met.S.Source.right c.read.new.self read.2.standing _ read.2.is honest is);
+      p.taken own.1.accepted d.stepped (λ is. read_plainly read.2.standing.history _ (g.met.S.Source.fit _ _ (g.met.S.Source.may _ read.2.standing read.2.is) honest).unaltered (g.met.S.Source.right c.read.new.self read.2.standing _ read.2.is honest is));
   waits = λ at found b x s x1 x2 x3 is. absurd (ok_some _ _ refl is);
   grows = λ s left is may. longer_grows s.history left.history (c.read.ensures.left s left is may).grows;
   confirmed = λ s t was now. (c.read.ensures.left s (left_of t) was (g.met.S.Source.may c.read.new.self t now)).confirmed;
@@ -629,7 +630,8 @@ returns-clause-report g c = record {
   waits = λ at found b u s first honest a is.
       let own = work_at g.S.Source at found b c.args.store.now.offset c.args.work.now c.args.report.now c.args.src.now u (g.met.S.Source.one c.args.src.now) s first a in
       let t = none_read _ _ _ c.in-None.is (c.in_ok-bytes.ensures.took a.standing a.is) in
-      awaits_nothing g.S.Source c.args.work.now c.args.src.now t.standing a own.1.accepted t.holds.0 (t.holds.1 honest);
+      awaits_nothing g.S.Source c.args.work.now c.args.src.now t.standing a own.1.accepted t.holds.0
+      (all_plainly a.standing t.standing (g.met.S.Source.fit _ _ (g.met.S.Source.may _ t.standing t.is) honest).unaltered (t.holds.1 honest));
   grows = λ s left is may. longer_grows s.history left.history (c.read.ensures.left s left is may).grows;
   confirmed = λ s t was now. (c.read.ensures.left s (left_of t) was (g.met.S.Source.may c.read.new.self t now)).confirmed;
 }

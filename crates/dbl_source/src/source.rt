@@ -265,8 +265,9 @@ pub trait Source {
     ghost fit: { (source : Self) (l : CrashState) → may_leave source l → honest source
         → IsFitHistory l.history };
 
-    /// The messages read of a conforming source state the first commits after the start, up to the
-    /// first message with an error, for any captured tables.
+    /// The messages read of a conforming source, each in the columns of its table's last Relation,
+    /// state the first commits after the start, up to the first message with an error, for any
+    /// captured tables.
     ghost right: { (source : Self) (s : SourceState) (r : Reading) → stands source s → honest source
         → s.reading ≡ Some r → IsReadRight s.history r };
 

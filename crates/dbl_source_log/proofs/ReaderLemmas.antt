@@ -85,7 +85,7 @@ fair_drop zero log tables fair = fair
 fair_drop (suc n) [] tables fair = tt
 fair_drop (suc n) (entry ∷ log) tables fair = fair_drop n log (tables_after entry tables) fair.1
 
-read_plain : (tables : List LogTable) (log : List Logged) (place : ReaderPosition) → IsFairLog tables log → IsReadPlainly (history_of tables log) (record { after = place.after; messages = told_at tables log place })
+pub read_plain : (tables : List LogTable) (log : List Logged) (place : ReaderPosition) → IsFairLog tables log → IsReadPlainly (history_of tables log) (record { after = place.after; messages = told_at tables log place })
 read_plain tables log place fair infos captured =
     right_front infos place.after commits (told_at tables log place) (told_from start (first + 1) subsequent []) (at_front tables log place)
     (subst (λ (ts : List LogTable). ReadsRight infos place.after commits (told_from ts (first + 1) subsequent [])) (sym start_is) whole_right)

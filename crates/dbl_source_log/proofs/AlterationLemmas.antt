@@ -1,8 +1,7 @@
 -- The tables after parts of a log, and of a log without alterations.
-use Rattle.std.proofs.Common.{◌≡◌, ◌∙◌, ◌+◌, ◌-◌, ◌<◌, ◌≤◌, ◌^◌, ℕ, Bool, true, false, zero, suc, Some, List, [], ◌∷◌, ◌++◌, length, take, drop, map, refl, sym, ap, subst, arith}
-use Rattle.std.specs.Prelude.{if◌then◌else◌, slice_get}
+use Rattle.std.proofs.Common.{◌≡◌, ◌∙◌, ◌+◌, ◌-◌, ◌<◌, ◌≤◌, ◌^◌, ℕ, Bool, true, false, zero, suc, List, [], ◌∷◌, ◌++◌, length, take, drop, map, refl, sym, ap, subst, arith}
+use Rattle.std.specs.Prelude.{get_or, if◌then◌else◌}
 use Rattle.std.proofs.lemmas.List.{take_more}
-use Rattle.std.proofs.lemmas.Option.{slice_get_within, get_or_from_slice_get}
 use Rattle.dbl_model_table.specs.declared.table.RawColumn.{RawColumn}
 use Rattle.dbl_model_table.specs.declared.table.TableName.{TableName}
 use Rattle.dbl_model_table.specs.Tables.{same_name}
@@ -83,11 +82,10 @@ versions_after n (Mark value) tables all = versions_less n (n + 1) tables (omega
 versions_after n (Alter name columns rows) tables all = versions_altered n name columns tables all
 
 -- one commit more
-pub through_step : (log : List Logged) (i : ℕ) (entry : Logged) (tables before after : List LogTable) → (before ≡ tables_through (take i log) tables) × HaveVersions (length log - i) before → slice_get log i ≡ Some entry
+pub through_step : (log : List Logged) (i : ℕ) (entry : Logged) (tables before after : List LogTable) → (before ≡ tables_through (take i log) tables) × HaveVersions (length log - i) before → i < length log → entry ≡ get_or log i entry
     → after ≡ tables_after entry before → (after ≡ tables_through (take (i + 1) log) tables) × HaveVersions (length log - (i + 1)) after
-through_step log i entry tables before after so_far there is =
-    let within : i < length log = slice_get_within log i entry there in
-    let more : take (i + 1) log ≡ take i log ++ entry ∷ [] = take_more log i entry within ∙ ap (λ (x : Logged). take i log ++ x ∷ []) (get_or_from_slice_get log i entry entry there) in
+through_step log i entry tables before after so_far within there is =
+    let more : take (i + 1) log ≡ take i log ++ entry ∷ [] = take_more log i entry within ∙ ap (λ (x : Logged). take i log ++ x ∷ []) (sym there) in
     let left : length log - i ≡ (length log - (i + 1)) + 1 = omega (arith, within) in (
       is ∙ ap (tables_after entry) so_far.0 ∙ sym (through_append (take i log) (entry ∷ []) tables) ∙ sym (ap (λ (l : List Logged). tables_through l tables) more),
       subst (HaveVersions (length log - (i + 1))) (sym is) (versions_after (length log - (i + 1)) entry before (subst (λ (k : ℕ). HaveVersions k before) left so_far.1)),

@@ -1,6 +1,7 @@
 -- The state of a source that is read from a log, as the log grows.
-use Rattle.std.proofs.Common.{◌≡◌, ◌∙◌, ◌+◌, ◌<◌, ◌≤◌, ℕ, Option, Some, None, List, [], ◌∷◌, ◌++◌, length, map, take, drop, reverse, refl, sym, ap, subst, arith, append_assoc, length-append, length-drop}
+use Rattle.std.proofs.Common.{◌≡◌, ◌∙◌, ◌+◌, ◌<◌, ◌≤◌, ℕ, Option, Some, None, List, [], ◌∷◌, ◌++◌, length, take, drop, reverse, refl, sym, ap, subst, arith, append_assoc, length-append, length-drop}
 use Rattle.std.specs.Prelude.{false, nat_lt, option_map, slice_get}
+use Rattle.std.specs.List.{AllByRecursion}
 use Rattle.std.proofs.lemmas.List.{append-nil, take_all, get_or_at, reverse-append, length-reverse}
 use Rattle.std.proofs.lemmas.List.Elements.{filter-append}
 use Rattle.std.proofs.lemmas.Option.{slice_get_past, slice_get-get_or}
@@ -9,6 +10,7 @@ use Rattle.dbl_pgmsg.specs.declared.messages.Message.{Message}
 use Rattle.dbl_model_table.specs.declared.table.RawTable.{RawTable}
 use Rattle.dbl_model_table.specs.declared.table.TableName.{TableName}
 use Rattle.dbl_source_model.specs.ModelHistory.History.{RawCommit, History, entry_of}
+use Rattle.dbl_source_model.specs.ModelHistory.InForce.{entry_at}
 use Rattle.dbl_source_model.specs.Standings.{Reading, SourceState}
 use Rattle.dbl_source_model.specs.Growth.{Grows}
 use Rattle.dbl_source_model.specs.Answered.{IsEntryBetween}
@@ -16,7 +18,7 @@ use Rattle.dbl_source_model.specs.Calls.{Moved, IsMarked, head_after, head_of, I
 use Rattle.dbl_source_model.proofs.GrowthLemmas.{grown_length}
 use Rattle.dbl_source_log.specs.declared.logged.LogTable.{LogTable}
 use Rattle.dbl_source_log.specs.declared.logged.Logged.{Logged}
-use Rattle.dbl_source_log.specs.declared.logged.Logged.TheVariants.{Changes, Mark}
+use Rattle.dbl_source_log.specs.declared.logged.Logged.TheVariants.{Mark}
 use Rattle.dbl_source_log.specs.declared.reader_position.ReaderPosition.{ReaderPosition}
 use Rattle.dbl_source_log.specs.Numbers.{lsn_of, commits_upto}
 use Rattle.dbl_source_log.specs.TextRows.{TextRows, no_text_rows}
@@ -24,8 +26,9 @@ use Rattle.dbl_source_model.specs.ModelCommit.Stated.{commits_of}
 use Rattle.dbl_source_model.specs.Stated.{commits_after}
 use Rattle.dbl_source_log.specs.Fair.{IsFairLog}
 use Rattle.dbl_source_log.specs.Sent.{told_from, sent_after, index_of, told_at, IsPlaceIn}
+use Rattle.dbl_source_log.specs.Alterations.{IsOthers, tables_after, tables_through}
 use Rattle.dbl_source_log.specs.Histories.{text_rows_at, commits_from, history_of}
-use Rattle.dbl_source_log.proofs.LogLemmas.{log_grows, log_marks, is_rising, length-history, entry_stays}
+use Rattle.dbl_source_log.proofs.LogLemmas.{entry_of_tables, is_rising, length-history, log_marks, others_grow}
 use Rattle.dbl_source_log.proofs.SentLemmas.{told_at-grown, none_left, reads_what_is_sent}
 use Rattle.dbl_source_log.proofs.ReaderLemmas.{reads_all}
 use Rattle.dbl_source_log.proofs.PlaceLemmas.{told_waiting}
@@ -35,14 +38,21 @@ use Rattle.dbl_source.specs.LogStates.{reading_at, log_state}
 abbrev pub IsAtPlace : List Logged → Option ReaderPosition → Type 0
 IsAtPlace log place = (p : ReaderPosition) → place ≡ Some p → IsPlaceIn log p
 
+-- the last commit of a log has the LSN of its number
+head_from : (tables : List LogTable) (rows : TextRows) (k : ℕ) (entries : List Logged) → head_after (lsn_of k) (commits_from tables rows (k + 1) entries) ≡ lsn_of (k + length entries)
+head_from tables rows k [] = let same : k ≡ k + length {A = Logged} [] = omega arith in ap lsn_of same
+head_from tables rows k (entry ∷ entries) =
+    let same : (k + 1) + length entries ≡ k + length (entry ∷ entries) = omega arith in
+    head_from (tables_after entry tables) (text_rows_at tables rows entry) (k + 1) entries ∙ ap lsn_of same
+
 module _ (tables : List LogTable) (log : List Logged) (confirmed : Lsn) where
   pub reading_stays : (more : List Logged) (place : Option ReaderPosition) → IsAtPlace log place → option_map (reading_at tables (log ++ more)) place ≡ option_map (reading_at tables log) place
   reading_stays more None at = refl
   reading_stays more (Some p) at = ap (λ (ms : List Message). let r : Reading = record { after = p.after; messages = ms } in Some r) (told_at-grown tables log more p (at p refl))
 
   -- other clients committed
-  pub moved : (more : List (List Message)) (place : Option ReaderPosition) → IsAtPlace log place → Moved (log_state tables log confirmed place) (log_state tables (log ++ map Changes more) confirmed place)
-  moved more place at = record { grows = log_grows tables log more; confirmed = refl; reading = reading_stays (map Changes more) place at }
+  pub moved : (more : List Logged) (place : Option ReaderPosition) → AllByRecursion IsOthers more → IsAtPlace log place → Moved (log_state tables log confirmed place) (log_state tables (log ++ more) confirmed place)
+  moved more place others at = record { grows = others_grow tables log more others; confirmed = refl; reading = reading_stays more place at }
 
   -- a watermark was written
   pub marked_at : (value : List ℕ) (place : Option ReaderPosition) → IsAtPlace log place → IsMarked value (log_state tables log confirmed place) (log_state tables (log ++ Mark value ∷ []) confirmed place)
@@ -102,31 +112,34 @@ module _ (tables : List LogTable) (log : List Logged) (confirmed : Lsn) where
       let first : ℕ = commits_upto place.after in
       let subsequent : List Logged = drop first log in
       let long : length subsequent ≤ place.commits = omega (arith, length-drop first log, ends) in
-      let told : told_at tables log place ≡ told_from tables (first + 1) subsequent [] =
-      none_left tables place log (told_from tables (first + 1) (take place.commits subsequent) []) long ∙ ap (λ (l : List Logged). told_from tables (first + 1) l []) (take_all place.commits subsequent long) in
-      let same : length (sent_after tables place.after log) ≡ length (told_at tables log place) = length-reverse (told_from tables (first + 1) subsequent []) ∙ sym (ap length told) in
+      let then : List LogTable = tables_through (take first log) tables in
+      let told : told_at tables log place ≡ told_from then (first + 1) subsequent [] =
+      none_left (tables_through (take (index_of place) log) tables) place log (told_from then (first + 1) (take place.commits subsequent) []) long
+      ∙ ap (λ (l : List Logged). told_from then (first + 1) l []) (take_all place.commits subsequent long) in
+      let same : length (sent_after tables place.after log) ≡ length (told_at tables log place) = length-reverse (told_from then (first + 1) subsequent []) ∙ sym (ap length told) in
       slice_get_past (sent_after tables place.after log) (length (told_at tables log place)) (omega (arith, same))
 
   -- ---- the catalogue
 
-  pub is_entry : (s : SourceState) (name : TableName) (entry : Option RawTable) → Grows s.history (history_of tables log) → entry ≡ entry_of (history_of tables []) name → IsEntryBetween name entry s.history (history_of tables log)
+  entry_now : (name : TableName) → entry_at (history_of tables log) (length (history_of tables log).commits) name ≡ entry_of (history_of (tables_through log tables) []) name
+  entry_now name =
+      entry_of_tables tables log (length (history_of tables log).commits) name
+      ∙ ap (λ (l : List Logged). entry_of (history_of (tables_through l tables) []) name) (take_all (length (history_of tables log).commits) log (omega (arith, length-history tables log)))
+
+  -- the entry after the whole log, by the tables as they are then
+  pub is_entry : (s : SourceState) (name : TableName) (entry : Option RawTable) → Grows s.history (history_of tables log) → entry ≡ entry_of (history_of (tables_through log tables) []) name
+      → IsEntryBetween name entry s.history (history_of tables log)
   is_entry s name entry grows is = record {
     place = length (history_of tables log).commits;
     not_before = grown_length s.history (history_of tables log) grows;
     not_after = omega arith;
-    is = is ∙ sym (entry_stays tables log (length (history_of tables log).commits) name);
+    is = is ∙ sym (entry_now name);
   }
 
   -- ---- the head
 
-  head_from : (rows : TextRows) (k : ℕ) (entries : List Logged) → head_after (lsn_of k) (commits_from tables rows (k + 1) entries) ≡ lsn_of (k + length entries)
-  head_from rows k [] = let same : k ≡ k + length {A = Logged} [] = omega arith in ap lsn_of same
-  head_from rows k (entry ∷ entries) =
-      let same : (k + 1) + length entries ≡ k + length (entry ∷ entries) = omega arith in
-      head_from (text_rows_at tables rows entry) (k + 1) entries ∙ ap lsn_of same
-
   pub head_is : head_of (history_of tables log).commits ≡ lsn_of (length log)
-  head_is = let same : 0 + length log ≡ length log = omega arith in head_from no_text_rows 0 log ∙ ap lsn_of same
+  head_is = let same : 0 + length log ≡ length log = omega arith in head_from tables no_text_rows 0 log ∙ ap lsn_of same
 
   pub is_head : (s : SourceState) (place : Option ReaderPosition) → Grows s.history (history_of tables log) → length s.history.commits ≤ length log → IsHead (lsn_of (length log)) s (log_state tables log confirmed place)
   is_head s place grows le = record {

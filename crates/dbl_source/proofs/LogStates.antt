@@ -16,13 +16,14 @@ use Rattle.dbl_source_model.specs.Growth.{Grows}
 use Rattle.dbl_source_model.specs.Answered.{IsEntryBetween}
 use Rattle.dbl_source_model.specs.Calls.{Moved, IsMarked, head_after, head_of, IsHead, IsBegun, IsGone, HasReadAll}
 use Rattle.dbl_source_model.proofs.GrowthLemmas.{grown_length}
+use Rattle.dbl_source_model.proofs.ShapedLemmas.{shaped_counts}
 use Rattle.dbl_source_log.specs.declared.logged.LogTable.{LogTable}
 use Rattle.dbl_source_log.specs.declared.logged.Logged.{Logged}
 use Rattle.dbl_source_log.specs.declared.logged.Logged.TheVariants.{Mark}
 use Rattle.dbl_source_log.specs.declared.reader_position.ReaderPosition.{ReaderPosition}
 use Rattle.dbl_source_log.specs.Numbers.{lsn_of, commits_upto}
 use Rattle.dbl_source_log.specs.TextRows.{TextRows, no_text_rows}
-use Rattle.dbl_source_model.specs.ModelCommit.Stated.{commits_of}
+use Rattle.dbl_source_model.specs.ModelCommit.Shaped.{shaped_commits}
 use Rattle.dbl_source_model.specs.Stated.{commits_after}
 use Rattle.dbl_source_log.specs.Fair.{IsFairLog}
 use Rattle.dbl_source_log.specs.Sent.{told_from, sent_after, index_of, told_at, IsPlaceIn}
@@ -84,10 +85,10 @@ module _ (tables : List LogTable) (log : List Logged) (confirmed : Lsn) where
   -- a reader at the end of a fair log has read all that stood when the log was shorter
   pub read_all : (s : SourceState) (place : ReaderPosition) → Grows s.history (history_of tables log) → IsFairLog tables log → IsPlaceIn log place → length log ≤ index_of place → HasReadAll s (log_state tables log confirmed (Some place))
   read_all s place grows fair placed ends = record {
-    each = λ reading is infos captured accepted. (
+    each = λ reading is infos were readable. (
         let same : reading_at tables log place ≡ reading = cc in
-        subst (λ (r : Reading). length (commits_after r.after s.history.commits) ≤ length (commits_of infos r.messages)) same
-        (omega (arith, fewer place.after s.history grows, reads_all tables log place infos fair placed ends)));
+        subst (λ (r : Reading). length (commits_after r.after s.history.commits) ≤ length (shaped_commits infos r.messages)) same
+        (omega (arith, fewer place.after s.history grows, reads_all tables log place infos fair placed ends, shaped_counts infos (told_at tables log place))));
   }
 
   -- what is read next is the next message of all that is sent

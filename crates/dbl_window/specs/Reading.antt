@@ -1,5 +1,6 @@
--- How the rows that a source answered are read, and which of their errors is the first. Of a row its number and its number of cells are
--- checked first, then its cells, and then the order of its key.
+-- How the version and the rows that a source answered are read, and which of their errors is the first: another version than the window's
+-- comes before all errors of rows. Of a row its number and its number of cells are checked first, then its cells, and then the order of its
+-- key.
 use Rattle.std.specs.Prelude.{ℕ, ◌+◌, ◌==◌, ◌&&◌, nat_lt, nat_eq, Bool, true, if◌then◌else◌}
 use Rattle.std.specs.Prelude.{Option, Some, None, Result, Ok, Err, List, [], ◌∷◌, length}
 use Rattle.std.specs.List.{list_any}
@@ -15,6 +16,7 @@ use Rattle.dbl_model_table.specs.declared.table.RawRow.{RawRow}
 use Rattle.dbl_model_table.specs.declared.table.TableInfo.{TableInfo}
 use Rattle.dbl_model_table.specs.Infos.{width}
 use Rattle.dbl_model_table.specs.Keys.{key_cmp, key_of}
+use Rattle.dbl_source.specs.SourceModel.declared.selected.Selected.{Selected}
 use Rattle.dbl_window.specs.declared.error.WindowError.{WindowError}
 use Rattle.dbl_window.specs.declared.error.WindowError.TheVariants as window
 use Rattle.dbl_window.specs.Plans.{Plan}
@@ -79,3 +81,7 @@ rows_read plan number last (raw ∷ rows) =
 -- The rows of a chunk with their keys, or the first error.
 unfoldable pub chunk_read : Plan → List RawRow → Result (List (Key × Row)) WindowError
 chunk_read plan rows = rows_read plan 0 plan.above rows
+
+-- The rows of a chunk with their keys, if the answer has the window's version; or else an error.
+abbrev pub answer_read : Plan → Selected → Result (List (Key × Row)) WindowError
+answer_read plan answer = if answer.version == plan.version then chunk_read plan answer.rows else Err (window.Moved answer.version)

@@ -1,5 +1,5 @@
 -- The rows of a window after its select.
-use Rattle.std.specs.Prelude.{◌≡◌, ◌⊎◌, ℕ, ◌≤◌, nat_lt, Option, Some, Result, Ok, Err, MatchResult, List, length, slice_get}
+use Rattle.std.specs.Prelude.{◌≡◌, ◌≢◌, ◌⊎◌, ℕ, ◌≤◌, nat_lt, Option, Some, Result, Ok, Err, MatchResult, List, length, slice_get}
 use Rattle.dbl_value_types.specs.declared.value.Val.{Val}
 use Rattle.dbl_value_types.specs.declared.value.Val.TheVariants as val
 use Rattle.dbl_value_types.specs.declared.error.ValueError.{ValueError}
@@ -7,10 +7,10 @@ use Rattle.dbl_value_types.specs.Faults.{value_fault}
 use Rattle.dbl_model_table.specs.declared.row.Key.{Key}
 use Rattle.dbl_model_table.specs.declared.row.Row.{Row}
 use Rattle.dbl_model_table.specs.declared.table.Column.{Column}
-use Rattle.dbl_model_table.specs.declared.table.RawRow.{RawRow}
 use Rattle.dbl_model_table.specs.declared.table.TableInfo.{TableInfo}
 use Rattle.dbl_model_history.specs.History.{History}
 use Rattle.dbl_model_history.specs.Fit.{AreInfosOf}
+use Rattle.dbl_model_history.specs.InForce.{version_at}
 use Rattle.dbl_model_history.specs.KeyedRows.{AreFirst, last_key}
 use Rattle.dbl_source.specs.SourceModel.Standings.{SourceState}
 use Rattle.dbl_source.specs.SourceModel.declared.selected.Selected.{Selected as SelectAnswer}
@@ -19,7 +19,7 @@ use Rattle.dbl_source.specs.SourceModel.Trace.{Trace, RowsSelected, LastAnswerIs
 use Rattle.dbl_window.specs.declared.error.WindowError.{WindowError}
 use Rattle.dbl_window.specs.declared.error.WindowError.TheVariants.{Failed, Memory}
 use Rattle.dbl_window.specs.Plans.{Plan, Chunk}
-use Rattle.dbl_window.specs.Reading.{chunk_read}
+use Rattle.dbl_window.specs.Reading.{answer_read}
 
 -- Whether the window's table is captured, with this description. Stated of the catalogue before all commits: no table is altered.
 pub record IsCaptured (infos : List TableInfo) (history : History) (plan : Plan) : Type 0 where
@@ -58,22 +58,29 @@ pub record HasUnreadable (infos : List TableInfo) (history : History) (plan : Pl
   pub cell : slice_get cells number ≡ Some (val.Text text)
   pub fault : value_fault column.ty text ≡ Some error
 
--- For private clauses: whether the chunk has these rows as they are read, or the error is their first one, unless the source failed or
--- memory ran out.
-abbrev pub IsReadAs : Plan → List RawRow → Result Chunk WindowError → Type 0
-IsReadAs plan rows result =
-    MatchResult result (λ chunk. chunk_read plan rows ≡ Ok chunk.rows)
-    (λ e. (e ≡ Failed) ⊎ ((e ≡ Memory) ⊎ (chunk_read plan rows ≡ Err e)))
+-- Whether at some position between two states of a history the window's table has this version, which isn't the window's.
+pub record HasMoved (old new : History) (plan : Plan) (version : ℕ) : Type 0 where
+  pub place : ℕ
+  pub not_before : length old.commits ≤ place
+  pub not_after : place ≤ length new.commits
+  pub is : version ≡ version_at new place plan.info.name
+  pub other : version ≢ plan.version
 
--- Whether the rows of some answer are read as this, a chunk's rows or their first error, and a source that reports its answers answered it
--- last. The answer's version isn't looked at.
+-- For private clauses: whether the chunk has the answer's rows as they are read, or the error is the answer's first one, unless the source
+-- failed or memory ran out.
+abbrev pub IsReadAs : Plan → SelectAnswer → Result Chunk WindowError → Type 0
+IsReadAs plan answer result =
+    MatchResult result (λ chunk. answer_read plan answer ≡ Ok chunk.rows)
+    (λ e. (e ≡ Failed) ⊎ ((e ≡ Memory) ⊎ (answer_read plan answer ≡ Err e)))
+
+-- Whether some answer is read as this, a chunk's rows or its first error, and a source that reports its answers answered it last.
 pub record IsReadOf (plan : Plan) (told : Option Trace) (read : Result (List (Key × Row)) WindowError) : Type 0 where
   pub answer : SelectAnswer
   pub told_so : LastAnswerIs told (RowsSelected answer)
-  pub read_is : chunk_read plan answer.rows ≡ read
+  pub read_is : answer_read plan answer ≡ read
 
--- Whether, if the source reports its answers, the chunk has the answered rows as they are read, or the error is their first one, unless the
--- source failed or memory ran out.
+-- Whether, if the source reports its answers, the chunk has the answered rows as they are read, or the error is the answer's first one,
+-- unless the source failed or memory ran out.
 abbrev pub IsChunkReadFrom : Plan → Option Trace → Result Chunk WindowError → Type 0
 IsChunkReadFrom plan told result =
     MatchResult result (λ chunk. IsReadOf plan told (Ok chunk.rows))

@@ -7,6 +7,9 @@ use thiserror::Error;
 /// Why a step of a window failed.
 #[derive(Debug, Drop, Error)]
 pub enum WindowError {
+    /// The table has another version than the window's: it was altered. The rows aren't read.
+    #[error("altered to version {version}")]
+    Moved { version: u64 },
     /// The first row, counted from 0, that is past the limit, has another number of cells than its
     /// table, a null cell of its key, or a key that isn't above the one before it.
     #[error("bad chunk at row {row}")]

@@ -19,7 +19,7 @@ ghost use Rattle.dbl_source.specs.SourceModel.Trace.{LastAnswerIs, RowsSelected}
 ghost use Rattle.dbl_window.specs.Plans.{Chunk, low_text, high_text, IsFitChunk};
 ghost use Rattle.dbl_window.specs.Changing.{FitsTableChange, IsLeftBy};
 ghost use Rattle.dbl_window.specs.Selected.{IsCaptured, SelectsChunk, HasUnreadable, IsReadAs};
-ghost use Rattle.dbl_window.specs.Selected.{IsChunkReadFrom};
+ghost use Rattle.dbl_window.specs.Selected.{IsChunkReadFrom, HasMoved};
 ghost use Rattle.dbl_window.specs.Leaving.{MayStayOrMark, MayStayOrFollow};
 ghost use Rattle.dbl_window.specs.Promise.{KeepsPromise, IsClosedOf, closed_of};
 ghost use Rattle.dbl_source.specs.Keeps.{KeepsSource, ReadsNothing, AnswersDone};
@@ -30,7 +30,7 @@ use crate::rows::{HeldRows, change_rows, in_order};
 use crate::{WindowError, marks};
 use dbl_base::Text;
 use dbl_model_event::{Closed, KeyedRows};
-use dbl_model_table::{Change, Key, RawRow, TableInfo};
+use dbl_model_table::{Change, Key, TableInfo};
 use dbl_source::{Selected, Source};
 use std::alloc::{AllocError, Global};
 use std::marker::Model;
@@ -215,20 +215,25 @@ impl Marked {
         &self.low
     }
 
-    // The window with the rows that were answered.
-    fn holding(self, rows: Vec<RawRow>) -> Result<Held, WindowError>
-        ensures read { IsReadAs self rows.items result }
+    // The window with the rows that were answered, if its table still has its version.
+    fn holding(self, answer: Selected) -> Result<Held, WindowError>
+        ensures read { IsReadAs self answer result }
         ensures no_failure { result ≢ Err WindowError.Failed }
         ensures same { IfOk result (λ held. held.plan ≡ self) }
         ensures through { IfOk result (λ held. held.through ≡ last_key self.above held.rows) }
         ensures done { IfOk result (λ held. held.done ≡ nat_lt (length held.rows) self.limit) }
         ensures fit { IfOk result (λ held. IsFitChunk self.info self.limit held.rows held.through) }
     {
+        if answer.version != self.frame.version {
+            return Err(WindowError::Moved {
+                version: answer.version,
+            });
+        }
         let Read {
             rows,
             through,
             count,
-        } = read_rows(&self.frame, rows)?;
+        } = read_rows(&self.frame, answer.rows.into_items())?;
         let done = count < self.frame.limit;
         Ok(Held {
             frame: self.frame,
@@ -258,7 +263,7 @@ impl Marked {
     }
 
     /// Reads the chunk: the first rows of the table after the window's key, at most as many as its
-    /// limit.
+    /// limit; or answers `Moved` if the table has another version than the window's.
     pub fn select<S: Source>(self, src: &mut S) -> Result<Held, WindowError>
         requires { IsTrue (S.is_live src.old) }
 
@@ -271,9 +276,12 @@ impl Marked {
         ensures done { IfOk result (λ held. held.done ≡ nat_lt (length held.rows) self.limit) }
         ensures fit { IfOk result (λ held. IsFitChunk self.info self.limit held.rows held.through) }
 
-        // If the source reports which rows it answered: exactly what they are read as, or which of
-        // their errors is first.
+        // If the source reports what it answered: exactly what its rows are read as, or which of
+        // the answer's errors is first.
         ensures chunk { IsChunkReadFrom self (S.told src.new) result }
+        ensures moved { (s : SourceState) (version : ℕ) → S.stands src.old s → S.honest src.new →
+            result ≡ Err (WindowError.Moved version) →
+            HasState S.stands src.new (λ t. HasMoved s.history t.history self version) }
         ensures never { (s : SourceState) (infos : List SpecInfo) (row : ℕ) →
             S.stands src.old s → S.honest src.new → IsCaptured infos s.history self →
             result ≢ Err (WindowError.BadChunk row) }
@@ -289,7 +297,7 @@ impl Marked {
         ensures source { KeepsSource S.Source src.old src.new result WindowError.Failed }
     {
         let answer = self.answered_rows(src)?;
-        self.holding(answer.rows.into_items())
+        self.holding(answer)
     }
 }
 

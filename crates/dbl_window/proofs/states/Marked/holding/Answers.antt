@@ -4,23 +4,23 @@ use Rattle.std.proofs.lemmas.Result.{err_from_is_err_and}
 use Rattle.dbl_window.specs.declared.error.WindowError.{WindowError}
 use Rattle.dbl_window.specs.declared.error.WindowError.TheVariants as window
 use Rattle.dbl_window.specs.Plans.{Plan, plan_of, IsFitChunk}
-use Rattle.dbl_window.specs.Reading.{chunk_read}
+use Rattle.dbl_window.specs.Reading.{answer_read}
 use Rattle.dbl_window.specs.Selected.{IsReadAs}
 use Rattle.dbl_window.proofs.FitLemmas.{fit_chunk}
-use Rattle.dbl_window.proofs.SelectLemmas.{chunk_is}
+use Rattle.dbl_window.proofs.SelectLemmas.{answered_same}
 use Rattle.dbl_window.proofs.FaultLemmas.{reads_never_fail}
 use Rattle.dbl_window.proofs.states.Marked.holding.Goals as goal
 
 pub returns-in_err-rows-clause-read : goal.returns-in_err-rows-clause-read
 returns-in_err-rows-clause-read c =
-    let rows = c.args.rows.items in
+    let answer = c.args.answer in
     let e = c.in_err-rows.field-0.0 in
     let p = err_from_is_err_and c.from_residual.result c.from_residual.ensures.1 in
-    subst (IsReadAs c.args.self rows) (sym (p.1 ∙ ap (λ (x : WindowError). Err x) p.2))
-    (subst (λ (plan : Plan). IsReadAs plan rows (Err e)) c.self.view_is
+    subst (IsReadAs c.args.self answer) (sym (p.1 ∙ ap (λ (x : WindowError). Err x) p.2))
+    (subst (λ (plan : Plan). IsReadAs plan answer (Err e)) c.self.view_is
     (elim c.in_err-rows.ensures.read [
       | inl memory ↦ inr (inl memory)
-      | inr fault ↦ inr (inr (chunk_is (plan_of c.self.inside.frame) rows ∙ fault))
+      | inr fault ↦ inr (inr (answered_same (plan_of c.self.inside.frame) answer c.into_items.result.items (Err e) c.if-answer-self.false c.into_items.ensures fault))
     ]))
 
 pub returns-in_err-rows-clause-no_failure : goal.returns-in_err-rows-clause-no_failure
@@ -32,7 +32,7 @@ returns-in_err-rows-clause-no_failure c failed =
     let is : e ≡ window.Failed = cc in
     elim c.in_err-rows.ensures.read [
       | inl memory ↦ (let never : window.Failed ≡ window.Memory = sym is ∙ memory in absurd (cc))
-      | inr fault ↦ reads_never_fail plan 0 plan.above c.args.rows.items (fault ∙ ap (λ (x : WindowError). Err x) is)
+      | inr fault ↦ reads_never_fail plan c.into_items.result.items (fault ∙ ap (λ (x : WindowError). Err x) is)
     ]
 
 pub invariant_of-result : goal.invariant_of-result
@@ -49,7 +49,9 @@ invariant_of-result c =
 pub returns-clause-read : goal.returns-clause-read
 returns-clause-read c =
     let read = c.in_ok-rows.field-0 in
-    subst (λ (plan : Plan). chunk_read plan c.args.rows.items ≡ Ok read.rows.entries) c.self.view_is (chunk_is (plan_of c.self.inside.frame) c.args.rows.items ∙ c.in_ok-rows.ensures.read)
+    let answer = c.args.answer in
+    subst (λ (plan : Plan). answer_read plan answer ≡ Ok read.rows.entries) c.self.view_is
+    (answered_same (plan_of c.self.inside.frame) answer c.into_items.result.items (Ok read.rows.entries) c.if-answer-self.false c.into_items.ensures c.in_ok-rows.ensures.read)
 
 pub returns-clause-fit : goal.returns-clause-fit
 returns-clause-fit c =

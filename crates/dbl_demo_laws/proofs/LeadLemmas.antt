@@ -29,6 +29,7 @@ use Rattle.dbl_demo_workload.specs.DemoWal.Sound.{logged_in}
 use Rattle.dbl_demo_workload.specs.DemoWal.Wals.{Wal}
 use Rattle.dbl_demo_workload.specs.DemoWal.Standings.{MayLeaveWal, confirmed_of, history_in, standing_in, tables_of}
 use Rattle.dbl_demo_workload.specs.DemoWal.CrashState.{added_by, with_entries}
+use Rattle.dbl_demo_wal.proofs.KeptTables.{tables_whole}
 use Rattle.dbl_demo_workload.proofs.DemoWalGroupLemmas.{released_are}
 use Rattle.dbl_demo_workload.proofs.DemoWalGrowsLemmas.{confirmed_stays, history_grows, standing_moves}
 use Rattle.dbl_demo_laws.specs.Answers.{AnswersEntry, AnswersHead, AnswersStart, place_after}
@@ -69,7 +70,8 @@ module _ {D : Type 0} (model : DiskModel D) (old new : Demo D) (wal : Wal) (of_o
         let is : entry ≡ entry_of (history_of (tables_of next) []) name = answer.is ∙ ap (λ (tables : List LogTable). entry_of (history_of tables []) name) of_old.running.tables in
         leads model old new wal next s (IsDescribed name entry) of_old done.is stands (
           moves new.place answer.reader.place,
-          is_entry (tables_of next) (logged_in next.entries) (confirmed_of next) (standing_in wal old.place) name entry (history_grows wal (added_by wal old.done upto []) (commits_added wal old.done upto)) is,
+          is_entry (tables_of next) (logged_in next.entries) (confirmed_of next) (standing_in wal old.place) name entry (history_grows wal (added_by wal old.done upto []) (commits_added wal old.done upto))
+              (is ∙ sym (ap (λ (tables : List LogTable). entry_of (history_of tables []) name) (tables_whole (tables_of next) next.entries))),
         )
 
     pub lead_head : (lsn : Lsn) → AnswersHead old new lsn → HasState (HasDemoState model) new (IsHeaded lsn s)

@@ -1,8 +1,9 @@
 -- One more message was read: the reader after it; and the rows that the store shows.
 use Rattle.std.proofs.Common.{◌≡◌, ◌∙◌, ◌⊎◌, ℕ, Option, None, Some, List, [], refl, sym, ap, subst, inl, inr, ◌+◌}
 use Rattle.std.specs.Prelude.{slice_get, Ok, Err}
-use Rattle.std.specs.BTreeSet.{BTreeSet}
+use Rattle.std.specs.BTreeMap.{BTreeMap}
 use Rattle.dbl_disk.specs.Model.{DiskModel}
+use Rattle.dbl_pgmsg.specs.declared.messages.RelationColumn.{RelationColumn}
 use Rattle.dbl_model_table.specs.declared.row.Key.{Key}
 use Rattle.dbl_model_table.specs.declared.table.RawRow.{RawRow}
 use Rattle.dbl_model_table.specs.declared.table.TableName.{TableName}
@@ -34,7 +35,7 @@ module _ {D : Type 0} (model : DiskModel D) (old : Demo D) (wal : Wal) (place : 
   log = logged_in wal.entries
 
   -- what is held after it: nothing, or what was held, where the place is in the same commit
-  module _ (described : BTreeSet ℕ) (held : Option Logged) (describes : Describes described (told_at old.tables (logged_in wal.entries) step.place)) (holds : (held ≡ None) ⊎ ((held ≡ old.held) × (step.place.commits ≡ place.commits))) where
+  module _ (described : BTreeMap ℕ (List RelationColumn)) (held : Option Logged) (describes : Describes described (told_at old.tables (logged_in wal.entries) step.place)) (holds : (held ≡ None) ⊎ ((held ≡ old.held) × (step.place.commits ≡ place.commits))) where
     abbrev subsequent : Demo D
     subsequent = record old { place = Some step.place; described = described; held = held }
 

@@ -3,11 +3,12 @@ use Rattle.std.proofs.Common.{◌≡◌, ◌∙◌, ◌⊎◌, ℕ, ◌≤◌, B
 use Rattle.std.specs.Prelude.{IsTrue, is_none, is_some, Result, Ok, Err}
 use Rattle.std.specs.List.{list_any}
 use Rattle.std.specs.Ordering.{nat_cmp}
-use Rattle.std.specs.BTreeMap.{is_at}
-use Rattle.std.specs.BTreeSet.{BTreeSet, IsEmpty, contains}
+use Rattle.std.specs.BTreeMap.{BTreeMap, IsEmpty, get, is_at}
+use Rattle.std.specs.Map.{lookup}
 use Rattle.dbl_base.specs.declared.lsn.Lsn.{Lsn}
 use Rattle.dbl_base.specs.Streams.{FaultCounted}
 use Rattle.dbl_disk.specs.Model.{DiskModel}
+use Rattle.dbl_pgmsg.specs.declared.messages.RelationColumn.{RelationColumn}
 use Rattle.dbl_journal.specs.Growth as journals
 use Rattle.dbl_source.specs.SourceLog.declared.logged.LogTable.{LogTable}
 use Rattle.dbl_source.specs.SourceLog.declared.logged.Logged.{Logged}
@@ -33,18 +34,18 @@ use Rattle.dbl_demo_laws.proofs.CallLemmas.{running_live}
 use Rattle.dbl_demo_laws.proofs.ExitLemmas.{Leaves, Runs, answers, within}
 
 -- nobody reads
-pub gone_reader : (tables : List LogTable) (log : List Logged) (described : BTreeSet ℕ) (held : Option Logged) → IsReader tables log None described held
+pub gone_reader : (tables : List LogTable) (log : List Logged) (described : BTreeMap ℕ (List RelationColumn)) (held : Option Logged) → IsReader tables log None described held
 gone_reader tables log described held = record {
   placed = λ p is. absurd (let wrong : None ≡ Some p = is in cc);
   recalled = λ p is. absurd (let wrong : None ≡ Some p = is in cc);
   held_is = λ p logged is holds. absurd (let wrong : None ≡ Some p = is in cc);
 }
 
-pub nothing_in : (described : BTreeSet ℕ) → IsEmpty described → (oid : ℕ) → contains nat_cmp described oid ≡ false
-nothing_in described empty oid = ap (λ (keys : List ℕ). list_any (is_at (nat_cmp oid)) keys) empty
+pub nothing_in : (described : BTreeMap ℕ (List RelationColumn)) → IsEmpty described → (oid : ℕ) → get nat_cmp described oid ≡ None
+nothing_in described empty oid = ap (λ (entries : List (ℕ × List RelationColumn)). lookup (is_at (nat_cmp oid)) entries) empty
 
 -- a reader begins, to which nothing was described
-pub begun_reader : (tables : List LogTable) (log : List Logged) (after : Lsn) (described : BTreeSet ℕ) → ((oid : ℕ) → contains nat_cmp described oid ≡ false)
+pub begun_reader : (tables : List LogTable) (log : List Logged) (after : Lsn) (described : BTreeMap ℕ (List RelationColumn)) → ((oid : ℕ) → get nat_cmp described oid ≡ None)
     → IsReader tables log (Some (record { after = after; commits = 0; begun = false; change = 0; table = 0 })) described None
 begun_reader tables log after described none =
     let first : ReaderPosition = record { after = after; commits = 0; begun = false; change = 0; table = 0 } in
@@ -60,7 +61,7 @@ begun_reader tables log after described none =
     }
 
 -- a source with another reader
-pub with_reader : {D : Type 0} (model : DiskModel D) (wal : Wal) (demo : Demo D) (place : Option ReaderPosition) (described : BTreeSet ℕ) (held : Option Logged) (ended live : Bool) → IsReader demo.tables (logged_in wal.entries) place described held
+pub with_reader : {D : Type 0} (model : DiskModel D) (wal : Wal) (demo : Demo D) (place : Option ReaderPosition) (described : BTreeMap ℕ (List RelationColumn)) (held : Option Logged) (ended live : Bool) → IsReader demo.tables (logged_in wal.entries) place described held
     → IsRunning model wal demo → IsRunning model wal (record demo { place = place; described = described; held = held; ended = ended; live = live })
 with_reader model wal demo place described held ended live reader r = record {
   lists = r.lists;
@@ -80,10 +81,10 @@ with_reader model wal demo place described held ended live reader r = record {
 
 module _ {D : Type 0} (model : DiskModel D) {parts whole : Demo D} (is : parts ≡ whole) (mid : Demo D) (left : Leaves model parts (next_end parts) [] mid)
     (come : journals.ExtendsJournal model parts.journal mid.journal) (later : model.faults parts.journal.disk ≤ model.faults mid.journal.disk) (runs : Runs model parts (next_end parts) [] mid) (done : mid.done ≡ next_end parts) where
-  abbrev pub starting : Option ReaderPosition → BTreeSet ℕ → Demo D
+  abbrev pub starting : Option ReaderPosition → BTreeMap ℕ (List RelationColumn) → Demo D
   starting place described = record mid { place = place; described = described; held = None; ended = false; live = true }
 
-  pub starts_from : (after : Lsn) (place : Option ReaderPosition) (described : BTreeSet ℕ) (started : Started) → ((tables : List LogTable) (log : List Logged) → IsReader tables log place described None) → started ≡ start_answer after parts.confirmed
+  pub starts_from : (after : Lsn) (place : Option ReaderPosition) (described : BTreeMap ℕ (List RelationColumn)) (started : Started) → ((tables : List LogTable) (log : List Logged) → IsReader tables log place described None) → started ≡ start_answer after parts.confirmed
       → place ≡ place_after after started → StaysKnown model parts.journal.disk mid.journal.disk
       → RunsStepsAndWrites model (next_end whole) [] (AnswersStart after whole) whole (starting place described) (Ok started)
   starts_from after place described started reader tells there known =

@@ -1,11 +1,12 @@
 -- What the source is after a step, after a watermark and after a confirmed position, from what the journal lists and the store represents.
 use Rattle.std.proofs.Common.{◌≡◌, ◌∙◌, ◌⊎◌, ℕ, zero, suc, ◌+◌, ◌<◌, ◌^◌, Option, Some, List, [], ◌∷◌, ◌++◌, length, map, refl, sym, ap, subst, arith, inl, inr}
 use Rattle.std.specs.Prelude.{slice_get}
-use Rattle.std.specs.BTreeSet.{BTreeSet}
+use Rattle.std.specs.BTreeMap.{BTreeMap}
 use Rattle.std.proofs.lemmas.List.{append-nil, length-map}
 use Rattle.std.proofs.lemmas.List.Elements.{filter_map-append}
 use Rattle.dbl_base.specs.declared.lsn.Lsn.{Lsn}
 use Rattle.dbl_disk.specs.Model.{DiskModel}
+use Rattle.dbl_pgmsg.specs.declared.messages.RelationColumn.{RelationColumn}
 use Rattle.dbl_source.specs.SourceLog.declared.logged.LogTable.{LogTable}
 use Rattle.dbl_source.specs.SourceLog.declared.logged.Logged.{Logged}
 use Rattle.dbl_source.specs.SourceLog.declared.reader_position.ReaderPosition.{ReaderPosition}
@@ -51,7 +52,7 @@ there_on [] ys n x there = absurd (let t = there in cc)
 there_on (y ∷ xs) ys zero x there = there
 there_on (y ∷ xs) ys (suc n) x there = there_on xs ys n x there
 
-pub reader_on : (tables : List LogTable) (log more : List Logged) (place : Option ReaderPosition) (described : BTreeSet ℕ) (held : Option Logged) → IsReader tables log place described held → IsReader tables (log ++ more) place described held
+pub reader_on : (tables : List LogTable) (log more : List Logged) (place : Option ReaderPosition) (described : BTreeMap ℕ (List RelationColumn)) (held : Option Logged) → IsReader tables log place described held → IsReader tables (log ++ more) place described held
 reader_on tables log more place described held reader = record {
   placed = λ p is. placed_on log more p (reader.placed p is);
   recalled = λ p is. subst (Describes described) (sym (stays tables log more p (reader.placed p is))) (reader.recalled p is);

@@ -1,16 +1,17 @@
 -- A source over a disk that runs a workload: its parts, and the log that it represents.
 use Rattle.std.specs.Prelude.{◌≡◌, ℕ, ◌<◌, ◌≤◌, Bool, false, IsTrue, Option, Some, slice_get, List, length, map, drop}
 use Rattle.std.specs.List.{All, AllByRecursion}
-use Rattle.std.specs.BTreeSet.{BTreeSet}
+use Rattle.std.specs.BTreeMap.{BTreeMap}
 use Rattle.dbl_base.specs.declared.lsn.Lsn.{Lsn}
 use Rattle.dbl_disk.specs.Model.{DiskModel}
+use Rattle.dbl_pgmsg.specs.declared.messages.RelationColumn.{RelationColumn}
 use Rattle.dbl_model_table.specs.declared.table.TableName.{TableName}
 use Rattle.dbl_source.specs.SourceModel.Standings.{SourceState}
 use Rattle.dbl_journal.specs.Growth.{HasCome}
 use Rattle.dbl_journal.specs.Stored.{Lists, OnDisk, count_of}
 use Rattle.dbl_source.specs.SourceLog.declared.logged.LogTable.{LogTable}
 use Rattle.dbl_source.specs.SourceLog.declared.logged.Logged.{Logged}
-use Rattle.dbl_source.specs.SourceLog.declared.logged.Logged.TheVariants.{Changes, Mark}
+use Rattle.dbl_source.specs.SourceLog.declared.logged.Logged.TheVariants.{Changes, Mark, Alter}
 use Rattle.dbl_source.specs.SourceLog.declared.reader_position.ReaderPosition.{ReaderPosition}
 use Rattle.dbl_source.specs.SourceLog.Numbers.{commit_limit}
 use Rattle.dbl_source.specs.SourceLog.Sent.{index_of, told_at, IsPlaceIn}
@@ -39,14 +40,14 @@ pub record Demo (D : Type 0) : Type 0 where
   pub commits : List ℕ
   pub confirmed : Lsn
   pub place : Option ReaderPosition
-  pub described : BTreeSet ℕ
+  pub described : BTreeMap ℕ (List RelationColumn)
   pub held : Option Logged
   pub ended : Bool
   pub live : Bool
 
 -- The reader is at a position of the log, knows the tables described to it, and caches its commit, or none.
-pub record IsReader (tables : List LogTable) (log : List Logged) (place : Option ReaderPosition) (described : BTreeSet ℕ)
-    (held : Option Logged) : Type 0 where
+pub record IsReader (tables : List LogTable) (log : List Logged) (place : Option ReaderPosition)
+    (described : BTreeMap ℕ (List RelationColumn)) (held : Option Logged) : Type 0 where
   pub placed : (p : ReaderPosition) → place ≡ Some p → IsPlaceIn log p
   pub recalled : (p : ReaderPosition) → place ≡ Some p → Describes described (told_at tables log p)
   pub held_is : (p : ReaderPosition) (logged : Logged) → place ≡ Some p → held ≡ Some logged → slice_get log (index_of p) ≡ Some logged
@@ -69,6 +70,7 @@ pub record IsRunning {D : Type 0} (model : DiskModel D) (wal : Wal) (demo : Demo
 abbrev pub IsMark : Logged → Type 0
 IsMark (Changes messages) = ⊥
 IsMark (Mark value) = Unit {0}
+IsMark (Alter name columns rows) = ⊥
 
 -- No step is left, and after the reader, which is between transactions, the log has only watermarks.
 pub record HasReachedEnd {D : Type 0} (wal : Wal) (demo : Demo D) : Type 0 where

@@ -7,11 +7,12 @@ use Rattle.dbl_source.specs.SourceModel.Standings.{Reading, SourceState, CrashSt
 use Rattle.dbl_source.specs.SourceModel.Growth.{KeepsColumns}
 use Rattle.dbl_source.specs.SourceModel.Stated.{IsReadRight}
 use Rattle.dbl_source.specs.SourceLog.declared.reader_position.ReaderPosition.{ReaderPosition}
-use Rattle.dbl_source_log.proofs.LogLemmas.{is_rising, keeps_columns}
+use Rattle.dbl_source_log.proofs.LogLemmas.{is_rising}
 use Rattle.dbl_source_log.proofs.ReaderLemmas.{read_right}
 use Rattle.dbl_demo_workload.specs.DemoWal.Sound.{logged_in}
 use Rattle.dbl_demo_workload.specs.DemoWal.Wals.{Wal, IsWal, forms_of}
 use Rattle.dbl_demo_workload.specs.DemoWal.Standings.{MayLeaveWal, history_in, left_in, wal_reading, standing_in, tables_of}
+use Rattle.dbl_demo_wal.proofs.KeptTables.{columns_kept}
 use Rattle.dbl_demo_wal.proofs.WalLaws.{one_wal}
 use Rattle.dbl_demo_wal.proofs.FitLaws.{wal_is_fair, wal_has_fit_history}
 use Rattle.dbl_demo_laws.specs.Demo.{Demo, IsDemo, IsRunning, HasDemoState}
@@ -68,7 +69,7 @@ module _ {D : Type 0} (model : DiskModel D) where
   -- No commit of the demo source's history alters a table.
   pub unaltered_so : (demo : Demo D) (s : SourceState) → HasDemoState model demo s → KeepsColumns s.history
   unaltered_so demo s a =
-      subst (λ (t : SourceState). KeepsColumns t.history) (sym a.2) (keeps_columns (tables_of a.0) (logged_in a.0.entries))
+      subst (λ (t : SourceState). KeepsColumns t.history) (sym a.2) (columns_kept (tables_of a.0) a.0.entries)
 
   right_at : (wal : Wal) (bytes : List ℕ) (place : Option ReaderPosition) (r : Reading) → IsWal bytes wal
       → option_map (wal_reading wal) place ≡ Some r → IsReadRight (history_in wal) r

@@ -5,9 +5,8 @@ use Rattle.std.specs.List.{AllByRecursion}
 use Rattle.dbl_base.specs.Lines.{lines_of}
 use Rattle.dbl_pgmsg.specs.declared.messages.Message.{Message}
 use Rattle.dbl_source_log.specs.declared.logged.LogTable.{LogTable}
-use Rattle.dbl_source_log.specs.declared.logged.Logged.{Logged}
 use Rattle.dbl_source_log.specs.declared.logged.Logged.TheVariants.{Changes}
-use Rattle.dbl_source_log.specs.Fair.{HasFewFaults, IsChangeOf, changes_given}
+use Rattle.dbl_source_log.specs.Fair.{AreFairEntries, HasFewFaults, IsChangeOf}
 use Rattle.dbl_demo_wal.specs.Entries.{HoldsChange}
 use Rattle.dbl_script.specs.declared.script.Script.{Script}
 use Rattle.dbl_script.specs.declared.script.Step.{Step}
@@ -29,26 +28,23 @@ use Rattle.dbl_demo_workload.specs.declared.preparing.Prepared.{Prepared}
 abbrev IsFairChange : List LogTable → Message → Type 0
 IsFairChange tables message = IsChangeOf tables message × HasFewFaults tables message
 
-abbrev AreFair : List LogTable → Logged → Type 0
-AreFair tables entry = AllByRecursion (IsFairChange tables) (changes_given entry)
-
 held : (tables : List LogTable) (messages : List Message) → AllByRecursion (IsFairChange tables) messages → AllByRecursion HoldsChange messages
 held tables [] fair = tt
 held tables (message ∷ messages) fair = ((fair.0.0.fits, fair.0.0.change), held tables messages fair.1)
 
 -- the last commit of a fair log
-last_held : (tables : List LogTable) (front : List (List Message)) (messages : List Message) → AllByRecursion (AreFair tables) (map Changes (front ++ messages ∷ [])) → AllByRecursion HoldsChange messages
+last_held : (tables : List LogTable) (front : List (List Message)) (messages : List Message) → AreFairEntries tables (map Changes (front ++ messages ∷ [])) → AllByRecursion HoldsChange messages
 last_held tables [] messages fair = held tables messages fair.0
 last_held tables (other ∷ front) messages fair = last_held tables front messages fair.1
 
 module _ (fair : SerialRunsAreFair) (ranges : WorkloadsAreInRange) (bytes : List ℕ) (w : Workload) (is : IsWorkload bytes w) (steps : ℕ) where
-  log_fair : AllByRecursion (AreFair (log_tables w.tables)) (map Changes (log_at w steps))
+  log_fair : AreFairEntries (log_tables w.tables) (map Changes (log_at w steps))
   log_fair =
       let ranged = ranges bytes w is steps in
-      (fair w.tables (workload_rows w) (session_steps_at w steps) ranged.described ranged.rows ranged.steps).changes
+      (fair w.tables (workload_rows w) (session_steps_at w steps) ranged.described ranged.rows ranged.steps).entries
 
   holds : (front : List (List Message)) (messages : List Message) → log_at w steps ≡ front ++ messages ∷ [] → AllByRecursion HoldsChange messages
-  holds front messages log = last_held (log_tables w.tables) front messages (subst (λ (l : List (List Message)). AllByRecursion (AreFair (log_tables w.tables)) (map Changes l)) log log_fair)
+  holds front messages log = last_held (log_tables w.tables) front messages (subst (λ (l : List (List Message)). AreFairEntries (log_tables w.tables) (map Changes l)) log log_fair)
 
 -- each commit of a workload holds changes alone
 pub holds_changes : (bytes : List ℕ) (w : Workload) → IsWorkload bytes w → (steps : ℕ) (front : List (List Message)) (messages : List Message) → log_at w steps ≡ front ++ messages ∷ [] → AllByRecursion HoldsChange messages

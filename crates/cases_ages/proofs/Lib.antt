@@ -4,3 +4,5 @@ mod PlainRowLemmas
 mod PlainJsonLemmas
 mod PlainEventLemmas
 mod PlainAgeLemmas
+mod AlteredLemmas
+mod VersionLemmas

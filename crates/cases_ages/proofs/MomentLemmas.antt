@@ -14,20 +14,20 @@ use Rattle.dbl_consume_laws.specs.Moments.{changes_through, place_moment, record
 
 -- ---- tests
 
-is_lower : (a b : ℕ) → a < b → nat_lt a b ≡ true
+pub is_lower : (a b : ℕ) → a < b → nat_lt a b ≡ true
 is_lower a b lt = (Decides-ltb a b).1 lt
 
-not_true : (b : Bool) → (b ≡ true → ⊥) → b ≡ false
+pub not_true : (b : Bool) → (b ≡ true → ⊥) → b ≡ false
 not_true true none = absurd (none refl)
 not_true false none = refl
 
-not_lower : (a b : ℕ) → b ≤ a → nat_lt a b ≡ false
+pub not_lower : (a b : ℕ) → b ≤ a → nat_lt a b ≡ false
 not_lower a b le = not_true (nat_lt a b) (λ t. let lt : a < b = (Decides-ltb a b).0 t in omega (arith, lt, le))
 
-not_equal : (a b : ℕ) → a ≢ b → (a == b) ≡ false
+pub not_equal : (a b : ℕ) → a ≢ b → (a == b) ≡ false
 not_equal a b apart = not_true (a == b) (λ t. apart ((Decides-eqb a b).0 t))
 
-is_equal : (a b : ℕ) → a ≡ b → (a == b) ≡ true
+pub is_equal : (a b : ℕ) → a ≡ b → (a == b) ≡ true
 is_equal a b e = (Decides-eqb a b).1 e
 
 -- ---- events of a change

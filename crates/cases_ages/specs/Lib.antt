@@ -2,3 +2,4 @@ pub mod Trace
 pub mod PlainRows
 pub mod PlainEvents
 pub mod PlainAges
+pub mod AlteredHistories

@@ -52,7 +52,11 @@ fn count_of(alloc: Global, info: &TableInfo, change: &Change) -> Result<u64, All
 }
 
 // How many a change tells, which is none where its table isn't captured.
-fn event_count(alloc: Global, infos: &Vec<TableInfo>, change: &Change) -> Result<u64, AllocError>
+pub(crate) fn event_count(
+    alloc: Global,
+    infos: &Vec<TableInfo>,
+    change: &Change,
+) -> Result<u64, AllocError>
     ensures { IfOk result (λ count. count ≡ length (notices infos.now.items change.now)) }
 {
     match infos.get(change.table() as usize) {
@@ -80,7 +84,7 @@ fn changes_through(
     Ok(changes.items().len() as u64)
 }
 
-fn commit_through(
+pub(crate) fn commit_through(
     alloc: Global,
     infos: &Vec<TableInfo>,
     commit: &Commit,
@@ -95,7 +99,7 @@ fn commit_through(
     }
 }
 
-fn change_count(commit: &Commit) -> u64
+pub(crate) fn change_count(commit: &Commit) -> u64
     ensures { result ≡ length (changes_of commit.now) }
 {
     match &commit.body {

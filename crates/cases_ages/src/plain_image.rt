@@ -24,7 +24,7 @@ fn place_of_column(columns: &[Column], name: &Text) -> Option<usize>
     None
 }
 
-fn columns_of(infos: &Vec<TableInfo>, table: u32) -> &[Column]
+pub(crate) fn columns_of(infos: &Vec<TableInfo>, table: u32) -> &[Column]
     ensures { result.now ≡ columns_of infos.now.items table }
 {
     match infos.get(table as usize) {

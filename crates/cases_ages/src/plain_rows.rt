@@ -152,7 +152,7 @@ fn row_changed(
 }
 
 /// The row of a table and key after the first changes of a list.
-fn row_after_changes(
+pub(crate) fn row_after_changes(
     alloc: Global,
     infos: &Vec<TableInfo>,
     changes: &Seq<Change>,
@@ -175,7 +175,7 @@ fn row_after_changes(
 }
 
 /// The row of a table and key after the first changes of a commit.
-fn row_after_commit(
+pub(crate) fn row_after_commit(
     alloc: Global,
     infos: &Vec<TableInfo>,
     commit: &Commit,

@@ -1,7 +1,8 @@
 -- The example of an altered table.
-use Rattle.std.proofs.Common.{◌≡◌, ◌≢◌, inl, ◌<◌, ◌^◌, ℕ, zero, suc, pos, Bool, true, false, None, List, [], ◌∷◌, fold, refl, arith, FitsSigned, w64}
+use Rattle.std.proofs.Common.{◌≡◌, ◌≢◌, inl, inr, ◌<◌, ◌^◌, ℕ, zero, suc, pos, Bool, true, false, None, Some, List, [], ◌∷◌, fold, refl, arith, FitsSigned, w64}
 use Rattle.std.specs.Prelude.{◌↔◌, IsSome, slice_get, codes}
 use Rattle.std.specs.Str.{IsUtf8}
+use Rattle.std.specs.List.Sorted.{IsStrictlySortedBy}
 use Rattle.json.proofs.Printed.Utf8.{IsUtf8-are_ascii}
 use Rattle.jiff_core.proofs.SignedLemmas.{signed_arith, fits_between}
 use Rattle.dbl_value_types.specs.declared.column_type.PgType.TheVariants as type
@@ -15,13 +16,16 @@ use Rattle.dbl_model_table.specs.Keys.{same_key}
 use Rattle.dbl_model_table.specs.Rows.{at_key, row_after, no_rows}
 use Rattle.dbl_model_table.specs.Rows.Effect.{Whole}
 use Rattle.dbl_model_history.specs.Ranges.{IsCommitInRange}
+use Rattle.dbl_model_event.specs.Snapshots.{AreInKeyOrder, read_record, progress_record}
+use Rattle.dbl_model_event.specs.SnapshotLists.{IsSnapshot}
 use Rattle.dbl_model_table.specs.declared.identity.Identity.{Identity}
 use Rattle.dbl_consume_courses.specs.Versions.{Alters, plain_commit, rows_through}
 use Rattle.dbl_consume_courses.specs.AlteredTables.{IsTableAged}
 use Rattle.dbl_consume_courses.specs.TableAges.{IsInCourse}
 use Rattle.dbl_consume_courses.specs.FitVersions.{IsFitAlteration, AreFitVersions}
 use Rattle.dbl_consume_courses.specs.Growth.{course_of, IsVersionAmong}
-use Rattle.dbl_consume_courses.specs.Example.{old_table, new_table, old_infos, new_infos, text_row, version_at, new_rows, alteration, first_versions, last_version, example_versions, AlteredTablesStand, AgedTablesStand}
+use Rattle.dbl_consume_courses.specs.VersionStores.{HasWindowAt, IsCursorOf}
+use Rattle.dbl_consume_courses.specs.Example.{old_table, new_table, old_infos, new_infos, text_row, version_at, new_rows, alteration, first_versions, last_version, example_versions, AlteredTablesStand, AgedTablesStand, high_mark, marked_versions, key_a, whole_window, whole_cursor, window_records, VersionStoresStand}
 use Rattle.dbl_consume_courses.proofs.KeyRowLemmas.{no_rows_of_keys}
 use Rattle.dbl_consume_courses.proofs.TableRepeats.{aged_none, same_none}
 
@@ -117,3 +121,82 @@ aged_stands identity = (
   no_rows_of_keys identity old_infos 0,
   inl (omega arith),
 )
+
+-- ---- the window after the alteration
+
+plain_high : IsUtf8 (codes "1-1-H")
+plain_high = IsUtf8-are_ascii (codes "1-1-H") refl
+
+plain_one : IsUtf8 (codes "1")
+plain_one = IsUtf8-are_ascii (codes "1") refl
+
+fit_marked : AreFitVersions old_infos marked_versions
+fit_marked = record {
+  follow = (refl, (refl, (alters, (refl, (refl, tt)))));
+  distinct = refl;
+  rise = (omega arith, (omega arith, (omega arith, (omega arith, (omega arith, tt)))));
+  fit = (
+    fit_versions.fit.0,
+    (
+      fit_versions.fit.1.0,
+      (
+        fit_versions.fit.1.1.0,
+        (
+          fit_versions.fit.1.1.1.0,
+          (
+            record { changes = tt; altered = tt; in_range = record { lsn = omega arith; end_lsn = omega arith; time = at_zero; xid = omega arith; body = plain_high }; few = omega arith },
+            tt,
+          ),
+        ),
+      ),
+    ),
+  );
+}
+
+in_order : AreInKeyOrder whole_window.rows
+unfolding IsStrictlySortedBy
+in_order = (tt, tt)
+
+listed : (identity : Identity) → IsSnapshot identity new_infos whole_window (plain_commit high_mark) (pos 0) (window_records identity)
+listed identity = record {
+  info = new_table;
+  captured = refl;
+  fits = record { rows = (((inr (text_is (codes "a") plain_a), (inr (text_is (codes "1") plain_one), tt)), refl), tt); through = (text_is (codes "a") plain_a, tt) };
+  keys = ((text_is (codes "a") plain_a, tt), tt);
+  ordered = in_order;
+  records_are = refl;
+}
+
+window : (identity : Identity) → HasWindowAt identity marked_versions (window_records identity) 5
+window identity = record {
+  before = example_versions;
+  mark = high_mark;
+  later = [];
+  spelled = refl;
+  position_is = refl;
+  front = codes "1-1";
+  is_high = refl;
+  closed = whole_window;
+  now = pos 0;
+  in_range = at_zero;
+  snapshot = window_records identity;
+  listed = listed identity;
+  count = 2;
+  shown = refl;
+  right = (refl, tt);
+}
+
+progress : (identity : Identity) → IsCursorOf identity marked_versions (window_records identity) 5 0 new_table 2 whole_cursor
+progress identity = record {
+  earlier = read_record identity new_table (plain_commit high_mark) (pos 0) 0 (key_a, record { cells = val.Text (codes "a") ∷ val.Text (codes "1") ∷ [] }) ∷ [];
+  item = progress_record identity new_table (plain_commit high_mark) 1 (Some key_a) true;
+  later = [];
+  spelled = refl;
+  reports = record { topic = refl; key = refl; value = refl; is_key = (text_is (codes "a") plain_a, tt) };
+  not_after = omega arith;
+  settled = tt;
+  version_is = refl;
+}
+
+pub stores_stand : VersionStoresStand
+stores_stand identity = (fit_marked, window identity, progress identity)

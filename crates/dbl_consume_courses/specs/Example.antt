@@ -5,18 +5,24 @@ use Rattle.dbl_value_types.specs.declared.value.Val.TheVariants as val
 use Rattle.dbl_record.specs.declared.record.Record.{Record}
 use Rattle.dbl_model_table.specs.declared.identity.Identity.{Identity}
 use Rattle.dbl_model_table.specs.declared.table.RawRow.{RawRow}
+use Rattle.dbl_model_table.specs.declared.row.Key.{Key}
 use Rattle.dbl_model_table.specs.declared.row.Row.{Row}
 use Rattle.dbl_model_table.specs.declared.table.TableInfo.{TableInfo}
 use Rattle.dbl_model_table.specs.declared.change.Body.{Body}
-use Rattle.dbl_model_table.specs.declared.change.Body.TheVariants.{Changes}
+use Rattle.dbl_model_table.specs.declared.change.Body.TheVariants.{Changes, Mark}
 use Rattle.dbl_model_table.specs.declared.change.Change.TheVariants.{Clear, Insert}
 use Rattle.dbl_model_table.specs.declared.change.Commit.{Commit}
-use Rattle.dbl_consume_courses.specs.Versions.{Versioned, AreVersionsFrom}
+use Rattle.dbl_model_history.specs.declared.cursor.Cursor.{Cursor}
+use Rattle.dbl_model_event.specs.declared.closed.Closed.{Closed}
+use Rattle.dbl_model_event.specs.Snapshots.{snapshot}
+use Rattle.dbl_consume_courses.specs.Versions.{Versioned, AreVersionsFrom, plain_commit}
 use Rattle.dbl_consume_courses.specs.AlteredTables.{IsTableAged}
 use Rattle.dbl_consume_courses.specs.Courses.{course, opening}
 use Rattle.dbl_consume_courses.specs.Since.{since}
 use Rattle.dbl_consume_courses.specs.Growth.{course_of, IsVersionAmong}
 use Rattle.dbl_consume_courses.specs.KeyRows.{HasRowsOfKeys}
+use Rattle.dbl_consume_courses.specs.FitVersions.{AreFitVersions}
+use Rattle.dbl_consume_courses.specs.VersionStores.{HasWindowAt, IsCursorOf}
 use Rattle.dbl_consume_courses.specs.TableAges.{IsJustBefore, IsInCourse, IsBeforeCourse}
 
 -- The table t, which has its key only.
@@ -114,3 +120,41 @@ AgedTablesStand = (identity : Identity)
     × IsTableAged identity (course_of old_infos 0 0 example_versions) example_versions [] 3 0
     × HasRowsOfKeys identity old_infos [] 0
     × IsBeforeCourse (course_of old_infos 0 0 example_versions) (version_at 1 old_infos (Changes (Insert 0 (text_row (codes "a")) ∷ [])))
+
+-- ---- a window after the alteration
+
+-- The commit of a high watermark, after the commits of the example.
+abbrev pub high_mark : Versioned
+high_mark = version_at 5 new_infos (Mark (codes "1-1-H"))
+
+abbrev pub marked_versions : List Versioned
+marked_versions = example_versions ++ high_mark ∷ []
+
+-- The key of the row of t.
+abbrev pub key_a : Key
+key_a = record { cells = val.Text (codes "a") ∷ [] }
+
+-- The window in which the whole table t was read, in its new columns.
+abbrev pub whole_window : Closed
+whole_window = record {
+  table = 0;
+  rows = (key_a, record { cells = val.Text (codes "a") ∷ val.Text (codes "1") ∷ [] }) ∷ [];
+  through = Some key_a;
+  done = true;
+}
+
+-- The progress after it.
+abbrev pub whole_cursor : Cursor
+whole_cursor = record { last = Some key_a; done = true }
+
+-- The records of that window.
+abbrev pub window_records : Identity → List Record
+window_records identity = snapshot identity new_infos whole_window (plain_commit high_mark) (pos 0)
+
+-- A log of these records meets what the theorems on windows and progress require: they are a right window in the columns in force at its
+-- high watermark, and the last one reports the progress of t in its second version.
+abbrev pub VersionStoresStand : Type 0
+VersionStoresStand = (identity : Identity)
+    → AreFitVersions old_infos marked_versions
+    × HasWindowAt identity marked_versions (window_records identity) 5
+    × IsCursorOf identity marked_versions (window_records identity) 5 0 new_table 2 whole_cursor

@@ -3,6 +3,7 @@ ghost use Rattle.dbl_consume_courses.specs.Courses.{CoursesGoOn, CoursesBeginAne
 ghost use Rattle.dbl_consume_courses.specs.Courses.{CoursesHaveInfos, CoursesShowRows};
 ghost use Rattle.dbl_consume_courses.specs.CoursePoints.{PointsOfCoursesArePoints};
 ghost use Rattle.dbl_consume_courses.specs.Example.{AlteredTablesStand, AgedTablesStand};
+ghost use Rattle.dbl_consume_courses.specs.Example.{VersionStoresStand};
 
 /// A course goes on by each commit that doesn't alter its table.
 pub fn courses_go_on()
@@ -37,4 +38,10 @@ pub fn altered_tables_stand()
 /// The same history satisfies what the theorems on the age of an altered table require.
 pub fn aged_tables_stand()
     ensures { AgedTablesStand }
+{}
+
+/// With a watermark after it, the same history satisfies what the theorems on windows and progress
+/// require.
+pub fn version_stores_stand()
+    ensures { VersionStoresStand }
 {}

@@ -25,7 +25,7 @@ pub use between_laws::{
 };
 pub use course_laws::{
     aged_tables_stand, altered_tables_stand, courses_begin_anew, courses_go_on, courses_have_infos,
-    courses_show_rows, points_of_courses_are_points,
+    courses_show_rows, points_of_courses_are_points, version_stores_stand,
 };
 pub use fit_laws::{
     courses_are_fit, fit_histories_have_fit_versions, plain_histories_have_fit_versions,

@@ -1,8 +1,8 @@
 -- What a session begins with: tables as the catalogue describes them, and the offset that is made of them.
-use Rattle.std.proofs.Common.{◌≡◌, ◌∙◌, ◌⊎◌, inl, inr, ◌+◌, ◌≤◌, ◌<◌, ℕ, zero, suc, Option, Some, None, List, [], ◌∷◌, ◌++◌, length, map, take, drop, get_or, refl, sym, ap, subst, arith, append-nil, length-append, IsTrue, drop-cons}
-use Rattle.std.specs.Prelude.{◌^◌, find, max, Contains, IfSome, IsSomeAnd}
+use Rattle.std.proofs.Common.{◌≡◌, ◌∙◌, ◌⊎◌, inl, inr, ◌+◌, ◌≤◌, ◌<◌, ℕ, zero, suc, Option, Some, None, List, [], ◌∷◌, ◌++◌, length, map, take, drop, fold, get_or, refl, sym, ap, ap₂, subst, arith, append-nil, length-append, IsTrue, drop-cons}
+use Rattle.std.specs.Prelude.{◌^◌, find, max, option_map, Contains, IfSome, IsSomeAnd}
 use Rattle.std.specs.List.{AllByRecursion, AllZip}
-use Rattle.std.proofs.lemmas.List.{length-map, map-append, take-append-drop, take_more}
+use Rattle.std.proofs.lemmas.List.{length-map, map-append, take-append-drop, take-append-le, take_more}
 use Rattle.std.proofs.lemmas.List.Elements.{Contains-get_or}
 use Rattle.dbl_base.specs.declared.lsn.Lsn.{Lsn}
 use Rattle.dbl_model_table.specs.declared.config.Config.{Config}
@@ -22,22 +22,24 @@ use Rattle.dbl_model_table.proofs.Capturable.{no_fault}
 use Rattle.dbl_model_history.specs.declared.cursor.Cursor.{Cursor}
 use Rattle.dbl_model_history.specs.Cursors.{AreCursorsOf}
 use Rattle.dbl_model_history.specs.Fit.{AreInfosOf, IsKeyOf}
-use Rattle.dbl_model_history.specs.History.{History, IsRising, entry_of}
+use Rattle.dbl_model_history.specs.History.{History, IsRising, RawCommit, entry_of}
+use Rattle.dbl_model_history.specs.InForce.{entry_after, entry_at}
 use Rattle.dbl_source_model.specs.Answered.{IsDescribed}
 use Rattle.dbl_source_model.specs.Calls.{IsHead, Moved}
-use Rattle.dbl_source_model.specs.Growth.{KeepsColumns}
+use Rattle.dbl_source_model.specs.Growth.{Grows, KeepsColumns}
 use Rattle.dbl_source_model.specs.Leaves.{MayFollow}
 use Rattle.dbl_source_model.specs.Standings.{SourceState, CrashState}
 use Rattle.dbl_source_model.proofs.GrowthLemmas.{grows_on}
-use Rattle.dbl_source_model.proofs.PlainLemmas.{entry_described}
+use Rattle.dbl_source_model.proofs.PlainLemmas.{entry_kept}
 use Rattle.dbl_offset_content.specs.declared.offset.Offset.{Offset}
 use Rattle.dbl_offset.specs.Offsets.{IsOffset}
 use Rattle.dbl_capture_model.proofs.FaithfulItems.{all_weaker}
 use Rattle.dbl_capture_model.specs.Faithful.Lag.{IsUnread}
 use Rattle.dbl_capture_work.specs.declared.halt.Halt.{Halt}
 use Rattle.dbl_capture_work.specs.declared.halt.Halt.TheVariants as halt
-use Rattle.dbl_capture_work.specs.Begins.{AreCounted, AreInfosAt, AreUnread, AreVersionsAt, CanBeCaptured, IsAbsentHalt, IsDescribedAs, IsFaultOf, IsFirstOffsetAtHead, IsFirstAtFault, IsInfoAt, IsOffsetFor, IsVersionAt, MayRest}
+use Rattle.dbl_capture_work.specs.Begins.{AreCounted, AreInfosAt, AreUnread, CanBeCaptured, HadEntry, IsAbsentAfter, IsAbsentHalt, IsDescribedAs, IsFaultOf, IsFirstOffsetAtHead, IsFirstAtFault, IsInfoAt, IsOffsetFor, MayRest}
 use Rattle.dbl_capture_work.specs.Halts.{model_halt}
+use Rattle.dbl_capture_work.proofs.Exits.{moved_on}
 
 -- ---- one table
 
@@ -48,11 +50,24 @@ clean_of raw info is = subst (λ (r : RawTable). table_fault r ≡ None) is (no_
 first_alone : (history : History) (name : TableName) → IsFirstAtFault (name ∷ []) history name
 first_alone history name = record { before = []; after = []; parted = refl; earlier = tt }
 
-pub absent_here : (history : History) (name : TableName) (entry : Option RawTable) (h : Halt) → entry ≡ entry_of history name → IsFaultOf name entry h → IsAbsentHalt (name ∷ []) history h
-absent_here history name None h is fault =
-    subst (IsAbsentHalt (name ∷ []) history) (sym fault) (first_alone history name, sym is)
-absent_here history name (Some raw) h is fault =
-    subst (IsAbsentHalt (name ∷ []) history) (sym fault.2) (name, raw, first_alone history name, sym is, fault.1)
+-- tables neither come nor go
+no_entry : {A B : Type 0} (f : A → B) (o : Option A) → None ≡ option_map f o → o ≡ None
+no_entry f None is = refl
+no_entry f (Some x) is = cc
+
+pub absent_here : (history : History) (name : TableName) (place : ℕ) (entry : Option RawTable) (h : Halt) → place ≤ length history.commits → entry ≡ entry_at history place name → IsFaultOf name entry h → IsAbsentHalt (name ∷ []) history h
+absent_here history name place None h within is fault =
+    subst (IsAbsentHalt (name ∷ []) history) (sym fault)
+    (first_alone history name, no_entry (λ table. fold (λ entry commit. entry_after commit.body entry) table (take place history.commits)) (entry_of history name) is)
+absent_here history name place (Some raw) h within is fault =
+    subst (IsAbsentHalt (name ∷ []) history) (sym fault.2)
+    (name, raw, first_alone history name, record { place = place; not_after = within; is = sym is }, fault.1)
+
+-- an error that the catalogue requires, of a source that is still in a state
+pub absent_after : (stands : SourceState → Type 0) (s t : SourceState) (names : List TableName) (h : Halt) → stands t → Moved s t → IsAbsentHalt names t.history h → IsAbsentAfter stands s names h
+absent_after stands s t names (halt.UnknownTable name) is moved absent = (t, is, moved, absent)
+absent_after stands s t names (halt.Model error) is moved absent = (t, is, moved, absent)
+absent_after stands s t names h is moved absent = tt
 
 -- ---- an entry that can't be captured
 
@@ -76,27 +91,120 @@ entry_halt raw (model.NoKey table) cause = inr (record { error = model.NoKey tab
 entry_halt raw (model.KeyType table column) cause = inr (record { error = model.KeyType table column; fault = fault_is raw (model.KeyType table column) (λ is. cc) cause; is = refl })
 entry_halt raw model.Memory cause = inl refl
 
-pub entry_absent : (history : History) (name : TableName) (raw : RawTable) (h : Halt) → Some raw ≡ entry_of history name → (h ≡ halt.Memory) ⊎ IsEntryHalt raw h → IsAbsentHalt (name ∷ []) history h
-entry_absent history name raw h is (inl memory) = subst (IsAbsentHalt (name ∷ []) history) (sym memory) tt
-entry_absent history name raw h is (inr e) = absent_here history name (Some raw) h is (e.error, e.fault, e.is)
+pub entry_absent : (history : History) (name : TableName) (place : ℕ) (raw : RawTable) (h : Halt) → place ≤ length history.commits → Some raw ≡ entry_at history place name → (h ≡ halt.Memory) ⊎ IsEntryHalt raw h → IsAbsentHalt (name ∷ []) history h
+entry_absent history name place raw h within is (inl memory) = subst (IsAbsentHalt (name ∷ []) history) (sym memory) tt
+entry_absent history name place raw h within is (inr e) = absent_here history name place (Some raw) h within is (e.error, e.fault, e.is)
 
 -- ---- one that can be captured
 
-pub described_as : (name : TableName) (raw : RawTable) (info : TableInfo) (version : ℕ) (s t : SourceState) → KeepsColumns t.history → IsDescribed name (Some raw) s t → raw.name ≡ name → IsInfoOf raw info → version ≡ max 1 raw.version
+pub described_as : (name : TableName) (raw : RawTable) (info : TableInfo) (version : ℕ) (s t : SourceState) → IsDescribed name (Some raw) s t → raw.name ≡ name → IsInfoOf raw info → version ≡ max 1 raw.version
     → IsDescribedAs name info version s t
-described_as name raw info version s t kept said named is counted =
+described_as name raw info version s t said named is counted =
     let info_named : info.name ≡ name = ap (λ (r : RawTable). r.name) is ∙ named in
-    let entry : entry_of s.history info.name ≡ Some raw = ap (entry_of s.history) info_named ∙ sym (entry_described name (Some raw) s t kept said) in
-    (said.0, info_named, record { raw = raw; entry = entry; is = is }, subst (λ (o : Option RawTable). IsSomeAnd o (λ r. version ≡ max 1 r.version)) (sym entry) counted)
+    let entry : HadEntry t.history name raw = record { place = said.1.place; not_after = said.1.not_after; is = sym said.1.is } in
+    (said.0, info_named, record { raw = raw; entry = subst (λ (n : TableName). HadEntry t.history n raw) (sym info_named) entry; is = is; counted = counted })
+
+-- ---- as the history grows
+
+pub entry_stays : (old new : History) (place : ℕ) (name : TableName) → Grows old new → place ≤ length old.commits → entry_at new place name ≡ entry_at old place name
+entry_stays old new place name grows within =
+    ap₂ (λ (tables : List RawTable) (commits : List RawCommit). entry_at (record { tables = tables; commits = commits }) place name) grows.tables grows.commits
+    ∙ ap (λ (commits : List RawCommit). option_map (λ (table : RawTable). fold (λ entry commit. entry_after commit.body entry) table commits) (entry_of old name)) (take-append-le place old.commits grows.others within)
+
+no_shorter : (old new : History) (place : ℕ) → Grows old new → place ≤ length old.commits → place ≤ length new.commits
+no_shorter old new place grows within =
+    let longer : length new.commits ≡ length old.commits + length grows.others = ap length grows.commits ∙ length-append old.commits grows.others in
+    omega (arith, longer, within)
+
+pub had_on : (old new : History) (name : TableName) (raw : RawTable) → Grows old new → HadEntry old name raw → HadEntry new name raw
+had_on old new name raw grows had = record {
+  place = had.place;
+  not_after = no_shorter old new had.place grows had.not_after;
+  is = entry_stays old new had.place name grows had.not_after ∙ had.is;
+}
+
+pub info_on : (old new : History) (info : TableInfo) (version : ℕ) → Grows old new → IsInfoAt old info version → IsInfoAt new info version
+info_on old new info version grows at = record { raw = at.raw; entry = had_on old new info.name at.raw grows at.entry; is = at.is; counted = at.counted }
+
+pub infos_on : (old new : History) (infos : List TableInfo) (versions : List ℕ) → Grows old new → AreInfosAt old infos versions → AreInfosAt new infos versions
+infos_on old new [] [] grows are = tt
+infos_on old new [] (v ∷ versions) grows are = absurd are
+infos_on old new (info ∷ infos) [] grows are = absurd are
+infos_on old new (info ∷ infos) (v ∷ versions) grows are = (info_on old new info v grows are.0, infos_on old new infos versions grows are.1)
+
+-- before all commits the catalogue has the first entries
+pub first_entry : (history : History) (name : TableName) → entry_at history 0 name ≡ entry_of history name
+first_entry history name = itself (entry_of history name)
+  where
+    itself : (o : Option RawTable) → option_map (λ (table : RawTable). table) o ≡ o
+    itself None = refl
+    itself (Some table) = refl
+
+-- ---- if no table is altered
+
+-- an entry that the catalogue had is its first one
+pub had_first : (history : History) (name : TableName) (raw : RawTable) → KeepsColumns history → HadEntry history name raw → entry_of history name ≡ Some raw
+had_first history name raw kept had = sym (entry_kept history had.place name kept) ∙ had.is
+
+-- and it has the first one also before all commits of a history with the same tables
+pub had_before : (old new : History) (name : TableName) (raw : RawTable) → new.tables ≡ old.tables → KeepsColumns new → HadEntry new name raw → HadEntry old name raw
+had_before old new name raw same kept had = record {
+  place = 0;
+  not_after = omega arith;
+  is = first_entry old name ∙ sym (ap (find (λ (table : RawTable). same_name table.name name)) same) ∙ had_first new name raw kept had;
+}
+
+-- what is captured of it agrees with its catalogue
+pub infos_of : (history : History) (infos : List TableInfo) (versions : List ℕ) → KeepsColumns history → IsTrue (are_distinct same_name (map (λ (info : TableInfo). info.name) infos)) → AreInfosAt history infos versions → AreInfosOf history infos
+infos_of history infos versions kept distinct are = record { distinct = distinct; each = each_of infos versions are }
+  where
+    each_of : (xs : List TableInfo) (vs : List ℕ) → AreInfosAt history xs vs → AllByRecursion (λ info. IsSomeAnd (entry_of history info.name) (λ raw. IsInfoOf raw info)) xs
+    each_of [] [] at = tt
+    each_of [] (v ∷ vs) at = tt
+    each_of (info ∷ xs) [] at = absurd at
+    each_of (info ∷ xs) (v ∷ vs) at = (
+      subst (λ (o : Option RawTable). IsSomeAnd o (λ raw. IsInfoOf raw info)) (sym (had_first history info.name at.0.raw kept at.0.entry)) at.0.is,
+      each_of xs vs at.1,
+    )
+
+can_before : (old new : History) (name : TableName) → new.tables ≡ old.tables → KeepsColumns new → CanBeCaptured new name → CanBeCaptured old name
+can_before old new name same kept c = record { raw = c.raw; entry = had_before old new name c.raw same kept c.entry; clean = c.clean }
+
+pub all_before : (old new : History) (names : List TableName) → new.tables ≡ old.tables → KeepsColumns new → AllByRecursion (CanBeCaptured new) names → AllByRecursion (CanBeCaptured old) names
+all_before old new names same kept all = all_weaker (CanBeCaptured new) (CanBeCaptured old) names (λ name can. can_before old new name same kept can) all
+
+first_before : (old new : History) (names : List TableName) (name : TableName) → new.tables ≡ old.tables → KeepsColumns new → IsFirstAtFault names new name → IsFirstAtFault names old name
+first_before old new names name same kept first = record { before = first.before; after = first.after; parted = first.parted; earlier = all_before old new first.before same kept first.earlier }
+
+-- the catalogue at the call required the error
+pub absent_before : (stands : SourceState → Type 0) (s : SourceState) (names : List TableName) (h : Halt) → ((t : SourceState) → stands t → KeepsColumns t.history) → IsAbsentAfter stands s names h → IsAbsentHalt names s.history h
+absent_before stands s names (halt.UnknownTable name) kept absent =
+    let t = absent.0 in
+    let same = absent.2.grows.tables in (
+      first_before s.history t.history names name same (kept t absent.1) absent.3.0,
+      sym (ap (find (λ (table : RawTable). same_name table.name name)) same) ∙ absent.3.1,
+    )
+absent_before stands s names (halt.Model error) kept absent =
+    let t = absent.0 in
+    let same = absent.2.grows.tables in
+    let is = absent.3 in (
+      is.0,
+      is.1,
+      first_before s.history t.history names is.0 same (kept t absent.1) is.2,
+      had_before s.history t.history is.0 is.1 same (kept t absent.1) is.3,
+      is.4,
+    )
+absent_before stands s names h kept absent = tt
 
 -- ---- one of several
 
--- what was captured so far
-pub captured_named : (history : History) (infos : List TableInfo) → AreInfosAt history infos → AllByRecursion (CanBeCaptured history) (map (λ (info : TableInfo). info.name) infos)
-captured_named history [] described = tt
-captured_named history (info ∷ infos) described = (
+-- what was described can be captured
+pub captured_named : (history : History) (infos : List TableInfo) (versions : List ℕ) → AreInfosAt history infos versions → AllByRecursion (CanBeCaptured history) (map (λ (info : TableInfo). info.name) infos)
+captured_named history [] versions described = tt
+captured_named history (info ∷ infos) [] described = absurd described
+captured_named history (info ∷ infos) (v ∷ versions) described = (
   record { raw = described.0.raw; entry = described.0.entry; clean = clean_of described.0.raw info described.0.is },
-  captured_named history infos described.1,
+  captured_named history infos versions described.1,
 )
 
 only_one : (before after : List TableName) (one other : TableName) → one ∷ [] ≡ before ++ other ∷ after → other ≡ one
@@ -104,50 +212,23 @@ only_one [] after one other is = cc
 only_one (x ∷ []) after one other is = cc
 only_one (x ∷ (y ∷ before)) after one other is = cc
 
-no_entry : (old new : History) (name : TableName) → new.tables ≡ old.tables → entry_of new name ≡ entry_of old name
-no_entry old new name same = ap (find (λ (raw : RawTable). same_name raw.name name)) same
-
-captured_before : (old new : History) (name : TableName) → new.tables ≡ old.tables → CanBeCaptured new name → CanBeCaptured old name
-captured_before old new name same c = record { raw = c.raw; entry = sym (no_entry old new name same) ∙ c.entry; clean = c.clean }
-
 -- The names before it were captured, so that of all names it is the first.
-pub absent_of : (old new : History) (names before after : List TableName) (name : TableName) (h : Halt) → new.tables ≡ old.tables → names ≡ before ++ name ∷ after → AllByRecursion (CanBeCaptured old) before
-    → IsAbsentHalt (name ∷ []) new h → IsAbsentHalt names old h
-absent_of old new names before after name (halt.UnknownTable other) same parted earlier absent =
+absent_of : (history : History) (names before after : List TableName) (name : TableName) (h : Halt) → names ≡ before ++ name ∷ after → AllByRecursion (CanBeCaptured history) before
+    → IsAbsentHalt (name ∷ []) history h → IsAbsentHalt names history h
+absent_of history names before after name (halt.UnknownTable other) parted earlier absent =
     let one : other ≡ name = only_one absent.0.before absent.0.after name other absent.0.parted in (
       record { before = before; after = after; parted = parted ∙ ap (λ (n : TableName). before ++ n ∷ after) (sym one); earlier = earlier },
-      sym (no_entry old new other same) ∙ absent.1,
+      absent.1,
     )
-absent_of old new names before after name (halt.Model error) same parted earlier absent =
+absent_of history names before after name (halt.Model error) parted earlier absent =
     let one : absent.0 ≡ name = only_one absent.2.before absent.2.after name absent.0 absent.2.parted in (
       absent.0,
       absent.1,
       record { before = before; after = after; parted = parted ∙ ap (λ (n : TableName). before ++ n ∷ after) (sym one); earlier = earlier },
-      sym (no_entry old new absent.0 same) ∙ absent.3,
+      absent.3,
       absent.4,
     )
-absent_of old new names before after name halt.Source same parted earlier absent = tt
-absent_of old new names before after name halt.Sink same parted earlier absent = tt
-absent_of old new names before after name halt.Offsets same parted earlier absent = tt
-absent_of old new names before after name halt.Memory same parted earlier absent = tt
-absent_of old new names before after name (halt.Message number error) same parted earlier absent = tt
-absent_of old new names before after name (halt.Txn number error) same parted earlier absent = tt
-absent_of old new names before after name (halt.Chunk table row) same parted earlier absent = tt
-absent_of old new names before after name (halt.Cell table column error) same parted earlier absent = tt
-absent_of old new names before after name (halt.Clash table column) same parted earlier absent = tt
-absent_of old new names before after name (halt.RecordTooLong len) same parted earlier absent = tt
-absent_of old new names before after name (halt.OffsetTooLong len) same parted earlier absent = tt
-absent_of old new names before after name (halt.Gone asked first) same parted earlier absent = tt
-absent_of old new names before after name (halt.WatermarkMissing value position) same parted earlier absent = tt
-absent_of old new names before after name (halt.Exhausted incarnation) same parted earlier absent = tt
-
--- an info of a catalogue that is the same
-pub info_before : (old new : History) (info : TableInfo) → new.tables ≡ old.tables → IsInfoAt new info → IsInfoAt old info
-info_before old new info same at = record { raw = at.raw; entry = sym (no_entry old new info.name same) ∙ at.entry; is = at.is }
-
-pub described_push : (history : History) (infos : List TableInfo) (info : TableInfo) → AreInfosAt history infos → IsInfoAt history info → AreInfosAt history (infos ++ info ∷ [])
-described_push history [] info described at = (at, tt)
-described_push history (first ∷ infos) info described at = (described.0, described_push history infos info described.1 at)
+absent_of history names before after name h parted earlier absent = tt
 
 -- ---- what may be left
 
@@ -224,26 +305,6 @@ first_is_for config infos head offset named first = (
   subst (λ (l : List TableInfo). AreUnread (length l) offset.cursors) (sym first.infos_are) first.cursors,
 )
 
--- what the catalogue describes is what is captured of it
-pub infos_described : (old new : History) (infos : List TableInfo) → new.tables ≡ old.tables → IsTrue (are_distinct same_name (map (λ (info : TableInfo). info.name) infos)) → AreInfosAt old infos → AreInfosOf new infos
-infos_described old new infos same distinct described = record {
-  distinct = distinct;
-  each = all_weaker (IsInfoAt old) (λ (info : TableInfo). IsSomeAnd (entry_of new info.name) (λ raw. IsInfoOf raw info)) infos (λ info at. by info at) described;
-}
-  where
-    by : (info : TableInfo) → IsInfoAt old info → IsSomeAnd (entry_of new info.name) (λ raw. IsInfoOf raw info)
-    by info at = subst (λ (o : Option RawTable). IsSomeAnd o (λ raw. IsInfoOf raw info)) (sym (no_entry old new info.name same ∙ at.entry)) at.is
-
--- the versions of the catalogue are those of a later state of the source
-pub versions_described : (old new : History) (infos : List TableInfo) (versions : List ℕ) → new.tables ≡ old.tables → AreVersionsAt old infos versions → AreVersionsAt new infos versions
-versions_described old new [] [] same are = tt
-versions_described old new [] (v ∷ versions) same are = absurd are
-versions_described old new (info ∷ infos) [] same are = absurd are
-versions_described old new (info ∷ infos) (v ∷ versions) same are = (
-  subst (λ (o : Option RawTable). IsSomeAnd o (λ (raw : RawTable). v ≡ max 1 raw.version)) (sym (no_entry old new info.name same)) are.0,
-  versions_described old new infos versions same are.1,
-)
-
 pub zip_push : {A B : Type 0} (P : A → B → Type 0) (xs : List A) (ys : List B) (x : A) (y : B) → AllZip P xs ys → P x y → AllZip P (xs ++ x ∷ []) (ys ++ y ∷ [])
 zip_push P [] [] x y all here = (here, tt)
 zip_push P [] (b ∷ ys) x y all here = absurd all
@@ -279,18 +340,26 @@ moved_none s rising = record {
 }
 
 -- one table more was described
-pub described_more : (s mid : SourceState) (infos : List TableInfo) (info : TableInfo) → Moved s mid → AreInfosAt s.history infos → IsInfoAt mid.history info → AreInfosAt s.history (infos ++ info ∷ [])
-described_more s mid infos info moved described at = described_push s.history infos info described (info_before s.history mid.history info moved.grows.tables at)
+pub described_more : (mid t : SourceState) (infos : List TableInfo) (versions : List ℕ) (info : TableInfo) (version : ℕ) → Moved mid t → AreInfosAt mid.history infos versions → IsInfoAt t.history info version → AreInfosAt t.history (infos ++ info ∷ []) (versions ++ version ∷ [])
+described_more mid t infos versions info version moved described at =
+    zip_push (IsInfoAt t.history) infos versions info version (infos_on mid.history t.history infos versions moved.grows described) at
 
-pub version_before : (s mid : SourceState) (info : TableInfo) (version : ℕ) → Moved s mid → IsVersionAt mid.history info version → IsVersionAt s.history info version
-version_before s mid info version moved at = subst (λ (o : Option RawTable). IsSomeAnd o (λ (raw : RawTable). version ≡ max 1 raw.version)) (no_entry s.history mid.history info.name moved.grows.tables) at
+next_of : (mid t : SourceState) (infos : List TableInfo) (versions : List ℕ) (names : List TableName) (i : ℕ) (name : TableName) (h : Halt) → i < length names → name ≡ get_or names i name → Moved mid t → AreInfosAt mid.history infos versions
+    → map (λ (x : TableInfo). x.name) infos ≡ take i names → IsAbsentHalt (name ∷ []) t.history h → IsAbsentHalt names t.history h
+next_of mid t infos versions names i name h within is moved described so_far absent =
+    absent_of t.history names (take i names) (drop (suc i) names) name h (names_parted names i name within is)
+    (subst (AllByRecursion (CanBeCaptured t.history)) so_far (captured_named t.history infos versions (infos_on mid.history t.history infos versions moved.grows described))) absent
 
 -- the first invalid table after those that were described
-pub absent_next : (s mid : SourceState) (infos : List TableInfo) (names : List TableName) (i : ℕ) (name : TableName) (h : Halt) → i < length names → name ≡ get_or names i name → Moved s mid → AreInfosAt s.history infos
-    → map (λ (x : TableInfo). x.name) infos ≡ take i names → IsAbsentHalt (name ∷ []) mid.history h → IsAbsentHalt names s.history h
-absent_next s mid infos names i name h within is moved described so_far absent =
-    absent_of s.history mid.history names (take i names) (drop (suc i) names) name h moved.grows.tables (names_parted names i name within is)
-    (subst (AllByRecursion (CanBeCaptured s.history)) so_far (captured_named s.history infos described)) absent
+pub absent_next : (stands : SourceState → Type 0) (s mid : SourceState) (infos : List TableInfo) (versions : List ℕ) (names : List TableName) (i : ℕ) (name : TableName) (h : Halt) → i < length names → name ≡ get_or names i name → Moved s mid → AreInfosAt mid.history infos versions
+    → map (λ (x : TableInfo). x.name) infos ≡ take i names → IsAbsentAfter stands mid (name ∷ []) h → IsAbsentAfter stands s names h
+absent_next stands s mid infos versions names i name (halt.UnknownTable other) within is moved described so_far absent =
+    absent_after stands s absent.0 names (halt.UnknownTable other) absent.1 (moved_on s mid absent.0 moved absent.2)
+    (next_of mid absent.0 infos versions names i name (halt.UnknownTable other) within is absent.2 described so_far absent.3)
+absent_next stands s mid infos versions names i name (halt.Model error) within is moved described so_far absent =
+    absent_after stands s absent.0 names (halt.Model error) absent.1 (moved_on s mid absent.0 moved absent.2)
+    (next_of mid absent.0 infos versions names i name (halt.Model error) within is absent.2 described so_far absent.3)
+absent_next stands s mid infos versions names i name h within is moved described so_far absent = tt
 
 -- the head that stood at one place of a call after another stood there between both
 pub head_from : (lsn : Lsn) (s mid t : SourceState) → Moved s mid → IsHead lsn mid t → IsHead lsn s t

@@ -3,7 +3,6 @@ use Rattle.std.proofs.Common.{◌≡◌, ◌∙◌, ◌⊎◌, inl, inr, ◌+◌
 use Rattle.std.specs.Prelude.{min, Result, Ok, Err, IfOk}
 use Rattle.dbl_base.specs.Streams.{FaultCounted}
 use Rattle.dbl_model_table.specs.declared.table.TableName.{TableName}
-use Rattle.dbl_model_history.specs.History.{History}
 use Rattle.dbl_source_model.specs.Calls.{Moved}
 use Rattle.dbl_source_model.specs.Standings.{SourceState}
 use Rattle.dbl_source_model.specs.Trace.{Trace, IsTakenBy}
@@ -16,7 +15,7 @@ use Rattle.dbl_offset.specs.Measures.{capped}
 use Rattle.dbl_source.specs.SourceLog.declared.error.SourceError.{SourceError}
 use Rattle.dbl_source.specs.SourceLog.declared.error.SourceError.TheVariants as source
 use Rattle.dbl_capture_work.specs.declared.halt.Halt.TheVariants as halt
-use Rattle.dbl_capture_work.specs.Begins.{IsAbsentHalt, IsTooLong}
+use Rattle.dbl_capture_work.specs.Begins.{IsAbsentAfter, IsTooLong}
 use Rattle.dbl_capture_work.specs.Halts.{offset_halt, source_halt}
 
 -- ---- which halt it is
@@ -25,9 +24,9 @@ pub source_failed : (e : SourceError) → source_halt e ≡ halt.Source → e �
 source_failed source.Failed is = refl
 source_failed source.Memory is = cc
 
-pub source_absent : (names : List TableName) (history : History) (e : SourceError) → IsAbsentHalt names history (source_halt e)
-source_absent names history source.Failed = tt
-source_absent names history source.Memory = tt
+pub source_absent : (stands : SourceState → Type 0) (s : SourceState) (names : List TableName) (e : SourceError) → IsAbsentAfter stands s names (source_halt e)
+source_absent stands s names source.Failed = tt
+source_absent stands s names source.Memory = tt
 
 -- a store's
 pub offset_kinds : (o : Offset) (e : OffsetError) → ((len : ℕ) → e ≡ offset.TooLong len → (2 ^ 28 < length (offset_bytes_form o)) × (len ≡ capped (length (offset_bytes_form o))))

@@ -1,16 +1,18 @@
 -- Why a window isn't read, and which halt it is.
-use Rattle.std.proofs.Common.{◌≡◌, ◌∙◌, ◌⊎◌, inl, inr, ℕ, Option, Some, List, refl, sym, ap, subst}
+use Rattle.std.proofs.Common.{◌≡◌, ◌≢◌, ◌∙◌, ◌⊎◌, inl, inr, ℕ, Option, Some, List, refl, sym, ap, subst}
 use Rattle.std.specs.Prelude.{Err, slice_get}
 use Rattle.dbl_value_types.specs.declared.error.ValueError.{ValueError}
 use Rattle.dbl_model_table.specs.declared.table.TableInfo.{TableInfo}
 use Rattle.dbl_model_table.specs.declared.table.TableName.{TableName}
+use Rattle.dbl_model_history.specs.Fit.{IsFitHistory}
 use Rattle.dbl_model_history.specs.History.{History}
 use Rattle.dbl_source_model.specs.Standings.{SourceState, HasState}
 use Rattle.dbl_source_model.specs.Trace.{Trace}
+use Rattle.dbl_source_model.proofs.PlainLemmas.{version_kept}
 use Rattle.dbl_window.specs.declared.error.WindowError.{WindowError}
 use Rattle.dbl_window.specs.declared.error.WindowError.TheVariants as window
 use Rattle.dbl_window.specs.Plans.{Plan}
-use Rattle.dbl_window.specs.Selected.{HasUnreadable, IsCaptured, IsReadOf}
+use Rattle.dbl_window.specs.Selected.{HasMoved, HasUnreadable, IsCaptured, IsReadOf}
 use Rattle.dbl_window.proofs.HonestLemmas.{captured_stays}
 use Rattle.dbl_capture_work.specs.declared.halt.Halt.{Halt}
 use Rattle.dbl_capture_work.specs.declared.halt.Halt.TheVariants as halt
@@ -36,13 +38,18 @@ pub mark_honest : (plan : Plan) (stands : SourceState → Type 0) (infos : List 
 mark_honest plan stands infos e (inl failed) = subst (IsHonestFault plan stands infos) (sym failed) tt
 mark_honest plan stands infos e (inr memory) = subst (IsHonestFault plan stands infos) (sym memory) tt
 
+-- of a valid history a window of another version than 1 is told that its table was altered
+pub moved_other : (old new : History) (plan : Plan) (version : ℕ) → IsFitHistory new → HasMoved old new plan version → plan.version ≢ 1
+moved_other old new plan version fit moved first = moved.other (moved.is ∙ (version_kept new moved.place plan.info.name fit.unaltered fit.opening ∙ sym first))
+
 -- of a conforming source no row is bad, and the history has a cell that isn't readable
-pub select_honest : {S : Type 0} (stands : S → SourceState → Type 0) (src : S) (plan : Plan) (infos : List TableInfo) (e : WindowError) → ((row : ℕ) → e ≡ window.BadChunk row → ⊥)
+pub select_honest : {S : Type 0} (stands : S → SourceState → Type 0) (src : S) (plan : Plan) (infos : List TableInfo) (e : WindowError) → ((version : ℕ) → e ≡ window.Moved version → plan.version ≢ 1) → ((row : ℕ) → e ≡ window.BadChunk row → ⊥)
     → ((name : List ℕ) (error : ValueError) → e ≡ window.Cell name error → HasState stands src (λ t. HasUnreadable infos t.history plan name error)) → IsHonestFault plan (stands src) infos e
-select_honest stands src plan infos (window.BadChunk row) never cell = never row refl
-select_honest stands src plan infos (window.Cell name error) never cell = let stood = cell name error refl in (stood.standing, stood.is, stood.holds)
-select_honest stands src plan infos window.Failed never cell = tt
-select_honest stands src plan infos window.Memory never cell = tt
+select_honest stands src plan infos (window.Moved version) moved never cell = moved version refl
+select_honest stands src plan infos (window.BadChunk row) moved never cell = never row refl
+select_honest stands src plan infos (window.Cell name error) moved never cell = let stood = cell name error refl in (stood.standing, stood.is, stood.holds)
+select_honest stands src plan infos window.Failed moved never cell = tt
+select_honest stands src plan infos window.Memory moved never cell = tt
 
 -- the catalogue is the same
 pub captured_on : (infos : List TableInfo) (old new : History) (plan : Plan) → new.tables ≡ old.tables → IsCaptured infos old plan → IsCaptured infos new plan
@@ -75,6 +82,7 @@ halt_failed name h e (inl memory) is = let wrong : halt.Memory ≡ halt.Source =
 halt_failed name h e (inr halted) is = by e (sym halted ∙ is)
   where
     by : (x : WindowError) → window_halt name x ≡ halt.Source → x ≡ window.Failed
+    by (window.Moved version) same = cc
     by (window.BadChunk row) same = cc
     by (window.Cell column error) same = cc
     by window.Failed same = refl

@@ -1,5 +1,5 @@
 -- What a session begins with.
-use Rattle.std.specs.Prelude.{◌≡◌, ◌⊎◌, ℕ, ◌+◌, ◌^◌, ◌<◌, ◌≤◌, max, Option, Some, None, IsSomeAnd, List, ◌∷◌, ◌++◌, length, map}
+use Rattle.std.specs.Prelude.{◌≡◌, ◌⊎◌, ℕ, ◌+◌, ◌^◌, ◌<◌, ◌≤◌, max, Option, Some, None, List, ◌∷◌, ◌++◌, length, map}
 use Rattle.std.specs.List.{AllByRecursion, AllZip}
 use Rattle.dbl_base.specs.declared.lsn.Lsn.{Lsn}
 use Rattle.dbl_model_table.specs.declared.config.Config.{Config}
@@ -11,6 +11,7 @@ use Rattle.dbl_model_table.specs.Infos.{IsInfoOf}
 use Rattle.dbl_model_table.specs.Made.{table_fault}
 use Rattle.dbl_model_history.specs.declared.cursor.Cursor.{Cursor}
 use Rattle.dbl_model_history.specs.History.{History, entry_of}
+use Rattle.dbl_model_history.specs.InForce.{entry_at}
 use Rattle.dbl_source_model.specs.Calls.{Moved}
 use Rattle.dbl_source_model.specs.Leaves.{MayFollow}
 use Rattle.dbl_source_model.specs.Standings.{SourceState, CrashState, left_of}
@@ -24,23 +25,22 @@ use Rattle.dbl_capture_work.specs.declared.halt.Halt.TheVariants as halt
 
 -- ---- descriptions of tables
 
--- The catalogue has an entry of this table, which is captured as this description.
-pub record IsInfoAt (history : History) (info : TableInfo) : Type 0 where
+-- After some number of the history's commits the catalogue has this entry of the name, with the columns in force and the version there.
+pub record HadEntry (history : History) (name : TableName) (raw : RawTable) : Type 0 where
+  pub place : ℕ
+  pub not_after : place ≤ length history.commits
+  pub is : entry_at history place name ≡ Some raw
+
+-- The description and the version are those of one entry that the catalogue had of the table. Versions are counted from 1: 0 counts as 1.
+pub record IsInfoAt (history : History) (info : TableInfo) (version : ℕ) : Type 0 where
   pub raw : RawTable
-  pub entry : entry_of history info.name ≡ Some raw
+  pub entry : HadEntry history info.name raw
   pub is : IsInfoOf raw info
+  pub counted : version ≡ max 1 raw.version
 
--- Each of the descriptions agrees with an entry of the catalogue.
-abbrev pub AreInfosAt : History → List TableInfo → Type 0
-AreInfosAt history infos = AllByRecursion (IsInfoAt history) infos
-
--- The catalogue's entry of this description's table has this version, counted from 1.
-abbrev pub IsVersionAt : History → TableInfo → ℕ → Type 0
-IsVersionAt history info version = IsSomeAnd (entry_of history info.name) (λ raw. version ≡ max 1 raw.version)
-
--- Each of the versions is that of its table's entry in the catalogue.
-abbrev pub AreVersionsAt : History → List TableInfo → List ℕ → Type 0
-AreVersionsAt history infos versions = AllZip (IsVersionAt history) infos versions
+-- Each description and its version are those of one entry that the catalogue had.
+abbrev pub AreInfosAt : History → List TableInfo → List ℕ → Type 0
+AreInfosAt history infos versions = AllZip (IsInfoAt history) infos versions
 
 -- Each table has a version of 64 bits, counted from 1.
 abbrev pub AreCounted : List TableInfo → List ℕ → Type 0
@@ -48,8 +48,7 @@ AreCounted infos versions = AllZip (λ info version. (1 ≤ version) × (version
 
 -- A call of the source returned this description and this version of the named table, and others may have committed.
 abbrev pub IsDescribedAs : TableName → TableInfo → ℕ → SourceState → SourceState → Type 0
-IsDescribedAs name info version s t =
-    Moved s t × (info.name ≡ name) × IsInfoAt s.history info × IsVersionAt s.history info version
+IsDescribedAs name info version s t = Moved s t × (info.name ≡ name) × IsInfoAt t.history info version
 
 -- The error for a table of which the catalogue has no entry, or this one, which can't be captured.
 abbrev pub IsFaultOf : TableName → Option RawTable → Halt → Type 0
@@ -62,26 +61,34 @@ pub record IsModelFault (name : TableName) (told : Option Trace) (h : Halt) : Ty
   pub is : IsFaultOf name entry h
   pub tells : (t : Trace) → told ≡ Some t → t.answer ≡ Described entry
 
--- The catalogue has an entry with this name that can be captured.
+-- The catalogue had an entry with this name that can be captured.
 pub record CanBeCaptured (history : History) (name : TableName) : Type 0 where
   pub raw : RawTable
-  pub entry : entry_of history name ≡ Some raw
+  pub entry : HadEntry history name raw
   pub clean : table_fault raw ≡ None
 
--- The named table is one of the list, and every table before it can be captured.
+-- The named table is one of the list, and every table before it could be captured.
 pub record IsFirstAtFault (names : List TableName) (history : History) (name : TableName) : Type 0 where
   pub before : List TableName
   pub after : List TableName
   pub parted : names ≡ before ++ name ∷ after
   pub earlier : AllByRecursion (CanBeCaptured history) before
 
--- The error names the first table of the list that the catalogue doesn't have, or whose entry can't be captured.
+-- The error names the first table of the list that the catalogue doesn't have, or of which it had an entry that can't be captured.
 abbrev pub IsAbsentHalt : List TableName → History → Halt → Type 0
 IsAbsentHalt names history (halt.UnknownTable name) = IsFirstAtFault names history name × (entry_of history name ≡ None)
 IsAbsentHalt names history (halt.Model error) =
-    (name : TableName) × (raw : RawTable) × IsFirstAtFault names history name × (entry_of history name ≡ Some raw)
-    × (table_fault raw ≡ Some error)
+    (name : TableName) × (raw : RawTable) × IsFirstAtFault names history name × HadEntry history name raw × (table_fault raw ≡ Some error)
 IsAbsentHalt names history h = Unit {0}
+
+-- An error about a table leaves the source in a state that only others' commits may set apart from this one, and whose catalogue requires
+-- the error.
+abbrev pub IsAbsentAfter : (SourceState → Type 0) → SourceState → List TableName → Halt → Type 0
+IsAbsentAfter stands s names (halt.UnknownTable name) =
+    (t : SourceState) × stands t × Moved s t × IsAbsentHalt names t.history (halt.UnknownTable name)
+IsAbsentAfter stands s names (halt.Model error) =
+    (t : SourceState) × stands t × Moved s t × IsAbsentHalt names t.history (halt.Model error)
+IsAbsentAfter stands s names h = Unit {0}
 
 -- The table that the source described last, if known, can be captured.
 pub record IsFaultless (name : TableName) (told : Option Trace) : Type 0 where

@@ -1,6 +1,7 @@
 -- Why a window isn't read, and which record is too long. A window's cause refers to what the source returned, if that is known; memory may
 -- run out at any time.
-use Rattle.std.specs.Prelude.{◌≡◌, ◌⊎◌, ℕ, ◌+◌, ◌<◌, ◌≤◌, take, Option, Some, Result, Err, IfErr, IsErr, OnOk, List, [], ◌∷◌, ◌++◌, Bool, length, slice_get}
+use Rattle.std.specs.Prelude.{◌≡◌, ◌≢◌, ◌⊎◌, ℕ, ◌+◌, ◌<◌, ◌≤◌, take, Option, Some, Result, Err, IfErr, IsErr, OnOk}
+use Rattle.std.specs.Prelude.{List, [], ◌∷◌, ◌++◌, Bool, length, slice_get}
 use Rattle.std.specs.List.{AllByRecursion}
 use Rattle.dbl_record.specs.declared.record.Record.{Record}
 use Rattle.dbl_record.specs.Cuts.{cut}
@@ -24,12 +25,14 @@ use Rattle.dbl_capture_work.specs.Works.{plan_at}
 
 -- ---- windows
 
--- The selected rows have this fault first; if the source's last answer is known, it is these rows.
+-- The answer to a select has this fault first; if the source's last answer is known, it is this one.
 abbrev pub IsOfRows : Plan → Option Trace → WindowError → Type 0
 IsOfRows plan told error = IsReadOf plan told (Err error)
 
--- Over a conforming source that captures the window's table, a row can only have an unreadable cell, which is in its history.
+-- Over a conforming source that captures the window's table, a row can only have an unreadable cell, which is in its history; and the table
+-- has version 1.
 abbrev pub IsHonestFault : Plan → (SourceState → Type 0) → List TableInfo → WindowError → Type 0
+IsHonestFault plan stands infos (window.Moved version) = plan.version ≢ 1
 IsHonestFault plan stands infos (window.BadChunk row) = ⊥
 IsHonestFault plan stands infos (window.Cell name error) = (t : SourceState) × stands t × HasUnreadable infos t.history plan name error
 IsHonestFault plan stands infos window.Failed = Unit {0}

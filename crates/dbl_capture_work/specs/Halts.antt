@@ -52,6 +52,7 @@ model_halt model.Memory = halt.Memory
 
 -- The session's error for an error of a window of this table.
 abbrev pub window_halt : TableName → WindowError → Halt
+window_halt table (window.Moved version) = halt.Altered table
 window_halt table (window.BadChunk row) = halt.Chunk table row
 window_halt table (window.Cell column error) = halt.Cell table column error
 window_halt table window.Failed = halt.Source

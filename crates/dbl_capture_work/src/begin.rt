@@ -3,7 +3,6 @@
 ghost use Rattle.std.specs.Prelude.{◌≡◌, ◌≢◌, ◌⊎◌, ◌^◌, ◌<◌, ◌≤◌, ◌∷◌, [], Contains, Option, None};
 ghost use Rattle.std.specs.Prelude.{Some, IfOk, IfErr, IfSome, IsTrue, OnOk, OnErr, length, map};
 ghost use Rattle.dbl_model_table.specs.Configs.{IsGoodConfig};
-ghost use Rattle.dbl_model_history.specs.Fit.{AreInfosOf};
 ghost use Rattle.dbl_source_model.specs.Standings.{SourceState, MovesTo};
 ghost use Rattle.dbl_source_model.specs.Calls.{Moved, IsHead, IsBegun};
 ghost use Rattle.dbl_source_model.specs.Leaves.{Leaves, LeavesSome, MayFollow};
@@ -15,8 +14,8 @@ ghost use Rattle.dbl_offset.specs.Offsets.{IsOffset};
 ghost use Rattle.dbl_offset.specs.Stores.{HoldsOffset, IsLive, LeavesOffset, disk_of};
 ghost use Rattle.dbl_source.specs.Keeps.{KeepsSource, ReadsNothing};
 ghost use Rattle.dbl_offset.specs.Keeps.{KeepsStore};
-ghost use Rattle.dbl_capture_work.specs.Begins.{AreCounted, AreInfosAt, AreUnread, AreVersionsAt};
-ghost use Rattle.dbl_capture_work.specs.Begins.{IsAbsentHalt, IsAgain};
+ghost use Rattle.dbl_capture_work.specs.Begins.{AreCounted, AreInfosAt, AreUnread};
+ghost use Rattle.dbl_capture_work.specs.Begins.{IsAbsentAfter, IsAgain};
 ghost use Rattle.dbl_capture_work.specs.Begins.{IsDescribedAs, IsExhausted, IsFaultless};
 ghost use Rattle.dbl_capture_work.specs.Begins.{IsFirstOffsetAtHead, IsGoneFrom, IsModelFault};
 ghost use Rattle.dbl_capture_work.specs.Begins.{IsOffsetFor, IsTooLong, MayRest};
@@ -38,8 +37,8 @@ struct Described {
     version: u64,
 }
 
-// Describes a table, as the catalogue has it. Versions are counted from 1: an answer of 0 counts
-// as 1.
+// Describes a table, as the catalogue has it at one time during the call, with its version then.
+// Versions are counted from 1: an answer of 0 counts as 1.
 fn describe_table<S: Source>(
     alloc: Global,
     src: &mut S,
@@ -55,7 +54,7 @@ fn describe_table<S: Source>(
     ensures fault { IfErr result (λ h. (h ≡ Halt.Memory) ⊎ ((h ≡ Halt.Source)
         ⊎ IsModelFault name.now (S.told src.new) h)) }
     ensures absent { (s : SourceState) → S.stands src.old s →
-        IfErr result (IsAbsentHalt (name.now ∷ []) s.history) }
+        IfErr result (IsAbsentAfter (S.stands src.new) s (name.now ∷ [])) }
     ensures rests { ReadsNothing S.Source src.old src.new MayFollow }
     ensures source { KeepsSource S.Source src.old src.new result Halt.Source }
 {
@@ -85,8 +84,7 @@ fn describe_tables<S: Source>(
 ) -> Result<Tables, Halt>
     requires { IsTrue (S.is_live src.old) }
     ensures described { MovesTo S.stands src.old src.new result (λ tables s t. Moved s t
-        × AreInfosAt s.history tables.infos.items
-        × AreVersionsAt s.history tables.infos.items tables.versions.items) }
+        × AreInfosAt t.history tables.infos.items tables.versions.items) }
     ensures named { IfOk result
         (λ tables. map (λ info. info.name) tables.infos.items ≡ names.now.items) }
     ensures counted { IfOk result
@@ -94,7 +92,7 @@ fn describe_tables<S: Source>(
     ensures fault { IfErr result (λ h. (h ≡ Halt.Memory) ⊎ ((h ≡ Halt.Source)
         ⊎ ((name : _) × Contains names.now.items name × IsModelFault name (S.told src.new) h))) }
     ensures absent { (s : SourceState) → S.stands src.old s →
-        IfErr result (IsAbsentHalt names.now.items s.history) }
+        IfErr result (IsAbsentAfter (S.stands src.new) s names.now.items) }
     ensures rests { ReadsNothing S.Source src.old src.new MayRest }
     ensures source { KeepsSource S.Source src.old src.new result Halt.Source }
 {
@@ -148,23 +146,22 @@ fn offset_at(
 }
 
 /// Makes the first offset of a connector: describes each table, and then requests the head of the
-/// log. The offset has the versions that were described.
+/// log. Each table's description and version in the offset are those of one time.
 pub fn first_offset<S: Source>(alloc: Global, config: &Config, src: &mut S) -> Result<Offset, Halt>
     requires live { IsTrue (S.is_live src.old) }
     requires config { IsGoodConfig config.now }
     ensures first { MovesTo S.stands src.old src.new result (λ offset s t. Moved s t
         × ((infos : _) × (head : _) × IsFirstOffsetAtHead config.now infos head offset
-        × (map (λ info. info.name) infos ≡ config.now.tables) × AreInfosOf t.history infos
-        × IsHead head s t)) }
-    ensures versions { MovesTo S.stands src.old src.new result (λ offset s t.
-        AreVersionsAt t.history offset.infos offset.versions) }
+        × (map (λ info. info.name) infos ≡ config.now.tables) × IsHead head s t)) }
+    ensures described { MovesTo S.stands src.old src.new result (λ offset s t.
+        AreInfosAt t.history offset.infos offset.versions) }
     ensures of { IfOk result (IsOffsetFor config.now None) }
     ensures asked { IfOk result IsOffset }
     ensures headed { IfOk result (λ offset. LastAnswerIs (S.told src.new) (Head offset.start)) }
     ensures fault { IfErr result (λ h. (h ≡ Halt.Memory) ⊎ ((h ≡ Halt.Source)
         ⊎ ((name : _) × Contains config.now.tables name × IsModelFault name (S.told src.new) h))) }
     ensures absent { (s : SourceState) → S.stands src.old s →
-        IfErr result (IsAbsentHalt config.now.tables s.history) }
+        IfErr result (IsAbsentAfter (S.stands src.new) s config.now.tables) }
     ensures rests { ReadsNothing S.Source src.old src.new MayRest }
     ensures source { KeepsSource S.Source src.old src.new result Halt.Source }
 {

@@ -34,6 +34,11 @@ pub enum Halt {
         number: u64,
         error: TxnError,
     },
+    /// The table has another version than the session described: it was altered since.
+    #[error("schema changed {table}")]
+    Altered {
+        table: TableName,
+    },
     /// A row, counted from 0, can't be a row that a select of this table returns.
     #[error("bad chunk row {row} of {table}")]
     Chunk {

@@ -31,6 +31,7 @@ fn halt_of(alloc: Global, table: &TableName, error: WindowError) -> Halt
 {
     let halted = match table.copy(alloc) {
         Ok(table) => match error {
+            WindowError::Moved { .. } => Halt::Altered { table },
             WindowError::BadChunk { row } => Halt::Chunk { table, row },
             WindowError::Cell { column, error } => Halt::Cell {
                 table,

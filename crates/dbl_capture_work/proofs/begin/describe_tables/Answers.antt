@@ -6,9 +6,8 @@ use Rattle.dbl_model_table.specs.declared.table.TableName.{TableName}
 use Rattle.dbl_source_model.specs.Standings.{SourceState, left_of}
 use Rattle.dbl_capture_work.specs.declared.halt.Halt.{Halt}
 use Rattle.dbl_capture_work.specs.declared.halt.Halt.TheVariants as halt
-use Rattle.dbl_capture_work.specs.Begins.{AreInfosAt, IsVersionAt}
 use Rattle.dbl_capture_work.proofs.Exits.{later_on, moved_on, none_taken, rose_after, taken_on}
-use Rattle.dbl_capture_work.proofs.Describing.{absent_next, described_more, moved_none, name_among, named_push, rest_on, version_before, zip_push}
+use Rattle.dbl_capture_work.proofs.Describing.{absent_next, described_more, moved_none, name_among, named_push, rest_on, zip_push}
 use Rattle.dbl_capture_work.proofs.begin.describe_tables.Goals as goal
 
 pub returns-in_err-infos-clause-rests : goal.returns-in_err-infos-clause-rests
@@ -29,7 +28,7 @@ returns-in_err-versions-clause-rests g c = record {
 
 pub tables-init : goal.tables-init
 tables-init g c = record {
-  described = λ s stands. record { standing = s; is = stands; holds = (moved_none s (g.met.S.Source.rising c.args.src.now s stands), subst (AreInfosAt s.history) (sym c.in_ok-infos.ensures.items) tt, rw (c.in_ok-infos.ensures.items, c.in_ok-versions.ensures.items) tt) };
+  described = λ s stands. record { standing = s; is = stands; holds = (moved_none s (g.met.S.Source.rising c.args.src.now s stands), rw (c.in_ok-infos.ensures.items, c.in_ok-versions.ensures.items) tt) };
   counted = rw (c.in_ok-infos.ensures.items, c.in_ok-versions.ensures.items) tt;
   named = ap (map (λ (info : TableInfo). info.name)) c.in_ok-infos.ensures.items;
   left = λ s l stands may. inl (g.met.S.Source.only c.args.src.now s l stands may);
@@ -66,7 +65,7 @@ returns-in_err-table-clause-absent g c s stands =
     let items : c.deref-name-items.result.now ≡ names = c.deref-name-items.ensures.value in
     let lt : i < length names = subst (λ (l : List TableName). i < length l) items c.tables-test.true in
     let is : name ≡ get_or names i name = c.name-item.is ∙ ap (λ (l : List TableName). get_or l i name) items in
-    rw (p.1, p.2) (absent_next s stood.standing c.tables.infos.items names i name c.in_err-table.field-0.0 lt is stood.holds.0 stood.holds.1 c.tables.invariant.named
+    rw (p.1, p.2) (absent_next (g.S.Source.stands c.describe_table.new.src) s stood.standing c.tables.infos.items c.tables.versions.items names i name c.in_err-table.field-0.0 lt is stood.holds.0 stood.holds.1 c.tables.invariant.named
     (c.in_err-table.ensures.absent stood.standing stood.is))
 
 pub returns-in_err-table-clause-rests : goal.returns-in_err-table-clause-rests
@@ -165,8 +164,7 @@ tables-preserved g c =
             is = next.is;
             holds = (
               moved_on s stood.standing next.standing stood.holds.0 next.holds.0,
-              subst (AreInfosAt s.history) (sym pushed) (described_more s stood.standing infos info stood.holds.0 stood.holds.1 next.holds.2),
-              rw (pushed, numbered) (zip_push (IsVersionAt s.history) infos versions info version stood.holds.2 (version_before s stood.standing info version stood.holds.0 next.holds.3)),
+              rw (pushed, numbered) (described_more stood.standing next.standing infos versions info version next.holds.0 stood.holds.1 next.holds.2),
             );
           });
       counted = rw (pushed, numbered) (zip_push (λ (x : TableInfo) (v : ℕ). (1 ≤ v) × (v < 2 ^ 64)) infos versions info version inv.counted c.in_ok-table.ensures.counted);

@@ -4,12 +4,12 @@ use Rattle.dbl_source_model.specs.Calls.{Moved}
 use Rattle.dbl_source_model.specs.Leaves.{Leaves, LeavesSome}
 use Rattle.dbl_source_model.specs.Standings.{SourceState, HasState}
 use Rattle.dbl_source_model.specs.Trace.{IsTakenBy}
-use Rattle.dbl_capture_work.specs.Begins.{AreCounted, AreInfosAt, AreVersionsAt, MayRest}
+use Rattle.dbl_capture_work.specs.Begins.{AreCounted, AreInfosAt, MayRest}
 use Rattle.dbl_capture_work.proofs.begin.describe_tables.Given as goal
 
 abbrev pub invariant-tables : goal.invariant-tables
 invariant-tables g l = record {
-  described : (s : SourceState) → g.S.Source.stands l.fn.src s → HasState g.S.Source.stands l.src (λ t. Moved s t × AreInfosAt s.history l.infos.items × AreVersionsAt s.history l.infos.items l.versions.items);
+  described : (s : SourceState) → g.S.Source.stands l.fn.src s → HasState g.S.Source.stands l.src (λ t. Moved s t × AreInfosAt t.history l.infos.items l.versions.items);
   counted : AreCounted l.infos.items l.versions.items;
   named : map (λ (info : TableInfo). info.name) l.infos.items ≡ take l.name-index l.names.items;
   left : Leaves g.S.Source.stands g.S.Source.may_leave l.fn.src l.src MayRest;

@@ -4,14 +4,13 @@ use Rattle.std.proofs.lemmas.Result.{err_from_is_err_and}
 use Rattle.dbl_base.specs.declared.lsn.Lsn.{Lsn}
 use Rattle.dbl_model_table.specs.declared.table.TableInfo.{TableInfo}
 use Rattle.dbl_model_table.specs.declared.table.TableName.{TableName}
-use Rattle.dbl_model_table.specs.Tables.{are_distinct, same_name}
 use Rattle.dbl_source_model.specs.Standings.{SourceState}
 use Rattle.dbl_source_model.specs.Trace.{Head, LastAnswerIs}
 use Rattle.dbl_source.specs.SourceLog.declared.error.SourceError.{SourceError}
 use Rattle.dbl_capture_work.specs.declared.halt.Halt.TheVariants as halt
-use Rattle.dbl_capture_work.specs.Begins.{IsAbsentHalt}
+use Rattle.dbl_capture_work.specs.Begins.{IsAbsentAfter}
 use Rattle.dbl_capture_work.proofs.Exits.{moved_on, rose_after, source_absent, source_failed, taken_on, later_on}
-use Rattle.dbl_capture_work.proofs.Describing.{first_is_for, first_is_offset, head_from, infos_described, rest_on, versions_described}
+use Rattle.dbl_capture_work.proofs.Describing.{first_is_for, first_is_offset, head_from, infos_on, rest_on}
 use Rattle.dbl_capture_work.proofs.begin.first_offset.Goals as goal
 
 pub returns-in_err-tables-clause-fault : goal.returns-in_err-tables-clause-fault
@@ -26,12 +25,12 @@ returns-in_err-tables-clause-fault g c =
 pub returns-in_err-tables-clause-absent : goal.returns-in_err-tables-clause-absent
 returns-in_err-tables-clause-absent g c s stands =
     let p = err_from_is_err_and c.from_residual.result c.from_residual.ensures.1 in
-    rw (p.1, p.2) (subst (λ (l : List TableName). IsAbsentHalt l s.history c.in_err-tables.field-0.0) c.items.ensures (c.in_err-tables.ensures.absent s stands))
+    rw (p.1, p.2) (subst (λ (l : List TableName). IsAbsentAfter (g.S.Source.stands c.describe_tables.new.src) s l c.in_err-tables.field-0.0) c.items.ensures (c.in_err-tables.ensures.absent s stands))
 
 pub returns-in_err-head-clause-absent : goal.returns-in_err-head-clause-absent
 returns-in_err-head-clause-absent g c s stands =
     let p = err_from_is_err_and c.from_residual-in_err-head.result c.from_residual-in_err-head.ensures.1 in
-    rw (p.1, p.2) (source_absent c.args.config.now.tables s.history c.in_err-head.field-0.0)
+    rw (p.1, p.2) (source_absent (g.S.Source.stands c.head.new.self) s c.args.config.now.tables c.in_err-head.field-0.0)
 
 pub returns-in_err-head-clause-rests : goal.returns-in_err-head-clause-rests
 returns-in_err-head-clause-rests g c = record {
@@ -87,7 +86,6 @@ returns-clause-first g c s stands =
           c.in_ok-head.head,
           c.in_ok-offset_at.ensures.first,
           named,
-          infos_described s.history headed.standing.history infos moved.grows.tables (subst (λ (l : List TableName). IsTrue (are_distinct same_name l)) (sym named) c.requires.config.distinct) stood.holds.1,
           head_from c.in_ok-head.head s stood.standing headed.standing stood.holds.0 headed.holds.1,
         ),
       );
@@ -101,15 +99,16 @@ returns-clause-asked g c =
     first_is_offset c.args.config.now c.in_ok-tables.tables.infos.items c.in_ok-tables.tables.versions.items c.in_ok-head.head c.in_ok-offset_at.field-0 c.requires.config (c.in_ok-tables.ensures.named ∙ c.items.ensures) c.in_ok-tables.ensures.counted
     c.in_ok-offset_at.ensures.first c.in_ok-offset_at.ensures.versions
 
-pub returns-clause-versions : goal.returns-clause-versions
-returns-clause-versions g c s stands =
+pub returns-clause-described : goal.returns-clause-described
+returns-clause-described g c s stands =
     let stood = c.in_ok-tables.ensures.described s stands in
     let headed = c.in_ok-head.ensures.headed stood.standing stood.is in
-    let moved = moved_on s stood.standing headed.standing stood.holds.0 headed.holds.0 in
+    let infos = c.in_ok-tables.tables.infos.items in
+    let versions = c.in_ok-tables.tables.versions.items in
     record {
       standing = headed.standing;
       is = headed.is;
-      holds = rw (c.in_ok-offset_at.ensures.first.infos_are, c.in_ok-offset_at.ensures.versions) (versions_described s.history headed.standing.history c.in_ok-tables.tables.infos.items c.in_ok-tables.tables.versions.items moved.grows.tables stood.holds.2);
+      holds = rw (c.in_ok-offset_at.ensures.first.infos_are, c.in_ok-offset_at.ensures.versions) (infos_on stood.standing.history headed.standing.history infos versions headed.holds.0.grows stood.holds.1);
     }
 
 pub returns-clause-headed : goal.returns-clause-headed

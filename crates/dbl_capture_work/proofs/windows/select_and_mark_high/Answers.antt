@@ -2,7 +2,7 @@ use Rattle.std.proofs.Common.{◌≡◌, ◌∙◌, ◌⊎◌, [], ◌∷◌, in
 use Rattle.std.specs.Prelude.{Err}
 use Rattle.std.proofs.lemmas.Result.{IfErr-weaker, IfOk-weaker, err_from_is_err_and}
 use Rattle.dbl_source_model.specs.Calls.{IsMarked}
-use Rattle.dbl_source_model.specs.Standings.{HasState}
+use Rattle.dbl_source_model.specs.Standings.{HasState, left_of}
 use Rattle.dbl_window.specs.declared.error.WindowError.{WindowError}
 use Rattle.dbl_window.specs.declared.error.WindowError.TheVariants as window
 use Rattle.dbl_window.specs.Plans.{Chunk, Plan, high_text}
@@ -11,7 +11,7 @@ use Rattle.dbl_capture_work.specs.Windowed.{MayHaveMarks, WasLooked}
 use Rattle.dbl_capture_work.specs.Works.{IsChunkOf}
 use Rattle.dbl_capture_work.proofs.Exits.{both_ok, rose_after, taken_on, later_on}
 use Rattle.dbl_capture_work.proofs.Looking.{mark_left, moved_left, others_left, read_order, was_looked}
-use Rattle.dbl_capture_work.proofs.WindowFaults.{mark_fault, mark_honest, rows_fault, select_honest}
+use Rattle.dbl_capture_work.proofs.WindowFaults.{mark_fault, mark_honest, moved_other, rows_fault, select_honest}
 use Rattle.dbl_capture_work.proofs.windows.select_and_mark_high.Goals as goal
 
 pub returns-in_err-held-clause-rows : goal.returns-in_err-held-clause-rows
@@ -23,6 +23,9 @@ pub returns-in_err-held-clause-never : goal.returns-in_err-held-clause-never
 returns-in_err-held-clause-never g c s infos stands honest captured =
     let p = err_from_is_err_and c.from_residual.result c.from_residual.ensures.1 in
     rw (p.1, p.2) (select_honest g.S.Source.stands c.select.new.src c.args.marked infos c.in_err-held.field-0.0
+    (λ version is.
+    let stood = c.in_err-held.ensures.moved s version stands honest (ap (λ (e : WindowError). Err e) is) in
+    moved_other s.history stood.standing.history c.args.marked version (g.met.S.Source.fit c.select.new.src (left_of stood.standing) (g.met.S.Source.may c.select.new.src stood.standing stood.is) honest) stood.holds)
     (λ row is. c.in_err-held.ensures.never s infos row stands honest captured (ap (λ (e : WindowError). Err e) is))
     (λ name error is. c.in_err-held.ensures.cell s infos name error stands honest captured (ap (λ (e : WindowError). Err e) is)))
 

@@ -24,7 +24,7 @@ use Rattle.dbl_capture_work.specs.Offset.declared.offset.Offset.{Offset}
 use Rattle.dbl_capture_work.specs.Window.declared.error.WindowError.{WindowError}
 use Rattle.dbl_capture_work.specs.Window.declared.error.WindowError.TheVariants as window
 use Rattle.dbl_capture_work.specs.Window.Plans.{Plan}
-use Rattle.dbl_capture_work.specs.Window.Reading.{chunk_read}
+use Rattle.dbl_capture_work.specs.Window.Reading.{answer_read}
 use Rattle.dbl_capture_work.specs.declared.halt.Halt.{Halt}
 use Rattle.dbl_capture_work.specs.declared.halt.Halt.TheVariants as halt
 use Rattle.dbl_capture_work.specs.declared.report.Report.{Report}
@@ -124,7 +124,7 @@ module _ (config : Config) (held : Option Offset) (stored : Offset) (report : Re
         let same_stored : w.stored.offset ≡ s.offset = first_some w.stored.offset s.offset (sym w.stored.is ∙ s.is) in
         let same_plan : w.plan ≡ plan = one_plan config report s.offset w.plan plan (subst (λ (o : Offset). IsNextPlan config report o w.plan) same_stored w.next) next in
         let same_answer : w.rows.answer ≡ answered = same_answers w.rows.answer answered (sym (w.rows.told_so t refl) ∙ is) in
-        let error_is : w.error ≡ error = same_error w.error error (chunk_read plan answered.rows) (sym (ap₂ (λ (p : Plan) (a : Selected). chunk_read p a.rows) same_plan same_answer) ∙ w.rows.read_is) read in
+        let error_is : w.error ≡ error = same_error w.error error (answer_read plan answered) (sym (ap₂ (λ (p : Plan) (a : Selected). answer_read p a) same_plan same_answer) ∙ w.rows.read_is) read in
         inl (inl (ap (λ (x : Halt). Err x) (w.is ∙ ap₂ (λ (n : TableName) (e : WindowError). window_halt n e) (sym w.name ∙ ap (λ (p : Plan). p.info.name) same_plan) error_is)));
     described = λ raw error none none_new is fault. absurd (stored_none stored none_new);
     unknown = λ none none_new is. absurd (stored_none stored none_new);
@@ -138,6 +138,9 @@ rows_ask config now held first stored work report table t ms h o b absent unread
     halts = windows_halt config now held first stored work report table (Some t) h o b absent unread chunk
 
     at : (name : TableName) (error : WindowError) → h ≡ window_halt name error → MustHalt config held (Some stored) report t (Err h)
+    at name (window.Moved version) is =
+        window_asked config held stored report t ms spelled name h
+        (subst (λ (x : Halt). IsWindowHalt config held (Some stored) report (Some t) name x) (sym is) (subst (IsHalt config now held (Some stored) report (Some t)) is halts))
     at name (window.BadChunk row) is =
         window_asked config held stored report t ms spelled name h
         (subst (λ (x : Halt). IsWindowHalt config held (Some stored) report (Some t) name x) (sym is) (subst (IsHalt config now held (Some stored) report (Some t)) is halts))

@@ -8,6 +8,9 @@ use Rattle.dbl_topic.specs.Model.{SinkModel}
 use Rattle.dbl_capture_work.specs.Source.Model.{SourceModel}
 use Rattle.dbl_model_table.specs.declared.config.Config.{Config}
 use Rattle.dbl_model_table.specs.declared.table.TableInfo.{TableInfo}
+use Rattle.dbl_model_table.specs.declared.table.TableName.{TableName}
+use Rattle.dbl_model_table.specs.Configs.{IsGoodConfig}
+use Rattle.dbl_model_table.specs.Tables.{are_distinct, same_name}
 use Rattle.dbl_model_table.proofs.Lists.{slice_get-lt}
 use Rattle.dbl_capture_work.specs.Disk.Model.{DiskModel}
 use Rattle.dbl_capture_work.specs.ModelHistory.declared.cursor.Cursor.{Cursor}
@@ -15,8 +18,8 @@ use Rattle.dbl_capture_work.specs.ModelHistory.Cursors.{AreCursorsOf}
 use Rattle.dbl_capture_work.specs.ModelHistory.Fit.{AreInfosOf, IsFitHistory}
 use Rattle.dbl_capture_work.specs.ModelHistory.History.{AreRising, RawCommit, History, IsRising}
 use Rattle.dbl_capture_work.specs.SourceModel.Calls.{IsBegun, Moved, head_after, head_of, IsHead}
-use Rattle.dbl_capture_work.specs.SourceModel.Growth.{Grows}
-use Rattle.dbl_capture_work.specs.SourceModel.Standings.{Reading, SourceState, CrashState}
+use Rattle.dbl_capture_work.specs.SourceModel.Growth.{Grows, KeepsColumns}
+use Rattle.dbl_capture_work.specs.SourceModel.Standings.{HasState, Reading, SourceState, CrashState}
 use Rattle.dbl_capture_work.proofs.SourceModelGrowthLemmas.{grows_none, grows_on, no_mark_more}
 use Rattle.dbl_capture_work.specs.Offset.declared.offset.Offset.{Offset}
 use Rattle.dbl_capture_work.specs.OffsetStore.Stores.{StoreOn, HoldsOffset, LeavesOffset, disk_of}
@@ -35,8 +38,9 @@ use Rattle.dbl_capture_work.proofs.CaptureModelBeginning.{unread_sessions_follow
 use Rattle.dbl_capture_work.proofs.CaptureModelGrowing.{first_longer}
 use Rattle.dbl_capture_work.proofs.CaptureModelStarting.{sessions_begin}
 use Rattle.dbl_capture_work.specs.declared.work.SessionState.{SessionState}
-use Rattle.dbl_capture_work.specs.Begins.{AreVersionsAt, IsAgain, IsFirstOffsetAtHead, IsOffsetFor}
+use Rattle.dbl_capture_work.specs.Begins.{AreInfosAt, IsAgain, IsFirstOffsetAtHead, IsOffsetFor}
 use Rattle.dbl_capture_work.specs.Works.{IsWork}
+use Rattle.dbl_capture_work.proofs.Describing.{infos_of}
 use Rattle.dbl_capture_laws.proofs.Opened.{opens_none, rest_none}
 use Rattle.dbl_capture_laws.specs.Found.{BeganAt, BeginsAt, IsFirstAtHead}
 use Rattle.dbl_capture_laws.specs.Sessions.{InSession, AddsFewOrNoMarks, LeavesBy}
@@ -115,7 +119,7 @@ unread_zip (i ∷ infos) [] same all = absurd (no_length (length infos) same)
 unread_zip (i ∷ infos) (c ∷ cursors) same all = (all.0, unread_zip infos cursors (one_less (length cursors) (length infos) same) all.1)
 
 -- what is made at a head is a first offset
-first_offset : (config : Config) (infos : List TableInfo) (head : Lsn) (first : Offset) (s t : SourceState) → Grows s.history t.history → IsRising t.history → IsFirstOffsetAtHead config infos head first
+pub first_offset : (config : Config) (infos : List TableInfo) (head : Lsn) (first : Offset) (s t : SourceState) → Grows s.history t.history → IsRising t.history → IsFirstOffsetAtHead config infos head first
     → map (λ info. info.name) infos ≡ config.tables → IsHead head s t → IsFirstOffset config s.history t.history first
 first_offset config infos head first s t g rise is names at = record {
   identity = is.identity;
@@ -127,15 +131,49 @@ first_offset config infos head first s t g rise is names at = record {
 }
 
 pub first_at_head : (config : Config) (infos : List TableInfo) (head : Lsn) (first : Offset) (s t : SourceState) → Moved s t → IsRising t.history → IsFirstOffsetAtHead config infos head first
-    → map (λ info. info.name) infos ≡ config.tables → AreInfosOf t.history infos → IsHead head s t → AreVersionsAt t.history first.infos first.versions
+    → map (λ info. info.name) infos ≡ config.tables → AreInfosOf t.history infos → IsHead head s t → AreInfosAt t.history first.infos first.versions
     → IsFirstAtHead config s.history first
-first_at_head config infos head first s t moved rise is names are at versions = record {
+first_at_head config infos head first s t moved rise is names are at described = record {
   later = t.history;
   grown = moved.grows;
   infos = subst (AreInfosOf t.history) (sym is.infos_are) are;
-  versions = versions;
+  described = described;
   is = first_offset config infos head first s t moved.grows rise is names at;
 }
+
+-- what a first session describes and finds, if no table is altered
+pub record FirstFound (config : Config) (offset : Offset) (s t : SourceState) : Type 0 where
+  pub moved : Moved s t
+  pub infos : List TableInfo
+  pub head : Lsn
+  pub is : IsFirstOffsetAtHead config infos head offset
+  pub names : map (λ info. info.name) infos ≡ config.tables
+  pub are : AreInfosOf t.history infos
+  pub at : IsHead head s t
+  pub described : AreInfosAt t.history offset.infos offset.versions
+
+pub first_found : {S : Type 0} (stands : S → SourceState → Type 0) (src : S) (config : Config) (offset : Offset) (s : SourceState) → ((a b : SourceState) → stands src a → stands src b → a ≡ b) → ((t : SourceState) → stands src t → KeepsColumns t.history) → IsGoodConfig config
+    → HasState stands src (λ t. Moved s t × ((infos : List TableInfo) × (head : Lsn) × IsFirstOffsetAtHead config infos head offset × (map (λ info. info.name) infos ≡ config.tables) × IsHead head s t))
+    → HasState stands src (λ t. AreInfosAt t.history offset.infos offset.versions) → HasState stands src (FirstFound config offset s)
+first_found stands src config offset s one kept good first said =
+    let t = first.standing in
+    let infos = first.holds.1.0 in
+    let names = first.holds.1.3 in
+    let described : AreInfosAt t.history offset.infos offset.versions = subst (λ (x : SourceState). AreInfosAt x.history offset.infos offset.versions) (one said.standing t said.is first.is) said.holds in
+    record {
+      standing = t;
+      is = first.is;
+      holds = record {
+        moved = first.holds.0;
+        infos = infos;
+        head = first.holds.1.1;
+        is = first.holds.1.2;
+        names = names;
+        are = infos_of t.history infos offset.versions (kept t first.is) (subst (λ (l : List TableName). IsTrue (are_distinct same_name l)) (sym names) good.distinct) (subst (λ (l : List TableInfo). AreInfosAt t.history l offset.versions) first.holds.1.2.infos_are described);
+        at = first.holds.1.4;
+        described = described;
+      };
+    }
 
 -- ---- where it begins
 

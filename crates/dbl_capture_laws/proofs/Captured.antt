@@ -1,19 +1,27 @@
 -- Tables that can't be captured.
-use Rattle.std.proofs.Common.{◌≡◌, ◌∙◌, ◌⊎◌, inl, inr, Option, Some, None, List, Result, Ok, Err, refl, sym, subst}
+use Rattle.std.proofs.Common.{◌≡◌, ◌∙◌, ◌⊎◌, inl, inr, Option, Some, None, List, Result, Ok, Err, map, refl, sym, ap, subst}
 use Rattle.std.specs.Prelude.{Contains, IfErr, IfOk}
 use Rattle.std.specs.List.{AllByRecursion}
 use Rattle.std.proofs.lemmas.List.Elements.{All-contains, All-from_recursion}
+use Rattle.dbl_base.specs.declared.lsn.Lsn.{Lsn}
 use Rattle.dbl_model_table.specs.declared.config.Config.{Config}
 use Rattle.dbl_model_table.specs.declared.table.RawTable.{RawTable}
+use Rattle.dbl_model_table.specs.declared.table.TableInfo.{TableInfo}
 use Rattle.dbl_model_table.specs.declared.table.TableName.{TableName}
-use Rattle.dbl_capture_work.specs.ModelHistory.History.{History}
+use Rattle.dbl_capture_work.specs.Source.Model.{SourceModel}
+use Rattle.dbl_capture_work.specs.ModelHistory.History.{History, IsRising}
+use Rattle.dbl_capture_work.specs.SourceModel.Calls.{IsHead, Moved}
+use Rattle.dbl_capture_work.specs.SourceModel.Standings.{HasState, SourceState}
 use Rattle.dbl_capture_work.specs.SourceModel.Trace.{Trace}
 use Rattle.dbl_capture_work.specs.Offset.declared.offset.Offset.{Offset}
 use Rattle.dbl_capture_work.specs.declared.halt.Halt.{Halt}
 use Rattle.dbl_capture_work.specs.declared.halt.Halt.TheVariants as halt
-use Rattle.dbl_capture_work.specs.Begins.{CanBeCaptured, IsAbsentHalt, IsExhausted, IsFaultOf, IsModelFault}
+use Rattle.dbl_capture_work.specs.Begins.{AreInfosAt, CanBeCaptured, IsAbsentHalt, IsExhausted, IsFaultOf, IsFirstOffsetAtHead, IsModelFault}
+use Rattle.dbl_capture_work.proofs.Describing.{captured_named, moved_none}
 use Rattle.dbl_capture_laws.specs.Musts.{CapturesAll}
-use Rattle.dbl_capture_laws.specs.Captured.{CapturesOrHalts, IsTableHalt, MustHaltAbsent}
+use Rattle.dbl_capture_laws.specs.Captured.{CapturesOrHalts, IsTableHalt, MustHaltAbsent, PassesState}
+use Rattle.dbl_capture_laws.specs.Found.{IsFirstIn}
+use Rattle.dbl_capture_laws.proofs.Beginnings.{first_offset}
 
 -- ---- halts
 
@@ -64,3 +72,60 @@ module _ (config : Config) (history : History) where
     | inl all ↦ absurd (never (can_be name all has))
     | inr table ↦ (h, refl, table, absent)
   ]
+
+-- ---- a state that a call led through
+
+-- the one at the call
+pub passes_here : {S : Type 0} (source_model : SourceModel S) (src new_src : S) (s : SourceState) (P : SourceState → Type 0) → source_model.stands src s → IsRising s.history → source_model.comes_of src src → source_model.comes_of src new_src
+    → (source_model.honest new_src → source_model.honest src) → P s → PassesState source_model src new_src s P
+passes_here source_model src new_src s P is rising self comes honest holds =
+    record { passed = src; standing = s; is = is; moved = moved_none s rising; extends = self; extended = comes; honest = honest; holds = holds }
+
+-- it is one of a later call too
+pub passed_on : {S : Type 0} (source_model : SourceModel S) (src mid new_src : S) (s : SourceState) (P Q : SourceState → Type 0) → ((first second third : S) → source_model.comes_of first second → source_model.comes_of second third → source_model.comes_of first third)
+    → source_model.comes_of mid new_src → (source_model.honest new_src → source_model.honest mid) → PassesState source_model src mid s P → ((t : SourceState) → P t → Q t) → PassesState source_model src new_src s Q
+passed_on source_model src mid new_src s P Q comes_on comes honest p so = record {
+  passed = p.passed;
+  standing = p.standing;
+  is = p.is;
+  moved = p.moved;
+  extends = p.extends;
+  extended = comes_on p.passed mid new_src p.extended comes;
+  honest = λ conforms. p.honest (honest conforms);
+  holds = so p.standing p.holds;
+}
+
+-- and of another property
+pub passed_so : {S : Type 0} (source_model : SourceModel S) (src new_src : S) (s : SourceState) (P Q : SourceState → Type 0) → PassesState source_model src new_src s P → ((t : SourceState) → P t → Q t) → PassesState source_model src new_src s Q
+passed_so source_model src new_src s P Q p so =
+    record { passed = p.passed; standing = p.standing; is = p.is; moved = p.moved; extends = p.extends; extended = p.extended; honest = p.honest; holds = so p.standing p.holds }
+
+-- what was described was found
+pub found_in : {S : Type 0} (source_model : SourceModel S) (src new_src : S) (config : Config) (offset : Offset) (s : SourceState) → ((a b : SourceState) → source_model.stands new_src a → source_model.stands new_src b → a ≡ b) → ((t : SourceState) → source_model.stands new_src t → IsRising t.history)
+    → source_model.comes_of src new_src → source_model.comes_of new_src new_src
+    → HasState source_model.stands new_src (λ t. Moved s t × ((infos : List TableInfo) × (head : Lsn) × IsFirstOffsetAtHead config infos head offset × (map (λ info. info.name) infos ≡ config.tables) × IsHead head s t))
+    → HasState source_model.stands new_src (λ t. AreInfosAt t.history offset.infos offset.versions)
+    → PassesState source_model src new_src s (λ t. AllByRecursion (CanBeCaptured t.history) config.tables × IsFirstIn config s.history t.history offset)
+found_in source_model src new_src config offset s one rising comes self first said =
+    let t = first.standing in
+    let is = first.holds.1.2 in
+    let names : map (λ (info : TableInfo). info.name) offset.infos ≡ config.tables = ap (map (λ (info : TableInfo). info.name)) is.infos_are ∙ first.holds.1.3 in
+    let described : AreInfosAt t.history offset.infos offset.versions = subst (λ (x : SourceState). AreInfosAt x.history offset.infos offset.versions) (one said.standing t said.is first.is) said.holds in
+    record {
+      passed = new_src;
+      standing = t;
+      is = first.is;
+      moved = first.holds.0;
+      extends = comes;
+      extended = self;
+      honest = λ honest. honest;
+      holds = (
+        subst (AllByRecursion (CanBeCaptured t.history)) names (captured_named t.history offset.infos offset.versions described),
+        record { infos = described; is = first_offset config first.holds.1.0 first.holds.1.1 offset s t first.holds.0.grows (rising t first.is) is first.holds.1.3 first.holds.1.4 },
+      );
+    }
+
+-- of either answer, by what is known of each
+pub result_as : {T : Type 0} (r : Result T Halt) (P : T → Type 0) (B : Halt → Type 0) (Q : Result T Halt → Type 0) → IfOk r P → IfErr r B → ((x : T) → P x → Q (Ok x)) → ((h : Halt) → B h → Q (Err h)) → Q r
+result_as (Ok x) P B Q p b f g = f x p
+result_as (Err h) P B Q p b f g = g h b

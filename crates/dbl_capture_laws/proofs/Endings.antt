@@ -1,6 +1,6 @@
 -- A session that ends: it is complete, and what it has stored is its own.
 use Rattle.std.proofs.Common.{◌≡◌, ◌∙◌, ◌+◌, ◌≤◌, ℕ, suc, Bool, IsTrue, true, false, cond, Option, Some, None, List, [], ◌∷◌, ◌++◌, length, refl, sym, ap, subst, arith, append-nil}
-use Rattle.std.specs.Prelude.{◌==◌, if◌then◌else◌, map, not, nat_lt}
+use Rattle.std.specs.Prelude.{◌==◌, if◌then◌else◌, map, not, nat_lt, IfSome}
 use Rattle.std.specs.List.{AllByRecursion, position, prefix_len}
 use Rattle.std.proofs.lemmas.Bool.Decides.{nat_tests}
 use Rattle.dbl_base.specs.declared.lsn.Lsn.{Lsn}
@@ -26,12 +26,12 @@ use Rattle.dbl_capture_work.specs.CaptureModel.Outcomes.{IsComplete}
 use Rattle.dbl_capture_work.proofs.CaptureModelCompleting.{read_sessions_are_complete}
 use Rattle.dbl_capture_work.specs.declared.report.Report.{Report}
 use Rattle.dbl_capture_work.specs.declared.work.SessionState.{SessionState}
-use Rattle.dbl_capture_work.specs.Begins.{AreVersionsAt, IsOffsetFor}
+use Rattle.dbl_capture_work.specs.Begins.{AreInfosAt, IsOffsetFor}
 use Rattle.dbl_record.specs.Cuts.{cut}
 use Rattle.dbl_capture_laws.proofs.Opened.{put_none}
 use Rattle.dbl_capture_laws.proofs.Within.{open_cursors}
 use Rattle.dbl_capture_laws.specs.Ends.{AreAllDone, HasNoneNext, HasOwnStored, IsAtPosition, IsCompleteWith, LeavesComplete, table_to_read}
-use Rattle.dbl_capture_laws.specs.Found.{HasStored, IsFirstAtHead, IsFirstStored, IsStoredBy, position_of}
+use Rattle.dbl_capture_laws.specs.Found.{HasStored, IsFirstAtHead, IsFirstIn, IsFirstStored, IsStoredBy, position_of}
 use Rattle.dbl_capture_laws.specs.Sessions.{state_at_stage, InSession}
 use Rattle.dbl_capture_laws.specs.Turns.{IsSettledWhole}
 use Rattle.dbl_capture_laws.proofs.Keeping.{held_left, left_weaker, rests_left}
@@ -169,8 +169,8 @@ later_at_head config history first later of f = record {
   later = f.later;
   grown = f.grown;
   infos = subst (AreInfosOf f.later) (sym of.infos) f.infos;
-  versions = subst (λ (l : List TableInfo). AreVersionsAt f.later l later.versions) (sym of.infos)
-      (subst (λ (l : List ℕ). AreVersionsAt f.later first.infos l) (sym of.versions) f.versions);
+  described = subst (λ (l : List TableInfo). AreInfosAt f.later l later.versions) (sym of.infos)
+      (subst (λ (l : List ℕ). AreInfosAt f.later first.infos l) (sym of.versions) f.described);
   is = record {
     identity = of.identity ∙ f.is.identity;
     tables = ap (map (λ (info : TableInfo). info.name)) of.infos ∙ f.is.tables;
@@ -179,6 +179,22 @@ later_at_head config history first later of f = record {
     incarnation = of.incarnation ∙ f.is.incarnation;
   };
 }
+
+pub first_in_stored : (config : Config) (history later : History) (old new : Option Offset) (first : Offset) → old ≡ Some first → IfSome old (IsFirstIn config history later) → HasOwnStored first new → IfSome new (IsFirstIn config history later)
+first_in_stored config history later old new first was is own =
+    let of = own.of in
+    let f : IsFirstIn config history later first = subst (λ (o : Option Offset). IfSome o (IsFirstIn config history later)) was is in
+    subst (λ (o : Option Offset). IfSome o (IsFirstIn config history later)) (sym own.is) (record {
+      infos = subst (λ (l : List TableInfo). AreInfosAt later l own.offset.versions) (sym of.infos)
+          (subst (λ (l : List ℕ). AreInfosAt later first.infos l) (sym of.versions) f.infos);
+      is = record {
+        identity = of.identity ∙ f.is.identity;
+        tables = ap (map (λ (info : TableInfo). info.name)) of.infos ∙ f.is.tables;
+        start = subst (λ (l : Lsn). IsPositionOf later l.0) (sym of.start) f.is.start;
+        not_before = subst (λ (l : Lsn). AllByRecursion (λ (commit : RawCommit). commit.lsn.0 ≤ l.0) history.commits) (sym of.start) f.is.not_before;
+        incarnation = of.incarnation ∙ f.is.incarnation;
+      };
+    })
 
 pub first_stored : (config : Config) (history : History) (old new : Option Offset) (first : Offset) → (old ≡ None → IsFirstAtHead config history first) → HasOwnStored first new → IsFirstStored config history old new
 first_stored config history None new first at own = subst (IsFirstStored config history None) (sym own.is) (later_at_head config history first own.offset own.of (at refl))

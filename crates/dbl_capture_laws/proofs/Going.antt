@@ -37,6 +37,7 @@ source_reads source.Memory = tt
 
 window_reads : (name : TableName) (e : WindowError) → IsNotGone (window_halt name e)
 window_reads name (window.BadChunk row) = tt
+window_reads name (window.Moved version) = tt
 window_reads name (window.Cell column error) = tt
 window_reads name window.Failed = tt
 window_reads name window.Memory = tt

@@ -129,6 +129,7 @@ module _ (config : Config) (now : ℤ) (held : Option Offset) (first stored : Of
           })
 
       window_halts : (name : TableName) (plan : Plan) (error : WindowError) → IsNextPlan config report stored plan → plan.info.name ≡ name → IsOfRows plan told error → Halting (window_halt name error)
+      window_halts name plan (window.Moved version) next is rows = record { stored = stored_is; plan = plan; next = next; name = is; error = window.Moved version; is = refl; rows = rows }
       window_halts name plan (window.BadChunk row) next is rows = record { stored = stored_is; plan = plan; next = next; name = is; error = window.BadChunk row; is = refl; rows = rows }
       window_halts name plan (window.Cell column error) next is rows = record { stored = stored_is; plan = plan; next = next; name = is; error = window.Cell column error; is = refl; rows = rows }
       window_halts name plan window.Failed next is rows = tt

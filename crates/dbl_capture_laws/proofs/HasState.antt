@@ -70,6 +70,7 @@ module _ (config : Config) (now : ℤ) (held stored : Option Offset) (report : R
 
   window_stood : (name : TableName) (e : WindowError) → Causes (window_halt name e)
   window_stood name (window.BadChunk row) = tt
+  window_stood name (window.Moved version) = tt
   window_stood name (window.Cell column error) = tt
   window_stood name window.Failed = tt
   window_stood name window.Memory = tt

@@ -1,5 +1,5 @@
 -- What a conforming source never does to a session.
-use Rattle.std.proofs.Common.{◌≡◌, Option, None, List, [], ◌∷◌, map, refl, subst}
+use Rattle.std.proofs.Common.{◌≡◌, Option, None, List, [], ◌∷◌, map, ◌∙◌, refl, subst, arith}
 use Rattle.std.specs.Prelude.{IsSomeAnd}
 use Rattle.std.specs.List.{AllByRecursion}
 use Rattle.dbl_pgmsg.proofs.FaultLaws.{not_both}
@@ -13,6 +13,7 @@ use Rattle.dbl_capture_work.proofs.ModelHistoryRowKeys.{some_and}
 use Rattle.dbl_capture_work.specs.ModelCommit.declared.txn_error.TxnError.{TxnError}
 use Rattle.dbl_capture_work.specs.SourceModel.Stated.{MayStand}
 use Rattle.dbl_capture_work.specs.Begins.{CanBeCaptured}
+use Rattle.dbl_capture_work.proofs.Describing.{first_entry}
 use Rattle.dbl_capture_laws.specs.Honest.{CapturedTablesCanBeCaptured, HonestTransactionsFail, SpelledBytesNeverHalt}
 
 pub spelled_bytes_never_halt : SpelledBytesNeverHalt
@@ -38,7 +39,7 @@ each_captured : (history : History) (infos : List TableInfo) → AllByRecursion 
 each_captured history [] all = tt
 each_captured history (info ∷ infos) all =
     let at = some_and (entry_of history info.name) (λ (raw : RawTable). IsInfoOf raw info) all.0 in
-    (record { raw = at.0; entry = at.1; clean = subst (λ (r : RawTable). table_fault r ≡ None) at.2 (no_fault info) }, each_captured history infos all.1)
+    (record { raw = at.0; entry = record { place = 0; not_after = omega arith; is = first_entry history info.name ∙ at.1 }; clean = subst (λ (r : RawTable). table_fault r ≡ None) at.2 (no_fault info) }, each_captured history infos all.1)
 
 pub captured_tables_can_be_captured : CapturedTablesCanBeCaptured
 captured_tables_can_be_captured history names infos are captured = subst (AllByRecursion (CanBeCaptured history)) are (each_captured history infos captured.each)

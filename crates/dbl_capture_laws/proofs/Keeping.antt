@@ -1,16 +1,17 @@
 -- What the calls of a session keep, and what they may leave. The laws of the source, the sink and the store are given by name.
 use Rattle.std.proofs.Common.{◌≡◌, ◌∙◌, ◌⊎◌, inl, inr, ◌≤◌, ◌<◌, ℕ, max, Option, Some, Result, Ok, Err, List, [], ◌++◌, length, refl, sym, ap, ap₂, subst, arith, append-nil, IsTrue, Bool, None}
-use Rattle.std.specs.Prelude.{IfOk, OnErr, OnOk}
+use Rattle.std.specs.Prelude.{IfErr, IfOk, OnErr, OnOk}
 use Rattle.dbl_base.specs.declared.lsn.Lsn.{Lsn}
 use Rattle.dbl_pgmsg.specs.declared.messages.Message.{Message}
 use Rattle.dbl_record.specs.declared.record.Record.{Record}
 use Rattle.dbl_record.specs.Cuts.{cut}
 use Rattle.dbl_topic.specs.Model.{SinkModel}
+use Rattle.dbl_model_table.specs.declared.table.TableName.{TableName}
 use Rattle.dbl_capture_work.specs.Source.Model.{SourceModel}
 use Rattle.dbl_capture_work.specs.Disk.Model.{DiskModel}
 use Rattle.dbl_capture_work.specs.ModelHistory.Fit.{IsFitHistory}
 use Rattle.dbl_capture_work.specs.ModelHistory.History.{RawCommit}
-use Rattle.dbl_capture_work.specs.SourceModel.Growth.{marks_in}
+use Rattle.dbl_capture_work.specs.SourceModel.Growth.{KeepsColumns, marks_in}
 use Rattle.dbl_capture_work.specs.SourceModel.Leaves.{MayFollow, MayFollowConfirm}
 use Rattle.dbl_capture_work.specs.SourceModel.Standings.{Reading, SourceState, CrashState, left_of}
 use Rattle.dbl_capture_work.specs.SourceModel.Calls.{Moved, IsConfirmed}
@@ -31,6 +32,9 @@ use Rattle.dbl_capture_work.proofs.CaptureModelStepping.{others_keep_going, conf
 use Rattle.dbl_capture_work.proofs.CaptureModelEnding.{stood_of}
 use Rattle.dbl_capture_laws.proofs.Within.{open_left, settled_open}
 use Rattle.dbl_capture_work.specs.declared.work.SessionState.{SessionState}
+use Rattle.dbl_capture_work.specs.declared.halt.Halt.{Halt}
+use Rattle.dbl_capture_work.specs.Begins.{IsAbsentAfter, IsAbsentHalt}
+use Rattle.dbl_capture_work.proofs.Describing.{absent_before}
 use Rattle.dbl_capture_work.specs.Works.{HasReadyWork, IsWork, rest_in}
 use Rattle.dbl_capture_laws.specs.Sessions.{state_at_stage, InSession, AddsFewOrNoMarks, Captures, IsCapturing, LeavesBy}
 
@@ -63,6 +67,11 @@ on_ok (Err e) P p = tt
 pub on_err : {T E : Type 0} (r : Result T E) (P : Type 0) → P → OnErr r P
 on_err (Ok x) P p = tt
 on_err (Err e) P p = p
+
+-- an error that the catalogue required as the source left it, if no table is altered it required at the call
+pub absent_first : {T : Type 0} (stands : SourceState → Type 0) (s : SourceState) (names : List TableName) (r : Result T Halt) → ((t : SourceState) → stands t → KeepsColumns t.history) → IfErr r (IsAbsentAfter stands s names) → IfErr r (IsAbsentHalt names s.history)
+absent_first stands s names (Ok x) kept absent = tt
+absent_first stands s names (Err h) kept absent = absent_before stands s names h kept absent
 
 -- ---- stores
 

@@ -83,11 +83,12 @@ module _ (entry : SessionStart) (stands : SourceState → Type 0) where
 
   -- ---- a window
 
-  pub window_honest : (plan : Plan) (infos : List TableInfo) (h : Halt) → IsCapturing entry infos → ((t : SourceState) → stands t → IsCaptured infos t.history plan) → IsHonestChunkHalt plan stands infos h → Honest h
-  window_honest plan infos h captured window_is (inl memory) = subst Honest (sym memory) tt
-  window_honest plan infos h captured window_is (inr fault) = subst Honest (sym fault.1) (by fault.0 fault.2)
+  pub window_honest : (plan : Plan) (infos : List TableInfo) (h : Halt) → plan.version ≡ 1 → IsCapturing entry infos → ((t : SourceState) → stands t → IsCaptured infos t.history plan) → IsHonestChunkHalt plan stands infos h → Honest h
+  window_honest plan infos h first captured window_is (inl memory) = subst Honest (sym memory) tt
+  window_honest plan infos h first captured window_is (inr fault) = subst Honest (sym fault.1) (by fault.0 fault.2)
     where
       by : (error : WindowError) → IsHonestFault plan stands infos error → Honest (window_halt plan.info.name error)
+      by (window.Moved version) is = absurd (is first)
       by (window.BadChunk row) is = absurd is
       by (window.Cell column error) is = (is.0, is.1, infos, captured, record { plan = plan; captured = window_is is.0 is.1; name = refl; cell = is.2 })
       by window.Failed is = tt

@@ -90,6 +90,7 @@ start_free after h (inr (inr gone)) = subst IsContentFree (sym gone.is) tt
 -- a window's
 window_free : (table : TableName) (e : WindowError) → IsContentFree (window_halt table e)
 window_free table (window.BadChunk row) = tt
+window_free table (window.Moved version) = tt
 window_free table (window.Cell column error) = tt
 window_free table window.Failed = tt
 window_free table window.Memory = tt

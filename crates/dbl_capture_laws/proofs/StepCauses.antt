@@ -93,6 +93,7 @@ residual_source (Err h) q e was same is =
 
 window_of : (name : TableName) (e : WindowError) → OfSource (window_halt name e)
 window_of name (window.BadChunk row) = tt
+window_of name (window.Moved version) = tt
 window_of name (window.Cell column error) = tt
 window_of name window.Failed = tt
 window_of name window.Memory = tt

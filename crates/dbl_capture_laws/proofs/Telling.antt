@@ -11,7 +11,6 @@ use Rattle.dbl_model_table.specs.declared.change.Commit.{Commit}
 use Rattle.dbl_model_table.specs.declared.table.TableName.{TableName}
 use Rattle.dbl_capture_work.specs.ModelCommit.declared.piece.Piece.TheVariants.{Changed}
 use Rattle.dbl_capture_work.specs.ModelEvent.Clashes.{clash_of}
-use Rattle.dbl_capture_work.specs.ModelHistory.History.{History}
 use Rattle.dbl_capture_work.specs.SourceModel.declared.started.Started.TheVariants.{Gone}
 use Rattle.dbl_capture_work.specs.SourceModel.Standings.{Reading, SourceState}
 use Rattle.dbl_capture_work.specs.SourceModel.Trace.{Trace, Began, IsTakenAnew, IsTakenBy, LastAnswerIs}
@@ -27,7 +26,7 @@ use Rattle.dbl_capture_work.specs.declared.halt.Halt.{Halt}
 use Rattle.dbl_capture_work.specs.declared.halt.Halt.TheVariants as halt
 use Rattle.dbl_capture_work.specs.declared.report.Report.{Report}
 use Rattle.dbl_capture_work.specs.declared.work.SessionState.{SessionState}
-use Rattle.dbl_capture_work.specs.Begins.{IsAbsentHalt, IsExhausted, IsGoneFrom, IsModelFault, IsOffsetFor, IsTooLong}
+use Rattle.dbl_capture_work.specs.Begins.{IsAbsentAfter, IsExhausted, IsGoneFrom, IsModelFault, IsOffsetFor, IsTooLong}
 use Rattle.dbl_capture_work.specs.Causes.{IsChunkHalt, IsLongRecord, IsOfRows}
 use Rattle.dbl_capture_work.specs.Halts.{source_halt, window_halt}
 use Rattle.dbl_capture_work.specs.Takes.{CountsOnlyRecords, HasTakenPiece, IsClashIn, IsMessageHalt, IsTxnHalt, ReportsStep, WasTaken}
@@ -84,6 +83,7 @@ source_left source.Memory = none_left
 
 window_left : (name : TableName) (e : WindowError) → IsLeftOut (window_halt name e) 0
 window_left name (window.BadChunk row) = refl
+window_left name (window.Moved version) = refl
 window_left name (window.Cell column error) = refl
 window_left name window.Failed = refl
 window_left name window.Memory = none_left
@@ -227,30 +227,30 @@ at_some stands src first is s same = subst (stands src) (first_some first s same
 
 -- ---- by the catalogue
 
-module _ (names : List TableName) (history : History) where
-  pub memory_absent : (h : Halt) → h ≡ halt.Memory → IsAbsentHalt names history h
-  memory_absent h is = subst (IsAbsentHalt names history) (sym is) tt
+module _ (stands : SourceState → Type 0) (s : SourceState) (names : List TableName) where
+  pub memory_absent : (h : Halt) → h ≡ halt.Memory → IsAbsentAfter stands s names h
+  memory_absent h is = subst (IsAbsentAfter stands s names) (sym is) tt
 
-  exhausted_absent : (old : Option Offset) (h : Halt) → IsExhausted old h → IsAbsentHalt names history h
+  exhausted_absent : (old : Option Offset) (h : Halt) → IsExhausted old h → IsAbsentAfter stands s names h
   exhausted_absent None h is = absurd is
-  exhausted_absent (Some stored) h is = subst (IsAbsentHalt names history) (sym is.1) tt
+  exhausted_absent (Some stored) h is = subst (IsAbsentAfter stands s names) (sym is.1) tt
 
-  pub again_absent : (old : Option Offset) (h : Halt) → (h ≡ halt.Memory) ⊎ IsExhausted old h → IsAbsentHalt names history h
+  pub again_absent : (old : Option Offset) (h : Halt) → (h ≡ halt.Memory) ⊎ IsExhausted old h → IsAbsentAfter stands s names h
   again_absent old h (inl memory) = memory_absent h memory
   again_absent old h (inr exhausted) = exhausted_absent old h exhausted
 
-  pub store_absent : (offset : Offset) (h : Halt) → (h ≡ halt.Memory) ⊎ ((h ≡ halt.Offsets) ⊎ IsTooLong offset h) → IsAbsentHalt names history h
+  pub store_absent : (offset : Offset) (h : Halt) → (h ≡ halt.Memory) ⊎ ((h ≡ halt.Offsets) ⊎ IsTooLong offset h) → IsAbsentAfter stands s names h
   store_absent offset h (inl memory) = memory_absent h memory
-  store_absent offset h (inr (inl failed)) = subst (IsAbsentHalt names history) (sym failed) tt
-  store_absent offset h (inr (inr long)) = subst (IsAbsentHalt names history) (sym long.is) tt
+  store_absent offset h (inr (inl failed)) = subst (IsAbsentAfter stands s names) (sym failed) tt
+  store_absent offset h (inr (inr long)) = subst (IsAbsentAfter stands s names) (sym long.is) tt
 
-  pub start_absent : (after : Lsn) (h : Halt) → (h ≡ halt.Memory) ⊎ ((h ≡ halt.Source) ⊎ IsGoneFrom after h) → IsAbsentHalt names history h
+  pub start_absent : (after : Lsn) (h : Halt) → (h ≡ halt.Memory) ⊎ ((h ≡ halt.Source) ⊎ IsGoneFrom after h) → IsAbsentAfter stands s names h
   start_absent after h (inl memory) = memory_absent h memory
-  start_absent after h (inr (inl failed)) = subst (IsAbsentHalt names history) (sym failed) tt
-  start_absent after h (inr (inr gone)) = subst (IsAbsentHalt names history) (sym gone.is) tt
+  start_absent after h (inr (inl failed)) = subst (IsAbsentAfter stands s names) (sym failed) tt
+  start_absent after h (inr (inr gone)) = subst (IsAbsentAfter stands s names) (sym gone.is) tt
 
   -- after the first store no table is the cause
-  pub caused_absent : (config : Config) (now : ℤ) (old new : Option Offset) (report : Report) (told : Option Trace) (offset : Offset) (h : Halt) → new ≡ Some offset → IsHalt config now old new report told h → IsAbsentHalt names history h
+  pub caused_absent : (config : Config) (now : ℤ) (old new : Option Offset) (report : Report) (told : Option Trace) (offset : Offset) (h : Halt) → new ≡ Some offset → IsHalt config now old new report told h → IsAbsentAfter stands s names h
   caused_absent config now old new report told offset (halt.Model error) is cause = let wrong : None ≡ Some offset = sym cause.1 ∙ is in cc
   caused_absent config now old new report told offset (halt.UnknownTable table) is cause = let wrong : None ≡ Some offset = sym cause.1 ∙ is in cc
   caused_absent config now old new report told offset h is cause = tt

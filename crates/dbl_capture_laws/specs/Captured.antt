@@ -1,13 +1,17 @@
--- Tables that can't be captured.
-use Rattle.std.specs.Prelude.{◌≡◌, ◌⊎◌, Contains, Option, None, Result, Ok, Err}
+-- Tables that can be captured, or can't.
+use Rattle.std.specs.Prelude.{◌≡◌, ◌⊎◌, Contains, Option, None, Result, Ok, Err, IfSome}
 use Rattle.std.specs.List.{AllByRecursion}
 use Rattle.dbl_model_table.specs.declared.config.Config.{Config}
 use Rattle.dbl_model_table.specs.declared.table.TableName.{TableName}
+use Rattle.dbl_capture_work.specs.Source.Model.{SourceModel}
+use Rattle.dbl_capture_work.specs.SourceModel.Calls.{Moved}
+use Rattle.dbl_capture_work.specs.SourceModel.Standings.{SourceState}
 use Rattle.dbl_capture_work.specs.ModelHistory.History.{History}
 use Rattle.dbl_capture_work.specs.Offset.declared.offset.Offset.{Offset}
 use Rattle.dbl_capture_work.specs.declared.halt.Halt.{Halt}
 use Rattle.dbl_capture_work.specs.declared.halt.Halt.TheVariants as halt
 use Rattle.dbl_capture_work.specs.Begins.{CanBeCaptured, IsAbsentHalt}
+use Rattle.dbl_capture_laws.specs.Found.{IsFirstIn}
 
 -- The error is about a table, or memory ran out, or a call of the source failed.
 abbrev pub IsTableHalt : Halt → Type 0
@@ -27,3 +31,23 @@ MustHaltAbsent config history old result = old ≡ None → (name : TableName) �
 abbrev pub CapturesOrHalts : {A : Type 0} → Config → History → Result A Halt → Type 0
 CapturesOrHalts config history (Ok answer) = AllByRecursion (CanBeCaptured history) config.tables
 CapturesOrHalts config history (Err h) = AllByRecursion (CanBeCaptured history) config.tables ⊎ IsTableHalt h
+
+-- A call led the source through a state of which this is true, after commits of others only: that source extends the one at the call, the
+-- one that is left extends it, and it conforms if the one that is left does.
+pub record PassesState {S : Type 0} (source_model : SourceModel S) (src new_src : S) (s : SourceState) (P : SourceState → Type 0)
+    : Type 0 where
+  pub passed : S
+  pub standing : SourceState
+  pub is : source_model.stands passed standing
+  pub moved : Moved s standing
+  pub extends : source_model.comes_of src passed
+  pub extended : source_model.comes_of passed new_src
+  pub honest : source_model.honest new_src → source_model.honest passed
+  pub holds : P standing
+
+-- By the catalogue of a later history each table could be captured, or the session stops with an error about a table, out of memory, or
+-- because a call of the source failed; and a first offset that was stored has the tables as that catalogue had them.
+pub record FindsTables {A : Type 0} (config : Config) (history later : History) (stored : Option Offset) (result : Result A Halt)
+    : Type 0 where
+  pub captures : CapturesOrHalts config later result
+  pub first : IfSome stored (IsFirstIn config history later)

@@ -13,7 +13,7 @@ use Rattle.dbl_capture_work.specs.SourceModel.Standings.{SourceState}
 use Rattle.dbl_capture_work.specs.Offset.declared.offset.Offset.{Offset}
 use Rattle.dbl_capture_work.specs.OffsetStore.Stores.{StoreOn, HoldsOffset}
 use Rattle.dbl_capture_work.specs.Faithful.Onward.{IsFirstOffset}
-use Rattle.dbl_capture_work.specs.Begins.{AreVersionsAt}
+use Rattle.dbl_capture_work.specs.Begins.{AreInfosAt}
 use Rattle.dbl_capture_work.specs.CaptureModel.Entries.{SessionStart}
 use Rattle.dbl_capture_work.specs.CaptureModel.Going.{BeganWith}
 
@@ -105,13 +105,19 @@ HasConfirmed found None t = Unit {0}
 HasConfirmed None (Some stored) t = (stored.lsn.0 ≤ t.confirmed.0) ⊎ (stored.lsn ≡ stored.start)
 HasConfirmed (Some old) (Some stored) t = (stored.lsn.0 ≤ t.confirmed.0) ⊎ (stored.lsn ≡ old.lsn)
 
--- A first offset of the configured tables and their versions, as the catalogue of some later state of the source has them, that starts at
--- a position of that state, not below any commit of the history.
+-- A first offset of the configured tables, as the catalogue of some later state of the source has them, each with its version at one time,
+-- that starts at a position of that state, not below any commit of the history.
 pub record IsFirstAtHead (config : Config) (history : History) (offset : Offset) : Type 0 where
   pub later : History
   pub grown : Grows history later
   pub infos : AreInfosOf later offset.infos
-  pub versions : AreVersionsAt later offset.infos offset.versions
+  pub described : AreInfosAt later offset.infos offset.versions
+  pub is : IsFirstOffset config history later offset
+
+-- A first offset of the configured tables, as the catalogue of a later history had them, each with its version at one time, that starts at
+-- a position of that history, not below any commit of this one.
+pub record IsFirstIn (config : Config) (history later : History) (offset : Offset) : Type 0 where
+  pub infos : AreInfosAt later offset.infos offset.versions
   pub is : IsFirstOffset config history later offset
 
 -- A first offset that is stored is one at the head of the log.

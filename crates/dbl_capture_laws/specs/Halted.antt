@@ -255,6 +255,7 @@ IsHalt config now old new report told (halt.Message number error) =
     (r : HasReadAfter config old new report told) × IsMessageFault r.read number error
 IsHalt config now old new report told (halt.Txn number error) = IsToldHalt config now old new report told (halt.Txn number error)
 IsHalt config now old new report told (halt.Chunk table row) = IsWindowHalt config old new report told table (halt.Chunk table row)
+IsHalt config now old new report told (halt.Altered table) = IsWindowHalt config old new report told table (halt.Altered table)
 IsHalt config now old new report told (halt.Cell table column error) =
     IsWindowHalt config old new report told table (halt.Cell table column error)
 IsHalt config now old new report told (halt.Clash table column) = IsToldHalt config now old new report told (halt.Clash table column)

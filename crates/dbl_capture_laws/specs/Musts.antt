@@ -26,7 +26,7 @@ use Rattle.dbl_capture_work.specs.SourceModel.Trace.{Trace, Began, Described, Ro
 use Rattle.dbl_capture_work.specs.Offset.declared.offset.Offset.{Offset}
 use Rattle.dbl_capture_work.specs.Window.declared.error.WindowError.{WindowError}
 use Rattle.dbl_capture_work.specs.Window.Plans.{Plan}
-use Rattle.dbl_capture_work.specs.Window.Reading.{chunk_read}
+use Rattle.dbl_capture_work.specs.Window.Reading.{answer_read}
 use Rattle.dbl_capture_work.specs.declared.halt.Halt.{Halt}
 use Rattle.dbl_capture_work.specs.declared.halt.Halt.TheVariants as halt
 use Rattle.dbl_capture_work.specs.declared.report.Ending.{Ending}
@@ -92,9 +92,9 @@ MustHaltStood config now old new report t result =
 pub record MustHalt (config : Config) (old new : Option Offset) (report : Report) (t : Trace) (result : Result Ending Halt) : Type 0 where
   pub message : (number : ℕ) (error : MsgError) → length t.read ≡ report.messages → IsMessageFault t.read number error
       → HaltsWith (halt.Message number error) result
-  -- The rows of the next window require the error of their first fault.
+  -- The version and the rows of the next window require the error of their first fault.
   pub rows : (answered : Selected) (stored : HasStored config old new) (plan : Plan) (error : WindowError)
-      → t.answer ≡ RowsSelected answered → IsNextPlan config report stored.offset plan → chunk_read plan answered.rows ≡ Err error
+      → t.answer ≡ RowsSelected answered → IsNextPlan config report stored.offset plan → answer_read plan answered ≡ Err error
       → HaltsOrFails (window_halt plan.info.name error) result
   pub described : (raw : RawTable) (error : ModelError) → old ≡ None → new ≡ None → t.answer ≡ Described (Some raw)
       → table_fault raw ≡ Some error → HaltsOrFails (halt.Model error) result

@@ -67,6 +67,7 @@ IsHonestHalt entry stands (halt.Message number error) = ⊥
 IsHonestHalt entry stands (halt.Txn number error) =
     (t : SourceState) × stands t × (infos : List TableInfo) × IsCapturing entry infos × IsOwnTxnFault infos t number error
 IsHonestHalt entry stands (halt.Chunk table row) = ⊥
+IsHonestHalt entry stands (halt.Altered table) = ⊥
 IsHonestHalt entry stands (halt.Cell table column error) =
     (t : SourceState) × stands t × (infos : List TableInfo) × IsCapturing entry infos × IsOwnCell infos t.history table column error
 IsHonestHalt entry stands h = Unit {0}

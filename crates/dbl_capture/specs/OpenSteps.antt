@@ -15,7 +15,7 @@ use Rattle.dbl_source.specs.SourceModel.Trace.{Head, IsTakenBy, LastAnswerIs}
 use Rattle.dbl_offset.specs.Offsets.{IsOffset}
 use Rattle.dbl_offset.specs.Stores.{IsLive, StoreOn}
 use Rattle.dbl_offset_content.specs.declared.offset.Offset.{Offset}
-use Rattle.dbl_capture_work.specs.Begins.{IsAbsentHalt, IsExhausted, IsOffsetFor, MayRest}
+use Rattle.dbl_capture_work.specs.Begins.{IsAbsentAfter, IsExhausted, IsOffsetFor, MayRest}
 use Rattle.dbl_capture_work.specs.CaptureModel.Entries.{SessionStart, HadOwnTables, IsKeptAfter, WasFaithful}
 use Rattle.dbl_capture_work.specs.Works.{BeginsWithOffset}
 use Rattle.dbl_capture_work.specs.declared.halt.Halt.{Halt}
@@ -23,10 +23,10 @@ use Rattle.dbl_capture_work.specs.declared.halt.Halt.TheVariants as halt
 use Rattle.dbl_capture_work.specs.declared.report.Report.{Report}
 use Rattle.dbl_capture_work.specs.declared.work.SessionState.{SessionState}
 use Rattle.dbl_capture_laws.specs.Awaited.{Awaits, HasPositionInLog, IsWithinLog}
-use Rattle.dbl_capture_laws.specs.Captured.{CapturesOrHalts}
+use Rattle.dbl_capture_laws.specs.Captured.{CapturesOrHalts, FindsTables, PassesState}
 use Rattle.dbl_capture_laws.specs.Caused.{AsksUnread, Halts, IsNotGone}
 use Rattle.dbl_capture_laws.specs.Ends.{IsAtPosition, CacheMatchesDisk}
-use Rattle.dbl_capture_laws.specs.Found.{BeganAt, BeginsAt, HasStored, IsFirstAtHead, IsFirstStored, IsFound, position_of}
+use Rattle.dbl_capture_laws.specs.Found.{BeganAt, BeginsAt, HasStored, IsFirstAtHead, IsFirstIn, IsFirstStored, IsFound, position_of}
 use Rattle.dbl_capture_laws.specs.HasState.{IsGoneBelow, IsNotOffsetTooLong, IsShortOr}
 use Rattle.dbl_capture_laws.specs.Musts.{CapturesAll}
 use Rattle.dbl_capture_laws.specs.Nevers.{IsFaithfulHalt, IsHonestHalt}
@@ -47,21 +47,25 @@ pub record IsReadyToBegin {S D : Type 0} (source_model : SourceModel S) (config 
 pub record FindsOffset {S D : Type 0} (source_model : SourceModel S) (config : Config) (src new_src : S) (store : StoreOn D)
     (result : Result Offset Halt) : Type 0 where
   pub begins : (entry : SessionStart) → entry.config ≡ config → entry.offset ≡ store.offset → HadOwnTables entry → (s : SourceState)
-      → source_model.stands src s → s.history ≡ entry.history
+      → source_model.stands src s → s.history ≡ entry.history → source_model.honest new_src
       → IfOk result (λ offset. HasState source_model.stands new_src (BeginsAt entry offset s))
   pub offset : IfOk result IsOffset
   pub of : IfOk result (IsOffsetFor config store.offset)
   pub headed : store.offset ≡ None → OnOk result ((lsn : Lsn) × LastAnswerIs (source_model.told new_src) (Head lsn))
 
--- What the offset and an error say of the source's state.
+-- What the offset and an error say of the source's state: over any source an error about a table, and over a conforming one the tables.
 pub record FindsByState {S D : Type 0} (source_model : SourceModel S) (config : Config) (src new_src : S) (store : StoreOn D)
     (result : Result Offset Halt) : Type 0 where
   pub stood : MovesTo source_model.stands src new_src result (λ offset. Moved)
-  pub absent : (s : SourceState) → source_model.stands src s → IfErr result (IsAbsentHalt config.tables s.history)
-  pub captures : (s : SourceState) → source_model.stands src s → store.offset ≡ None → CapturesOrHalts config s.history result
+  pub absent : (s : SourceState) → source_model.stands src s
+      → IfErr result (IsAbsentAfter (source_model.stands new_src) s config.tables)
+  pub described : (s : SourceState) → source_model.stands src s → store.offset ≡ None → PassesState source_model src new_src s (λ t.
+      CapturesOrHalts config t.history result × IfOk result (IsFirstIn config s.history t.history))
+  pub captures : (s : SourceState) → source_model.stands src s → source_model.honest new_src → store.offset ≡ None
+      → CapturesOrHalts config s.history result
   pub within : (s : SourceState) → source_model.stands src s → IsWithinLog s.history store.offset
       → IfOk result (λ offset. HasState source_model.stands new_src (λ t. HasPositionInLog offset.lsn t.history))
-  pub first : (s : SourceState) → source_model.stands src s → store.offset ≡ None
+  pub first : (s : SourceState) → source_model.stands src s → source_model.honest new_src → store.offset ≡ None
       → IfOk result (λ offset. IsFirstByCatalogue config s.history offset × IsFirstAtHead config s.history offset)
 
 -- Why no offset is returned.
@@ -102,16 +106,23 @@ pub record BeginsByState {S D : Type 0} (source_model : SourceModel S) (config :
     (result : Result Offset Halt) : Type 0 where
   pub rests : Leaves source_model.stands source_model.may_leave src new_src MayRest
   pub stood : MovesTo source_model.stands src new_src result (λ offset. Moved)
-  pub absent : (s : SourceState) → source_model.stands src s → IfErr result (IsAbsentHalt config.tables s.history)
-  pub captures : (s : SourceState) → source_model.stands src s → store.offset ≡ None → CapturesOrHalts config s.history result
-  pub captured : (s : SourceState) → source_model.stands src s → CapturesAll config store.offset new_store.offset s.history
-  pub first : (s : SourceState) → source_model.stands src s → store.offset ≡ None → IfOk result (IsFirstAtHead config s.history)
+  pub absent : (s : SourceState) → source_model.stands src s
+      → IfErr result (IsAbsentAfter (source_model.stands new_src) s config.tables)
+  pub described : (s : SourceState) → source_model.stands src s → store.offset ≡ None → PassesState source_model src new_src s (λ t.
+      FindsTables config s.history t.history new_store.offset result)
+  pub captures : (s : SourceState) → source_model.stands src s → source_model.honest new_src → store.offset ≡ None
+      → CapturesOrHalts config s.history result
+  pub captured : (s : SourceState) → source_model.stands src s → source_model.honest new_src
+      → CapturesAll config store.offset new_store.offset s.history
+  pub first : (s : SourceState) → source_model.stands src s → source_model.honest new_src → store.offset ≡ None
+      → IfOk result (IsFirstAtHead config s.history)
   pub standing : (s : SourceState) → source_model.stands src s → IfErr result (IsShortOr (source_model.stands new_src))
   pub within : (s : SourceState) → source_model.stands src s → IsWithinLog s.history store.offset
       → IfOk result (λ offset. HasState source_model.stands new_src (λ t. HasPositionInLog offset.lsn t.history))
   pub still : (s t : SourceState) → source_model.stands src s → source_model.stands new_src t → t.reading ≡ s.reading
   pub taken : IsTakenBy [] (source_model.told src) (source_model.told new_src)
-  pub long : (s : SourceState) → source_model.stands src s → store.offset ≡ None → IfErr result (IsLongBy config s.history)
+  pub long : (s : SourceState) → source_model.stands src s → source_model.honest new_src → store.offset ≡ None
+      → IfErr result (IsLongBy config s.history)
 
 -- Why the session doesn't begin.
 pub record StopsBeginning {S D T : Type 0} (source_model : SourceModel S) (config : Config) (new_src : S) (store new_store : StoreOn D)
@@ -155,17 +166,24 @@ pub record OpensSession {S D : Type 0} (source_model : SourceModel S) (model : D
 -- What the session's state and an error say of the source's state.
 pub record OpensByState {S D : Type 0} (source_model : SourceModel S) (config : Config) (src new_src : S) (store new_store : StoreOn D)
     (result : Result SessionState Halt) : Type 0 where
-  pub absent : (s : SourceState) → source_model.stands src s → IfErr result (IsAbsentHalt config.tables s.history)
-  pub captures : (s : SourceState) → source_model.stands src s → store.offset ≡ None → CapturesOrHalts config s.history result
-  pub captured : (s : SourceState) → source_model.stands src s → CapturesAll config store.offset new_store.offset s.history
-  pub firsts : (s : SourceState) → source_model.stands src s → IsFirstStored config s.history store.offset new_store.offset
+  pub absent : (s : SourceState) → source_model.stands src s
+      → IfErr result (IsAbsentAfter (source_model.stands new_src) s config.tables)
+  pub described : (s : SourceState) → source_model.stands src s → store.offset ≡ None → PassesState source_model src new_src s (λ t.
+      FindsTables config s.history t.history new_store.offset result)
+  pub captures : (s : SourceState) → source_model.stands src s → source_model.honest new_src → store.offset ≡ None
+      → CapturesOrHalts config s.history result
+  pub captured : (s : SourceState) → source_model.stands src s → source_model.honest new_src
+      → CapturesAll config store.offset new_store.offset s.history
+  pub firsts : (s : SourceState) → source_model.stands src s → source_model.honest new_src
+      → IsFirstStored config s.history store.offset new_store.offset
   pub gone : (s : SourceState) → source_model.stands src s → IsKeptAfter s.confirmed store.offset → IfErr result IsNotGone
   pub gone_stood : (s : SourceState) → source_model.stands src s → IfErr result (IsGoneBelow s.confirmed)
   pub awaits : (s : SourceState) → source_model.stands src s → IsWithinLog s.history store.offset
       → IfOk result (λ work. Awaits source_model.stands work new_src)
   pub unmarked : (s : SourceState) (left : CrashState) → source_model.stands src s → source_model.may_leave new_src left
       → marks_in left.history.commits ≡ marks_in s.history.commits
-  pub long : (s : SourceState) → source_model.stands src s → store.offset ≡ None → IfErr result (IsLongBy config s.history)
+  pub long : (s : SourceState) → source_model.stands src s → source_model.honest new_src → store.offset ≡ None
+      → IfErr result (IsLongBy config s.history)
 
 -- No message was read, and nothing appended; an error agrees with what the source reports.
 pub record ReportsOpened {S K D : Type 0} (source_model : SourceModel S) (sink_model : SinkModel K) (config : Config) (now : ℤ)

@@ -10,7 +10,7 @@ use Rattle.dbl_source.specs.SourceModel.Standings.{CrashState, SourceState, HasS
 use Rattle.dbl_source.specs.SourceModel.Trace.{Trace}
 use Rattle.dbl_offset.specs.Stores.{StoreOn}
 use Rattle.dbl_offset_content.specs.declared.offset.Offset.{Offset}
-use Rattle.dbl_capture_work.specs.Begins.{IsAbsentHalt}
+use Rattle.dbl_capture_work.specs.Begins.{IsAbsentAfter}
 use Rattle.dbl_capture_work.specs.CaptureModel.Entries.{SessionStart, HadOwnTables, IsKeptAfter}
 use Rattle.dbl_capture_work.specs.declared.halt.Halt.{Halt}
 use Rattle.dbl_capture_work.specs.declared.halt.Halt.TheVariants as halt
@@ -18,7 +18,7 @@ use Rattle.dbl_capture_work.specs.declared.report.Ending.{Ending}
 use Rattle.dbl_capture_work.specs.declared.report.Ending.TheVariants as endings
 use Rattle.dbl_capture_work.specs.declared.report.Report.{Report}
 use Rattle.dbl_capture_laws.specs.Awaited.{IsWithinLog}
-use Rattle.dbl_capture_laws.specs.Captured.{MustHaltAbsent}
+use Rattle.dbl_capture_laws.specs.Captured.{FindsTables, MustHaltAbsent, PassesState}
 use Rattle.dbl_capture_laws.specs.Ends.{AreAllDone, LeavesComplete, CacheMatchesDisk}
 use Rattle.dbl_capture_laws.specs.Found.{Found, HasStored, IsEntryOf, IsFirstStored, session_start_at, position_of, HasConfirmed}
 use Rattle.dbl_capture_laws.specs.Gained.{Gains, ReportsGroups}
@@ -43,12 +43,14 @@ pub record LeavesStores {S K D : Type 0} (source_model : SourceModel S) (sink_mo
       → source_model.honest new_src → HadOwnTables entry → result ≡ Ok endings.Complete
       → LeavesComplete source_model.may_leave sink_model.may_leave model entry new_src new_sink new_store
 
--- What is stored, for any source, sink and disk; the offset of the store still agrees with its disk, unless the disk failed.
-pub record MayStoreOffset {S D : Type 0} (source_model : SourceModel S) (model : DiskModel D) (config : Config) (src : S)
+-- What is stored, for any source, sink and disk; the offset of the store still agrees with its disk, unless the disk failed. Over a
+-- conforming source a first one has the tables of its catalogue.
+pub record MayStoreOffset {S D : Type 0} (source_model : SourceModel S) (model : DiskModel D) (config : Config) (src new_src : S)
     (store new_store : StoreOn D) (result : Result Ending Halt) : Type 0 where
   pub holds : CacheMatchesDisk model store new_store result
   pub stores : (new_store.offset ≡ store.offset) ⊎ HasStored config store.offset new_store.offset
-  pub firsts : (s : SourceState) → source_model.stands src s → IsFirstStored config s.history store.offset new_store.offset
+  pub firsts : (s : SourceState) → source_model.stands src s → source_model.honest new_src
+      → IsFirstStored config s.history store.offset new_store.offset
 
 -- Over a conforming source with the stored tables: at most how many watermarks are added, after a normal end exactly how many, with
 -- the closed windows accounting for the stored cursors, and after any end at most two for each reported window, and two more, with closed
@@ -132,22 +134,27 @@ pub record HaltsByTrace {S D : Type 0} (source_model : SourceModel S) (config : 
   pub missed : (value : List ℕ) (at : Lsn) → result ≡ Err (halt.WatermarkMissing value at) → IsTrue (source_model.has_ended new_src)
   pub halt : IfErr result (IsHalt config now store.offset new_store.offset new_report (source_model.told new_src))
 
--- The cause of each error, by the source's state and catalogue, and the errors that they require. Before the first store an offset is too
--- long only by the catalogue.
+-- The cause of each error, by the source's state and catalogue, and the errors that they require. A table's error, and the tables that a
+-- first session finds, are by the catalogue at one time of the session; over a conforming source, which alters none, by that at the call.
 pub record HaltsByState {S D : Type 0} (source_model : SourceModel S) (config : Config) (now : ℤ) (src new_src : S)
     (store new_store : StoreOn D) (new_report : Report) (result : Result Ending Halt) : Type 0 where
   pub halt_stood : (s : SourceState) → source_model.stands src s
       → IfErr result (IsHaltStanding config now store.offset new_store.offset new_report (source_model.stands new_src))
-  pub absent : (s : SourceState) → source_model.stands src s → IfErr result (IsAbsentHalt config.tables s.history)
-  pub captures : (s : SourceState) → source_model.stands src s → CapturesAll config store.offset new_store.offset s.history
+  pub absent : (s : SourceState) → source_model.stands src s
+      → IfErr result (IsAbsentAfter (source_model.stands new_src) s config.tables)
+  pub described : (s : SourceState) → source_model.stands src s → store.offset ≡ None → PassesState source_model src new_src s (λ t.
+      FindsTables config s.history t.history new_store.offset result)
+  pub captures : (s : SourceState) → source_model.stands src s → source_model.honest new_src
+      → CapturesAll config store.offset new_store.offset s.history
   pub gone : (s : SourceState) → source_model.stands src s → IsKeptAfter s.confirmed store.offset → (asked first : Lsn)
       → result ≢ Err (halt.Gone asked first)
   pub gone_stood : (s : SourceState) → source_model.stands src s → IfErr result (IsGoneBelow s.confirmed)
-  pub must_absent : (s : SourceState) → source_model.stands src s → MustHaltAbsent config s.history store.offset result
+  pub must_absent : (s : SourceState) → source_model.stands src s → source_model.honest new_src
+      → MustHaltAbsent config s.history store.offset result
   pub must_stood : (s t : SourceState) → source_model.stands src s → source_model.stands new_src t
       → MustHaltStood config now store.offset new_store.offset new_report t result
-  pub long : (s : SourceState) → source_model.stands src s → store.offset ≡ None → new_store.offset ≡ None
-      → IfErr result (IsLongBy config s.history)
+  pub long : (s : SourceState) → source_model.stands src s → source_model.honest new_src → store.offset ≡ None
+      → new_store.offset ≡ None → IfErr result (IsLongBy config s.history)
 
 -- The errors that never come from a conforming source.
 pub record NeverHalts {S D T : Type 0} (source_model : SourceModel S) (config : Config) (now : ℤ) (src new_src : S) (store : StoreOn D)

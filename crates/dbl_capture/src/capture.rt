@@ -55,8 +55,8 @@ pub fn session<S: Source, K: Sink, D: Disk>(
     // What is left, at every exit.
     ensures faithful { LeavesStores S.Source K.Sink D.Disk config.now now_ms src.old src.new
         sink.old sink.new offsets.old offsets.new result }
-    ensures stores { MayStoreOffset S.Source D.Disk config.now src.old offsets.old offsets.new
-        result }
+    ensures stores { MayStoreOffset S.Source D.Disk config.now src.old src.new offsets.old
+        offsets.new result }
     ensures marks { AddsMarks S.Source config.now now_ms src.old src.new offsets.old offsets.new
         report.new result }
     ensures gains { AddsRecords K.Sink config.now now_ms sink.old sink.new offsets.old

@@ -66,8 +66,8 @@ pub fn gated_session<S: Source, K: Sink, D: Disk>(
     // The clauses of `session`, of the inner sink: what is left, at every exit.
     ensures faithful { LeavesStores S.Source K.Sink D.Disk config.now now_ms src.old src.new
         gate.old.sink gate.new.sink offsets.old offsets.new result }
-    ensures stores { MayStoreOffset S.Source D.Disk config.now src.old offsets.old offsets.new
-        result }
+    ensures stores { MayStoreOffset S.Source D.Disk config.now src.old src.new offsets.old
+        offsets.new result }
     ensures marks { AddsMarks S.Source config.now now_ms src.old src.new offsets.old offsets.new
         report.new result }
     ensures gains { AddsRecords K.Sink config.now now_ms gate.old.sink gate.new.sink offsets.old

@@ -10,13 +10,13 @@ use Rattle.dbl_capture_work.proofs.Exits.{later_on, rose_after}
 use Rattle.dbl_capture_laws.proofs.StepCauses.{err_at, err_then, residual_is, residual_of}
 use Rattle.dbl_capture_laws.specs.Ends.{HasOwnStored}
 use Rattle.dbl_capture_laws.specs.Found.{session_start_at}
-use Rattle.dbl_capture_laws.proofs.Endings.{complete_left, first_of_stored, first_stored, has_stored, own_first, position_is, stored_anew}
+use Rattle.dbl_capture_laws.proofs.Endings.{complete_left, first_in_stored, first_of_stored, first_stored, has_stored, own_first, position_is, stored_anew}
 use Rattle.dbl_capture_laws.proofs.Keeping.{either_answer, ok_then, on_ok, rests, some_chunk}
 use Rattle.dbl_capture_laws.proofs.Openings.{going_left, source_found, told_found}
 use Rattle.dbl_capture_laws.specs.Closed.{HasClosedRead}
 use Rattle.dbl_capture_laws.specs.Failing.{FailsNext}
 use Rattle.dbl_capture_laws.proofs.Unclosed.{closed_either, closed_read, closed_unread}
-use Rattle.dbl_source.specs.SourceModel.Standings.{SourceState, HasState}
+use Rattle.dbl_source.specs.SourceModel.Standings.{SourceState, HasState, left_of}
 use Rattle.dbl_capture_laws.specs.Musts.{MustHalt, MustHaltStood, MustHaltTold}
 use Rattle.dbl_capture_laws.specs.Reported.{HasReadMessages, HasSettled, HasStoodAfter, IsFollowed, StoodAtLast}
 use Rattle.dbl_capture_laws.specs.Sources.{IsUnderWay}
@@ -38,7 +38,8 @@ use Rattle.dbl_capture_laws.proofs.Tallied.{between_stood, between_tallied}
 use Rattle.dbl_capture_laws.specs.Sinks.{IsPutting}
 use Rattle.dbl_capture_laws.proofs.Sinks.{left_gains, rests_put, still_counted}
 use Rattle.dbl_capture_laws.proofs.Sinking.{counts_nothing, either_of, gains_nothing, reported_other}
-use Rattle.dbl_capture_work.specs.Begins.{IsAbsentHalt}
+use Rattle.dbl_capture_work.specs.Begins.{IsAbsentAfter, IsAbsentHalt}
+use Rattle.dbl_capture_work.proofs.Describing.{absent_before}
 use Rattle.dbl_capture_laws.proofs.Telling.{caused_absent}
 use Rattle.dbl_capture_laws.specs.Nevers.{IsHonestHalt}
 use Rattle.dbl_capture_laws.proofs.StepMarks.{others_leave_few_marks}
@@ -48,7 +49,7 @@ use Rattle.dbl_capture_laws.specs.Owned.{IsLongBy}
 use Rattle.dbl_capture_laws.specs.Nevers.{IsFaithfulHalt}
 use Rattle.dbl_capture_laws.proofs.Owning.{had_of, none_some}
 use Rattle.dbl_capture_laws.specs.Captured.{CapturesOrHalts}
-use Rattle.dbl_capture_laws.proofs.Captured.{captures_by, must_absent, must_captured}
+use Rattle.dbl_capture_laws.proofs.Captured.{captures_all, captures_by, must_absent, must_captured, passed_on, passed_so}
 use Rattle.dbl_capture_laws.specs.HasState.{IsGoneBelow, IsHaltStanding}
 use Rattle.dbl_capture_laws.proofs.Going.{free_below}
 use Rattle.dbl_capture_laws.proofs.Advancing.{advances_by, advances_or_first, brought_rest, longer_left}
@@ -78,7 +79,7 @@ pub returns-in_err-work-clause-stores : goal.returns-in_err-work-clause-stores
 returns-in_err-work-clause-stores g c = record {
   holds = λ held other. c.open_session.ensures.state.held held (λ is. other (residual_on c.open_session.result c.from_residual.result _ halt.Offsets is c.in_err-work.was c.from_residual.ensures.1));
   stores = c.in_err-work.ensures.state.stored;
-  firsts = λ s is. c.open_session.ensures.by_state.firsts s is;
+  firsts = λ s is honest. c.open_session.ensures.by_state.firsts s is honest;
 }
 
 pub returns-in_err-work-clause-counts : goal.returns-in_err-work-clause-counts
@@ -186,10 +187,10 @@ returns-clause-stores g c = record {
       let b = c.in_ok-work.ensures.state.begun in
       inr (has_stored c.args.config.now c.args.offsets.now.offset c.process_messages.new.store.offset c.in_ok-work.work.offset (subst (IsOffsetFor c.args.config.now c.args.offsets.now.offset) (sym b.2.offset_is) b.3)
       (c.process_messages.ensures.state.stored (subst (λ (o : Offset). HasOwnStored o c.open_session.new.store.offset) (sym b.2.offset_is) (own_first b.0 c.open_session.new.store.offset b.1))));
-  firsts = λ s is.
+  firsts = λ s is honest.
       let b = c.in_ok-work.ensures.state.begun in
       first_stored c.args.config.now s.history c.args.offsets.now.offset c.process_messages.new.store.offset b.0
-      (first_of_stored c.args.config.now s.history c.args.offsets.now.offset c.open_session.new.store.offset b.0 (c.open_session.ensures.by_state.firsts s is) b.1)
+      (first_of_stored c.args.config.now s.history c.args.offsets.now.offset c.open_session.new.store.offset b.0 (c.open_session.ensures.by_state.firsts s is (c.process_messages.ensures.source.honest honest)) b.1)
       (subst (λ (o : Offset). HasOwnStored o c.process_messages.new.store.offset) b.2.offset_is (c.process_messages.ensures.state.stored (subst (λ (o : Offset). HasOwnStored o c.open_session.new.store.offset) (sym b.2.offset_is) (own_first b.0 c.open_session.new.store.offset b.1))));
 }
 
@@ -293,16 +294,21 @@ returns-in_err-work-clause-by_state g c = record {
 pub returns-in_err-work-clause-halt_by_state : goal.returns-in_err-work-clause-halt_by_state
 returns-in_err-work-clause-halt_by_state g c = record {
   halt_stood = λ s was. residual_of c.from_residual.result _ (IsHaltStanding c.args.config.now c.args.now_ms c.args.offsets.now.offset c.open_session.new.store.offset c.open_session.new.report (g.S.Source.stands c.open_session.new.src)) c.from_residual.ensures.1 ((subst (λ (n : ℤ). Halts g.S.Source (Some s) (g.S.Source.told c.args.src.now) c.args.config.now n c.args.offsets.now.offset c.open_session.new.store.offset c.open_session.new.report c.open_session.new.src c.in_err-work.field-0.0) (to_z-of_z c.ranges.now_ms) (c.in_err-work.ensures.report.halted (Some s) (at_some g.S.Source.stands c.args.src.now s was) (refl, refl, refl))).stood s refl);
-  absent = λ s is. residual_of c.from_residual.result _ (IsAbsentHalt c.args.config.now.tables s.history) c.from_residual.ensures.1 (c.in_err-work.ensures.by_state.absent s is);
-  captures = λ s is. c.open_session.ensures.by_state.captured s is;
+  absent = λ s is. residual_of c.from_residual.result _ (IsAbsentAfter (g.S.Source.stands c.open_session.new.src) s c.args.config.now.tables) c.from_residual.ensures.1 (c.in_err-work.ensures.by_state.absent s is);
+  described = λ s is none. passed_so g.S.Source c.args.src.now c.open_session.new.src s _ _ (c.in_err-work.ensures.by_state.described s is none) (λ t found. record {
+    captures = residual_as c.from_residual.result _ (CapturesOrHalts c.args.config.now t.history) c.from_residual.ensures.1 found.captures;
+    first = found.first;
+  });
+  captures = λ s is honest. c.open_session.ensures.by_state.captured s is honest;
   gone = λ s is kept asked first gone. err_at c.from_residual.result _ IsNotGone (residual_of c.from_residual.result _ IsNotGone c.from_residual.ensures.1 (c.in_err-work.ensures.by_state.gone s is kept)) gone;
   gone_stood = λ s was. residual_of c.from_residual.result _ (IsGoneBelow s.confirmed) c.from_residual.ensures.1 (c.in_err-work.ensures.by_state.gone_stood s was);
-  must_absent = λ s is.
+  must_absent = λ s is honest.
       must_absent c.args.config.now s.history c.args.offsets.now.offset c.from_residual.result
-      (λ none. residual_as c.from_residual.result _ (CapturesOrHalts c.args.config.now s.history) c.from_residual.ensures.1 (c.in_err-work.ensures.by_state.captures s is none))
-      (residual_of c.from_residual.result _ (IsAbsentHalt c.args.config.now.tables s.history) c.from_residual.ensures.1 (c.in_err-work.ensures.by_state.absent s is));
+      (λ none. residual_as c.from_residual.result _ (CapturesOrHalts c.args.config.now s.history) c.from_residual.ensures.1 (c.in_err-work.ensures.by_state.captures s is honest none))
+      (residual_of c.from_residual.result _ (IsAbsentHalt c.args.config.now.tables s.history) c.from_residual.ensures.1
+      (absent_before (g.S.Source.stands c.open_session.new.src) s c.args.config.now.tables _ (λ t at. (g.met.S.Source.fit _ (left_of t) (g.met.S.Source.may _ t at) honest).unaltered) (c.in_err-work.ensures.by_state.absent s is)));
   must_stood = λ s t was now. residual_as c.from_residual.result _ (λ x. MustHaltStood c.args.config.now c.args.now_ms c.args.offsets.now.offset c.open_session.new.store.offset c.open_session.new.report t x) c.from_residual.ensures.1 ((subst (λ (n : ℤ). Halts g.S.Source (Some s) (g.S.Source.told c.args.src.now) c.args.config.now n c.args.offsets.now.offset c.open_session.new.store.offset c.open_session.new.report c.open_session.new.src c.in_err-work.field-0.0) (to_z-of_z c.ranges.now_ms) (c.in_err-work.ensures.report.halted (Some s) (at_some g.S.Source.stands c.args.src.now s was) (refl, refl, refl))).halted.stood s t refl now).must;
-  long = λ s was none still. residual_of c.from_residual.result _ (IsLongBy c.args.config.now s.history) c.from_residual.ensures.1 (c.in_err-work.ensures.by_state.long s was none);
+  long = λ s was honest none still. residual_of c.from_residual.result _ (IsLongBy c.args.config.now s.history) c.from_residual.ensures.1 (c.in_err-work.ensures.by_state.long s was honest none);
 }
 
 pub returns-clause-by_trace : goal.returns-clause-by_trace
@@ -370,11 +376,19 @@ returns-clause-halt_by_state g c = record {
       let halted = c.process_messages.ensures.report.halted None (g.S.Source.told c.args.src.now) b u in
       let begun = c.in_ok-work.ensures.state.begun in
       let own = c.process_messages.ensures.state.stored (subst (λ (o : Offset). HasOwnStored o c.open_session.new.store.offset) (sym begun.2.offset_is) (own_first begun.0 c.open_session.new.store.offset begun.1)) in
-      err_then c.process_messages.result _ (IsAbsentHalt c.args.config.now.tables s.history) halted (λ h x. caused_absent c.args.config.now.tables s.history c.args.config.now c.args.now_ms c.args.offsets.now.offset c.process_messages.new.store.offset c.process_messages.new.report (g.S.Source.told c.process_messages.new.src) own.offset h own.is x.cause);
-  captures = λ s is. captures_by c.args.config.now s.history c.args.offsets.now.offset c.process_messages.new.store.offset (λ none. c.in_ok-work.ensures.by_state.captures s is none);
+      err_then c.process_messages.result _ (IsAbsentAfter (g.S.Source.stands c.process_messages.new.src) s c.args.config.now.tables) halted (λ h x. caused_absent (g.S.Source.stands c.process_messages.new.src) s c.args.config.now.tables c.args.config.now c.args.now_ms c.args.offsets.now.offset c.process_messages.new.store.offset c.process_messages.new.report (g.S.Source.told c.process_messages.new.src) own.offset h own.is x.cause);
+  described = λ s is none.
+      let b = c.in_ok-work.ensures.state.begun in
+      passed_on g.S.Source c.args.src.now c.open_session.new.src c.process_messages.new.src s _ _ g.met.S.Source.comes_on c.process_messages.ensures.source.comes c.process_messages.ensures.source.honest (c.in_ok-work.ensures.by_state.described s is none)
+      (λ t found. record {
+        captures = captures_all c.args.config.now t.history c.process_messages.result found.captures;
+        first = first_in_stored c.args.config.now s.history t.history c.open_session.new.store.offset c.process_messages.new.store.offset b.0 b.1 found.first
+            (subst (λ (o : Offset). HasOwnStored o c.process_messages.new.store.offset) b.2.offset_is (c.process_messages.ensures.state.stored (subst (λ (o : Offset). HasOwnStored o c.open_session.new.store.offset) (sym b.2.offset_is) (own_first b.0 c.open_session.new.store.offset b.1))));
+      });
+  captures = λ s is honest. captures_by c.args.config.now s.history c.args.offsets.now.offset c.process_messages.new.store.offset (λ none. c.in_ok-work.ensures.by_state.captures s is (c.process_messages.ensures.source.honest honest) none);
   gone = λ s is kept asked first gone. err_at c.process_messages.result _ IsNotGone c.process_messages.ensures.state.reads gone;
   gone_stood = λ s was. err_then c.process_messages.result _ (IsGoneBelow s.confirmed) c.process_messages.ensures.state.reads (free_below s.confirmed);
-  must_absent = λ s is. must_captured c.args.config.now s.history c.args.offsets.now.offset c.process_messages.result (λ none. c.in_ok-work.ensures.by_state.captures s is none);
+  must_absent = λ s is honest. must_captured c.args.config.now s.history c.args.offsets.now.offset c.process_messages.result (λ none. c.in_ok-work.ensures.by_state.captures s is (c.process_messages.ensures.source.honest honest) none);
   must_stood = λ s t was now.
       let way = c.in_ok-work.ensures.report.under_way (Some s) (at_some g.S.Source.stands c.args.src.now s was) (refl, refl, refl) in
       let b = beginning_at c.args.config.now c.args.now_ms c.args.offsets.now.offset way.0 in
@@ -382,7 +396,7 @@ returns-clause-halt_by_state g c = record {
       let all = c.process_messages.ensures.report.all (Some s) (g.S.Source.told c.args.src.now) b u in
       let halted = c.process_messages.ensures.report.halted (Some s) (g.S.Source.told c.args.src.now) b u in
       answer_as c.process_messages.result _ _ (λ r. MustHaltStood c.args.config.now c.args.now_ms c.args.offsets.now.offset c.process_messages.new.store.offset c.process_messages.new.report t r) all halted (λ a e. let end = ended_stood g.S.Source (Some s) (g.S.Source.told c.args.src.now) b c.process_messages.new.store.offset c.process_messages.new.work c.process_messages.new.report c.process_messages.new.src e a s refl in subst (λ (x : SourceState). MustHaltStood c.args.config.now c.args.now_ms c.args.offsets.now.offset c.process_messages.new.store.offset c.process_messages.new.report x (Ok e)) (g.met.S.Source.one c.process_messages.new.src end.standing t end.is now) end.holds.1) (λ h x. (x.halted.stood s t refl now).must);
-  long = λ s was none still.
+  long = λ s was honest none still.
       let begun = c.in_ok-work.ensures.state.begun in
       let own = c.process_messages.ensures.state.stored (subst (λ (o : Offset). HasOwnStored o c.open_session.new.store.offset) (sym begun.2.offset_is) (own_first begun.0 c.open_session.new.store.offset begun.1)) in
       let wrong : None ≡ Some own.offset = sym still ∙ own.is in

@@ -1,4 +1,5 @@
-use Rattle.std.proofs.Common.{◌≡◌, ◌∙◌, ◌⊎◌, inl, inr, Some, refl, sym, subst, le_refl, rules}
+use Rattle.std.proofs.Common.{◌≡◌, ◌∙◌, ◌⊎◌, inl, inr, Option, Some, refl, sym, subst, le_refl, rules}
+use Rattle.std.specs.Prelude.{IfSome}
 use Rattle.dbl_model_history.specs.Fit.{IsFitHistory}
 use Rattle.dbl_source.specs.SourceModel.Standings.{left_of}
 use Rattle.dbl_offset_content.specs.declared.offset.Offset.{Offset}
@@ -13,7 +14,7 @@ use Rattle.dbl_capture_work.specs.Begins.{IsOffsetFor}
 use Rattle.dbl_capture_laws.specs.Underway.{IsBeginHalt}
 use Rattle.dbl_capture_laws.proofs.Telling.{store_begins}
 use Rattle.dbl_capture_laws.proofs.Telling.{not_both, residual_on}
-use Rattle.dbl_capture_work.specs.Begins.{IsAbsentHalt}
+use Rattle.dbl_capture_work.specs.Begins.{IsAbsentAfter}
 use Rattle.dbl_capture_laws.proofs.Telling.{memory_absent, store_absent}
 use Rattle.dbl_capture_laws.proofs.Lasting.{moved_rest}
 use Rattle.dbl_capture_laws.specs.Caused.{AsksUnread}
@@ -24,7 +25,8 @@ use Rattle.dbl_capture_laws.specs.Nevers.{IsFaithfulHalt}
 use Rattle.dbl_capture_laws.proofs.Owning.{first_long, first_own, free_long, free_own, had_of}
 use Rattle.dbl_capture_laws.specs.Captured.{CapturesOrHalts}
 use Rattle.dbl_capture_laws.proofs.Telling.{residual_as}
-use Rattle.dbl_capture_laws.proofs.Captured.{captures_by, captures_same}
+use Rattle.dbl_capture_laws.proofs.Captured.{captures_by, captures_same, passed_so}
+use Rattle.dbl_capture_laws.specs.Found.{IsFirstIn}
 use Rattle.dbl_capture_laws.specs.HasState.{IsShortOr}
 use Rattle.dbl_capture_laws.proofs.Excluding.{no_answer, no_ok}
 use Rattle.dbl_capture.proofs.opening.begin_session.Goals as goal
@@ -62,7 +64,7 @@ pub returns-in_err-put_offset-clause-session : goal.returns-in_err-put_offset-cl
 returns-in_err-put_offset-clause-session g c = record {
   begun = λ tell entry x x1 x2 x3. no_answer c.from_residual-in_err-put_offset.result _ _ c.from_residual-in_err-put_offset.ensures.1;
   left = λ tell entry asked f honest had.
-      let stood = c.in_ok-offset.ensures.found.begins entry asked f.offset_is had f.standing f.source_is f.history in
+      let stood = c.in_ok-offset.ensures.found.begins entry asked f.offset_is had f.standing f.source_is f.history honest in
       on_err _ _
       (store_left f (g.met.K.Sink.only _) (g.met.K.Sink.may _)
       (subst IsFitHistory f.history (g.met.S.Source.fit _ (left_of f.standing) (g.met.S.Source.may _ f.standing f.source_is) (c.offset_of.ensures.source.honest honest)))
@@ -70,7 +72,7 @@ returns-in_err-put_offset-clause-session g c = record {
       (λ left is. g.met.S.Source.only _ stood.standing left stood.is is) (g.met.S.Source.may _ stood.standing stood.is) stood.holds
       (λ t. subst (λ (o : Offset). LeavesOffset g.D.Disk (disk_of c.put_offset.new.store) (λ left. (left ≡ entry.offset) ⊎ (left ≡ Some o))) c.in_ok-stored.ensures (c.put_offset.ensures.left entry.offset (f.store_is t))));
   content = λ entry stored report asked f honest faithful.
-      let stood = c.in_ok-offset.ensures.found.begins entry asked f.offset_is (had_of entry faithful) f.standing f.source_is f.history in
+      let stood = c.in_ok-offset.ensures.found.begins entry asked f.offset_is (had_of entry faithful) f.standing f.source_is f.history honest in
       residual_of c.from_residual-in_err-put_offset.result _ (IsFaithfulHalt entry stored report (g.S.Source.stands c.offset_of.new.src) (g.K.Sink.holds c.args.sink.now)) c.from_residual-in_err-put_offset.ensures.1
       (first_own entry stored report (g.S.Source.stands c.offset_of.new.src) (g.K.Sink.holds c.args.sink.now) f.standing stood.standing c.in_ok-offset.offset _ faithful f.history f.confirmed
       (subst IsFitHistory f.history (g.met.S.Source.fit _ (left_of f.standing) (g.met.S.Source.may _ f.standing f.source_is) (c.offset_of.ensures.source.honest honest)))
@@ -82,7 +84,7 @@ returns-in_err-put_offset-clause-session g c = record {
 pub returns-clause-session : goal.returns-clause-session
 returns-clause-session g c = record {
   begun = λ tell entry asked f honest had.
-      let stood = c.in_ok-offset.ensures.found.begins entry asked f.offset_is had f.standing f.source_is f.history in
+      let stood = c.in_ok-offset.ensures.found.begins entry asked f.offset_is had f.standing f.source_is f.history honest in
       began_at f c.offset_of.new.src c.put_offset.new.store stood.standing c.in_ok-offset.offset stood.is stood.holds
       (λ t. subst (λ (o : Offset). HoldsOffset g.D.Disk c.put_offset.new.store (Some o)) c.in_ok-stored.ensures (c.in_ok-put_offset.ensures.stored entry.offset (f.store_is t)));
   left = λ tell entry x x1 x2 x3. tt;
@@ -168,29 +170,37 @@ returns-clause-by_state g c = record {
       moved_rest s mid.standing left mid.holds (g.met.S.Source.only c.offset_of.new.src mid.standing left mid.is may);
   stood = λ s is. c.in_ok-offset.ensures.by_state.stood s is;
   absent = λ s x. tt;
-  captures = λ s is none. c.in_ok-offset.ensures.by_state.captures s is none;
-  captured = λ s is. captures_by c.args.config.now s.history c.args.store.now.offset c.put_offset.new.store.offset (λ none. c.in_ok-offset.ensures.by_state.captures s is none);
-  first = λ s is none. (c.in_ok-offset.ensures.by_state.first s is none).1;
+  described = λ s is none. passed_so g.S.Source c.args.src.now c.offset_of.new.src s _ _ (c.in_ok-offset.ensures.by_state.described s is none) (λ t found. record {
+    captures = found.0;
+    first = subst (λ (o : Option Offset). IfSome o (IsFirstIn c.args.config.now s.history t.history)) (sym c.in_ok-put_offset.ensures.loads) (subst (IsFirstIn c.args.config.now s.history t.history) (sym c.in_ok-stored.ensures) found.1);
+  });
+  captures = λ s is honest none. c.in_ok-offset.ensures.by_state.captures s is honest none;
+  captured = λ s is honest. captures_by c.args.config.now s.history c.args.store.now.offset c.put_offset.new.store.offset (λ none. c.in_ok-offset.ensures.by_state.captures s is honest none);
+  first = λ s is honest none. (c.in_ok-offset.ensures.by_state.first s is honest none).1;
   standing = λ s x. tt;
   within = λ s is log. c.in_ok-offset.ensures.by_state.within s is log;
   still = c.offset_of.ensures.rests.still;
   taken = c.offset_of.ensures.rests.taken;
-  long = λ s x x1. tt;
+  long = λ s x x1 x2. tt;
 }
 
 pub returns-in_err-offset-clause-by_state : goal.returns-in_err-offset-clause-by_state
 returns-in_err-offset-clause-by_state g c = record {
   rests = c.offset_of.ensures.rests.left;
   stood = search rules;
-  absent = λ s is. residual_of c.from_residual.result _ (IsAbsentHalt c.args.config.now.tables s.history) c.from_residual.ensures.1 (c.in_err-offset.ensures.by_state.absent s is);
-  captures = λ s is none. residual_as c.from_residual.result _ (CapturesOrHalts c.args.config.now s.history) c.from_residual.ensures.1 (c.in_err-offset.ensures.by_state.captures s is none);
-  captured = λ s is. captures_same c.args.config.now s.history c.args.store.now.offset c.args.store.now.offset refl;
-  first = λ s x x1. no_answer c.from_residual.result _ _ c.from_residual.ensures.1;
+  absent = λ s is. residual_of c.from_residual.result _ (IsAbsentAfter (g.S.Source.stands c.offset_of.new.src) s c.args.config.now.tables) c.from_residual.ensures.1 (c.in_err-offset.ensures.by_state.absent s is);
+  described = λ s is none. passed_so g.S.Source c.args.src.now c.offset_of.new.src s _ _ (c.in_err-offset.ensures.by_state.described s is none) (λ t found. record {
+    captures = residual_as c.from_residual.result _ (CapturesOrHalts c.args.config.now t.history) c.from_residual.ensures.1 found.0;
+    first = subst (λ (o : Option Offset). IfSome o (IsFirstIn c.args.config.now s.history t.history)) (sym none) tt;
+  });
+  captures = λ s is honest none. residual_as c.from_residual.result _ (CapturesOrHalts c.args.config.now s.history) c.from_residual.ensures.1 (c.in_err-offset.ensures.by_state.captures s is honest none);
+  captured = λ s is honest. captures_same c.args.config.now s.history c.args.store.now.offset c.args.store.now.offset refl;
+  first = λ s x x1 x2. no_answer c.from_residual.result _ _ c.from_residual.ensures.1;
   standing = λ s is. residual_of c.from_residual.result _ (IsShortOr (g.S.Source.stands c.offset_of.new.src)) c.from_residual.ensures.1 (inl c.in_err-offset.ensures.stops.short);
   within = λ s x x1. no_answer c.from_residual.result _ _ c.from_residual.ensures.1;
   still = c.offset_of.ensures.rests.still;
   taken = c.offset_of.ensures.rests.taken;
-  long = λ s was none. residual_of c.from_residual.result _ (IsLongBy c.args.config.now s.history) c.from_residual.ensures.1 (free_long c.args.config.now s.history _ c.in_err-offset.ensures.stops.free);
+  long = λ s was honest none. residual_of c.from_residual.result _ (IsLongBy c.args.config.now s.history) c.from_residual.ensures.1 (free_long c.args.config.now s.history _ c.in_err-offset.ensures.stops.free);
 }
 
 pub returns-in_err-stored-clause-by_state : goal.returns-in_err-stored-clause-by_state
@@ -199,15 +209,19 @@ returns-in_err-stored-clause-by_state g c = record {
       let mid = c.in_ok-offset.ensures.by_state.stood s was in
       moved_rest s mid.standing left mid.holds (g.met.S.Source.only c.offset_of.new.src mid.standing left mid.is may);
   stood = search rules;
-  absent = λ s is. residual_of c.from_residual-in_err-stored.result halt.Memory (IsAbsentHalt c.args.config.now.tables s.history) c.from_residual-in_err-stored.ensures.1 (memory_absent c.args.config.now.tables s.history halt.Memory refl);
-  captures = λ s is none. residual_as c.from_residual-in_err-stored.result halt.Memory (CapturesOrHalts c.args.config.now s.history) c.from_residual-in_err-stored.ensures.1 (inr tt);
-  captured = λ s is. captures_same c.args.config.now s.history c.args.store.now.offset c.args.store.now.offset refl;
-  first = λ s x x1. no_answer c.from_residual-in_err-stored.result _ _ c.from_residual-in_err-stored.ensures.1;
+  absent = λ s is. residual_of c.from_residual-in_err-stored.result halt.Memory (IsAbsentAfter (g.S.Source.stands c.offset_of.new.src) s c.args.config.now.tables) c.from_residual-in_err-stored.ensures.1 (memory_absent (g.S.Source.stands c.offset_of.new.src) s c.args.config.now.tables halt.Memory refl);
+  described = λ s is none. passed_so g.S.Source c.args.src.now c.offset_of.new.src s _ _ (c.in_ok-offset.ensures.by_state.described s is none) (λ t found. record {
+    captures = residual_as c.from_residual-in_err-stored.result halt.Memory (CapturesOrHalts c.args.config.now t.history) c.from_residual-in_err-stored.ensures.1 (inl found.0);
+    first = subst (λ (o : Option Offset). IfSome o (IsFirstIn c.args.config.now s.history t.history)) (sym none) tt;
+  });
+  captures = λ s is honest none. residual_as c.from_residual-in_err-stored.result halt.Memory (CapturesOrHalts c.args.config.now s.history) c.from_residual-in_err-stored.ensures.1 (inr tt);
+  captured = λ s is honest. captures_same c.args.config.now s.history c.args.store.now.offset c.args.store.now.offset refl;
+  first = λ s x x1 x2. no_answer c.from_residual-in_err-stored.result _ _ c.from_residual-in_err-stored.ensures.1;
   standing = λ s is. residual_of c.from_residual-in_err-stored.result halt.Memory (IsShortOr (g.S.Source.stands c.offset_of.new.src)) c.from_residual-in_err-stored.ensures.1 (inl tt);
   within = λ s x x1. no_answer c.from_residual-in_err-stored.result _ _ c.from_residual-in_err-stored.ensures.1;
   still = c.offset_of.ensures.rests.still;
   taken = c.offset_of.ensures.rests.taken;
-  long = λ s was none. residual_of c.from_residual-in_err-stored.result halt.Memory (IsLongBy c.args.config.now s.history) c.from_residual-in_err-stored.ensures.1 tt;
+  long = λ s was honest none. residual_of c.from_residual-in_err-stored.result halt.Memory (IsLongBy c.args.config.now s.history) c.from_residual-in_err-stored.ensures.1 tt;
 }
 
 pub returns-in_err-put_offset-clause-by_state : goal.returns-in_err-put_offset-clause-by_state
@@ -216,20 +230,24 @@ returns-in_err-put_offset-clause-by_state g c = record {
       let mid = c.in_ok-offset.ensures.by_state.stood s was in
       moved_rest s mid.standing left mid.holds (g.met.S.Source.only c.offset_of.new.src mid.standing left mid.is may);
   stood = search rules;
-  absent = λ s is. residual_of c.from_residual-in_err-put_offset.result _ (IsAbsentHalt c.args.config.now.tables s.history) c.from_residual-in_err-put_offset.ensures.1 (store_absent c.args.config.now.tables s.history _ _ c.in_err-put_offset.ensures.halt);
-  captures = λ s is none.
-      residual_as c.from_residual-in_err-put_offset.result _ (CapturesOrHalts c.args.config.now s.history) c.from_residual-in_err-put_offset.ensures.1 (inl (c.in_ok-offset.ensures.by_state.captures s is none));
-  captured = λ s is. captures_by c.args.config.now s.history c.args.store.now.offset c.put_offset.new.store.offset (λ none. c.in_ok-offset.ensures.by_state.captures s is none);
-  first = λ s x x1. no_answer c.from_residual-in_err-put_offset.result _ _ c.from_residual-in_err-put_offset.ensures.1;
+  absent = λ s is. residual_of c.from_residual-in_err-put_offset.result _ (IsAbsentAfter (g.S.Source.stands c.offset_of.new.src) s c.args.config.now.tables) c.from_residual-in_err-put_offset.ensures.1 (store_absent (g.S.Source.stands c.offset_of.new.src) s c.args.config.now.tables _ _ c.in_err-put_offset.ensures.halt);
+  described = λ s is none. passed_so g.S.Source c.args.src.now c.offset_of.new.src s _ _ (c.in_ok-offset.ensures.by_state.described s is none) (λ t found. record {
+    captures = residual_as c.from_residual-in_err-put_offset.result _ (CapturesOrHalts c.args.config.now t.history) c.from_residual-in_err-put_offset.ensures.1 (inl found.0);
+    first = subst (λ (o : Option Offset). IfSome o (IsFirstIn c.args.config.now s.history t.history)) (sym (c.in_err-put_offset.ensures.keeps ∙ none)) tt;
+  });
+  captures = λ s is honest none.
+      residual_as c.from_residual-in_err-put_offset.result _ (CapturesOrHalts c.args.config.now s.history) c.from_residual-in_err-put_offset.ensures.1 (inl (c.in_ok-offset.ensures.by_state.captures s is honest none));
+  captured = λ s is honest. captures_by c.args.config.now s.history c.args.store.now.offset c.put_offset.new.store.offset (λ none. c.in_ok-offset.ensures.by_state.captures s is honest none);
+  first = λ s x x1 x2. no_answer c.from_residual-in_err-put_offset.result _ _ c.from_residual-in_err-put_offset.ensures.1;
   standing = λ s is.
       let mid = c.in_ok-offset.ensures.by_state.stood s is in
       residual_of c.from_residual-in_err-put_offset.result _ (IsShortOr (g.S.Source.stands c.offset_of.new.src)) c.from_residual-in_err-put_offset.ensures.1 (inr (mid.standing, mid.is));
   within = λ s x x1. no_answer c.from_residual-in_err-put_offset.result _ _ c.from_residual-in_err-put_offset.ensures.1;
   still = c.offset_of.ensures.rests.still;
   taken = c.offset_of.ensures.rests.taken;
-  long = λ s was none.
+  long = λ s was honest none.
       residual_of c.from_residual-in_err-put_offset.result _ (IsLongBy c.args.config.now s.history) c.from_residual-in_err-put_offset.ensures.1
-      (first_long c.args.config.now s.history c.in_ok-stored.stored _ (subst (IsFirstByCatalogue c.args.config.now s.history) (sym c.in_ok-stored.ensures) (c.in_ok-offset.ensures.by_state.first s was none).0) c.in_err-put_offset.ensures.halt);
+      (first_long c.args.config.now s.history c.in_ok-stored.stored _ (subst (IsFirstByCatalogue c.args.config.now s.history) (sym c.in_ok-stored.ensures) (c.in_ok-offset.ensures.by_state.first s was honest none).0) c.in_err-put_offset.ensures.halt);
 }
 
 -- ---- what the store holds

@@ -25,7 +25,7 @@ use Rattle.dbl_capture_laws.proofs.StepHalting.{open_caused}
 use Rattle.dbl_capture_laws.proofs.Telling.{not_both, residual_on}
 use Rattle.dbl_capture_laws.specs.Sinks.{IsPutting}
 use Rattle.dbl_capture_laws.proofs.Sinks.{puts_begin}
-use Rattle.dbl_capture_work.specs.Begins.{IsAbsentHalt, IsOffsetFor}
+use Rattle.dbl_capture_work.specs.Begins.{IsAbsentAfter, IsOffsetFor}
 use Rattle.dbl_capture_laws.proofs.Telling.{memory_absent, start_absent}
 use Rattle.dbl_capture_laws.specs.HasState.{IsGoneBelow}
 use Rattle.dbl_capture_laws.proofs.Going.{begin_reads, free_below, kept_low, memory_reads, not_gone, start_below}
@@ -40,7 +40,7 @@ use Rattle.dbl_capture_laws.proofs.Owning.{free_long, free_own, memory_free, sta
 use Rattle.dbl_capture_laws.proofs.HasState.{begin_stood, memory_stood, start_stood}
 use Rattle.dbl_capture_laws.specs.Captured.{CapturesOrHalts}
 use Rattle.dbl_capture_laws.proofs.Telling.{residual_as}
-use Rattle.dbl_capture_laws.proofs.Captured.{captures_all}
+use Rattle.dbl_capture_laws.proofs.Captured.{captures_all, passed_on, passed_so}
 use Rattle.dbl_capture_work.specs.Follow.Followed.{Following}
 use Rattle.dbl_capture_laws.proofs.Awaited.{awaits_first}
 use Rattle.dbl_capture_laws.proofs.Excluding.{no_answer, no_ok}
@@ -256,26 +256,34 @@ returns-clause-report g c = record {
 
 pub returns-in_err-offset-clause-by_state : goal.returns-in_err-offset-clause-by_state
 returns-in_err-offset-clause-by_state g c = record {
-  absent = λ s is. residual_of c.from_residual.result _ (IsAbsentHalt c.args.config.now.tables s.history) c.from_residual.ensures.1 (c.in_err-offset.ensures.by_state.absent s is);
-  captures = λ s is none. residual_as c.from_residual.result _ (CapturesOrHalts c.args.config.now s.history) c.from_residual.ensures.1 (c.in_err-offset.ensures.by_state.captures s is none);
-  captured = λ s is. c.begin_session.ensures.by_state.captured s is;
-  firsts = λ s is. first_none c.args.config.now s.history c.args.store.now.offset c.begin_session.new.store.offset c.in_err-offset.ensures.state.keeps;
+  absent = λ s is. residual_of c.from_residual.result _ (IsAbsentAfter (g.S.Source.stands c.begin_session.new.src) s c.args.config.now.tables) c.from_residual.ensures.1 (c.in_err-offset.ensures.by_state.absent s is);
+  described = λ s is none. passed_so g.S.Source c.args.src.now c.begin_session.new.src s _ _ (c.in_err-offset.ensures.by_state.described s is none) (λ t found. record {
+    captures = residual_as c.from_residual.result _ (CapturesOrHalts c.args.config.now t.history) c.from_residual.ensures.1 found.captures;
+    first = found.first;
+  });
+  captures = λ s is honest none. residual_as c.from_residual.result _ (CapturesOrHalts c.args.config.now s.history) c.from_residual.ensures.1 (c.in_err-offset.ensures.by_state.captures s is honest none);
+  captured = λ s is honest. c.begin_session.ensures.by_state.captured s is honest;
+  firsts = λ s is honest. first_none c.args.config.now s.history c.args.store.now.offset c.begin_session.new.store.offset c.in_err-offset.ensures.state.keeps;
   gone = λ s is kept. residual_of c.from_residual.result _ IsNotGone c.from_residual.ensures.1 (begin_reads c.args.config.now c.args.store.now.offset (g.S.Source.told c.begin_session.new.src) _ c.in_err-offset.ensures.stops.halt);
   gone_stood = λ s is.
       residual_of c.from_residual.result _ (IsGoneBelow s.confirmed) c.from_residual.ensures.1 (free_below s.confirmed _ (begin_reads c.args.config.now c.args.store.now.offset (g.S.Source.told c.begin_session.new.src) _ c.in_err-offset.ensures.stops.halt));
   awaits = λ s x x1. no_answer c.from_residual.result _ _ c.from_residual.ensures.1;
   unmarked = λ s left was may. rest_unmarked s left (c.begin_session.ensures.by_state.rests s left was may);
-  long = λ s was none. residual_of c.from_residual.result _ (IsLongBy c.args.config.now s.history) c.from_residual.ensures.1 (c.in_err-offset.ensures.by_state.long s was none);
+  long = λ s was honest none. residual_of c.from_residual.result _ (IsLongBy c.args.config.now s.history) c.from_residual.ensures.1 (c.in_err-offset.ensures.by_state.long s was honest none);
 }
 
 pub returns-in_err-start_reading-clause-by_state : goal.returns-in_err-start_reading-clause-by_state
 returns-in_err-start_reading-clause-by_state g c = record {
-  absent = λ s is. residual_of c.from_residual-in_err-start_reading.result _ (IsAbsentHalt c.args.config.now.tables s.history) c.from_residual-in_err-start_reading.ensures.1 (start_absent c.args.config.now.tables s.history _ _ c.in_err-start_reading.ensures.halt);
-  captures = λ s is none.
-      residual_as c.from_residual-in_err-start_reading.result _ (CapturesOrHalts c.args.config.now s.history) c.from_residual-in_err-start_reading.ensures.1 (inl (c.in_ok-offset.ensures.by_state.captures s is none));
-  captured = λ s is. c.begin_session.ensures.by_state.captured s is;
-  firsts = λ s is.
-      first_stored c.args.config.now s.history c.args.store.now.offset c.begin_session.new.store.offset c.in_ok-offset.offset (λ none. c.in_ok-offset.ensures.by_state.first s is none) (own_first c.in_ok-offset.offset c.begin_session.new.store.offset c.in_ok-offset.ensures.state.loads);
+  absent = λ s is. residual_of c.from_residual-in_err-start_reading.result _ (IsAbsentAfter (g.S.Source.stands c.start_reading.new.src) s c.args.config.now.tables) c.from_residual-in_err-start_reading.ensures.1 (start_absent (g.S.Source.stands c.start_reading.new.src) s c.args.config.now.tables _ _ c.in_err-start_reading.ensures.halt);
+  described = λ s is none. passed_on g.S.Source c.args.src.now c.begin_session.new.src c.start_reading.new.src s _ _ g.met.S.Source.comes_on c.start_reading.ensures.source.comes c.start_reading.ensures.source.honest (c.in_ok-offset.ensures.by_state.described s is none) (λ t found. record {
+    captures = residual_as c.from_residual-in_err-start_reading.result _ (CapturesOrHalts c.args.config.now t.history) c.from_residual-in_err-start_reading.ensures.1 (inl found.captures);
+    first = found.first;
+  });
+  captures = λ s is honest none.
+      residual_as c.from_residual-in_err-start_reading.result _ (CapturesOrHalts c.args.config.now s.history) c.from_residual-in_err-start_reading.ensures.1 (inl (c.in_ok-offset.ensures.by_state.captures s is (c.start_reading.ensures.source.honest honest) none));
+  captured = λ s is honest. c.begin_session.ensures.by_state.captured s is (c.start_reading.ensures.source.honest honest);
+  firsts = λ s is honest.
+      first_stored c.args.config.now s.history c.args.store.now.offset c.begin_session.new.store.offset c.in_ok-offset.offset (λ none. c.in_ok-offset.ensures.by_state.first s is (c.start_reading.ensures.source.honest honest) none) (own_first c.in_ok-offset.offset c.begin_session.new.store.offset c.in_ok-offset.ensures.state.loads);
   gone = λ s is kept.
       let mid = c.in_ok-offset.ensures.by_state.stood s is in
       residual_of c.from_residual-in_err-start_reading.result _ IsNotGone c.from_residual-in_err-start_reading.ensures.1
@@ -288,17 +296,21 @@ returns-in_err-start_reading-clause-by_state g c = record {
   unmarked = λ s left was may.
       let mid = c.in_ok-offset.ensures.by_state.stood s was in
       others_add_no_marks mid.standing.history left.history (c.start_reading.ensures.left mid.standing left mid.is may).grows ∙ others_add_no_marks s.history mid.standing.history mid.holds.grows;
-  long = λ s was none.
+  long = λ s was honest none.
       residual_of c.from_residual-in_err-start_reading.result _ (IsLongBy c.args.config.now s.history) c.from_residual-in_err-start_reading.ensures.1 (free_long c.args.config.now s.history _ (start_free _ _ c.in_err-start_reading.ensures.halt));
 }
 
 pub returns-clause-by_state : goal.returns-clause-by_state
 returns-clause-by_state g c = record {
-  absent = λ s is. err_then c.make.result _ (IsAbsentHalt c.args.config.now.tables s.history) c.make.ensures.memory (λ h memory. memory_absent c.args.config.now.tables s.history h memory);
-  captures = λ s is none. captures_all c.args.config.now s.history c.make.result (c.in_ok-offset.ensures.by_state.captures s is none);
-  captured = λ s is. c.begin_session.ensures.by_state.captured s is;
-  firsts = λ s is.
-      first_stored c.args.config.now s.history c.args.store.now.offset c.begin_session.new.store.offset c.in_ok-offset.offset (λ none. c.in_ok-offset.ensures.by_state.first s is none) (own_first c.in_ok-offset.offset c.begin_session.new.store.offset c.in_ok-offset.ensures.state.loads);
+  absent = λ s is. err_then c.make.result _ (IsAbsentAfter (g.S.Source.stands c.start_reading.new.src) s c.args.config.now.tables) c.make.ensures.memory (λ h memory. memory_absent (g.S.Source.stands c.start_reading.new.src) s c.args.config.now.tables h memory);
+  described = λ s is none. passed_on g.S.Source c.args.src.now c.begin_session.new.src c.start_reading.new.src s _ _ g.met.S.Source.comes_on c.start_reading.ensures.source.comes c.start_reading.ensures.source.honest (c.in_ok-offset.ensures.by_state.described s is none) (λ t found. record {
+    captures = captures_all c.args.config.now t.history c.make.result found.captures;
+    first = found.first;
+  });
+  captures = λ s is honest none. captures_all c.args.config.now s.history c.make.result (c.in_ok-offset.ensures.by_state.captures s is (c.start_reading.ensures.source.honest honest) none);
+  captured = λ s is honest. c.begin_session.ensures.by_state.captured s is (c.start_reading.ensures.source.honest honest);
+  firsts = λ s is honest.
+      first_stored c.args.config.now s.history c.args.store.now.offset c.begin_session.new.store.offset c.in_ok-offset.offset (λ none. c.in_ok-offset.ensures.by_state.first s is (c.start_reading.ensures.source.honest honest) none) (own_first c.in_ok-offset.offset c.begin_session.new.store.offset c.in_ok-offset.ensures.state.loads);
   gone = λ s is kept. err_then c.make.result _ IsNotGone c.make.ensures.memory (λ h memory. memory_reads h memory);
   gone_stood = λ s is. err_then c.make.result _ (IsGoneBelow s.confirmed) c.make.ensures.memory (λ h memory. free_below s.confirmed h (memory_reads h memory));
   awaits = λ s is log.
@@ -309,7 +321,7 @@ returns-clause-by_state g c = record {
   unmarked = λ s left was may.
       let mid = c.in_ok-offset.ensures.by_state.stood s was in
       others_add_no_marks mid.standing.history left.history (c.start_reading.ensures.left mid.standing left mid.is may).grows ∙ others_add_no_marks s.history mid.standing.history mid.holds.grows;
-  long = λ s was none. err_then c.make.result _ (IsLongBy c.args.config.now s.history) c.make.ensures.memory (λ h is. free_long c.args.config.now s.history h (memory_free h is));
+  long = λ s was honest none. err_then c.make.result _ (IsLongBy c.args.config.now s.history) c.make.ensures.memory (λ h is. free_long c.args.config.now s.history h (memory_free h is));
 }
 
 -- ---- whether the log is gone

@@ -2,7 +2,7 @@ use Rattle.dbl_capture_laws.specs.Sessions.{state_at_stage}
 use Rattle.dbl_capture_laws.proofs.Arms.{arm_left, plan_captured, plan_here, plan_parts, window_on}
 use Rattle.dbl_capture_laws.proofs.StepCauses.{OfSource, chunk_of, err_at, err_then}
 use Rattle.dbl_capture_laws.proofs.Keeping.{capturing, ok_then, on_err}
-use Rattle.std.proofs.Common.{◌++◌, inl, refl}
+use Rattle.std.proofs.Common.{◌++◌, inl, refl, ap}
 use Rattle.dbl_capture_laws.specs.Caused.{Halts, IsNotGone}
 use Rattle.dbl_capture_laws.proofs.Sources.{arms_on, at_rest, halts_between}
 use Rattle.dbl_capture_laws.proofs.Telling.{chunk_left, ok_both}
@@ -23,6 +23,7 @@ use Rattle.dbl_capture_laws.proofs.Owning.{chunk_free}
 use Rattle.dbl_capture_laws.proofs.HasState.{chunk_stood}
 use Rattle.dbl_capture_laws.proofs.Awaited.{awaits_armed}
 use Rattle.dbl_record.specs.Cuts.{cut}
+use Rattle.dbl_capture_work.specs.Window.Plans.{Plan}
 use Rattle.dbl_capture_work.specs.Works.{rest_in}
 use Rattle.dbl_capture_laws.proofs.Ahead.{rest_table}
 use Rattle.dbl_capture_laws.proofs.Opened.{chunk_rest, closed_rest}
@@ -49,7 +50,7 @@ returns-clause-session g c = record {
       let here = plan_captured s c.args.table planned.0 (plan_parts c.args.work.now c.args.table planned.0 planned.1) c.requires.is_open c.requires.number in
       err_then c.read_window.result _ (IsHonestHalt entry (g.S.Source.stands c.read_window.new.src))
       (c.read_window.ensures.never (state_at_stage s.stage) s.stage.first.infos planned.0 s.source_is honest planned.1 (record { are = s.going.reading.infos; here = here }))
-      (λ h fault. window_honest entry (g.S.Source.stands c.read_window.new.src) planned.0 s.stage.first.infos h (capturing s)
+      (λ h fault. window_honest entry (g.S.Source.stands c.read_window.new.src) planned.0 s.stage.first.infos h (ap (λ (p : Plan). p.version) (plan_parts c.args.work.now c.args.table planned.0 planned.1).is) (capturing s)
       (λ t is. record {
         are = captured_stays s.stage.history t.history s.stage.first.infos (c.read_window.ensures.left planned.0 planned.1 (state_at_stage s.stage) (left_of t) s.source_is (g.met.S.Source.may c.read_window.new.src t is)).grown.tables s.going.reading.infos;
         here = here;

@@ -43,6 +43,7 @@ pub own_status : (h : Halt) → IsOwnHalt h → (status : Status) → status ≡
 own_status (halt.Message number error) own status is = inl is
 own_status (halt.Txn number error) own status is = txn_status error status is
 own_status (halt.Chunk table row) own status is = inl is
+own_status (halt.Altered table) own status is = inr (inl is)
 own_status (halt.Cell table column error) own status is = inr (inl is)
 own_status (halt.Clash table column) own status is = inr (inl is)
 own_status (halt.RecordTooLong len) own status is = inr (inl is)
@@ -77,6 +78,7 @@ halt_no_output : (h : Halt) → halt_status h ≢ StdoutFailed
 halt_no_output (halt.Message number error) is = cc
 halt_no_output (halt.Txn number error) is = halt_other StdoutFailed (transaction_status error) (λ e. cc, λ e. cc, λ e. cc, λ e. cc, λ e. cc) (txn_status error (transaction_status error) refl) is
 halt_no_output (halt.Chunk table row) is = cc
+halt_no_output (halt.Altered table) is = cc
 halt_no_output (halt.Cell table column error) is = cc
 halt_no_output (halt.Clash table column) is = cc
 halt_no_output (halt.RecordTooLong len) is = cc

@@ -8,7 +8,7 @@ use Rattle.dbl_model_table.specs.Tables.{full_name}
 use Rattle.dblog_replay.specs.declared.log_fault.LogFault.TheVariants as log
 use Rattle.dblog_replay.specs.LogFaults.{log_line, log_status}
 use Rattle.dbl_capture_work.specs.declared.halt.Halt.{Halt}
-use Rattle.dbl_capture_work.specs.declared.halt.Halt.TheVariants.{Message, Txn, Chunk, Cell, Clash, RecordTooLong}
+use Rattle.dbl_capture_work.specs.declared.halt.Halt.TheVariants.{Message, Txn, Altered, Chunk, Cell, Clash, RecordTooLong}
 use Rattle.dbl_capture_work.specs.declared.halt.Halt.TheVariants.{OffsetTooLong, Model, UnknownTable, Gone, WatermarkMissing}
 use Rattle.dbl_capture_work.specs.declared.halt.Halt.TheVariants.{Exhausted, Source, Sink, Offsets, Memory}
 use Rattle.dblog_capture_text.specs.Reports.{count_line}
@@ -17,6 +17,7 @@ use Rattle.dblog_capture_text.specs.Reports.{count_line}
 abbrev pub halt_status : Halt → Status
 halt_status (Message number error) = log_status (log.Message number error)
 halt_status (Txn number error) = log_status (log.Transaction number error)
+halt_status (Altered table) = Unsupported
 halt_status (Chunk table row) = MalformedLog
 halt_status (Cell table column error) = Unsupported
 halt_status (Clash table column) = Unsupported
@@ -36,6 +37,7 @@ halt_status Memory = OutOfMemory
 abbrev pub halt_line : Halt → List ℕ
 halt_line (Message number error) = log_line (log.Message number error)
 halt_line (Txn number error) = log_line (log.Transaction number error)
+halt_line (Altered table) = codes "dblog: schema changed " ++ full_name table
 halt_line (Chunk table row) = codes "dblog: bad chunk row " ++ (decimal row ++ (codes " of " ++ full_name table))
 halt_line (Cell table column error) = log_line (log.Transaction 0 (txn.Value table column error))
 halt_line (Clash table column) = log_line (log.Placeholder table column)

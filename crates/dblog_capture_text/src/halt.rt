@@ -20,7 +20,8 @@ pub fn halt_status(halt: &Halt) -> Status
     match halt {
         Halt::Message { .. } | Halt::Chunk { .. } => Status::MalformedLog,
         Halt::Txn { error, .. } => transaction_status(error),
-        Halt::Cell { .. }
+        Halt::Altered { .. }
+        | Halt::Cell { .. }
         | Halt::Clash { .. }
         | Halt::RecordTooLong { .. }
         | Halt::OffsetTooLong { .. }
@@ -51,6 +52,7 @@ pub fn halt_line(alloc: Global, halt: Halt) -> Result<String, AllocError>
             fault_line(alloc, LogFault::Placeholder { table, column })
         }
         Halt::Model(error) => fault_line(alloc, LogFault::Table { error }),
+        Halt::Altered { table } => format!(in alloc; "dblog: schema changed {table}"),
         Halt::Chunk { table, row } => format!(in alloc; "dblog: bad chunk row {row} of {table}"),
         Halt::RecordTooLong { len } => format!(in alloc; "dblog: record too long {len}"),
         Halt::OffsetTooLong { len } => format!(in alloc; "dblog: offset too long {len}"),

@@ -158,6 +158,7 @@ module _ (config : Config) (now : ℤ) (old : Contents) (new : Option Offset) (r
   cause_of (halt.Message number error) over = over.stood
   cause_of (halt.Txn number error) over = (at_halt (halt.Txn number error) over.stood, λ own. own_txn number error (over.own own))
   cause_of (halt.Chunk table row) over = over.own
+  cause_of (halt.Altered table) over = over.own
   cause_of (halt.Cell table column error) over = λ own. (
       let here = over.own own in
       (here.2, here.3, subst (λ (s : SourceState). IsOwnCell here.2 s.history table column error) (one here.0 here.1) here.4))
@@ -202,6 +203,7 @@ module _ (config : Config) (now : ℤ) (old : Contents) (new : Option Offset) (r
   kept_halt left holds (halt.Txn number error) same hold own subsequent within over content =
       subst (λ (x : Wal). IsOwnTxn config old x number error) (sym same) (own_txn number error (over.own own))
   kept_halt left holds (halt.Chunk table row) same hold own subsequent within over content = over.own own
+  kept_halt left holds (halt.Altered table) same hold own subsequent within over content = over.own own
   kept_halt left holds (halt.Cell table column error) same hold own subsequent within over content =
       let here = over.own own in
       let all : here.0 ≡ standing_in left.wal place = one here.0 here.1 ∙ ap (λ (x : Wal). standing_in x place) (sym same) in

@@ -32,6 +32,7 @@ still_stands config now old new report stands halt.Memory reading over = absurd 
 still_stands config now old new report stands (halt.Message number error) reading over = absurd reading
 still_stands config now old new report stands (halt.Txn number error) reading over = (over.stood.0, over.stood.1)
 still_stands config now old new report stands (halt.Chunk table row) reading over = absurd reading
+still_stands config now old new report stands (halt.Altered table) reading over = absurd reading
 still_stands config now old new report stands (halt.Cell table column error) reading over = (let here = over.own reading in (here.0, here.1))
 still_stands config now old new report stands (halt.Clash table column) reading over = (over.stood.0, over.stood.1)
 still_stands config now old new report stands (halt.RecordTooLong len) reading over = (over.stood.0, over.stood.1)

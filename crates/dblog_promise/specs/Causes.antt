@@ -120,6 +120,7 @@ IsCauseOf config now old stored report wal (halt.Message number error) = ⊥
 IsCauseOf config now old stored report wal (halt.Txn number error) =
     IsHaltByLog config now old.offset stored report wal (halt.Txn number error) × (HasOwnTables old → IsOwnTxn config old wal number error)
 IsCauseOf config now old stored report wal (halt.Chunk table row) = HasOwnTables old → ⊥
+IsCauseOf config now old stored report wal (halt.Altered table) = HasOwnTables old → ⊥
 IsCauseOf config now old stored report wal (halt.Cell table column error) = HasOwnTables old
     → IsCellHalt config old (history_in wal) (halt.Cell table column error)
 IsCauseOf config now old stored report wal (halt.Clash table column) =
@@ -150,6 +151,7 @@ standing_left left = record { history = history_at left; confirmed = confirmed_a
 abbrev pub IsKeptHalt : Config → ℤ → Contents → Option Offset → Report → Contents → Halt → Type 0
 IsKeptHalt config now old stored report left (halt.Message number error) = ⊥
 IsKeptHalt config now old stored report left (halt.Chunk table row) = ⊥
+IsKeptHalt config now old stored report left (halt.Altered table) = ⊥
 IsKeptHalt config now old stored report left (halt.Gone asked first) = ⊥
 IsKeptHalt config now old stored report left (halt.WatermarkMissing value at) = ⊥
 IsKeptHalt config now old stored report left (halt.Txn number error) = IsOwnTxn config old left.wal number error

@@ -5,6 +5,9 @@ use Rattle.dbl_hooks_gate.specs.declared.rule.Rule.{Rule}
 use Rattle.dbl_hooks_gate.specs.Gates.{AddsAllowed}
 use Rattle.dbl_offset.specs.Stores.{disk_of}
 use Rattle.dbl_demo.specs.DemoWorkload.Ready.{AreTableNames}
+use Rattle.dbl_demo.specs.DemoLaws.Demo.{HasDemoState}
+use Rattle.dbl_demo.specs.DemoLaws.SourceLaws.{unaltered_so}
+use Rattle.dbl_capture.proofs.CaptureLawsKeeping.{absent_first}
 use Rattle.dbl_capture.specs.CaptureWork.declared.halt.Halt.{Halt}
 use Rattle.dbl_capture.specs.CaptureWork.declared.report.Ending.{Ending}
 use Rattle.dblog_init.specs.declared.error.Store.TheVariants as store
@@ -105,20 +108,20 @@ returns-in_err-ending-clause-answers g c =
       exactly = λ s is had. c.gated_session-end.ensures.marks.exactly s is tt had;
       unclosed = λ entry is found. c.gated_session-end.ensures.unclosed entry is found tt;
       stores = c.gated_session-end.ensures.stores.stores;
-      firsts = c.gated_session-end.ensures.stores.firsts;
+      firsts = λ s is. c.gated_session-end.ensures.stores.firsts s is tt;
       few = λ is. (c.gated_session-end.ensures.ends.done is).3;
       done = λ is. done_by c.gated_session-end.new.offsets.offset (c.gated_session-end.ensures.ends.done is).0 (c.gated_session-end.ensures.ends.done is).1 (c.gated_session-end.ensures.ends.done is).2;
       bounded = c.gated_session-end.ensures.counts.bounded;
       ended = c.gated_session-end.ensures.ends.ended;
       exhausted = c.gated_session-end.ensures.halt.exhausted;
-      must_absent = c.gated_session-end.ensures.halt_by_state.must_absent;
-      captures = c.gated_session-end.ensures.halt_by_state.captures;
+      must_absent = λ s is. c.gated_session-end.ensures.halt_by_state.must_absent s is tt;
+      captures = λ s is. c.gated_session-end.ensures.halt_by_state.captures s is tt;
       spent = c.gated_session-end.ensures.ends.spent;
       settled = c.gated_session-end.ensures.by_state.settled;
       position = c.gated_session-end.ensures.counts.position;
       halt_is = c.gated_session-end.ensures.halt.halt;
       halt_stood = c.gated_session-end.ensures.halt_by_state.halt_stood;
-      absent = c.gated_session-end.ensures.halt_by_state.absent;
+      absent = λ s is. absent_first (HasDemoState g.W.Disk c.gated_session-end.new.src) s c.in_ok-config.config.tables c.gated_session-end.result (unaltered_so g.W.Disk c.gated_session-end.new.src) (c.gated_session-end.ensures.halt_by_state.absent s is);
       gone = c.gated_session-end.ensures.halt_by_state.gone;
       gone_stood = c.gated_session-end.ensures.halt_by_state.gone_stood;
       kept = c.gated_session-end.ensures.gone.kept;
@@ -126,7 +129,7 @@ returns-in_err-ending-clause-answers g c =
       missing = λ s is. c.gated_session-end.ensures.own.missing s is tt;
       own = λ s is. c.gated_session-end.ensures.own.own s is tt;
       content = λ entry is found. c.gated_session-end.ensures.content entry is found tt;
-      long = c.gated_session-end.ensures.halt_by_state.long;
+      long = λ s is. c.gated_session-end.ensures.halt_by_state.long s is tt;
       grouped = c.gated_session-end.ensures.gains.grouped;
       ungained = c.gated_session-end.ensures.gains.ungained;
       counted = c.gated_session-end.ensures.tallies.counted;
@@ -216,20 +219,20 @@ returns-clause-answers g c =
       exactly = λ s is had. c.gated_session-end.ensures.marks.exactly s is tt had;
       unclosed = λ entry is found. c.gated_session-end.ensures.unclosed entry is found tt;
       stores = c.gated_session-end.ensures.stores.stores;
-      firsts = c.gated_session-end.ensures.stores.firsts;
+      firsts = λ s is. c.gated_session-end.ensures.stores.firsts s is tt;
       few = λ is. (c.gated_session-end.ensures.ends.done is).3;
       done = λ is. done_by c.gated_session-end.new.offsets.offset (c.gated_session-end.ensures.ends.done is).0 (c.gated_session-end.ensures.ends.done is).1 (c.gated_session-end.ensures.ends.done is).2;
       bounded = c.gated_session-end.ensures.counts.bounded;
       ended = c.gated_session-end.ensures.ends.ended;
       exhausted = c.gated_session-end.ensures.halt.exhausted;
-      must_absent = c.gated_session-end.ensures.halt_by_state.must_absent;
-      captures = c.gated_session-end.ensures.halt_by_state.captures;
+      must_absent = λ s is. c.gated_session-end.ensures.halt_by_state.must_absent s is tt;
+      captures = λ s is. c.gated_session-end.ensures.halt_by_state.captures s is tt;
       spent = c.gated_session-end.ensures.ends.spent;
       settled = c.gated_session-end.ensures.by_state.settled;
       position = c.gated_session-end.ensures.counts.position;
       halt_is = c.gated_session-end.ensures.halt.halt;
       halt_stood = c.gated_session-end.ensures.halt_by_state.halt_stood;
-      absent = c.gated_session-end.ensures.halt_by_state.absent;
+      absent = λ s is. absent_first (HasDemoState g.W.Disk c.gated_session-end.new.src) s c.in_ok-config.config.tables c.gated_session-end.result (unaltered_so g.W.Disk c.gated_session-end.new.src) (c.gated_session-end.ensures.halt_by_state.absent s is);
       gone = c.gated_session-end.ensures.halt_by_state.gone;
       gone_stood = c.gated_session-end.ensures.halt_by_state.gone_stood;
       kept = c.gated_session-end.ensures.gone.kept;
@@ -237,7 +240,7 @@ returns-clause-answers g c =
       missing = λ s is. c.gated_session-end.ensures.own.missing s is tt;
       own = λ s is. c.gated_session-end.ensures.own.own s is tt;
       content = λ entry is found. c.gated_session-end.ensures.content entry is found tt;
-      long = c.gated_session-end.ensures.halt_by_state.long;
+      long = λ s is. c.gated_session-end.ensures.halt_by_state.long s is tt;
       grouped = c.gated_session-end.ensures.gains.grouped;
       ungained = c.gated_session-end.ensures.gains.ungained;
       counted = c.gated_session-end.ensures.tallies.counted;

@@ -53,6 +53,7 @@ halt_not_3 : (h : Halt) (status : Status) → status ≡ halt_status h → statu
 halt_not_3 (halt.Message number error) status is three = cc
 halt_not_3 (halt.Txn number error) status is three = txn_not_3 error status is three
 halt_not_3 (halt.Chunk table row) status is three = cc
+halt_not_3 (halt.Altered table) status is three = cc
 halt_not_3 (halt.Cell table column error) status is three = cc
 halt_not_3 (halt.Clash table column) status is three = cc
 halt_not_3 (halt.RecordTooLong len) status is three = cc

@@ -8,8 +8,8 @@ use Rattle.dbl_record.specs.Cuts.{joined}
 use Rattle.dbl_topic.specs.Model.{SinkModel}
 use Rattle.dbl_model_table.specs.declared.config.Config.{Config}
 use Rattle.dbl_model_table.specs.declared.table.TableInfo.{TableInfo}
-use Rattle.dbl_model_history.specs.Fit.{AreInfosOf}
-use Rattle.dbl_source_model.specs.Standings.{SourceState, left_of}
+use Rattle.dbl_model_history.specs.Fit.{AreInfosOf, IsFitHistory}
+use Rattle.dbl_source_model.specs.Standings.{CrashState, SourceState, left_of}
 use Rattle.dbl_source_model.specs.Trace.{Trace}
 use Rattle.dbl_offset_content.specs.declared.offset.Offset.{Offset}
 use Rattle.dbl_offset.specs.Stores.{HoldsOffset, StoreOn, disk_of}
@@ -25,7 +25,7 @@ use Rattle.dblog_run.specs.CaptureWork.declared.report.Report.{Report}
 use Rattle.dblog_run.specs.CaptureWork.Begins.{IsAbsentHalt}
 use Rattle.dblog_run.specs.CaptureLaws.Found.{Found, IsEntryOf, session_start_at}
 use Rattle.dblog_run.specs.CaptureLaws.Sessions.{Captures, IsCapturing, LeavesGoing}
-use Rattle.dblog_run.proofs.CaptureLawsKeeping.{held_left}
+use Rattle.dblog_run.proofs.CaptureLawsKeeping.{absent_first, held_left}
 use Rattle.dblog_run.specs.CaptureLaws.Gained.{HasCountedGroups, ReportsGroups}
 use Rattle.dblog_run.specs.CaptureLaws.Halted.{IsHalt}
 use Rattle.dblog_run.specs.CaptureLaws.Nevers.{IsFaithfulHalt, IsHonestHalt}
@@ -47,6 +47,7 @@ honest_as first second stands halt.Memory same own = tt
 honest_as first second stands (halt.Message number error) same own = own
 honest_as first second stands (halt.Txn number error) same own = (own.0, own.1, own.2, same own.2 own.3, own.4)
 honest_as first second stands (halt.Chunk table row) same own = own
+honest_as first second stands (halt.Altered table) same own = own
 honest_as first second stands (halt.Cell table column error) same own = (own.0, own.1, own.2, same own.2 own.3, own.4)
 honest_as first second stands (halt.Clash table column) same own = tt
 honest_as first second stands (halt.RecordTooLong len) same own = tt
@@ -84,17 +85,18 @@ module _ (entry : SessionStart) (config : Config) (now : ℤ) (s : SourceState) 
       (subst (λ (h : History). Captures entry.config h old infos) history (subst (λ (k : Config). Captures k s.history old infos) (sym config_is) captures))
 
   module _ (stored : Option Offset) (report : Report) (told : Option Trace) (stands : SourceState → Type 0) (holds : List (List Record) → Type 0) (faithful : WasFaithful entry) where
-    pub ends : (result : Result Ending Halt)
+    pub ends : (result : Result Ending Halt) → IsFitHistory entry.history
         → IfErr result (IsHalt config now old stored report told) → IfErr result (IsAbsentHalt config.tables s.history)
         → (HadOwnTables (session_start_at config now s old) → IfErr result (IsHonestHalt (session_start_at config now s old) stands)) → IfErr result (IsFaithfulHalt entry stored report stands holds)
         → (IsKeptAfter s.confirmed old → (asked first : Lsn) → result ≡ Err (halt.Gone asked first) → ⊥) → ((value : List ℕ) (at : Lsn) → result ≡ Err (halt.WatermarkMissing value at) → ⊥)
         → IfErr result (λ h. (MayStillHalt h → ⊥) → IsOffsetOfThese stored stands holds)
         → CanBegin entry.config entry.history entry.offset → HasMetSupported entry stands holds → IfErr result MayStillHalt
-    ends (Ok ending) cause absent own content gone missing offset begins met = tt
-    ends (Err h) cause absent own content gone missing offset begins met =
+    ends (Ok ending) fit cause absent own content gone missing offset begins met = tt
+    ends (Err h) fit cause absent own content gone missing offset begins met =
         let why : SaysWhy entry stored report told stands holds (Err h) = record {
           cause = subst (λ (k : Config). IsHalt k entry.now entry.offset stored report told h) (sym config_is)
               (subst (λ (n : ℤ). IsHalt config n entry.offset stored report told h) (sym now_is) (subst (λ (o : Option Offset). IsHalt config now o stored report told h) (sym offset_is) cause));
+          fit = fit;
           absent = subst (λ (k : Config). IsAbsentHalt k.tables entry.history h) (sym config_is) (subst (λ (x : History). IsAbsentHalt config.tables x h) history absent);
           own = honest_as (session_start_at config now s old) entry stands h captures_as (own (own_at faithful));
           content = content;
@@ -122,6 +124,7 @@ counted_of holds may_sink groups sink report halt.Memory none counted = counted
 counted_of holds may_sink groups sink report (halt.Message number error) none counted = counted
 counted_of holds may_sink groups sink report (halt.Txn number error) none counted = counted
 counted_of holds may_sink groups sink report (halt.Chunk table row) none counted = counted
+counted_of holds may_sink groups sink report (halt.Altered table) none counted = counted
 counted_of holds may_sink groups sink report (halt.Cell table column error) none counted = counted
 counted_of holds may_sink groups sink report (halt.Clash table column) none counted = counted
 counted_of holds may_sink groups sink report (halt.RecordTooLong len) none counted = counted
@@ -138,7 +141,7 @@ not_offsets h none r is failed = none (subst (λ (x : Result Ending Halt). IfErr
 
 module _ {S K D : Type 0} (source_model : SourceModel S) (sink_model : SinkModel K) (model : DiskModel D)
     (rising : (source : S) (s : SourceState) → source_model.stands source s → IsRising s.history) (may : (source : S) (s : SourceState) → source_model.stands source s → source_model.may_leave source (left_of s))
-    (may_groups : (sink : K) (groups : List (List Record)) → sink_model.holds sink groups → sink_model.may_leave sink groups)
+    (fit : (source : S) (l : CrashState) → source_model.may_leave source l → source_model.honest source → IsFitHistory l.history) (may_groups : (sink : K) (groups : List (List Record)) → sink_model.holds sink groups → sink_model.may_leave sink groups)
     (seen_may : (disk : D) (bytes : List ℕ) → model.seen disk ≡ Some bytes → model.may_leave disk bytes) where
   -- what is left follows from what was found, by the offset that the store answers
   stored_is : (entry : SessionStart) (new_src : S) (new_sink : K) (new_store : StoreOn D) → LeavesGoing source_model.may_leave sink_model.may_leave model entry new_src new_sink new_store → WasFaithful entry
@@ -172,6 +175,7 @@ module _ {S K D : Type 0} (source_model : SourceModel S) (sink_model : SinkModel
       let s = found.standing in
       let offset_is : entry.offset ≡ store.offset = sym found.store_is.offset_is in
       ends entry config now s store.offset asked.config_is asked.now_is found.history found.confirmed offset_is new_store.offset report (source_model.told new_src) (source_model.stands new_src) (sink_model.holds new_sink) faithful result
-      tells.halts (tells.absent s found.source_is) (tells.own s found.source_is kept_honest) (tells.content entry asked found kept_honest faithful) (tells.gone s found.source_is)
+      (subst IsFitHistory found.history (fit src (left_of s) (may src s found.source_is) (tells.source.honest kept_honest)))
+      tells.halts (absent_first (source_model.stands new_src) s config.tables result (λ t at. (fit new_src (left_of t) (may new_src t at) kept_honest).unaltered) (tells.absent s found.source_is)) (tells.own s found.source_is kept_honest) (tells.content entry asked found kept_honest faithful) (tells.gone s found.source_is)
       (tells.missing s found.source_is kept_honest (within_so entry s store.offset found.history offset_is (rising src s found.source_is) faithful))
       (offset_told config now src new_src sink new_sink store new_store report entry asked found kept_honest faithful result tells)

@@ -12,7 +12,7 @@ use Rattle.dbl_model_table.specs.declared.table.RawTable.{RawTable}
 use Rattle.dbl_model_table.specs.declared.table.TableInfo.{TableInfo}
 use Rattle.dbl_model_table.specs.declared.table.TableName.{TableName}
 use Rattle.dbl_model_table.specs.Made.{table_fault}
-use Rattle.dbl_model_history.specs.History.{History}
+use Rattle.dbl_model_history.specs.History.{History, entry_of}
 use Rattle.dbl_model_commit.specs.declared.txn_error.TxnError.{TxnError}
 use Rattle.dbl_model_commit.specs.Blocks.{AreWithoutFault}
 use Rattle.dbl_model_event.specs.declared.closed.Closed.{Closed}
@@ -20,15 +20,17 @@ use Rattle.dbl_model_event.specs.Clashes.{Clash, clash_of, snapshot_clash}
 use Rattle.dbl_model_event.specs.EventJson.{envelopes}
 use Rattle.dbl_model_event.specs.Snapshots.{snapshot}
 use Rattle.dbl_faithful.proofs.Items.{at_all}
+use Rattle.dbl_source_model.specs.Growth.{KeepsColumns}
 use Rattle.dbl_source_model.specs.Standings.{Reading, SourceState}
 use Rattle.dbl_source_model.specs.Trace.{Trace}
+use Rattle.dbl_source_model.proofs.PlainLemmas.{entry_kept}
 use Rattle.dbl_offset_content.specs.declared.offset.Offset.{Offset}
 use Rattle.dbl_faithful.specs.Lag.{IsOffsetOf}
 use Rattle.dblog_run.specs.CaptureModel.Entries.{SessionStart}
 use Rattle.dblog_run.specs.CaptureWork.declared.halt.Halt.{Halt}
 use Rattle.dblog_run.specs.CaptureWork.declared.halt.Halt.TheVariants as halt
 use Rattle.dblog_run.specs.CaptureWork.declared.report.Report.{Report}
-use Rattle.dblog_run.specs.CaptureWork.Begins.{CanBeCaptured, IsAbsentHalt, IsExhausted, IsFirstAtFault}
+use Rattle.dblog_run.specs.CaptureWork.Begins.{CanBeCaptured, HadEntry, IsAbsentHalt, IsExhausted, IsFirstAtFault}
 use Rattle.dblog_run.specs.CaptureWork.Causes.{IsLongRecord}
 use Rattle.dblog_run.specs.CaptureWork.Takes.{IsClashIn}
 use Rattle.dblog_run.specs.CaptureWork.Works.{AreShort}
@@ -48,16 +50,20 @@ among (other ∷ before) after name history all = among before after name histor
 pub at_fault : (names : List TableName) (history : History) (name : TableName) → AllByRecursion (CanBeCaptured history) names → IsFirstAtFault names history name → CanBeCaptured history name
 at_fault names history name all first = among first.before first.after name history (subst (AllByRecursion (CanBeCaptured history)) first.parted all)
 
-pub not_absent : (names : List TableName) (history : History) → AllByRecursion (CanBeCaptured history) names → (name : TableName) → IsAbsentHalt names history (halt.UnknownTable name) → ⊥
-not_absent names history all name absent =
+-- an entry that the catalogue had is its first one
+first_entry : (history : History) (name : TableName) (raw : RawTable) → KeepsColumns history → HadEntry history name raw → entry_of history name ≡ Some raw
+first_entry history name raw kept had = sym (entry_kept history had.place name kept) ∙ had.is
+
+pub not_absent : (names : List TableName) (history : History) → KeepsColumns history → AllByRecursion (CanBeCaptured history) names → (name : TableName) → IsAbsentHalt names history (halt.UnknownTable name) → ⊥
+not_absent names history kept all name absent =
     let can = at_fault names history name all absent.0 in
-    let wrong : Some can.raw ≡ None = sym can.entry ∙ absent.1 in
+    let wrong : Some can.raw ≡ None = sym (first_entry history name can.raw kept can.entry) ∙ absent.1 in
     cc
 
-pub not_model : (names : List TableName) (history : History) → AllByRecursion (CanBeCaptured history) names → (error : ModelError) → IsAbsentHalt names history (halt.Model error) → ⊥
-not_model names history all error absent =
+pub not_model : (names : List TableName) (history : History) → KeepsColumns history → AllByRecursion (CanBeCaptured history) names → (error : ModelError) → IsAbsentHalt names history (halt.Model error) → ⊥
+not_model names history kept all error absent =
     let can = at_fault names history absent.0 all absent.2 in
-    let same : Some can.raw ≡ Some absent.1 = sym can.entry ∙ absent.3 in
+    let same : Some can.raw ≡ Some absent.1 = sym (first_entry history absent.0 can.raw kept can.entry) ∙ first_entry history absent.0 absent.1 kept absent.3 in
     let raw : can.raw ≡ absent.1 = cc in
     let wrong : None ≡ Some error = sym can.clean ∙ ap (λ (r : RawTable). table_fault r) raw ∙ absent.4 in
     cc
@@ -131,6 +137,7 @@ module _ (entry : SessionStart) (stored : Option Offset) (report : Report) (told
   outside (halt.Message number error) why = why.own
   outside (halt.Txn number error) why = not_fault why.own.2 why.own.0 number error (met.messages why.own.0 why.own.2 why.own.1 why.own.3) why.own.4
   outside (halt.Chunk table row) why = why.own
+  outside (halt.Altered table) why = why.own
   outside (halt.Cell table column error) why = not_unreadable why.own.2 why.own.0.history table column error (met.cells why.own.0 why.own.2 why.own.1 why.own.3) why.own.4
   outside (halt.Clash table column) why =
       let own = why.content.6 in
@@ -143,8 +150,8 @@ module _ (entry : SessionStart) (stored : Option Offset) (report : Report) (told
       not_long entry why.content.0 (joined these.0) why.content.4 report why.content.2 (halt.RecordTooLong len) own (met.commits why.content.0 own.infos why.content.2 why.content.1 own.captured why.content.3)
       (met.windows why.content.0 these.0 own.infos why.content.1 these.1 own.captured) these.2
   outside (halt.OffsetTooLong len) why = not_offset entry why.content.0 (joined why.content.2) (halt.OffsetTooLong len) (met.offsets why.content.0 why.content.2 why.content.1 why.content.3) why.content.4
-  outside (halt.Model error) why = not_model entry.config.tables entry.history (first_captures entry.config entry.history entry.offset why.cause.0 begins) error why.absent
-  outside (halt.UnknownTable table) why = not_absent entry.config.tables entry.history (first_captures entry.config entry.history entry.offset why.cause.0 begins) table why.absent
+  outside (halt.Model error) why = not_model entry.config.tables entry.history why.fit.unaltered (first_captures entry.config entry.history entry.offset why.cause.0 begins) error why.absent
+  outside (halt.UnknownTable table) why = not_absent entry.config.tables entry.history why.fit.unaltered (first_captures entry.config entry.history entry.offset why.cause.0 begins) table why.absent
   outside (halt.Gone asked first) why = why.gone asked first refl
   outside (halt.WatermarkMissing value at) why = why.missing value at refl
   outside (halt.Exhausted incarnation) why = not_exhausted entry.config entry.history entry.offset (halt.Exhausted incarnation) begins why.cause.1

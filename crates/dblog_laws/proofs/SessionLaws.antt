@@ -10,6 +10,7 @@ use Rattle.dbl_model_table.specs.declared.table.TableInfo.{TableInfo}
 use Rattle.dbl_model_table.specs.declared.table.TableName.{TableName}
 use Rattle.dbl_model_commit.specs.declared.txn_error.TxnError.{TxnError}
 use Rattle.dbl_model_commit.specs.Blocks.{AreWithoutFault}
+use Rattle.dbl_source_model.specs.Growth.{KeepsColumns}
 use Rattle.dbl_source_model.specs.Standings.{Reading}
 use Rattle.dbl_offset_content.specs.declared.offset.Offset.{Offset}
 use Rattle.dbl_offset.proofs.StoreLaws.{one_store}
@@ -23,6 +24,7 @@ use Rattle.dblog_run.specs.CaptureWork.declared.report.Report.{Report}
 use Rattle.dblog_run.specs.CaptureLaws.Halted.{IsTxnFault}
 use Rattle.dblog_laws.specs.Supported.{CanBegin}
 use Rattle.dbl_demo_wal.specs.Wals.{IsWal}
+use Rattle.dbl_demo_wal.proofs.FitLaws.{wal_has_fit_history}
 use Rattle.dblog_laws.proofs.CellLaws.{not_cell}
 use Rattle.dblog_laws.proofs.MoveLaws.{read_moves, without_fault}
 use Rattle.dblog_laws.proofs.Ending.{first_captures, not_absent, not_clash, not_exhausted, not_long, not_model, not_offset}
@@ -78,7 +80,7 @@ reads_from config history None (Some begun) infos after first begins = (
 
 module _ (config : Config) (now : ℤ) (old left : Contents) (begins : CanBegin config (history_at old) old.offset) (supported : IsSupportedOver config now old left)
     (kept : IsKept left) (bytes : List ℕ) (wal : IsWal bytes left.wal) (stored : Option Offset) (left_is : left.offset ≡ stored) (report : Report)
-    (first : IsFirstStored config (history_at old) old.offset stored) where
+    (first : IsFirstStored config (history_at old) old.offset stored) (unaltered : KeepsColumns (history_at old)) where
   -- the offset that it stored last is one to what it leaves
   of_left : (offset : Offset) → stored ≡ Some offset → IsOffsetOf (history_at left) (confirmed_at left) (records_of_contents left) offset
   of_left offset is =
@@ -108,6 +110,7 @@ module _ (config : Config) (now : ℤ) (old left : Contents) (begins : CanBegin 
   never (halt.Message number error) own kept cause = absurd kept
   never (halt.Txn number error) own kept cause = absurd (not_txn number error cause.0)
   never (halt.Chunk table row) own kept cause = absurd kept
+  never (halt.Altered table) own kept cause = absurd kept
   never (halt.Cell table column error) own kept cause =
       absurd (not_cell config now old stored report left bytes table column error wal kept)
   never (halt.Clash table column) own kept cause =
@@ -120,8 +123,8 @@ module _ (config : Config) (now : ℤ) (old left : Contents) (begins : CanBegin 
       (supported.windows long.infos long.captured) (of_left kept.3 kept.4))
   never (halt.OffsetTooLong len) own kept cause =
       absurd (not_offset (restart_at config now (found_in old)) (standing_left left) (records_of_contents left) (halt.OffsetTooLong len) supported.offsets kept)
-  never (halt.Model error) own kept cause = absurd (not_model config.tables (history_at old) (first_captures config (history_at old) old.offset cause.0 begins) error cause.1)
-  never (halt.UnknownTable table) own kept cause = absurd (not_absent config.tables (history_at old) (first_captures config (history_at old) old.offset cause.0 begins) table cause.1)
+  never (halt.Model error) own kept cause = absurd (not_model config.tables (history_at old) unaltered (first_captures config (history_at old) old.offset cause.0 begins) error cause.1)
+  never (halt.UnknownTable table) own kept cause = absurd (not_absent config.tables (history_at old) unaltered (first_captures config (history_at old) old.offset cause.0 begins) table cause.1)
   never (halt.Gone asked first) own kept cause = absurd kept
   never (halt.WatermarkMissing value at) own kept cause = absurd kept
   never (halt.Exhausted incarnation) own kept cause = absurd (not_exhausted config (history_at old) old.offset (halt.Exhausted incarnation) begins cause)
@@ -169,7 +172,7 @@ module _ (asked : Asked) (now : ℤ) (wals logs stores : List ℕ → Type 0) (w
       let left_is : run.left.offset ≡ halted.stored = one_store may.f run.left.offset halted.stored may.read.store (halted.store may.f may.offsets) in
       let of_begun = subst (λ (c : Config). IsFirstStored c (history_at halted.begun.held) halted.begun.held.offset halted.stored) one halted.first in
       let first = subst (λ (c : Contents). IsFirstStored begun.config (history_at c) c.offset halted.stored) same of_begun in
-      absurd (never begun.config now begun.held run.left run.can run.supported run.kept may.w may.read.source halted.stored left_is halted.report first told.halt own found cause)
+      absurd (never begun.config now begun.held run.left run.can run.supported run.kept may.w may.read.source halted.stored left_is halted.report first (wal_has_fit_history w begun.held.wal begun.read.source).unaltered told.halt own found cause)
 
   ended : (e : ConnectError) → IsConnectError e → IsKeptError asked now wals logs stores w t f e → EndsBefore asked now wals logs stores w t f e → IsExternalConnectError e
   ended e kind kept (inl outside) = outside

@@ -4,11 +4,13 @@ use Rattle.dbl_base.specs.declared.lsn.Lsn.{Lsn}
 use Rattle.dbl_disk.specs.Model.{DiskModel}
 use Rattle.dbl_record.specs.declared.record.Record.{Record}
 use Rattle.dbl_topic.specs.Model.{SinkModel}
+use Rattle.dbl_model_history.specs.Fit.{IsFitHistory}
 use Rattle.dbl_source_model.specs.Standings.{SourceState}
 use Rattle.dbl_source_model.specs.Trace.{Trace}
 use Rattle.dbl_model_table.specs.declared.config.Config.{Config}
 use Rattle.dbl_offset_content.specs.declared.offset.Offset.{Offset}
 use Rattle.dbl_offset.specs.Stores.{StoreOn}
+use Rattle.dbl_source.specs.Keeps.{KeepsSource}
 use Rattle.dbl_source.specs.Model.{SourceModel}
 use Rattle.dblog_run.specs.CaptureModel.Entries.{SessionStart, HadOwnTables, IsKeptAfter, WasFaithful}
 use Rattle.dblog_run.specs.CaptureLaws.Ends.{CacheMatchesDisk}
@@ -18,7 +20,7 @@ use Rattle.dblog_run.specs.CaptureWork.declared.halt.Halt.{Halt}
 use Rattle.dblog_run.specs.CaptureWork.declared.halt.Halt.TheVariants as halt
 use Rattle.dblog_run.specs.CaptureWork.declared.report.Ending.{Ending}
 use Rattle.dblog_run.specs.CaptureWork.declared.report.Report.{Report}
-use Rattle.dblog_run.specs.CaptureWork.Begins.{IsAbsentHalt}
+use Rattle.dblog_run.specs.CaptureWork.Begins.{IsAbsentAfter, IsAbsentHalt}
 use Rattle.dblog_run.specs.CaptureLaws.Gained.{ReportsGroups}
 use Rattle.dblog_run.specs.CaptureLaws.Halted.{IsHalt}
 use Rattle.dblog_run.specs.CaptureLaws.Nevers.{IsFaithfulHalt, IsHonestHalt}
@@ -29,6 +31,7 @@ use Rattle.dblog_laws.specs.Supported.{CanBegin, HasMetSupported, IsOffsetOfThes
 pub record SaysWhy (entry : SessionStart) (stored : Option Offset) (report : Report) (told : Option Trace) (stands : SourceState → Type 0)
     (holds : List (List Record) → Type 0) (result : Result Ending Halt) : Type 0 where
   pub cause : IfErr result (IsHalt entry.config entry.now entry.offset stored report told)
+  pub fit : IsFitHistory entry.history
   pub absent : IfErr result (IsAbsentHalt entry.config.tables entry.history)
   pub own : IfErr result (IsHonestHalt entry stands)
   pub content : IfErr result (IsFaithfulHalt entry stored report stands holds)
@@ -45,8 +48,8 @@ SupportedSessionsEnd {S} {K} stands holds =
     → CanBegin entry.config entry.history entry.offset → HasMetSupported entry (stands src) (holds sink)
     → IfErr result MayStillHalt
 
--- What `faithful`, `holds`, `halt`, `absent`, `gone`, `missing`, `own`, `content` and `counted` say of a session, verbatim, for one call
--- with this configuration and time, from these source, sink and store to the new ones.
+-- What `faithful`, `holds`, `halt`, `absent`, `gone`, `missing`, `own`, `content`, `counted` and `source` say of a session, verbatim, for
+-- one call with this configuration and time, from these source, sink and store to the new ones.
 pub record TellsHalts {S K D : Type 0} (source_model : SourceModel S) (sink_model : SinkModel K) (model : DiskModel D)
     (config : Config) (now : ℤ) (src new_src : S) (sink new_sink : K) (store new_store : StoreOn D) (report : Report)
     (result : Result Ending Halt) : Type 0 where
@@ -55,7 +58,8 @@ pub record TellsHalts {S K D : Type 0} (source_model : SourceModel S) (sink_mode
       → LeavesGoing source_model.may_leave sink_model.may_leave model entry new_src new_sink new_store
   pub held : CacheMatchesDisk model store new_store result
   pub halts : IfErr result (IsHalt config now store.offset new_store.offset report (source_model.told new_src))
-  pub absent : (s : SourceState) → source_model.stands src s → IfErr result (IsAbsentHalt config.tables s.history)
+  pub absent : (s : SourceState) → source_model.stands src s
+      → IfErr result (IsAbsentAfter (source_model.stands new_src) s config.tables)
   pub gone : (s : SourceState) → source_model.stands src s → IsKeptAfter s.confirmed store.offset → (asked first : Lsn)
       → result ≡ Err (halt.Gone asked first) → ⊥
   pub missing : (s : SourceState) → source_model.stands src s → source_model.honest new_src → IsWithinLog s.history store.offset
@@ -68,6 +72,7 @@ pub record TellsHalts {S K D : Type 0} (source_model : SourceModel S) (sink_mode
       → IfErr result (IsFaithfulHalt entry new_store.offset report (source_model.stands new_src) (sink_model.holds new_sink))
   pub counted : (groups : List (List Record)) → sink_model.holds sink groups
       → ReportsGroups sink_model.holds sink_model.may_leave groups result new_sink report
+  pub source : KeepsSource source_model src new_src result halt.Source
 
 -- A session over a conforming source and faithful stores, with known contents, that could begin and met only what is supported, ends
 -- normally, unless a device failed or memory ran out.

@@ -11,7 +11,6 @@ ghost use Rattle.dbl_source_log.specs.declared.error.SourceError.TheVariants.{Fa
 ghost use Rattle.dbl_source_model.specs.Standings.{Reading, SourceState, CrashState};
 ghost use Rattle.dbl_source_model.specs.Standings.{left_of, HasState, MovesTo};
 ghost use Rattle.dbl_source_model.specs.Answered.{IsDescribed, IsHeaded, IsSelectAnswer};
-ghost use Rattle.dbl_source_model.specs.Growth.{KeepsColumns};
 ghost use Rattle.dbl_source_model.specs.Stated.{IsReadRight};
 ghost use Rattle.dbl_source_model.specs.Calls.{Moved, IsMarked, Starts, HasReadOneMore};
 ghost use Rattle.dbl_source_model.specs.Calls.{HasReadAll, IsConfirmed, TellsLog};
@@ -256,10 +255,6 @@ pub trait Source {
 
     /// The LSNs of its history rise, also if it doesn't conform.
     ghost rising: { (source : Self) (s : SourceState) → stands source s → IsRising s.history };
-
-    /// No commit of its history alters a table, also if it doesn't conform.
-    ghost unaltered: { (source : Self) (s : SourceState) → stands source s
-        → KeepsColumns s.history };
 
     /// Every state that a conforming source may leave has a valid history, also after an error.
     ghost fit: { (source : Self) (l : CrashState) → may_leave source l → honest source

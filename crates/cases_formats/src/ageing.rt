@@ -36,12 +36,12 @@ struct Source<'a> {
     start: u64,
 }
 
-// What was delivered to a consumer.
+/// What was delivered to a consumer.
 #[derive(Drop)]
-struct Held {
-    consumer: Consumer,
-    records: Vec<Record>,
-    said: Vec<Cursor>,
+pub struct Held {
+    pub consumer: Consumer,
+    pub records: Vec<Record>,
+    pub said: Vec<Cursor>,
 }
 
 /// Adds whether each cell that a case asks for is known, and whether it is stale within its bound.
@@ -78,7 +78,8 @@ fn of_source(alloc: Global, shown: &mut String, source: Source<'_>, arguments: &
     end
 }
 
-fn nothing_held(alloc: Global) -> Result<Held> {
+/// Nothing delivered.
+pub fn nothing_held(alloc: Global) -> Result<Held> {
     Ok(Held {
         consumer: consumer(alloc)?,
         records: Vec::new(alloc),
@@ -106,14 +107,16 @@ fn each(
     Ok(())
 }
 
-fn deliver(alloc: Global, held: &mut Held, record: Record) -> Result<()> {
+/// Delivers a record.
+pub fn deliver(alloc: Global, held: &mut Held, record: Record) -> Result<()> {
     let applied = apply(alloc, &mut held.consumer, &record);
     held.records.push(record)?;
     applied
 }
 
-// A record that is refused changes nothing, and is in the log as well.
-fn apply(alloc: Global, consumer: &mut Consumer, record: &Record) -> Result<()> {
+/// Delivers a record to a consumer alone. One that is refused changes nothing, and is in the log as
+/// well.
+pub fn apply(alloc: Global, consumer: &mut Consumer, record: &Record) -> Result<()> {
     let null = Text::of(alloc, "null")?;
     let key = record.key.as_ref().unwrap_or(&null);
     let value = record.value.as_ref().unwrap_or(&null);
@@ -134,7 +137,13 @@ fn say(alloc: Global, source: Source<'_>, held: &mut Held, fields: &str) -> Resu
     Ok(())
 }
 
-fn deliver_some(alloc: Global, held: &mut Held, records: &Vec<Record>, fields: &str) -> Result<()> {
+/// Delivers the records with the numbers that a `say` names.
+pub fn deliver_some(
+    alloc: Global,
+    held: &mut Held,
+    records: &Vec<Record>,
+    fields: &str,
+) -> Result<()> {
     let first = items::field(fields, 1).parse().unwrap_or(0);
     let end = items::field(fields, 2).parse().unwrap_or(1000);
     for (i, record) in records.iter().enumerate() {
@@ -145,7 +154,8 @@ fn deliver_some(alloc: Global, held: &mut Held, records: &Vec<Record>, fields: &
     Ok(())
 }
 
-fn cursor(alloc: Global, fields: &str) -> Result<Cursor> {
+/// The progress of the fields of a `told`.
+pub fn cursor(alloc: Global, fields: &str) -> Result<Cursor> {
     let done = items::field(fields, 1).parse()?;
     match items::field(fields, 0) {
         "-" => Ok(Cursor { last: None, done }),
@@ -181,23 +191,26 @@ fn is_known_at(alloc: Global, source: Source<'_>, held: &Held, to: u64, key: &Ke
     )
 }
 
-// The cell's texts up to the end of a span.
-fn life(
+/// The texts of a cell at the source, up to the end of a span.
+pub fn life(
     alloc: Global,
-    source: Source<'_>,
+    infos: &Vec<TableInfo>,
+    commits: &Vec<Commit>,
     to: u64,
+    table: u32,
     key: &Key,
     column: &Text,
 ) -> Result<Vec<Option<Text>>> {
     let end = to.checked_add(1).context("no such moment")?;
     let mut texts = Vec::new(alloc);
     for moment in 0..end {
-        texts.push(image_text(alloc, source.infos, source.commits, moment, 0, key, column)?)?;
+        texts.push(image_text(alloc, infos, commits, moment, table, key, column)?)?;
     }
     Ok(texts)
 }
 
-fn shown_text(cell: Option<&HeldCell>) -> &str {
+/// A cell that a consumer has.
+pub fn shown_text(cell: Option<&HeldCell>) -> &str {
     match cell {
         Some(HeldCell::Known(text)) => text.as_str(),
         Some(HeldCell::Unknown) => "unknown",
@@ -234,7 +247,7 @@ fn show_cell(
     let id = items::field(fields, 2);
     let known = is_known_at(alloc, source, held, to, key)?;
     let cell = cell_of(alloc, &held.consumer, id, column)?;
-    let life = life(alloc, source, to, key, column)?;
+    let life = life(alloc, source.infos, source.commits, to, 0, key, column)?;
     if to >= life.len() as u64 {
         bail!("no such moment");
     }

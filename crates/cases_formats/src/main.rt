@@ -6,6 +6,7 @@
 #![tactic(auto)]
 
 mod ageing;
+mod altered;
 mod commits;
 mod compactions;
 mod consumers;
@@ -27,6 +28,7 @@ fn answer(alloc: Global, shown: &mut String, name: &str, arguments: &str) -> Res
     let (family, rest) = words::split(name, " ");
     let (call, _) = words::split(rest, " ");
     match (family, call) {
+        ("ageing", "altered") => altered::show(alloc, shown, arguments),
         ("ageing", "cells") => ageing::show_cells(alloc, shown, arguments),
         ("compact", "kinds") => compactions::show_kinds(alloc, shown, arguments),
         ("compact", "keeps") => compactions::show_kept(alloc, shown, arguments),

@@ -1,9 +1,10 @@
 -- A message more was read: the columns of the tables that were described, as a map has them.
-use Rattle.std.proofs.Common.{◌≡◌, ◌∙◌, ℕ, Bool, true, false, cond, Option, Some, None, List, [], ◌∷◌, length, map, zip, refl, sym, ap, rules}
+use Rattle.std.proofs.Common.{◌≡◌, ◌∙◌, ℕ, Bool, true, false, cond, Option, Some, None, List, [], ◌∷◌, length, map, zip, refl, sym, ap, arith, rules}
 use Rattle.std.specs.Prelude.{◌==◌, ◌&&◌, if◌then◌else◌, nat_eq, option_map, Result, Ok, Err, OnErr}
 use Rattle.std.specs.List.{list_all}
 use Rattle.std.specs.BTreeMap.{is_at}
 use Rattle.std.specs.Map.{lookup}
+use Rattle.std.proofs.lemmas.Bool.Decides.{nat_tests}
 use Rattle.std.proofs.lemmas.List.{length-map}
 use Rattle.std.specs.Ordering.{is_eq, nat_cmp}
 use Rattle.std.specs.BTreeMap.{BTreeMap, get}
@@ -111,11 +112,15 @@ own_columns table own given =
     ap (λ (n : ℕ). n == length given && list_all same_given (zip (map (relation_column table) own) given)) (length-map own (relation_column table))
     ∙ ap (λ (b : Bool). length own == length given && b) (in_pairs table own given)
 
+number_itself : (a : ℕ) → (a == a) ≡ true
+number_itself a = grind (arith, nat_tests)
+
 -- of columns equal in number the pairs decide
-pub pairs_decide : (table : LogTable) (given : List RelationColumn) (first second : List RawColumn) (m n : ℕ) (result : Bool) → first ≡ table.raw.columns → second ≡ table.raw.columns → m ≡ length first → n ≡ length given → (m == n) ≡ true
+pub pairs_decide : (table : LogTable) (given : List RelationColumn) (first second : List RawColumn) (m n : ℕ) (result : Bool) → first ≡ table.raw.columns → second ≡ table.raw.columns → m ≡ length first → n ≡ length given → m ≡ n
     → result ≡ list_all same_raw (zip second given) → result ≡ have_same_columns (map (relation_column table) table.raw.columns) given
 pairs_decide table given first second m n result first_is second_is m_is n_is same is =
-    let long : (length table.raw.columns == length given) ≡ true = sym (ap (λ (k : ℕ). k == length given) (m_is ∙ ap length first_is)) ∙ sym (ap (λ (k : ℕ). m == k) n_is) ∙ same in
+    let equal : length table.raw.columns ≡ length given = sym (m_is ∙ ap length first_is) ∙ same ∙ n_is in
+    let long : (length table.raw.columns == length given) ≡ true = ap (λ (k : ℕ). length table.raw.columns == k) (sym equal) ∙ number_itself (length table.raw.columns) in
     is
     ∙ ap (λ (l : List RawColumn). list_all same_raw (zip l given)) second_is
     ∙ sym (ap (λ (b : Bool). b && list_all same_raw (zip table.raw.columns given)) long)

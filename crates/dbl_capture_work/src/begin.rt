@@ -37,7 +37,7 @@ struct Described {
     version: u64,
 }
 
-// Describes a table, as the catalogue has it at one time during the call, with its version then.
+// Describes a table, as the catalogue has it at one time up to the return, with its version then.
 // Versions are counted from 1: an answer of 0 counts as 1.
 fn describe_table<S: Source>(
     alloc: Global,

@@ -34,7 +34,7 @@ pub enum Halt {
         number: u64,
         error: TxnError,
     },
-    /// The table has another version than the session described: it was altered since.
+    /// The table was altered: its version isn't 1, the one that sessions read.
     #[error("schema changed {table}")]
     Altered {
         table: TableName,

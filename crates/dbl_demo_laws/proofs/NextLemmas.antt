@@ -1,7 +1,6 @@
 -- One more message was read: the reader after it; and the rows that the store shows.
 use Rattle.std.proofs.Common.{◌≡◌, ◌∙◌, ◌⊎◌, ℕ, Option, None, Some, List, [], refl, sym, ap, subst, inl, inr, ◌+◌}
 use Rattle.std.specs.Prelude.{slice_get, Ok, Err}
-use Rattle.std.specs.BTreeMap.{BTreeMap}
 use Rattle.dbl_disk.specs.Model.{DiskModel}
 use Rattle.dbl_pgmsg.specs.declared.messages.RelationColumn.{RelationColumn}
 use Rattle.dbl_model_table.specs.declared.row.Key.{Key}
@@ -13,7 +12,7 @@ use Rattle.dbl_base.specs.declared.lsn.Lsn.{Lsn}
 use Rattle.dbl_source.specs.SourceLog.Numbers.{commits_upto}
 use Rattle.dbl_source.specs.SourceLog.Sent.{index_of, told_at, IsPlaceIn}
 use Rattle.dbl_source.specs.SourceLog.TextRows.{TextRows}
-use Rattle.dbl_source.specs.SourceLog.Readings.{Describes, IsNext}
+use Rattle.dbl_source.specs.SourceLog.Readings.{IsNext}
 use Rattle.dbl_source.specs.SourceLog.declared.reading.Step.{Step}
 use Rattle.dbl_demo_workload.specs.TablesRows.declared.demo_table.DemoTable.{DemoTable}
 use Rattle.dbl_demo_workload.specs.TablesRows.declared.error.StepError.TheVariants as errors
@@ -25,7 +24,7 @@ use Rattle.dbl_demo_workload.specs.TablesRows.Steps.{FoundTable, found}
 use Rattle.dbl_demo_workload.specs.DemoWal.Shown.{AreRowsShown, ShownAt}
 use Rattle.dbl_demo_workload.specs.DemoWal.Sound.{logged_in}
 use Rattle.dbl_demo_workload.specs.DemoWal.Wals.{Wal}
-use Rattle.dbl_demo_laws.specs.Demo.{Demo, IsReader, IsRunning}
+use Rattle.dbl_demo_laws.specs.Demo.{AreRecalled, Demo, IsReader, IsRunning}
 use Rattle.dbl_demo_laws.specs.Reading.{ReadOne}
 
 -- ---- the reader
@@ -35,7 +34,7 @@ module _ {D : Type 0} (model : DiskModel D) (old : Demo D) (wal : Wal) (place : 
   log = logged_in wal.entries
 
   -- what is held after it: nothing, or what was held, where the place is in the same commit
-  module _ (described : BTreeMap ℕ (List RelationColumn)) (held : Option Logged) (describes : Describes described (told_at old.tables (logged_in wal.entries) step.place)) (holds : (held ≡ None) ⊎ ((held ≡ old.held) × (step.place.commits ≡ place.commits))) where
+  module _ (described : List (ℕ × List RelationColumn)) (held : Option Logged) (describes : AreRecalled described (told_at old.tables (logged_in wal.entries) step.place)) (holds : (held ≡ None) ⊎ ((held ≡ old.held) × (step.place.commits ≡ place.commits))) where
     abbrev subsequent : Demo D
     subsequent = record old { place = Some step.place; described = described; held = held }
 
@@ -52,7 +51,7 @@ module _ {D : Type 0} (model : DiskModel D) (old : Demo D) (wal : Wal) (place : 
     reader_after : IsReader old.tables log (Some step.place) described held
     reader_after = record {
       placed = λ p is. (let same : step.place ≡ p = cc in subst (IsPlaceIn log) same next.placed);
-      recalled = λ p is. (let same : step.place ≡ p = cc in subst (λ (q : ReaderPosition). Describes described (told_at old.tables log q)) same describes);
+      recalled = λ p is. (let same : step.place ≡ p = cc in subst (λ (q : ReaderPosition). AreRecalled described (told_at old.tables log q)) same describes);
       held_is = λ p logged is holds_it. (let same : step.place ≡ p = cc in subst (λ (q : ReaderPosition). slice_get log (index_of q) ≡ Some logged) same (held_there logged holds_it));
     }
 

@@ -1,9 +1,8 @@
 -- A reader that begins, that is told that its log is gone, and one that reads on: the source runs on after it.
 use Rattle.std.proofs.Common.{◌≡◌, ◌∙◌, ◌⊎◌, ℕ, ◌≤◌, Bool, true, false, Option, None, Some, List, [], length, refl, sym, ap, subst, arith, inl, inr}
 use Rattle.std.specs.Prelude.{IsTrue, is_none, is_some, Result, Ok, Err}
-use Rattle.std.specs.List.{list_any}
 use Rattle.std.specs.Ordering.{nat_cmp}
-use Rattle.std.specs.BTreeMap.{BTreeMap, IsEmpty, get, is_at}
+use Rattle.std.specs.BTreeMap.{is_at}
 use Rattle.std.specs.Map.{lookup}
 use Rattle.dbl_base.specs.declared.lsn.Lsn.{Lsn}
 use Rattle.dbl_base.specs.Streams.{FaultCounted}
@@ -17,7 +16,6 @@ use Rattle.dbl_source.specs.SourceLog.Sent.{IsPlaceIn, told_at}
 use Rattle.dbl_source.proofs.SourceLogPlaceLemmas.{told_waiting}
 use Rattle.dbl_source.specs.SourceLog.declared.error.SourceError.{SourceError}
 use Rattle.dbl_source.specs.SourceLog.declared.error.SourceError.TheVariants.{Failed}
-use Rattle.dbl_source.specs.SourceLog.Readings.{Describes}
 use Rattle.dbl_demo_workload.specs.Script.declared.script.Step.{Step}
 use Rattle.dbl_demo_workload.specs.DemoWal.Groups.{ReadsOn}
 use Rattle.dbl_demo_workload.specs.DemoWal.Sound.{logged_in}
@@ -26,7 +24,7 @@ use Rattle.dbl_demo_workload.specs.DemoWal.CrashState.{added_by, with_entries}
 use Rattle.dbl_source.specs.SourceModel.declared.started.Started.{Started}
 use Rattle.dbl_demo_laws.specs.Answers.{RunsStepsAndWrites, AddsRead, AnswersStart, ReadAfter, place_after}
 use Rattle.dbl_demo_laws.specs.Calls.{next_end, start_answer}
-use Rattle.dbl_demo_laws.specs.Demo.{Demo, IsReader, IsRunning}
+use Rattle.dbl_demo_laws.specs.Demo.{AreRecalled, Demo, IsReader, IsRunning}
 use Rattle.dbl_demo_laws.specs.Reading.{has_unread, LeavesReadRun, RanOn, ReadsNext}
 use Rattle.dbl_demo_laws.specs.Running.{IsRunOf, StaysKnown}
 use Rattle.dbl_demo_laws.proofs.KnownLemmas.{known_on}
@@ -34,18 +32,18 @@ use Rattle.dbl_demo_laws.proofs.CallLemmas.{running_live}
 use Rattle.dbl_demo_laws.proofs.ExitLemmas.{Leaves, Runs, answers, within}
 
 -- nobody reads
-pub gone_reader : (tables : List LogTable) (log : List Logged) (described : BTreeMap ℕ (List RelationColumn)) (held : Option Logged) → IsReader tables log None described held
+pub gone_reader : (tables : List LogTable) (log : List Logged) (described : List (ℕ × List RelationColumn)) (held : Option Logged) → IsReader tables log None described held
 gone_reader tables log described held = record {
   placed = λ p is. absurd (let wrong : None ≡ Some p = is in cc);
   recalled = λ p is. absurd (let wrong : None ≡ Some p = is in cc);
   held_is = λ p logged is holds. absurd (let wrong : None ≡ Some p = is in cc);
 }
 
-pub nothing_in : (described : BTreeMap ℕ (List RelationColumn)) → IsEmpty described → (oid : ℕ) → get nat_cmp described oid ≡ None
+pub nothing_in : (described : List (ℕ × List RelationColumn)) → described ≡ [] → (oid : ℕ) → lookup (is_at (nat_cmp oid)) described ≡ None
 nothing_in described empty oid = ap (λ (entries : List (ℕ × List RelationColumn)). lookup (is_at (nat_cmp oid)) entries) empty
 
 -- a reader begins, to which nothing was described
-pub begun_reader : (tables : List LogTable) (log : List Logged) (after : Lsn) (described : BTreeMap ℕ (List RelationColumn)) → ((oid : ℕ) → get nat_cmp described oid ≡ None)
+pub begun_reader : (tables : List LogTable) (log : List Logged) (after : Lsn) (described : List (ℕ × List RelationColumn)) → ((oid : ℕ) → lookup (is_at (nat_cmp oid)) described ≡ None)
     → IsReader tables log (Some (record { after = after; commits = 0; begun = false; change = 0; table = 0 })) described None
 begun_reader tables log after described none =
     let first : ReaderPosition = record { after = after; commits = 0; begun = false; change = 0; table = 0 } in
@@ -56,12 +54,12 @@ begun_reader tables log after described none =
           subst (IsPlaceIn log) same (record { few = omega arith; there = λ begun. absurd (let wrong : false ≡ true = begun in cc) }));
       recalled = λ p is. (
           let same : first ≡ p = (let t : Some first ≡ Some p = is in cc) in
-          subst (λ (q : ReaderPosition). Describes described (told_at tables log q)) same (subst (Describes described) (sym nothing) none));
+          subst (λ (q : ReaderPosition). AreRecalled described (told_at tables log q)) same (subst (AreRecalled described) (sym nothing) none));
       held_is = λ p logged is holds. absurd (let wrong : None ≡ Some logged = holds in cc);
     }
 
 -- a source with another reader
-pub with_reader : {D : Type 0} (model : DiskModel D) (wal : Wal) (demo : Demo D) (place : Option ReaderPosition) (described : BTreeMap ℕ (List RelationColumn)) (held : Option Logged) (ended live : Bool) → IsReader demo.tables (logged_in wal.entries) place described held
+pub with_reader : {D : Type 0} (model : DiskModel D) (wal : Wal) (demo : Demo D) (place : Option ReaderPosition) (described : List (ℕ × List RelationColumn)) (held : Option Logged) (ended live : Bool) → IsReader demo.tables (logged_in wal.entries) place described held
     → IsRunning model wal demo → IsRunning model wal (record demo { place = place; described = described; held = held; ended = ended; live = live })
 with_reader model wal demo place described held ended live reader r = record {
   lists = r.lists;
@@ -81,10 +79,10 @@ with_reader model wal demo place described held ended live reader r = record {
 
 module _ {D : Type 0} (model : DiskModel D) {parts whole : Demo D} (is : parts ≡ whole) (mid : Demo D) (left : Leaves model parts (next_end parts) [] mid)
     (come : journals.ExtendsJournal model parts.journal mid.journal) (later : model.faults parts.journal.disk ≤ model.faults mid.journal.disk) (runs : Runs model parts (next_end parts) [] mid) (done : mid.done ≡ next_end parts) where
-  abbrev pub starting : Option ReaderPosition → BTreeMap ℕ (List RelationColumn) → Demo D
+  abbrev pub starting : Option ReaderPosition → List (ℕ × List RelationColumn) → Demo D
   starting place described = record mid { place = place; described = described; held = None; ended = false; live = true }
 
-  pub starts_from : (after : Lsn) (place : Option ReaderPosition) (described : BTreeMap ℕ (List RelationColumn)) (started : Started) → ((tables : List LogTable) (log : List Logged) → IsReader tables log place described None) → started ≡ start_answer after parts.confirmed
+  pub starts_from : (after : Lsn) (place : Option ReaderPosition) (described : List (ℕ × List RelationColumn)) (started : Started) → ((tables : List LogTable) (log : List Logged) → IsReader tables log place described None) → started ≡ start_answer after parts.confirmed
       → place ≡ place_after after started → StaysKnown model parts.journal.disk mid.journal.disk
       → RunsStepsAndWrites model (next_end whole) [] (AnswersStart after whole) whole (starting place described) (Ok started)
   starts_from after place described started reader tells there known =

@@ -1,7 +1,6 @@
 -- What the source is after a step, after a watermark and after a confirmed position, from what the journal lists and the store represents.
 use Rattle.std.proofs.Common.{◌≡◌, ◌∙◌, ◌⊎◌, ℕ, zero, suc, ◌+◌, ◌<◌, ◌^◌, Option, Some, List, [], ◌∷◌, ◌++◌, length, map, refl, sym, ap, subst, arith, inl, inr}
 use Rattle.std.specs.Prelude.{slice_get}
-use Rattle.std.specs.BTreeMap.{BTreeMap}
 use Rattle.std.proofs.lemmas.List.{append-nil, length-map}
 use Rattle.std.proofs.lemmas.List.Elements.{filter_map-append}
 use Rattle.dbl_base.specs.declared.lsn.Lsn.{Lsn}
@@ -12,7 +11,6 @@ use Rattle.dbl_source.specs.SourceLog.declared.logged.Logged.{Logged}
 use Rattle.dbl_source.specs.SourceLog.declared.reader_position.ReaderPosition.{ReaderPosition}
 use Rattle.dbl_source.specs.SourceLog.Sent.{index_of}
 use Rattle.dbl_source.proofs.SourceLogSentLemmas.{stays}
-use Rattle.dbl_source.specs.SourceLog.Readings.{Describes}
 use Rattle.dbl_source.proofs.LogStates.{placed_on}
 use Rattle.dbl_journal.specs.Form.{IsJournal}
 use Rattle.dbl_journal.specs.Stored.{LeavesEntries, Lists, OnDisk}
@@ -27,7 +25,7 @@ use Rattle.dbl_demo_workload.specs.DemoWal.Wals.{Wal, IsWalOf, forms_of}
 use Rattle.dbl_demo_workload.specs.DemoWal.Standings.{confirmed_of}
 use Rattle.dbl_demo_workload.specs.DemoWal.CrashState.{IsLeftOf, LeavesWal, with_entries}
 use Rattle.dbl_demo_workload.proofs.DemoWalGrowthLaws.{forms_push, go_on}
-use Rattle.dbl_demo_laws.specs.Demo.{Demo, IsReader, IsRunning}
+use Rattle.dbl_demo_laws.specs.Demo.{AreRecalled, Demo, IsReader, IsRunning}
 use Rattle.dbl_demo_laws.specs.Reading.{IsLogged, LeavesLogged}
 use Rattle.dbl_demo_laws.specs.Running.{IsRunOf, LeavesRun, Ran}
 use Rattle.dbl_demo_workload.proofs.StepLemmas.{commit_next, places_append, silent_after, silent_next}
@@ -52,10 +50,10 @@ there_on [] ys n x there = absurd (let t = there in cc)
 there_on (y ∷ xs) ys zero x there = there
 there_on (y ∷ xs) ys (suc n) x there = there_on xs ys n x there
 
-pub reader_on : (tables : List LogTable) (log more : List Logged) (place : Option ReaderPosition) (described : BTreeMap ℕ (List RelationColumn)) (held : Option Logged) → IsReader tables log place described held → IsReader tables (log ++ more) place described held
+pub reader_on : (tables : List LogTable) (log more : List Logged) (place : Option ReaderPosition) (described : List (ℕ × List RelationColumn)) (held : Option Logged) → IsReader tables log place described held → IsReader tables (log ++ more) place described held
 reader_on tables log more place described held reader = record {
   placed = λ p is. placed_on log more p (reader.placed p is);
-  recalled = λ p is. subst (Describes described) (sym (stays tables log more p (reader.placed p is))) (reader.recalled p is);
+  recalled = λ p is. subst (AreRecalled described) (sym (stays tables log more p (reader.placed p is))) (reader.recalled p is);
   held_is = λ p logged is holds. there_on log more (index_of p) logged (reader.held_is p logged is holds);
 }
 

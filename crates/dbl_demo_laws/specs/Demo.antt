@@ -1,11 +1,15 @@
 -- A source over a disk that runs a workload: its parts, and the log that it represents.
-use Rattle.std.specs.Prelude.{◌≡◌, ℕ, ◌<◌, ◌≤◌, Bool, false, IsTrue, Option, Some, slice_get, List, length, map, drop}
+use Rattle.std.specs.Prelude.{◌≡◌, ℕ, ◌<◌, ◌≤◌, Bool, false, IsTrue, Option, Some, option_map, slice_get, List, length, map, drop}
 use Rattle.std.specs.List.{All, AllByRecursion}
-use Rattle.std.specs.BTreeMap.{BTreeMap}
+use Rattle.std.specs.BTreeMap.{is_at}
+use Rattle.std.specs.Map.{lookup}
+use Rattle.std.specs.Ordering.{nat_cmp}
 use Rattle.dbl_base.specs.declared.lsn.Lsn.{Lsn}
 use Rattle.dbl_disk.specs.Model.{DiskModel}
+use Rattle.dbl_pgmsg.specs.declared.messages.Message.{Message}
 use Rattle.dbl_pgmsg.specs.declared.messages.RelationColumn.{RelationColumn}
 use Rattle.dbl_model_table.specs.declared.table.TableName.{TableName}
+use Rattle.dbl_source.specs.ModelCommit.Past.{relation_of}
 use Rattle.dbl_source.specs.SourceModel.Standings.{SourceState}
 use Rattle.dbl_journal.specs.Growth.{HasCome}
 use Rattle.dbl_journal.specs.Stored.{Lists, OnDisk, count_of}
@@ -15,7 +19,6 @@ use Rattle.dbl_source.specs.SourceLog.declared.logged.Logged.TheVariants.{Change
 use Rattle.dbl_source.specs.SourceLog.declared.reader_position.ReaderPosition.{ReaderPosition}
 use Rattle.dbl_source.specs.SourceLog.Numbers.{commit_limit}
 use Rattle.dbl_source.specs.SourceLog.Sent.{index_of, told_at, IsPlaceIn}
-use Rattle.dbl_source.specs.SourceLog.Readings.{Describes}
 use Rattle.dbl_demo_workload.specs.Script.declared.script.Step.{Step}
 use Rattle.dbl_demo_workload.specs.Tables.declared.tables.Tables.{Tables}
 use Rattle.dbl_demo_workload.specs.Tables.Stands.{Stands}
@@ -40,16 +43,21 @@ pub record Demo (D : Type 0) : Type 0 where
   pub commits : List ℕ
   pub confirmed : Lsn
   pub place : Option ReaderPosition
-  pub described : BTreeMap ℕ (List RelationColumn)
+  pub described : List (ℕ × List RelationColumn)
   pub held : Option Logged
   pub ended : Bool
   pub live : Bool
 
+-- The columns of each table that was described by these messages, as the last Relation of its OID has them.
+abbrev pub AreRecalled : List (ℕ × List RelationColumn) → List Message → Type 0
+AreRecalled described past =
+    (oid : ℕ) → lookup (is_at (nat_cmp oid)) described ≡ option_map (λ relation. relation.columns) (relation_of oid past)
+
 -- The reader is at a position of the log, knows the tables described to it, and caches its commit, or none.
 pub record IsReader (tables : List LogTable) (log : List Logged) (place : Option ReaderPosition)
-    (described : BTreeMap ℕ (List RelationColumn)) (held : Option Logged) : Type 0 where
+    (described : List (ℕ × List RelationColumn)) (held : Option Logged) : Type 0 where
   pub placed : (p : ReaderPosition) → place ≡ Some p → IsPlaceIn log p
-  pub recalled : (p : ReaderPosition) → place ≡ Some p → Describes described (told_at tables log p)
+  pub recalled : (p : ReaderPosition) → place ≡ Some p → AreRecalled described (told_at tables log p)
   pub held_is : (p : ReaderPosition) (logged : Logged) → place ≡ Some p → held ≡ Some logged → slice_get log (index_of p) ≡ Some logged
 
 -- Between calls and within one: the disk has this log, with each commit of the steps that were done.

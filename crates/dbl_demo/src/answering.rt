@@ -4,7 +4,6 @@
 ghost use Rattle.std.specs.Prelude.{◌≡◌, ◌<◌, [], length, None, false, option_map, option_and_then};
 ghost use Rattle.std.specs.Prelude.{slice_get, IsTrue, IfSome, IfOk, IfErr};
 ghost use Rattle.std.specs.List.{position_from};
-ghost use Rattle.std.specs.BTreeSet.{IsEmpty};
 ghost use Rattle.dbl_model_table.specs.Tables.{same_name};
 ghost use Rattle.dbl_source_model.specs.ModelHistory.History.{entry_of};
 ghost use Rattle.dbl_source_log.specs.Histories.{history_of};
@@ -87,7 +86,7 @@ impl<D: Disk> DemoSource<D> {
     // Clears the tables that were described to an earlier reader, and the commit that it was
     // reading.
     fn forget_reader(&mut self)
-        ensures undescribed { IsEmpty self.new.described }
+        ensures undescribed { self.new.described ≡ [] }
         ensures same { self.new ≡ record self.old {
           described = self.new.described;
           held = None;

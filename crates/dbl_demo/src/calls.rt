@@ -41,7 +41,7 @@ impl<D: Disk> Source for DemoSource<D> {
     ghost use Rattle.dbl_demo_laws.specs.Demo.{ExtendsDemo, HasDemoState};
     ghost use Rattle.dbl_demo_laws.specs.SourceLaws.{lives_so, one_standing, only_left};
     ghost use Rattle.dbl_demo_laws.specs.SourceLaws.{may_leave_so, reads_so, rising_so};
-    ghost use Rattle.dbl_demo_laws.specs.SourceLaws.{unaltered_so, fit_so, right_so};
+    ghost use Rattle.dbl_demo_laws.specs.SourceLaws.{fit_so, right_so};
 
     ghost stands = { λ source s. HasDemoState D.Disk source s };
 
@@ -77,8 +77,6 @@ impl<D: Disk> Source for DemoSource<D> {
     ghost reads = { λ source s a. reads_so _ source s a };
 
     ghost rising = { λ source s a. rising_so _ source s a };
-
-    ghost unaltered = { λ source s a. unaltered_so _ source s a };
 
     ghost fit = { λ source l may honest. fit_so _ source.journal.disk l may };
 

@@ -22,7 +22,7 @@ use dbl_demo_workload::Prepared;
 use dbl_disk::{Disk, Refused};
 use dbl_journal::{Journal, JournalError};
 use std::alloc::Global;
-use std::collections::BTreeSet;
+use std::collections::BTreeMap;
 
 /// The numbers of the first commits' entries: 1 for the initial rows, if there are any.
 pub(crate) fn first_numbers(alloc: Global, has_rows: bool) -> Result<Vec<u64>, DemoError>
@@ -149,7 +149,7 @@ pub(crate) fn first_source<D: Disk>(
         commits,
         confirmed: Lsn(0),
         place: None,
-        described: BTreeSet::new(alloc),
+        described: BTreeMap::new(alloc),
         held: None,
         ended: false,
         live: true,

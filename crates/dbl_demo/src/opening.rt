@@ -15,7 +15,7 @@ use dbl_demo_workload::{Checked, Prepared, check_log};
 use dbl_disk::{Disk, Refused};
 use dbl_journal::Journal;
 use std::alloc::Global;
-use std::collections::BTreeSet;
+use std::collections::BTreeMap;
 
 /// The source over a journal that was opened.
 pub(crate) fn open_journal<D: Disk>(
@@ -71,7 +71,7 @@ pub(crate) fn open_journal<D: Disk>(
         commits,
         confirmed,
         place: None,
-        described: BTreeSet::new(alloc),
+        described: BTreeMap::new(alloc),
         held: None,
         ended: false,
         live: true,

@@ -23,10 +23,9 @@ use dbl_disk::{Disk, Refused};
 use dbl_journal::{Journal, JournalError};
 use dbl_model_table::TableName;
 use dbl_script::Step;
-use dbl_source_log::{LogTable, Logged, ReaderPosition};
+use dbl_source_log::{Described, LogTable, Logged, ReaderPosition};
 use dbl_tables::Tables;
 use std::alloc::Global;
-use std::collections::BTreeSet;
 use std::marker::Model;
 
 /// A source that runs a workload, with its log on a disk: a crash loses only what a call was
@@ -48,8 +47,8 @@ pub struct DemoSource<D: Disk> {
     pub(crate) commits: Vec<u64>,
     pub(crate) confirmed: Lsn,
     pub(crate) place: Option<ReaderPosition>,
-    // The tables that Relations have described since the last start.
-    pub(crate) described: BTreeSet<u32>,
+    // The columns that Relations have described since the last start.
+    pub(crate) described: Described,
     // The commit that is being read, once its entry was read.
     pub(crate) held: Option<Logged>,
     // Whether the last read since the last start returned that nothing is left.
@@ -76,7 +75,7 @@ impl<D: Disk> Model for DemoSource<D> {
       commits = s.commits.items;
       confirmed = s.confirmed;
       place = s.place;
-      described = s.described;
+      described = s.described.entries;
       held = s.held;
       ended = s.ended;
       live = s.live;

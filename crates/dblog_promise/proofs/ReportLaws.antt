@@ -16,9 +16,10 @@ use Rattle.dbl_source.specs.SourceModel.Stated.{ReadsRight, to_state}
 use Rattle.dbl_source.specs.SourceLog.declared.logged.LogTable.{LogTable}
 use Rattle.dbl_source.specs.SourceLog.declared.logged.Logged.{Logged}
 use Rattle.dbl_source.specs.SourceLog.declared.reader_position.ReaderPosition.{ReaderPosition}
+use Rattle.dbl_source.specs.SourceLog.Alterations.{tables_after, tables_through}
 use Rattle.dbl_source.specs.SourceLog.Numbers.{commits_upto}
-use Rattle.dbl_source.specs.SourceLog.Sent.{index_of, told_at, told_commit, told_from, told_open, told_part, told_whole}
-use Rattle.dbl_source.proofs.SourceLogReaderLemmas.{read_right}
+use Rattle.dbl_source.specs.SourceLog.Sent.{index_of, tables_at, told_at, told_commit, told_from, told_open, told_part, told_whole}
+use Rattle.dbl_source.proofs.SourceLogReaderLemmas.{read_plain}
 use Rattle.dbl_source.proofs.SourceLogSentLemmas.{reads_what_is_sent}
 use Rattle.dbl_capture_laws.specs.Offset.declared.offset.Offset.{Offset}
 use Rattle.dbl_demo_laws.specs.DemoWal.Sound.{logged_in}
@@ -60,7 +61,7 @@ infos_of held (Some offset) stored faithful is =
 
 whole_from : (tables : List LogTable) (n : ℕ) (log : List Logged) (past : List Message) → HasNoOpenTransaction past → HasNoOpenTransaction (told_from tables n log past)
 whole_from tables n [] past whole = whole
-whole_from tables n (entry ∷ log) past whole = whole_from tables (n + 1) log (told_commit tables n entry past) tt
+whole_from tables n (entry ∷ log) past whole = whole_from (tables_after entry tables) (n + 1) log (told_commit tables n entry past) tt
 
 closed : (tables : List LogTable) (place : ReaderPosition) (entry : Option Logged) (past : List Message) → place.begun ≡ false → HasNoOpenTransaction past → HasNoOpenTransaction (told_open tables place entry past)
 closed tables place None past shut whole = whole
@@ -68,8 +69,8 @@ closed tables place (Some entry) past shut whole = subst (λ (b : Bool). HasNoOp
 
 whole_at : (tables : List LogTable) (log : List Logged) (place : ReaderPosition) → place.begun ≡ false → HasNoOpenTransaction (told_at tables log place)
 whole_at tables log place shut =
-    closed tables place (slice_get log (index_of place)) (told_whole tables place.after place.commits log) shut
-    (whole_from tables (commits_upto place.after + 1) (take place.commits (drop (commits_upto place.after) log)) [] tt)
+    closed (tables_at tables log place) place (slice_get log (index_of place)) (told_whole tables place.after place.commits log) shut
+    (whole_from (tables_through (take (commits_upto place.after) log) tables) (commits_upto place.after + 1) (take place.commits (drop (commits_upto place.after) log)) [] tt)
 
 -- ---- the report
 
@@ -105,7 +106,7 @@ settled_reports_are_right model config now old new ending report bytes demo plac
     let accepted : AreWithoutFault offset.infos after ms = subst (λ (l : Lsn). AreWithoutFault offset.infos l ms) after_is settled.accepted in
     let last : offset.lsn ≡ last_lsn after ms = settled.last ∙ ap (λ (l : Lsn). last_lsn l ms) after_is in
     let infos : AreInfosOf (history_at new) offset.infos = infos_of new new.offset offset kept.faithful settled.stored.is in
-    let right = read_right tables log place (wal_is_fair bytes wal wal_is) offset.infos infos in
+    let right = read_plain tables log place (wal_is_fair bytes wal wal_is) offset.infos infos in
     let count : length (commits_of offset.infos ms) ≡ length (commits_between after.0 (last_lsn after ms).0 (history_at new)) =
     commits_counted offset.infos after (history_at new) ms kept.fit.rising
     (subst (λ (l : Lsn). ReadsRight offset.infos l (to_state offset.infos l (history_at new)) ms) from

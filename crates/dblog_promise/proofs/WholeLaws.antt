@@ -16,11 +16,12 @@ use Rattle.dbl_source.specs.SourceModel.Stated.{commits_after}
 use Rattle.dbl_model_commit.specs.Past.{last_lsn}
 use Rattle.dbl_source.specs.SourceLog.declared.logged.LogTable.{LogTable}
 use Rattle.dbl_source.specs.SourceLog.declared.logged.Logged.{Logged}
-use Rattle.dbl_source.specs.SourceLog.declared.logged.Logged.TheVariants.{Changes, Mark}
+use Rattle.dbl_source.specs.SourceLog.declared.logged.Logged.TheVariants.{Changes, Mark, Alter}
 use Rattle.dbl_source.specs.SourceLog.declared.reader_position.ReaderPosition.{ReaderPosition}
+use Rattle.dbl_source.specs.SourceLog.Alterations.{tables_after, tables_through}
 use Rattle.dbl_source.specs.SourceLog.Histories.{raw_commit_at, commits_from, history_of, text_rows_at, text_rows_through}
 use Rattle.dbl_source.specs.SourceLog.Numbers.{commits_upto}
-use Rattle.dbl_source.specs.SourceLog.Sent.{IsPlaceIn, index_of, told_at, told_commit, told_from, told_open, told_part, told_whole}
+use Rattle.dbl_source.specs.SourceLog.Sent.{IsPlaceIn, index_of, tables_at, told_at, told_commit, told_from, told_open, told_part, told_whole}
 use Rattle.dbl_source.specs.SourceLog.TextRows.{TextRows, no_text_rows}
 use Rattle.dbl_source.proofs.SourceLogLogLemmas.{commits_from-append}
 use Rattle.dbl_demo_laws.specs.DemoWal.declared.entry.Entry.{Entry}
@@ -41,7 +42,7 @@ use Rattle.dblog_promise.specs.Tables.{whole_log}
 upto_from : (tables : List LogTable) (after : Lsn) (n : ℕ) (log : List Logged) (past : List Message) → 256 * n ≤ (last_lsn after past).0 → 256 * (n + length log) ≤ (last_lsn after (told_from tables (n + 1) log past)).0
 upto_from tables after n [] past base = omega (arith, base)
 upto_from tables after n (entry ∷ log) past base =
-    let next = upto_from tables after (n + 1) log (told_commit tables (n + 1) entry past) (omega arith) in
+    let next = upto_from (tables_after entry tables) after (n + 1) log (told_commit tables (n + 1) entry past) (omega arith) in
     omega (arith, next)
 
 closed : (tables : List LogTable) (place : ReaderPosition) (entry : Option Logged) (past : List Message) → place.begun ≡ false → told_open tables place entry past ≡ past
@@ -53,9 +54,9 @@ length_taken place log inside = length-take-le place.commits (drop (commits_upto
 
 upto_place : (tables : List LogTable) (log : List Logged) (place : ReaderPosition) → IsPlaceIn log place → place.begun ≡ false → 256 * index_of place ≤ (last_lsn place.after (told_at tables log place)).0
 upto_place tables log place inside shut =
-    let here = upto_from tables place.after (commits_upto place.after) (take place.commits (drop (commits_upto place.after) log)) [] (omega arith) in
+    let here = upto_from (tables_through (take (commits_upto place.after) log) tables) place.after (commits_upto place.after) (take place.commits (drop (commits_upto place.after) log)) [] (omega arith) in
     let many = length_taken place log inside in
-    subst (λ (ms : List Message). 256 * index_of place ≤ (last_lsn place.after ms).0) (sym (closed tables place (slice_get log (index_of place)) (told_whole tables place.after place.commits log) shut)) (omega (arith, here, many))
+    subst (λ (ms : List Message). 256 * index_of place ≤ (last_lsn place.after ms).0) (sym (closed (tables_at tables log place) place (slice_get log (index_of place)) (told_whole tables place.after place.commits log) shut)) (omega (arith, here, many))
 
 -- ---- nothing but watermarks after that
 
@@ -65,11 +66,12 @@ not_above a b le = grind (arith, le)
 abbrev AreWatermarks : List RawCommit → Type 0
 AreWatermarks commits = AllByRecursion (λ commit. IsWatermark commit.body) commits
 
-module _ (tables : List LogTable) (upto : Lsn) where
-  watermarks_since : (rows : TextRows) (n : ℕ) (log : List Logged) → AllByRecursion IsMark log → AreWatermarks (commits_after upto (commits_from tables rows n log))
-  watermarks_since rows n [] marks = tt
-  watermarks_since rows n (Changes ms ∷ log) marks = absurd marks.0
-  watermarks_since rows n (Mark value ∷ log) marks = by (watermarks_since rows (n + 1) log marks.1) (nat_lt upto.0 (256 * n))
+module _ (upto : Lsn) where
+  watermarks_since : (tables : List LogTable) (rows : TextRows) (n : ℕ) (log : List Logged) → AllByRecursion IsMark log → AreWatermarks (commits_after upto (commits_from tables rows n log))
+  watermarks_since tables rows n [] marks = tt
+  watermarks_since tables rows n (Changes ms ∷ log) marks = absurd marks.0
+  watermarks_since tables rows n (Alter name columns list ∷ log) marks = absurd marks.0
+  watermarks_since tables rows n (Mark value ∷ log) marks = by (watermarks_since tables rows (n + 1) log marks.1) (nat_lt upto.0 (256 * n))
     where
       later : List RawCommit
       later = commits_after upto (commits_from tables rows (n + 1) log)
@@ -79,19 +81,20 @@ module _ (tables : List LogTable) (upto : Lsn) where
       by rest false = rest
 
   -- the commits that were read stand up to there, and are passed over
-  read_upto : (k : ℕ) (rows : TextRows) (n : ℕ) (log : List Logged) → 256 * (n + k) ≤ upto.0 + 256 → AllByRecursion IsMark (drop k log) → AreWatermarks (commits_after upto (commits_from tables rows n log))
-  read_upto zero rows n log low marks = watermarks_since rows n log marks
-  read_upto (suc k) rows n [] low marks = tt
-  read_upto (suc k) rows n (entry ∷ log) low marks =
+  read_upto : (k : ℕ) (tables : List LogTable) (rows : TextRows) (n : ℕ) (log : List Logged) → 256 * (n + k) ≤ upto.0 + 256 → AllByRecursion IsMark (drop k log) → AreWatermarks (commits_after upto (commits_from tables rows n log))
+  read_upto zero tables rows n log low marks = watermarks_since tables rows n log marks
+  read_upto (suc k) tables rows n [] low marks = tt
+  read_upto (suc k) tables rows n (entry ∷ log) low marks =
+      let then : List LogTable = tables_after entry tables in
       let next : TextRows = text_rows_at tables rows entry in
-      let later : List RawCommit = commits_after upto (commits_from tables next (n + 1) log) in
-      subst (λ (b : Bool). AreWatermarks (cond b (raw_commit_at tables rows n entry ∷ later) later)) (sym (not_above upto.0 (256 * n) (omega (arith, low)))) (read_upto k next (n + 1) log (omega (arith, low)) marks)
+      let later : List RawCommit = commits_after upto (commits_from then next (n + 1) log) in
+      subst (λ (b : Bool). AreWatermarks (cond b (raw_commit_at tables rows n entry ∷ later) later)) (sym (not_above upto.0 (256 * n) (omega (arith, low)))) (read_upto k then next (n + 1) log (omega (arith, low)) marks)
 
 pub all_is_read : (tables : List LogTable) (log : List Logged) (place : ReaderPosition) (upto : Lsn) → IsPlaceIn log place → place.begun ≡ false
     → upto ≡ last_lsn place.after (told_at tables log place) → AllByRecursion IsMark (drop (index_of place) log) → AreWatermarks (commits_after upto (history_of tables log).commits)
 all_is_read tables log place upto inside shut last marks =
     let low : 256 * index_of place ≤ upto.0 = subst (λ (l : Lsn). 256 * index_of place ≤ l.0) (sym last) (upto_place tables log place inside shut) in
-    read_upto tables upto (index_of place) no_text_rows 1 log (omega (arith, low)) marks
+    read_upto upto (index_of place) tables no_text_rows 1 log (omega (arith, low)) marks
 
 -- ---- the changes up to there are all of them
 
@@ -100,11 +103,12 @@ commits_in infos tables rows n log = map (typed_commit infos) (commits_from tabl
 
 under : (infos : List TableInfo) (tables : List LogTable) (rows : TextRows) (n : ℕ) (log : List Logged) (p : ℕ) → 256 * (n + length log) ≤ p + 256 → AllByRecursion (λ c. c.lsn.0 ≤ p) (commits_in infos tables rows n log)
 under infos tables rows n [] p few = tt
-under infos tables rows n (entry ∷ log) p few = (omega (arith, few), under infos tables (text_rows_at tables rows entry) (n + 1) log p (omega (arith, few)))
+under infos tables rows n (entry ∷ log) p few = (omega (arith, few), under infos (tables_after entry tables) (text_rows_at tables rows entry) (n + 1) log p (omega (arith, few)))
 
 none_in : (infos : List TableInfo) (tables : List LogTable) (rows : TextRows) (n : ℕ) (log : List Logged) → AllByRecursion IsMark log → all_changes (commits_in infos tables rows n log) ≡ []
 none_in infos tables rows n [] marks = refl
 none_in infos tables rows n (Changes ms ∷ log) marks = absurd marks.0
+none_in infos tables rows n (Alter name columns list ∷ log) marks = absurd marks.0
 none_in infos tables rows n (Mark value ∷ log) marks = none_in infos tables rows (n + 1) log marks.1
 
 le_is : (a b : ℕ) → a ≤ b → nat_le a b ≡ true
@@ -154,12 +158,13 @@ rows_of_all infos cs ds m all same =
 moment_is : (infos : List TableInfo) (tables : List LogTable) (log : List Logged) (k p : ℕ) → 256 * k ≤ p → AllByRecursion IsMark (drop k log) → moment_at (typed infos (history_of tables log)) p ≡ length (all_changes (typed infos (history_of tables log)))
 moment_is infos tables log k p low marks =
     let front = commits_in infos tables no_text_rows 1 (take k log) in
-    let more = commits_in infos tables (text_rows_through tables no_text_rows (take k log)) (1 + length (take k log)) (drop k log) in
-    let parts : commits_from tables no_text_rows 1 (take k log ++ drop k log) ≡ commits_from tables no_text_rows 1 (take k log) ++ commits_from tables (text_rows_through tables no_text_rows (take k log)) (1 + length (take k log)) (drop k log) = commits_from-append tables no_text_rows 1 (take k log) (drop k log) in
+    let then = tables_through (take k log) tables in
+    let more = commits_in infos then (text_rows_through tables no_text_rows (take k log)) (1 + length (take k log)) (drop k log) in
+    let parts : commits_from tables no_text_rows 1 (take k log ++ drop k log) ≡ commits_from tables no_text_rows 1 (take k log) ++ commits_from then (text_rows_through tables no_text_rows (take k log)) (1 + length (take k log)) (drop k log) = commits_from-append tables no_text_rows 1 (take k log) (drop k log) in
     let whole : typed infos (history_of tables log) ≡ front ++ more =
     ap (λ (l : List Logged). map (typed_commit infos) (commits_from tables no_text_rows 1 l)) (sym (take-append-drop k log)) ∙ ap (map (typed_commit infos)) parts ∙ map-append (typed_commit infos) _ _ in
     let few : length (take k log) ≤ k = omega (arith, length-take k log) in
-    let counted = all_counted front more p (under infos tables no_text_rows 1 (take k log) p (omega (arith, low, few))) (none_in infos tables (text_rows_through tables no_text_rows (take k log)) (1 + length (take k log)) (drop k log) marks) in
+    let counted = all_counted front more p (under infos tables no_text_rows 1 (take k log) p (omega (arith, low, few))) (none_in infos then (text_rows_through tables no_text_rows (take k log)) (1 + length (take k log)) (drop k log) marks) in
     subst (λ (cs : List Commit). moment_at cs p ≡ length (all_changes cs)) (sym whole) counted
 
 pub complete_runs_leave_tables_equal : {D : Type 0} (model : DiskModel D) → CompleteRunsLeaveTablesEqual model

@@ -23,6 +23,7 @@ use Rattle.dbl_demo_wal.specs.Standings.{history_in, messages_sent, tables_of}
 use Rattle.dbl_demo_wal.specs.Wals.{IsWal, Wal}
 use Rattle.dbl_tables_rows.specs.Sending.{log_table, log_tables}
 use Rattle.dbl_demo_wal.specs.Workloads.{Workload, log_at, steps_of}
+use Rattle.dbl_demo_wal.proofs.FitLaws.{wal_is_fair}
 use Rattle.dbl_demo_wal.proofs.WalLaws.{one_wal}
 use Rattle.dbl_faithful.specs.Faithful.{IsFaithful}
 use Rattle.dbl_faithful.specs.Onward.{ExtendsList}
@@ -82,7 +83,7 @@ grown_size old_bytes new_bytes old new after windows more old_is new_is same ext
     let front : commit_sizes (drop first (session_commits new.entries)) ≤ commit_sizes (drop first (session_commits new.entries ++ new_whole.0)) = fronts_less first (session_commits new.entries) new_whole.0 in
     let parts : commit_sizes (drop first (session_commits old.entries ++ rest.0)) ≡ commit_sizes (drop first (session_commits new.entries)) = ap (λ (l : List (List Message)). commit_sizes (drop first l)) (sym rest.1) in
     let all : commit_sizes (drop first total) ≡ commit_sizes (drop first (session_commits new.entries ++ new_whole.0)) = ap (λ (l : List (List Message)). commit_sizes (drop first l)) new_here in
-    let few = sent_messages_are_few (tables_of new) after new_log in
+    let few = sent_messages_are_few (tables_of new) after new_log (wal_is_fair new_bytes new new_is) in
     let had = sent_has (tables_of old) after old_log in
     let old_marks = marks_counted (tables_of old) no_text_rows 1 old_log in
     let new_marks = marks_counted (tables_of new) no_text_rows 1 new_log in
@@ -93,7 +94,7 @@ grown_size old_bytes new_bytes old new after windows more old_is new_is same ext
     grew_as =
         let as_old : commits_from (tables_of old) no_text_rows 1 (logged_in new.entries) ≡ commits_from (tables_of old) no_text_rows 1 (logged_in old.entries) ++ more =
         ap (λ (x : Workload). commits_from (log_tables x.tables) no_text_rows 1 (logged_in new.entries)) (sym same) ∙ extends in
-        grew (tables_of old) no_text_rows no_text_rows 1 (logged_in old.entries) (logged_in new.entries) more as_old
+        grew (tables_of old) (tables_of old) no_text_rows no_text_rows 1 (logged_in old.entries) (logged_in new.entries) more as_old
 
 -- ---- the session's end
 

@@ -17,6 +17,7 @@ use Rattle.dbl_cli_commands.specs.declared.commands.CaptureOptions.{CaptureOptio
 use Rattle.dbl_source_log.specs.declared.logged.LogTable.{LogTable}
 use Rattle.dbl_source_log.specs.declared.logged.Logged.{Logged}
 use Rattle.dbl_source_log.specs.declared.logged.Logged.TheVariants.{Changes as Logs}
+use Rattle.dbl_source_log.specs.Alterations.{tables_after}
 use Rattle.dbl_source_log.specs.Histories.{commits_from, history_of, text_rows_at}
 use Rattle.dbl_source_log.specs.Numbers.{commits_upto}
 use Rattle.dbl_source_log.specs.TextRows.{TextRows, no_text_rows}
@@ -86,7 +87,7 @@ module _ (wals logs stores : List ℕ → Type 0) (w t f : List ℕ) (first : Ar
 reached : (tables : List LogTable) (rows : TextRows) (n : ℕ) (log : List Logged) (p : ℕ) → 256 * n ≤ p → AllByRecursion (λ (commit : RawCommit). commit.lsn.0 ≤ p) (commits_from tables rows (n + 1) log) → 256 * (n + length log) ≤ p
 reached tables rows n [] p base all = omega (arith, base)
 reached tables rows n (entry ∷ log) p base all =
-    omega (arith, reached tables (text_rows_at tables rows entry) (n + 1) log p (omega (arith, all.0)) all.1)
+    omega (arith, reached (tables_after entry tables) (text_rows_at tables rows entry) (n + 1) log p (omega (arith, all.0)) all.1)
 
 many_upto : (log : List Logged) (after : Lsn) → 256 * (0 + length log) ≤ after.0 → length log ≤ commits_upto after
 many_upto log after le = omega (arith, le, lt-div-mul-add {a = after.0} {b = 256} (omega arith))

@@ -1,19 +1,19 @@
 -- A log that grew: what is sent of it after a place is what was sent before, and what its later commits and watermarks have.
-use Rattle.std.proofs.Common.{◌≡◌, ◌∙◌, ℕ, zero, suc, ◌+◌, ◌*◌, ◌≤◌, List, [], ◌∷◌, ◌++◌, length, drop, refl, sym, ap, arith}
-use Rattle.std.specs.Prelude.{is_some, if◌then◌else◌, Bool, true, false}
+use Rattle.std.proofs.Common.{◌≡◌, ◌∙◌, ℕ, zero, suc, ◌+◌, ◌*◌, ◌≤◌, List, [], ◌∷◌, ◌++◌, length, take, drop, refl, sym, ap, arith}
+use Rattle.std.specs.Prelude.{if◌then◌else◌, Bool, true, false}
 use Rattle.std.proofs.lemmas.List.{length-append, length-reverse}
 use Rattle.dbl_base.specs.declared.lsn.Lsn.{Lsn}
 use Rattle.dbl_pgmsg.specs.declared.messages.Message.{Message}
 use Rattle.dbl_model_history.specs.History.{RawCommit}
-use Rattle.dbl_model_commit.specs.Past.{relation_of}
 use Rattle.dbl_model_commit.specs.Stated.{list_of}
 use Rattle.dbl_source_log.specs.declared.logged.LogTable.{LogTable}
 use Rattle.dbl_source_log.specs.declared.logged.Logged.{Logged}
-use Rattle.dbl_source_log.specs.declared.logged.Logged.TheVariants.{Changes, Mark}
+use Rattle.dbl_source_log.specs.declared.logged.Logged.TheVariants.{Changes, Mark, Alter}
+use Rattle.dbl_source_log.specs.Alterations.{tables_after, tables_through}
 use Rattle.dbl_source_log.specs.Histories.{commits_from, text_rows_at}
 use Rattle.dbl_source_log.specs.Numbers.{commits_upto}
 use Rattle.dbl_source_log.specs.Relations.{relation_at}
-use Rattle.dbl_source_log.specs.Sent.{begin_message, messages_in, oids_of, onto_relation, onto_relations, sent_after, told_changes, told_commit, told_from}
+use Rattle.dbl_source_log.specs.Sent.{begin_message, is_described, messages_in, oids_of, onto_relation, onto_relations, sent_after, told_changes, told_commit, told_from}
 use Rattle.dbl_source_log.specs.TextRows.{TextRows}
 use Rattle.dbl_source_model.specs.Growth.{mark_in_body}
 use Rattle.dbl_demo_wal.specs.declared.entry.Entry.{Entry}
@@ -26,7 +26,7 @@ use Rattle.dblog_laws.proofs.WalSizes.{count_marks}
 
 module _ (tables : List LogTable) where
   relation_more : (oid : ℕ) (past : List Message) → length past ≤ length (onto_relation tables oid past)
-  relation_more oid past = by (is_some (relation_of oid past))
+  relation_more oid past = by (is_described tables oid past)
     where
       by : (b : Bool) → length past ≤ length (if b then past else list_of (relation_at tables oid) ++ past)
       by true = omega arith
@@ -42,31 +42,39 @@ module _ (tables : List LogTable) where
       let described = onto_relations tables (oids_of m) past in
       omega (arith, changes_more ms (m ∷ described), relations_more (oids_of m) past)
 
-  log_more : (n : ℕ) (log : List Logged) (past : List Message) → length past + sizes log ≤ length (told_from tables n log past)
-  log_more n [] past = omega arith
-  log_more n (entry ∷ log) past =
-      omega (arith, log_more (n + 1) log (told_commit tables n entry past), changes_more (messages_in entry) (begin_message n ∷ past))
+log_more : (tables : List LogTable) (n : ℕ) (log : List Logged) (past : List Message) → length past + sizes log ≤ length (told_from tables n log past)
+log_more tables n [] past = omega arith
+log_more tables n (entry ∷ log) past =
+    omega (arith, log_more (tables_after entry tables) (n + 1) log (told_commit tables n entry past), changes_more tables (messages_in entry) (begin_message n ∷ past))
 
 pub sent_has : (tables : List LogTable) (after : Lsn) (log : List Logged) → sizes (drop (commits_upto after) log) ≤ length (sent_after tables after log)
 sent_has tables after log =
     let rest = drop (commits_upto after) log in
-    omega (arith, log_more tables (commits_upto after + 1) rest [], length-reverse (told_from tables (commits_upto after + 1) rest []))
+    let then = tables_through (take (commits_upto after) log) tables in
+    omega (arith, log_more then (commits_upto after + 1) rest [], length-reverse (told_from then (commits_upto after + 1) rest []))
 
 -- ---- a log that grew
 
+-- the messages of the commits that are no watermark's; an alteration has none
 abbrev pub log_commits : List Logged → List (List Message)
 log_commits [] = []
 log_commits (Changes messages ∷ log) = messages ∷ log_commits log
 log_commits (Mark value ∷ log) = log_commits log
+log_commits (Alter name columns rows ∷ log) = [] ∷ log_commits log
 
--- commit for commit a watermark stands where one did
+-- commit for commit a watermark stands where one did, and nowhere else
 abbrev pub GrewFrom : List Logged → List Logged → Type 0
 GrewFrom [] new = Unit {0}
 GrewFrom (entry ∷ old) [] = ⊥
 GrewFrom (Changes messages ∷ old) (Changes others ∷ new) = GrewFrom old new
 GrewFrom (Changes messages ∷ old) (Mark value ∷ new) = ⊥
+GrewFrom (Changes messages ∷ old) (Alter name columns rows ∷ new) = GrewFrom old new
 GrewFrom (Mark value ∷ old) (Changes messages ∷ new) = ⊥
 GrewFrom (Mark value ∷ old) (Mark other ∷ new) = GrewFrom old new
+GrewFrom (Mark value ∷ old) (Alter name columns rows ∷ new) = ⊥
+GrewFrom (Alter name columns rows ∷ old) (Changes messages ∷ new) = GrewFrom old new
+GrewFrom (Alter name columns rows ∷ old) (Mark value ∷ new) = ⊥
+GrewFrom (Alter name columns rows ∷ old) (Alter another others list ∷ new) = GrewFrom old new
 
 abbrev tail_of : List RawCommit → List RawCommit
 tail_of [] = []
@@ -76,14 +84,26 @@ abbrev head_marks : List RawCommit → ℕ
 head_marks [] = 0
 head_marks (commit ∷ commits) = length (mark_in_body commit.body)
 
-pub grew : (tables : List LogTable) (first second : TextRows) (n : ℕ) (old new : List Logged) (more : List RawCommit) → commits_from tables second n new ≡ commits_from tables first n old ++ more → GrewFrom old new
-grew tables first second n [] new more is = tt
-grew tables first second n (entry ∷ old) [] more is = absurd (let wrong = ap length is in omega (arith, wrong))
-grew tables first second n (Changes messages ∷ old) (Changes others ∷ new) more is =
-    grew tables (text_rows_at tables first (Changes messages)) (text_rows_at tables second (Changes others)) (n + 1) old new more (ap tail_of is)
-grew tables first second n (Changes messages ∷ old) (Mark value ∷ new) more is = absurd (let wrong : 1 ≡ 0 = ap head_marks is in omega (arith, wrong))
-grew tables first second n (Mark value ∷ old) (Changes messages ∷ new) more is = absurd (let wrong : 0 ≡ 1 = ap head_marks is in omega (arith, wrong))
-grew tables first second n (Mark value ∷ old) (Mark other ∷ new) more is = grew tables first second (n + 1) old new more (ap tail_of is)
+pub grew : (was tables : List LogTable) (first second : TextRows) (n : ℕ) (old new : List Logged) (more : List RawCommit) → commits_from tables second n new ≡ commits_from was first n old ++ more → GrewFrom old new
+grew was tables first second n [] new more is = tt
+grew was tables first second n (entry ∷ old) [] more is = absurd (let wrong = ap length is in omega (arith, wrong))
+grew was tables first second n (Changes messages ∷ old) (Changes others ∷ new) more is =
+    grew was tables (text_rows_at was first (Changes messages)) (text_rows_at tables second (Changes others)) (n + 1) old new more (ap tail_of is)
+grew was tables first second n (Changes messages ∷ old) (Mark value ∷ new) more is = absurd (let wrong : 1 ≡ 0 = ap head_marks is in omega (arith, wrong))
+grew was tables first second n (Changes messages ∷ old) (Alter name columns rows ∷ new) more is =
+    let alter : Logged = Alter name columns rows in
+    grew was (tables_after alter tables) (text_rows_at was first (Changes messages)) (text_rows_at tables second alter) (n + 1) old new more (ap tail_of is)
+grew was tables first second n (Mark value ∷ old) (Changes messages ∷ new) more is = absurd (let wrong : 0 ≡ 1 = ap head_marks is in omega (arith, wrong))
+grew was tables first second n (Mark value ∷ old) (Mark other ∷ new) more is = grew was tables first second (n + 1) old new more (ap tail_of is)
+grew was tables first second n (Mark value ∷ old) (Alter name columns rows ∷ new) more is = absurd (let wrong : 0 ≡ 1 = ap head_marks is in omega (arith, wrong))
+grew was tables first second n (Alter name columns rows ∷ old) (Changes messages ∷ new) more is =
+    let alter : Logged = Alter name columns rows in
+    grew (tables_after alter was) tables (text_rows_at was first alter) (text_rows_at tables second (Changes messages)) (n + 1) old new more (ap tail_of is)
+grew was tables first second n (Alter name columns rows ∷ old) (Mark value ∷ new) more is = absurd (let wrong : 1 ≡ 0 = ap head_marks is in omega (arith, wrong))
+grew was tables first second n (Alter name columns rows ∷ old) (Alter another others list ∷ new) more is =
+    let alter : Logged = Alter name columns rows in
+    let other : Logged = Alter another others list in
+    grew (tables_after alter was) (tables_after other tables) (text_rows_at was first alter) (text_rows_at tables second other) (n + 1) old new more (ap tail_of is)
 
 -- ---- what it is sent as
 
@@ -97,6 +117,7 @@ log_size : (log : List Logged) → sizes log ≡ commit_sizes (log_commits log) 
 log_size [] = refl
 log_size (Changes messages ∷ log) = omega (arith, log_size log)
 log_size (Mark value ∷ log) = omega (arith, log_size log)
+log_size (Alter name columns rows ∷ log) = omega (arith, log_size log)
 
 marks_less : (k : ℕ) (log : List Logged) → count_marks (drop k log) ≤ count_marks log
 marks_less zero [] = omega arith
@@ -104,6 +125,7 @@ marks_less zero (entry ∷ log) = omega arith
 marks_less (suc k) [] = omega arith
 marks_less (suc k) (Changes messages ∷ log) = marks_less k log
 marks_less (suc k) (Mark value ∷ log) = omega (arith, marks_less k log)
+marks_less (suc k) (Alter name columns rows ∷ log) = marks_less k log
 
 commits_less : (k : ℕ) (log : List Logged) → commit_sizes (log_commits (drop k log)) ≤ commit_sizes (log_commits log)
 commits_less zero [] = omega arith
@@ -111,6 +133,7 @@ commits_less zero (entry ∷ log) = omega arith
 commits_less (suc k) [] = omega arith
 commits_less (suc k) (Changes messages ∷ log) = omega (arith, commits_less k log)
 commits_less (suc k) (Mark value ∷ log) = commits_less k log
+commits_less (suc k) (Alter name columns rows ∷ log) = omega (arith, commits_less k log)
 
 -- after a place there are no more watermarks than before, but for those that were added
 marks_grew : (k : ℕ) (old new : List Logged) → GrewFrom old new → count_marks (drop k new) + count_marks old ≤ count_marks (drop k old) + count_marks new
@@ -125,8 +148,13 @@ marks_grew (suc k) [] new on = omega (arith, marks_less (suc k) new)
 marks_grew (suc k) (entry ∷ old) [] on = absurd on
 marks_grew (suc k) (Changes messages ∷ old) (Changes others ∷ new) on = marks_grew k old new on
 marks_grew (suc k) (Changes messages ∷ old) (Mark value ∷ new) on = absurd on
+marks_grew (suc k) (Changes messages ∷ old) (Alter name columns rows ∷ new) on = marks_grew k old new on
 marks_grew (suc k) (Mark value ∷ old) (Changes messages ∷ new) on = absurd on
 marks_grew (suc k) (Mark value ∷ old) (Mark other ∷ new) on = omega (arith, marks_grew k old new on)
+marks_grew (suc k) (Mark value ∷ old) (Alter name columns rows ∷ new) on = absurd on
+marks_grew (suc k) (Alter name columns rows ∷ old) (Changes messages ∷ new) on = marks_grew k old new on
+marks_grew (suc k) (Alter name columns rows ∷ old) (Mark value ∷ new) on = absurd on
+marks_grew (suc k) (Alter name columns rows ∷ old) (Alter another others list ∷ new) on = marks_grew k old new on
 
 sizes_append : (xs ys : List (List Message)) → commit_sizes (xs ++ ys) ≡ commit_sizes xs + commit_sizes ys
 sizes_append [] ys = omega arith
@@ -150,8 +178,13 @@ commits_grew (suc k) [] new rest on is = omega (arith, commits_less (suc k) new,
 commits_grew (suc k) (entry ∷ old) [] rest on is = absurd on
 commits_grew (suc k) (Changes messages ∷ old) (Changes others ∷ new) rest on is = commits_grew k old new rest on (ap tail_commits is)
 commits_grew (suc k) (Changes messages ∷ old) (Mark value ∷ new) rest on is = absurd on
+commits_grew (suc k) (Changes messages ∷ old) (Alter name columns rows ∷ new) rest on is = commits_grew k old new rest on (ap tail_commits is)
 commits_grew (suc k) (Mark value ∷ old) (Changes messages ∷ new) rest on is = absurd on
 commits_grew (suc k) (Mark value ∷ old) (Mark other ∷ new) rest on is = commits_grew k old new rest on is
+commits_grew (suc k) (Mark value ∷ old) (Alter name columns rows ∷ new) rest on is = absurd on
+commits_grew (suc k) (Alter name columns rows ∷ old) (Changes messages ∷ new) rest on is = commits_grew k old new rest on (ap tail_commits is)
+commits_grew (suc k) (Alter name columns rows ∷ old) (Mark value ∷ new) rest on is = absurd on
+commits_grew (suc k) (Alter name columns rows ∷ old) (Alter another others list ∷ new) rest on is = commits_grew k old new rest on (ap tail_commits is)
 
 -- the commits of a log that on begin with those that it had, where both are first ones of one list
 pub rest_of : (old new whole old_more new_more : List (List Message)) → length old ≤ length new → whole ≡ old ++ old_more → whole ≡ new ++ new_more
@@ -169,8 +202,13 @@ commits_many [] new on = omega arith
 commits_many (entry ∷ old) [] on = absurd on
 commits_many (Changes messages ∷ old) (Changes others ∷ new) on = omega (arith, commits_many old new on)
 commits_many (Changes messages ∷ old) (Mark value ∷ new) on = absurd on
+commits_many (Changes messages ∷ old) (Alter name columns rows ∷ new) on = omega (arith, commits_many old new on)
 commits_many (Mark value ∷ old) (Changes messages ∷ new) on = absurd on
 commits_many (Mark value ∷ old) (Mark other ∷ new) on = commits_many old new on
+commits_many (Mark value ∷ old) (Alter name columns rows ∷ new) on = absurd on
+commits_many (Alter name columns rows ∷ old) (Changes messages ∷ new) on = omega (arith, commits_many old new on)
+commits_many (Alter name columns rows ∷ old) (Mark value ∷ new) on = absurd on
+commits_many (Alter name columns rows ∷ old) (Alter another others list ∷ new) on = omega (arith, commits_many old new on)
 
 -- what was added is after the first ones, where these were there before
 pub rest_after : (first : ℕ) (old rest : List (List Message)) → first ≤ length old → commit_sizes rest ≤ commit_sizes (drop first (old ++ rest))

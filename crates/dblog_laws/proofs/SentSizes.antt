@@ -1,6 +1,7 @@
--- How many messages a log is sent as: those of its commits, and a Relation for each table that wasn't described yet.
+-- How many messages a fair log is sent as: those of its commits, and a Relation for each table that wasn't described yet.
 use Rattle.std.proofs.Common.{◌≡◌, ◌∙◌, ◌⊎◌, inl, inr, ℕ, zero, suc, ◌+◌, ◌-◌, ◌≤◌, Bool, true, false, Option, Some, None, List, [], ◌∷◌, ◌++◌, length, drop, refl, sym, ap, subst, arith}
-use Rattle.std.specs.Prelude.{◌==◌, is_some, nat_lt, if◌then◌else◌, option_map, slice_get}
+use Rattle.std.specs.Prelude.{◌==◌, nat_lt, if◌then◌else◌, option_map, slice_get}
+use Rattle.std.specs.List.{AllByRecursion}
 use Rattle.std.proofs.lemmas.Bool.{eqb-true}
 use Rattle.std.proofs.lemmas.Bool.Decides.{nat_tests}
 use Rattle.std.proofs.lemmas.List.{length-reverse}
@@ -11,10 +12,14 @@ use Rattle.dbl_model_commit.specs.Past.{described, relation_of}
 use Rattle.dbl_model_commit.specs.Stated.{list_of}
 use Rattle.dbl_source_log.specs.declared.logged.LogTable.{LogTable}
 use Rattle.dbl_source_log.specs.declared.logged.Logged.{Logged}
+use Rattle.dbl_source_log.specs.declared.logged.Logged.TheVariants.{Changes, Mark, Alter}
+use Rattle.dbl_source_log.specs.Alterations.{HasNoAlteration, IsUnaltered}
+use Rattle.dbl_source_log.specs.Fair.{HasFewFaults, IsChange, IsChangeOf, IsFairEntry}
 use Rattle.dbl_source_log.specs.Numbers.{commits_upto}
-use Rattle.dbl_source_log.specs.Relations.{first_oid, relation_at, relation_message, table_at, watermark_oid, watermark_relation}
-use Rattle.dbl_source_log.specs.Sent.{begin_message, commit_message, described_in, messages_in, oids_of, onto_relation, onto_relations, told_changes, told_commit, told_from}
-use Rattle.dbl_source_log.proofs.RelationLemmas.{described_at, no_number}
+use Rattle.dbl_source_log.specs.Relations.{first_oid, mark_message, relation_at, relation_message, table_at, watermark_oid, watermark_relation}
+use Rattle.dbl_source_log.specs.Sent.{begin_message, commit_message, described_in, is_described, messages_in, oids_of, onto_relation, onto_relations, told_changes, told_commit, told_from}
+use Rattle.dbl_source_log.proofs.RelationLemmas.{AreTold, all_told, described_at, no_number, onto_told, told_once}
+use Rattle.dbl_demo_wal.proofs.KeptTables.{fair_each, sent_plain}
 use Rattle.dblog_laws.specs.Budgets.{SentMessagesAreFew, sizes}
 
 -- ---- tables that weren't described yet
@@ -129,34 +134,82 @@ module _ (tables : List LogTable) where
   push_load : (m : Message) (past : List Message) → load tables (m ∷ past) ≤ load tables past + 1
   push_load m past = omega (arith, untold_less (all_oids tables) m past)
 
-  relation_load : (oid : ℕ) (past : List Message) → load tables (onto_relation tables oid past) ≤ load tables past
-  relation_load oid past = by (relation_of oid past) refl (relation_at tables oid) refl
+  -- a table that has its present Relation isn't described once more
+  relation_load : (oid : ℕ) (past : List Message) → AreTold tables past → load tables (onto_relation tables oid past) ≤ load tables past
+  relation_load oid past told = by (is_described tables oid past) refl
     where
-      by : (r : Option Relation) → relation_of oid past ≡ r → (l : Option Message) → relation_at tables oid ≡ l → load tables (if is_some r then past else list_of l ++ past) ≤ load tables past
-      by (Some relation) there l is = omega arith
-      by None none None is = omega arith
-      by None none (Some m) is = omega (arith, untold_new (all_oids tables) oid m past (at_oid tables oid m is) (described_at tables oid m is) none)
+      untold_yet : (o : Option Relation) → relation_of oid past ≡ o → is_described tables oid past ≡ false → relation_of oid past ≡ None
+      untold_yet None none due = none
+      untold_yet (Some r) there due = absurd (let wrong : true ≡ false = sym (told_once tables oid r past told there) ∙ due in cc)
 
-  relations_load : (oids : List ℕ) (past : List Message) → load tables (onto_relations tables oids past) ≤ load tables past
-  relations_load [] past = omega arith
-  relations_load (oid ∷ oids) past = omega (arith, relations_load oids (onto_relation tables oid past), relation_load oid past)
+      by_one : (l : Option Message) → relation_at tables oid ≡ l → is_described tables oid past ≡ false → load tables (list_of l ++ past) ≤ load tables past
+      by_one None is due = omega arith
+      by_one (Some m) is due = omega (arith, untold_new (all_oids tables) oid m past (at_oid tables oid m is) (described_at tables oid m is) (untold_yet (relation_of oid past) refl due))
 
-  changes_load : (ms past : List Message) → load tables (told_changes tables ms past) ≤ load tables past + length ms
-  changes_load [] past = omega arith
-  changes_load (m ∷ ms) past =
+      by : (b : Bool) → is_described tables oid past ≡ b → load tables (if b then past else list_of (relation_at tables oid) ++ past) ≤ load tables past
+      by true is = omega arith
+      by false is = by_one (relation_at tables oid) refl is
+
+  relations_load : (oids : List ℕ) (past : List Message) → AreTold tables past → load tables (onto_relations tables oids past) ≤ load tables past
+  relations_load [] past told = omega arith
+  relations_load (oid ∷ oids) past told = omega (arith, relations_load oids (onto_relation tables oid past) (onto_told tables oid past told), relation_load oid past told)
+
+  change_told : (m : Message) (past : List Message) → IsChange m → AreTold tables past → AreTold tables (m ∷ past)
+  change_told (says.Insert oid new) past change told = told
+  change_told (says.Update oid before new) past change told = told
+  change_told (says.Delete oid before) past change told = told
+  change_told (says.Truncate options oids) past change told = told
+  change_told (says.Begin l t x) past change told = absurd change
+  change_told (says.Commit f l e t) past change told = absurd change
+  change_told (says.Origin l n) past change told = absurd change
+  change_told (says.TypeName o n m) past change told = absurd change
+  change_told (says.Relation o n m i c) past change told = absurd change
+  change_told (says.Logical f l p c) past change told = absurd change
+
+  one_told : (m : Message) (past : List Message) → IsChange m → AreTold tables past → AreTold tables (m ∷ onto_relations tables (oids_of m) past)
+  one_told m past change told = change_told m (onto_relations tables (oids_of m) past) change (all_told tables (oids_of m) past told)
+
+  changes_told : (ms past : List Message) → AllByRecursion IsChange ms → AreTold tables past → AreTold tables (told_changes tables ms past)
+  changes_told [] past are told = told
+  changes_told (m ∷ ms) past are told = changes_told ms (m ∷ onto_relations tables (oids_of m) past) are.1 (one_told m past are.0 told)
+
+  changes_load : (ms past : List Message) → AllByRecursion IsChange ms → AreTold tables past → load tables (told_changes tables ms past) ≤ load tables past + length ms
+  changes_load [] past are told = omega arith
+  changes_load (m ∷ ms) past are told =
       let described = onto_relations tables (oids_of m) past in
-      omega (arith, changes_load ms (m ∷ described), push_load m described, relations_load (oids_of m) past)
+      omega (arith, changes_load ms (m ∷ described) are.1 (one_told m past are.0 told), push_load m described, relations_load (oids_of m) past told)
 
-  commit_load : (n : ℕ) (entry : Logged) (past : List Message) → load tables (told_commit tables n entry past) ≤ load tables past + (2 + length (messages_in entry))
-  commit_load n entry past =
+  commit_load : (n : ℕ) (entry : Logged) (past : List Message) → AllByRecursion IsChange (messages_in entry) → AreTold tables past
+      → load tables (told_commit tables n entry past) ≤ load tables past + (2 + length (messages_in entry))
+  commit_load n entry past are told =
       let begun = begin_message n ∷ past in
-      omega (arith, push_load (commit_message n) (told_changes tables (messages_in entry) begun), changes_load (messages_in entry) begun, push_load (begin_message n) past)
+      omega (arith, push_load (commit_message n) (told_changes tables (messages_in entry) begun), changes_load (messages_in entry) begun are told, push_load (begin_message n) past)
 
-  log_load : (n : ℕ) (log : List Logged) (past : List Message) → load tables (told_from tables n log past) ≤ load tables past + sizes log
-  log_load n [] past = omega arith
-  log_load n (entry ∷ log) past = omega (arith, log_load (n + 1) log (told_commit tables n entry past), commit_load n entry past)
+  -- the changes of a fair commit, and a watermark's Update
+  are_changes : (ms : List Message) → AllByRecursion (λ message. IsChangeOf tables message × HasFewFaults tables message) ms → AllByRecursion IsChange ms
+  are_changes [] fair = tt
+  are_changes (m ∷ ms) fair = (fair.0.0.change, are_changes ms fair.1)
+
+  log_load : (n : ℕ) (log : List Logged) (past : List Message) → IsUnaltered log → AllByRecursion (IsFairEntry tables) log → AreTold tables past → load tables (told_from tables n log past) ≤ load tables past + sizes log
+  log_load n [] past kept fair told = omega arith
+  log_load n (Changes ms ∷ log) past kept fair told =
+      let are = are_changes ms fair.0 in
+      let now = told_commit tables n (Changes ms) past in
+      omega (arith, log_load (n + 1) log now kept.1 fair.1 (changes_told ms (begin_message n ∷ past) are told), commit_load n (Changes ms) past are told)
+  log_load n (Mark value ∷ log) past kept fair told =
+      let now = told_commit tables n (Mark value) past in
+      omega (arith, log_load (n + 1) log now kept.1 fair.1 (changes_told (mark_message value ∷ []) (begin_message n ∷ past) (tt, tt) told), commit_load n (Mark value) past (tt, tt) told)
+  log_load n (Alter name columns rows ∷ log) past kept fair told = absurd kept.0
+
+all_after : {A : Type 0} (P : A → Type 0) (n : ℕ) (xs : List A) → AllByRecursion P xs → AllByRecursion P (drop n xs)
+all_after P zero xs all = all
+all_after P (suc n) [] all = tt
+all_after P (suc n) (x ∷ xs) all = all_after P n xs all.1
 
 pub sent_messages_are_few : SentMessagesAreFew 1
-sent_messages_are_few tables after log =
-    let read = told_from tables (commits_upto after + 1) (drop (commits_upto after) log) [] in
-    omega (arith, log_load tables (commits_upto after + 1) (drop (commits_upto after) log) [], many_from first_oid tables, length-reverse read)
+sent_messages_are_few tables after log fair =
+    let first = commits_upto after in
+    let read = told_from tables (first + 1) (drop first log) [] in
+    let each = all_after (IsFairEntry tables) first log (fair_each tables log fair.unaltered fair.entries) in
+    let few = log_load tables (first + 1) (drop first log) [] (all_after HasNoAlteration first log fair.unaltered) each (λ oid. inl refl) in
+    omega (arith, few, ap length (sent_plain tables after log fair.unaltered), many_from first_oid tables, length-reverse read)

@@ -5,7 +5,8 @@ use Rattle.dbl_pgmsg.specs.declared.messages.Message.{Message}
 use Rattle.dbl_script.specs.declared.script.Step.{Step}
 use Rattle.dbl_source_log.specs.declared.logged.LogTable.{LogTable}
 use Rattle.dbl_source_log.specs.declared.logged.Logged.{Logged}
-use Rattle.dbl_source_log.specs.declared.logged.Logged.TheVariants.{Changes, Mark}
+use Rattle.dbl_source_log.specs.declared.logged.Logged.TheVariants.{Changes, Mark, Alter}
+use Rattle.dbl_source_log.specs.Alterations.{tables_after}
 use Rattle.dbl_source_log.specs.Histories.{commits_from, text_rows_at}
 use Rattle.dbl_source_log.specs.Numbers.{commits_upto}
 use Rattle.dbl_source_log.specs.TextRows.{TextRows, no_text_rows}
@@ -19,6 +20,7 @@ use Rattle.dbl_demo_wal.specs.Sound.{AreNext, session_commits, logged_in, steps_
 use Rattle.dbl_demo_wal.specs.Standings.{history_in, tables_of}
 use Rattle.dbl_demo_wal.specs.Wals.{IsWal, Wal}
 use Rattle.dbl_demo_wal.specs.Workloads.{Workload, log_at, workload_rows, session_steps_of, steps_of}
+use Rattle.dbl_demo_wal.proofs.FitLaws.{wal_is_fair}
 use Rattle.dbl_demo_wal.proofs.GrowthLaws.{commits_stay}
 use Rattle.dbl_demo_wal.proofs.SerialLaws.{committed-push, sound_serial}
 use Rattle.dblog_laws.specs.Budgets.{FewMessagesAreSent, commit_sizes, sizes}
@@ -56,11 +58,15 @@ abbrev pub count_marks : List Logged → ℕ
 count_marks [] = 0
 count_marks (Changes messages ∷ log) = count_marks log
 count_marks (Mark value ∷ log) = 1 + count_marks log
+count_marks (Alter name columns rows ∷ log) = count_marks log
 
 pub marks_counted : (tables : List LogTable) (rows : TextRows) (n : ℕ) (log : List Logged) → length (marks_in (commits_from tables rows n log)) ≡ count_marks log
 marks_counted tables rows n [] = refl
 marks_counted tables rows n (Changes messages ∷ log) = marks_counted tables (text_rows_at tables rows (Changes messages)) (n + 1) log
 marks_counted tables rows n (Mark value ∷ log) = omega (arith, marks_counted tables rows (n + 1) log)
+marks_counted tables rows n (Alter name columns list ∷ log) =
+    let alter : Logged = Alter name columns list in
+    marks_counted (tables_after alter tables) (text_rows_at tables rows alter) (n + 1) log
 
 -- ---- the commits of a log
 
@@ -132,7 +138,7 @@ few_messages_are_sent bytes wal after windows is rows marks =
     let w = wal.workload in
     let log = logged_in wal.entries in
     let first = length (log_at w 0) in
-    let few = sent_messages_are_few (tables_of wal) after log in
+    let few = sent_messages_are_few (tables_of wal) after log (wal_is_fair bytes wal is) in
     let subsequent : sizes (drop (commits_upto after) log) ≤ sizes (drop first log) = drops_fewer first (commits_upto after) log rows in
     let rest : sizes (drop first log) ≤ commit_sizes (drop first (session_commits wal.entries)) + 3 * count_marks log = rest_size w [] first wal.entries (omega arith) is.are.sound.each in
     let whole = wal_begins bytes wal is in

@@ -10,6 +10,7 @@ use Rattle.dbl_cli_commands.specs.declared.commands.CaptureOptions.{CaptureOptio
 use Rattle.dbl_cli_commands.specs.declared.commands.ResumeOptions.{ResumeOptions}
 use Rattle.dbl_source_log.specs.declared.logged.Logged.{Logged}
 use Rattle.dbl_source_log.specs.declared.logged.LogTable.{LogTable}
+use Rattle.dbl_source_log.specs.Fair.{IsFairLog}
 use Rattle.dbl_source_log.specs.Numbers.{commits_upto}
 use Rattle.dbl_source_log.specs.Sent.{messages_in, sent_after}
 use Rattle.dbl_source_model.specs.Growth.{marks_in}
@@ -43,9 +44,10 @@ abbrev pub sizes : List Logged → ℕ
 sizes [] = 0
 sizes (entry ∷ log) = 2 + length (messages_in entry) + sizes log
 
--- A log is sent as at most the messages of its commits, a Relation of each table, and `more` messages, for the Relation of the watermarks.
+-- A fair log is sent as at most the messages of its commits, a Relation of each table, and `more` messages, for the Relation of the
+-- watermarks.
 abbrev pub SentMessagesAreFew : ℕ → Type 0
-SentMessagesAreFew more = (tables : List LogTable) (after : Lsn) (log : List Logged)
+SentMessagesAreFew more = (tables : List LogTable) (after : Lsn) (log : List Logged) → IsFairLog tables log
     → length (sent_after tables after log) ≤ sizes (drop (commits_upto after) log) + length tables + more
 
 -- ---- of a workload

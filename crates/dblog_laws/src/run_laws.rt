@@ -89,8 +89,8 @@ pub fn printed_workloads_succeed()
     ensures { PrintedWorkloadsSucceed }
 {}
 
-/// A log is sent as at most the messages of its commits, a Relation of each table, and one message
-/// more.
+/// A fair log is sent as at most the messages of its commits, a Relation of each table, and one
+/// message more.
 pub fn sent_messages_are_few()
     ensures { SentMessagesAreFew 1 }
 {}

@@ -105,13 +105,18 @@ both_stand infos after ms a none = (
 )
 
 -- a table got other columns
-pub whole_reshaped : (infos : List TableInfo) (table : ℕ) (old new : TableInfo) (after : Lsn) (ms : List Message) (a b : Assembler) → StandsWhole infos after ms a
+pub reshaped : (infos : List TableInfo) (table : ℕ) (old new : TableInfo) (after : Lsn) (ms : List Message) (held : List Change) (a b : Assembler) → Stands infos after ms held a
     → slice_get infos table ≡ Some old → new.name ≡ old.name → IsOpenStated infos ms → changes_table table (changes_so_far infos ms) ≡ false
     → b.buffered.items ≡ a.buffered.items → b.changed.items ≡ a.changed.items → HasReadMessages (slice_set infos table new) after ms b.reader
-    → StandsWhole (slice_set infos table new) after ms b
-whole_reshaped infos table old new after ms a b s at name all none same flags reads =
+    → Stands (slice_set infos table new) after ms held b
+reshaped infos table old new after ms held a b s at name all none same flags reads =
     let stays = (may_be_reshaped infos ms table old new at name all none).0 in record {
       reads = reads;
-      buffers = same ∙ s.buffers ∙ sym stays;
+      buffers = same ∙ s.buffers;
       flags = λ other. ap (λ (l : List Bool). flag_at l other) flags ∙ s.flags other ∙ ap (changes_table other) (sym stays);
     }
+
+-- the changes that it buffers are those in the tables' other columns too
+pub whole_still : (infos next : List TableInfo) (after : Lsn) (ms : List Message) (a : Assembler) → changes_so_far next ms ≡ changes_so_far infos ms
+    → Stands next after ms (open_changes infos ms) a → StandsWhole next after ms a
+whole_still infos next after ms a same s = record { reads = s.reads; buffers = s.buffers ∙ sym same; flags = s.flags }

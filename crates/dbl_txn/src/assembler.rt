@@ -136,13 +136,13 @@ impl Assembler {
     }
 
     /// Replaces a captured table by the same one in other columns, in which its later changes are
-    /// read. The open transaction, if it is assembled whole, must have no change of it so far.
+    /// read. The open transaction must have no change of it so far.
     pub fn reshape(&mut self, table: u32, info: TableInfo)
-        ensures { (infos : List TableInfo) (after : Lsn) (ms : List Message) (old : TableInfo) →
-            StandsWhole infos after ms self.old → slice_get infos table ≡ Some old →
-            info.name ≡ old.name → IsOpenStated infos ms →
+        ensures { (infos : List TableInfo) (after : Lsn) (ms : List Message) (held : List Change)
+            (old : TableInfo) → Stands infos after ms held self.old →
+            slice_get infos table ≡ Some old → info.name ≡ old.name → IsOpenStated infos ms →
             changes_table table (changes_so_far infos ms) ≡ false →
-            StandsWhole (slice_set infos table info) after ms self.new }
+            Stands (slice_set infos table info) after ms held self.new }
     {
         self.reader.reshape(table, info);
     }

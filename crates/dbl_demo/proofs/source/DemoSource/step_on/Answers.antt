@@ -1,4 +1,4 @@
-use Rattle.std.proofs.Common.{◌≡◌, ◌∙◌, ◌+◌, ℕ, Bool, true, false, Some, List, inl, inr, refl, ap, sym, subst, arith}
+use Rattle.std.proofs.Common.{◌≡◌, ◌∙◌, ◌⊎◌, ◌+◌, ℕ, Bool, true, false, None, Some, List, inl, inr, refl, ap, sym, subst, arith}
 use Rattle.std.specs.Prelude.{◌==◌, not, slice_get}
 use Rattle.std.proofs.lemmas.Bool.{eqb-true}
 use Rattle.dbl_pgmsg.specs.declared.messages.RelationColumn.{RelationColumn}
@@ -39,7 +39,7 @@ returns-clause-read g c = λ wal running at held some.
     let then = c.deref.ensures.value ∙ sym (tables_here c.self.inside.tables.items wal.entries c.args.place) in
     let next = c.in-Ok.ensures c.self.inside.tables.items (logged_in wal.entries) then number there (runs.reader.placed c.args.place placed) recalled in
     let more = c.in_ok-remember.ensures.ok next.message (told_at c.self.inside.tables.items (logged_in wal.entries) c.args.place) (sym next.described) recalled in
-    let whole = elim c.keep_held.ensures [
+    let whole : (c.keep_held.new.held ≡ None) ⊎ ((c.keep_held.new.held ≡ c.self.inside.held) × (c.in-Ok.next.place.commits ≡ c.args.place.commits)) = elim c.keep_held.ensures [
       | inl none ↦ inl none
       | inr kept ↦ inr (kept.0, same_commits c.in-Ok.next.place.commits c.args.place.commits kept.1)
     ] in

@@ -1,6 +1,6 @@
 -- What a window that is read does to a source, and what may be left of it.
-use Rattle.std.proofs.Common.{◌≡◌, ◌∙◌, ◌⊎◌, inl, inr, ℕ, zero, suc, Option, Some, Ok, List, [], ◌∷◌, ◌++◌, length, refl, sym, ap, subst, append-nil, append_assoc}
-use Rattle.std.specs.Prelude.{slice_get}
+use Rattle.std.proofs.Common.{◌≡◌, ◌∙◌, ◌⊎◌, inl, inr, ℕ, zero, suc, Bool, true, false, Option, Some, Ok, Err, List, [], ◌∷◌, ◌++◌, length, refl, sym, ap, subst, append-nil, append_assoc}
+use Rattle.std.specs.Prelude.{◌==◌, if◌then◌else◌, slice_get}
 use Rattle.dbl_model_table.specs.declared.row.Key.{Key}
 use Rattle.dbl_model_table.specs.declared.row.Row.{Row}
 use Rattle.dbl_model_table.specs.declared.table.TableInfo.{TableInfo}
@@ -12,8 +12,11 @@ use Rattle.dbl_source_model.specs.Growth.{AreOthers, Grows, HasChanges, Marks, m
 use Rattle.dbl_source_model.specs.Leaves.{MayFollow}
 use Rattle.dbl_source_model.specs.Standings.{SourceState, CrashState, left_of}
 use Rattle.dbl_source_model.specs.Trace.{Trace}
+use Rattle.dbl_source_model.specs.declared.selected.Selected.{Selected}
 use Rattle.dbl_window.specs.Leaving.{MayStayOrMark}
+use Rattle.dbl_window.specs.declared.error.WindowError.TheVariants as window
 use Rattle.dbl_window.specs.Plans.{Plan, Chunk, low_text, high_text}
+use Rattle.dbl_window.specs.Reading.{answer_read, chunk_read}
 use Rattle.dbl_window.specs.Selected.{IsCaptured, IsReadOf, IsSelected, SelectsChunk}
 use Rattle.dbl_window.proofs.LawLemmas.{above_in_order}
 use Rattle.dbl_window.proofs.ReadLemmas.{read_answered}
@@ -147,6 +150,14 @@ info_at : (place : ℕ) (info : TableInfo) → (infos : List TableInfo) × (slic
 info_at zero info = (info ∷ [], refl)
 info_at (suc place) info = (info ∷ (info_at place info).0, (info_at place info).1)
 
+-- the rows of an answer that is read
+rows_of_answer : (plan : Plan) (answer : Selected) (rows : List (Key × Row)) → answer_read plan answer ≡ Ok rows → chunk_read plan answer.rows ≡ Ok rows
+rows_of_answer plan answer rows read = by (answer.version == plan.version) read
+  where
+    by : (b : Bool) → (if b then chunk_read plan answer.rows else Err (window.Moved answer.version)) ≡ Ok rows → chunk_read plan answer.rows ≡ Ok rows
+    by true is = is
+    by false is = cc
+
 -- rows that were read are in the order of their keys
 pub read_order : (plan : Plan) (told : Option Trace) (rows : List (Key × Row)) → IsReadOf plan told (Ok rows) → AreInKeyOrder rows
-read_order plan told rows is = let infos = info_at plan.table plan.info in above_in_order plan.above rows (read_answered infos.0 plan is.answer.rows rows infos.1 is.read_is).ordered
+read_order plan told rows is = let infos = info_at plan.table plan.info in above_in_order plan.above rows (read_answered infos.0 plan is.answer.rows rows infos.1 (rows_of_answer plan is.answer rows is.read_is)).ordered

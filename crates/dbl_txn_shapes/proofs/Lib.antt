@@ -1,0 +1,2 @@
+pub mod OidLemmas
+pub mod ShapingLemmas

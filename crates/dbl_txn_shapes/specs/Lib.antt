@@ -1,0 +1,3 @@
+pub use Rattle.dbl_txn.specs as Txn
+pub mod Oids
+pub mod Shaping

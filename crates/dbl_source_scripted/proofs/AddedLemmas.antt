@@ -5,6 +5,7 @@ use Rattle.std.proofs.lemmas.List.{length-map}
 use Rattle.dbl_pgmsg.specs.declared.messages.Message.{Message}
 use Rattle.dbl_model_table.specs.declared.row.Key.{Key}
 use Rattle.dbl_model_table.specs.declared.table.TableName.{TableName}
+use Rattle.dbl_source_log.specs.declared.logged.Logged.{Logged}
 use Rattle.dbl_source_log.specs.declared.logged.Logged.TheVariants.{Changes, Mark}
 use Rattle.dbl_source_scripted.specs.declared.asked.Asked.{Asked}
 use Rattle.dbl_source_scripted.specs.declared.asked.Last.TheVariants as answers
@@ -16,20 +17,20 @@ use Rattle.dbl_source_scripted.proofs.PlayLemmas.{WereAsked, fair_before, fair_s
 use Rattle.dbl_source_scripted.proofs.CallLemmas.{WentOn, messages_stay, went_placed}
 
 -- after the commits before a call there is room for its own
-pub room_left : (mid new : Played) (before : List (List Message)) (own : ℕ) → new ≡ committed before (with_counted_call mid) → HasRoom (length mid.log) (length before) own → length new.log + own < commit_limit
-room_left mid new before own is room = omega (arith, ap (λ (p : Played). length p.log) is, length-append mid.log (map Changes before), length-map before Changes, room)
+pub room_left : (mid new : Played) (before : List Logged) (own : ℕ) → new ≡ committed before (with_counted_call mid) → HasRoom (length mid.log) (length before) own → length new.log + own < commit_limit
+room_left mid new before own is room = omega (arith, ap (λ (p : Played). length p.log) is, length-append mid.log before, room)
 
 -- the selects so far returned before other clients committed
 went_asked : (old mid : Played) → WentOn old mid → KeepsPlayed old → WereAsked mid.asked mid.log
 went_asked old mid w kept n question found =
     let was : slice_get old.asked n ≡ Some question = subst (λ (asked : List Asked). slice_get asked n ≡ Some question) w.asked found in
-    omega (arith, kept.before n question was, ap length w.log, length-append old.log (map Changes w.more))
+    omega (arith, kept.before n question was, ap length w.log, length-append old.log w.more)
 
 -- ---- commits inside of a call
 
 -- what a select makes of a source: other clients committed around it, its question is kept, and it answered
 pub select_is : (old around kept new : Played) (table : TableName) (above : Option Key) (limit from number : ℕ) → new ≡ with_answer (answers.Rows number) kept
-    → kept ≡ record around { asked = around.asked ++ question_of table above limit from (length around.log) ∷ [] } → around ≡ committed (inside_of old) (with_release old) → from ≡ length old.log → number ≡ length around.asked
+    → kept ≡ record around { asked = around.asked ++ question_of table above limit from (length around.log) ∷ [] } → around ≡ committed (map Changes (inside_of old)) (with_release old) → from ≡ length old.log → number ≡ length around.asked
     → new ≡ with_select table above limit (length old.log) (inside_of old) (with_release old)
 select_is old around kept new table above limit from number is kept_is around_is from_is number_is =
     let mid : Played = with_release old in
@@ -41,7 +42,7 @@ select_is old around kept new table above limit from number is kept_is around_is
     ∙ ap (λ (n : ℕ). made around from (length around.log) n) number_is
     ∙ ap (λ (f : ℕ). made around f (length around.log) (length around.asked)) from_is
     ∙ ap (λ (s : Played). made s (length old.log) (length s.log) (length s.asked)) around_is
-    ∙ ap (λ (u : ℕ). made (committed inside mid) (length old.log) u (length mid.asked)) long
+    ∙ ap (λ (u : ℕ). made (committed (map Changes inside) mid) (length old.log) u (length mid.asked)) long
 
 pub select_read : (old mid : Played) (table : TableName) (above : Option Key) (limit from : ℕ) (inside : List (List Message)) → WentOn old mid → KeepsPlayed old → played_messages (with_select table above limit from inside mid) ≡ played_messages mid
 select_read old mid table above limit from inside w kept = messages_stay mid.tables mid.log (map Changes inside) mid.place (went_placed old mid w kept)

@@ -31,17 +31,19 @@ use Rattle.dbl_source_log.proofs.SentLemmas.{told_at-grown}
 use Rattle.dbl_source_scripted.specs.declared.asked.Asked.{Asked}
 use Rattle.dbl_source_scripted.specs.declared.asked.Last.{Last}
 use Rattle.dbl_source_scripted.specs.declared.asked.Last.TheVariants as answers
-use Rattle.dbl_source_scripted.specs.Played.{Played, played_messages, standing_of, with_answer, with_mark, with_confirmed, started_at, place_of, with_start, with_head, next_selected, question_of, with_select}
+use Rattle.dbl_source_scripted.specs.Played.{Played, tables_now, played_messages, standing_of, with_answer, with_mark, with_confirmed, started_at, place_of, with_start, with_head, next_selected, question_of, with_select}
 use Rattle.dbl_source.specs.LogStates.{reading_at, log_state}
 use Rattle.dbl_source_scripted.specs.Steps.{KeepsPlayed, HasPlayedState, MayLeavePlayed, WasFair}
 use Rattle.dbl_source.proofs.LogStates.{placed_on}
 use Rattle.dbl_source_scripted.proofs.PlayLemmas.{selects_right, fair_same}
+use Rattle.dbl_source_scripted.proofs.AlterLemmas.{AreOtherEntries, changes_are_others}
 use Rattle.dbl_source.proofs.LogStates.{IsAtPlace, moved, marked_at, gone_after, begun_after, read_all, is_entry, is_head}
 
 -- other clients committed, and what a reader, a confirm and a select have made of the source is as it was
 pub record WentOn (old new : Played) : Type 0 where
-  pub more : List (List Message)
-  pub log : new.log ≡ old.log ++ map Changes more
+  pub more : List Logged
+  pub others : AreOtherEntries more
+  pub log : new.log ≡ old.log ++ more
   pub tables : new.tables ≡ old.tables
   pub rows : new.rows ≡ old.rows
   pub asked : new.asked ≡ old.asked
@@ -51,24 +53,24 @@ pub record WentOn (old new : Played) : Type 0 where
   pub ended : new.ended ≡ old.ended
 
 -- so it represents its old parts over the longer log
-pub standing_went : (old new : Played) (w : WentOn old new) → standing_of new ≡ log_state old.tables (old.log ++ map Changes w.more) old.confirmed old.place
+pub standing_went : (old new : Played) (w : WentOn old new) → standing_of new ≡ log_state old.tables (old.log ++ w.more) old.confirmed old.place
 standing_went old new w =
     ap (λ (ts : List LogTable). log_state ts new.log new.confirmed new.place) w.tables
     ∙ ap (λ (l : List Logged). log_state old.tables l new.confirmed new.place) w.log
-    ∙ ap (λ (c : Lsn). log_state old.tables (old.log ++ map Changes w.more) c new.place) w.confirmed
-    ∙ ap (log_state old.tables (old.log ++ map Changes w.more) old.confirmed) w.place
+    ∙ ap (λ (c : Lsn). log_state old.tables (old.log ++ w.more) c new.place) w.confirmed
+    ∙ ap (log_state old.tables (old.log ++ w.more) old.confirmed) w.place
 
 pub went_moved : (old new : Played) (s : SourceState) → WentOn old new → KeepsPlayed old → HasPlayedState old s → Moved s (standing_of new)
 went_moved old new s w kept stands =
     subst (λ (u : SourceState). Moved u (standing_of new)) (sym stands.1)
-    (subst (Moved (standing_of old)) (sym (standing_went old new w)) (moved old.tables old.log old.confirmed w.more old.place kept.placed))
+    (subst (Moved (standing_of old)) (sym (standing_went old new w)) (moved old.tables old.log old.confirmed w.more old.place w.others kept.placed))
 
 -- for every answer, a crash leaves what other clients committed
 pub went_follows : (old new : Played) (s : SourceState) (l : CrashState) → WentOn old new → KeepsPlayed old → HasPlayedState old s → MayLeavePlayed new l → MayFollow s l
 went_follows old new s l w kept stands may = moved_follows s (standing_of new) l may (went_moved old new s w kept stands)
 
 pub went_fair : (old new : Played) → WentOn old new → KeepsPlayed old → WasFair new → WasFair old
-went_fair old new w kept fair = fair_same old.tables new.tables old.log (map Changes w.more) new.log old.asked new.asked old.rows new.rows w.tables w.log w.asked w.rows kept.before fair
+went_fair old new w kept fair = fair_same old.tables new.tables old.log w.more new.log old.asked new.asked old.rows new.rows w.tables w.log w.asked w.rows kept.before fair
 
 -- what was read is what it was
 pub messages_stay : (tables : List LogTable) (log more : List Logged) (place : Option ReaderPosition) → ((p : ReaderPosition) → place ≡ Some p → IsPlaceIn log p) → unwrap_or (option_map (told_at tables (log ++ more)) place) [] ≡ unwrap_or (option_map (told_at tables log) place) []
@@ -80,8 +82,8 @@ went_read old new w kept =
     ap (map spelling)
     (ap (λ (ts : List LogTable). unwrap_or (option_map (told_at ts new.log) new.place) []) w.tables
     ∙ ap (λ (l : List Logged). unwrap_or (option_map (told_at old.tables l) new.place) []) w.log
-    ∙ ap (λ (p : Option ReaderPosition). unwrap_or (option_map (told_at old.tables (old.log ++ map Changes w.more)) p) []) w.place
-    ∙ messages_stay old.tables old.log (map Changes w.more) old.place kept.placed)
+    ∙ ap (λ (p : Option ReaderPosition). unwrap_or (option_map (told_at old.tables (old.log ++ w.more)) p) []) w.place
+    ∙ messages_stay old.tables old.log w.more old.place kept.placed)
 
 -- what holds at any rate holds after an error
 pub on_err : {T E P : Type 0} (r : Result T E) → P → OnErr r P
@@ -96,7 +98,7 @@ stood new P live holds = record { standing = standing_of new; is = (live, refl);
 
 pub went_placed : (old mid : Played) → WentOn old mid → KeepsPlayed old → IsAtPlace mid.log mid.place
 went_placed old mid w kept p is =
-    subst (λ (l : List Logged). IsPlaceIn l p) (sym w.log) (placed_on old.log (map Changes w.more) p (kept.placed p (sym w.place ∙ is)))
+    subst (λ (l : List Logged). IsPlaceIn l p) (sym w.log) (placed_on old.log w.more p (kept.placed p (sym w.place ∙ is)))
 
 -- the history that the source represented is no longer than the log after the call
 went_length : (mid : Played) (s : SourceState) → Moved s (standing_of mid) → length s.history.commits ≤ length mid.log
@@ -109,8 +111,8 @@ module _ (old mid : Played) (s : SourceState) (w : WentOn old mid) (kept : Keeps
   pub head_leads : HasState HasPlayedState (with_head mid) (λ t. Moved s t × IsHead (lsn_of (length mid.log)) s t)
   head_leads = stood (with_head mid) (λ t. Moved s t × IsHead (lsn_of (length mid.log)) s t) refl (before, is_head mid.tables mid.log mid.confirmed s mid.place before.grows (went_length mid s before))
 
-  -- the catalogue is the first one
-  pub describe_leads : (what : Last) (name : TableName) (entry : Option RawTable) → entry ≡ entry_of (history_of mid.tables []) name → HasState HasPlayedState (with_answer what mid) (IsDescribed name entry s)
+  -- the catalogue is that at the log's end
+  pub describe_leads : (what : Last) (name : TableName) (entry : Option RawTable) → entry ≡ entry_of (history_of (tables_now mid) []) name → HasState HasPlayedState (with_answer what mid) (IsDescribed name entry s)
   describe_leads what name entry is =
       stood (with_answer what mid) (IsDescribed name entry s) refl (before, is_entry mid.tables mid.log mid.confirmed s name entry before.grows is)
 
@@ -191,7 +193,7 @@ module _ (old mid : Played) (s : SourceState) (w : WentOn old mid) (kept : Keeps
       (IsSelectAnswer (WasFair (with_select table above limit (length old.log) inside mid)) table above limit (next_selected mid) s)
   select_leads table above limit inside =
       let new : Played = with_select table above limit (length old.log) inside mid in
-      let more = moved mid.tables mid.log mid.confirmed inside mid.place (went_placed old mid w kept) in
+      let more = moved mid.tables mid.log mid.confirmed (map Changes inside) mid.place (changes_are_others inside) (went_placed old mid w kept) in
       let question : Asked = question_of table above limit (length old.log) (length mid.log + length inside) in
       let log_is : length (mid.log ++ map Changes inside) ≡ length mid.log + length inside = omega (arith, length-append mid.log (map Changes inside), length-map inside Changes) in
       stood new (IsSelectAnswer (WasFair new) table above limit (next_selected mid) s) refl (
@@ -205,7 +207,7 @@ module _ (old mid : Played) (s : SourceState) (w : WentOn old mid) (kept : Keeps
   pub select_follows : (table : TableName) (above : Option Key) (limit : ℕ) (inside : List (List Message)) (l : CrashState) → MayLeavePlayed (with_select table above limit (length old.log) inside mid) l → MayFollow s l
   select_follows table above limit inside l may =
       let new : Played = with_select table above limit (length old.log) inside mid in
-      moved_follows s (standing_of new) l may (moved_on s (standing_of mid) (standing_of new) before (moved mid.tables mid.log mid.confirmed inside mid.place (went_placed old mid w kept)))
+      moved_follows s (standing_of new) l may (moved_on s (standing_of mid) (standing_of new) before (moved mid.tables mid.log mid.confirmed (map Changes inside) mid.place (changes_are_others inside) (went_placed old mid w kept)))
 
 -- ---- where the source after the call is told by an equation
 

@@ -14,15 +14,17 @@ use Rattle.dbl_source_model.specs.Answered.{IsDescribed, IsHeaded, IsSelectAnswe
 use Rattle.dbl_source_model.specs.Calls.{Moved, IsMarked, IsHead, Starts, HasReadOneMore, HasReadAll, IsConfirmed}
 use Rattle.dbl_source_model.specs.Leaves.{MayFollow, MayFollowMark, MayFollowConfirm}
 use Rattle.dbl_source_model.specs.Trace.{Answer, Described, Head, Began, Read, RowsSelected, Done, LastAnswerIs, is_ready}
+use Rattle.dbl_source_log.specs.declared.logged.Logged.TheVariants.{Changes}
 use Rattle.dbl_source_log.specs.declared.reader_position.ReaderPosition.{ReaderPosition}
 use Rattle.dbl_source_log.specs.Numbers.{lsn_of}
 use Rattle.dbl_source_log.specs.Relations.{catalogue}
 use Rattle.dbl_source_scripted.specs.declared.asked.Last.{Last}
 use Rattle.dbl_source_scripted.specs.declared.asked.Last.TheVariants as answers
-use Rattle.dbl_source_scripted.specs.Played.{Played, played_messages, trace_of, inside_of, with_release, with_answer, with_mark, with_confirmed, started_at, with_start, with_head, with_select, before_of, next_selected}
+use Rattle.dbl_source_scripted.specs.Played.{Played, played_messages, trace_of, inside_of, with_release, with_answer, with_mark, with_confirmed, started_at, with_start, with_head, with_select, tables_now, commits_before, next_selected}
 use Rattle.dbl_source_scripted.specs.Steps.{KeepsPlayed, HasPlayedState, MayLeavePlayed, WasFair, IsAtEnd, IsUnfit}
 use Rattle.dbl_source_scripted.specs.Exits.{AnswersPlayedEntry, AnswersPlayedHead, AnswersPlayedStart, HasReadNext, last_read, with_read, AnswersRead, AnswersPlayedRows, Plays}
 use Rattle.dbl_source_scripted.proofs.CallLemmas.{WentOn, went_follows, went_fair, went_read, head_leads, describe_leads, confirm_leads, confirm_follows, mark_leads, mark_follows, start_leads, select_leads, select_follows, stood_to}
+use Rattle.dbl_source_scripted.proofs.AlterLemmas.{before_others, around_others}
 use Rattle.dbl_source_scripted.proofs.AddedLemmas.{select_read, select_fair, mark_read, mark_fair}
 use Rattle.dbl_source.proofs.EntryLemmas.{found_named, answer_told}
 use Rattle.dbl_source_scripted.proofs.StartLemmas.{nothing_read, is_begun}
@@ -42,11 +44,11 @@ describe_ends name old new entry kept a =
     let w : WentOn old mid = went_released old in
     let what : Last = answers.Described a.place in
     record {
-      leads = λ s stands. stood_to new (with_answer what mid) (IsDescribed name entry s) a.is (describe_leads old mid s w kept stands what name entry (a.there ∙ a.named));
+      leads = λ s stands. stood_to new (with_answer what mid) (IsDescribed name entry s) a.is (describe_leads old mid s w kept stands what name entry (a.found.there ∙ a.found.named));
       left = λ s l stands may. went_follows old mid s l w kept stands (subst (λ (p : Played). MayLeavePlayed p l) a.is may);
       live = ap (λ (p : Played). p.live) a.is;
       honest = λ fair. went_fair old mid w kept (subst WasFair a.is fair);
-      told = tells new (Described entry) (ap (λ (p : Played). (trace_of p).answer) a.is ∙ ap Described (sym a.there));
+      told = tells new (Described entry) (ap (λ (p : Played). (trace_of p).answer) a.is ∙ ap Described (sym a.found.there));
       taken = ap (λ (p : Played). map spelling (played_messages p)) a.is ∙ went_read old mid w kept;
       reading = ap (λ (p : Played). is_some p.place) a.is;
     }
@@ -194,109 +196,109 @@ read_at_end old new None a none place at =
 
 -- ---- for every answer
 
-pub describe_held : (name : TableName) (old new : Played) (r : Result (Option RawTable) SourceError) → Plays 0 ⊥ (before_of old) (AnswersPlayedEntry name old) old new r
+pub describe_held : (name : TableName) (old new : Played) (r : Result (Option RawTable) SourceError) → Plays 0 ⊥ (commits_before old) (AnswersPlayedEntry name old) old new r
     → Held (λ entry s. HasState HasPlayedState new (IsDescribed name entry s)) MayFollow Described (λ entry. SameRead old new) (λ entry. SameReader old new) old new r
 describe_held name old new r p =
-    held (λ entry s. HasState HasPlayedState new (IsDescribed name entry s)) MayFollow Described (λ entry. SameRead old new) (λ entry. SameReader old new) 0 ⊥ (before_of old) (AnswersPlayedEntry name old) old new r p (λ s l may. may)
+    held (λ entry s. HasState HasPlayedState new (IsDescribed name entry s)) MayFollow Described (λ entry. SameRead old new) (λ entry. SameReader old new) 0 ⊥ (commits_before old) (AnswersPlayedEntry name old) old new r (before_others old) p (λ s l may. may)
     (λ entry kept a. describe_ends name old new entry kept a)
 
-pub head_held : (old new : Played) (r : Result Lsn SourceError) → Plays 0 ⊥ (before_of old) (AnswersPlayedHead old) old new r
+pub head_held : (old new : Played) (r : Result Lsn SourceError) → Plays 0 ⊥ (commits_before old) (AnswersPlayedHead old) old new r
     → Held (λ lsn s. HasState HasPlayedState new (IsHeaded lsn s)) MayFollow Head (λ lsn. SameRead old new) (λ lsn. SameReader old new) old new r
 head_held old new r p =
-    held (λ lsn s. HasState HasPlayedState new (IsHeaded lsn s)) MayFollow Head (λ lsn. SameRead old new) (λ lsn. SameReader old new) 0 ⊥ (before_of old) (AnswersPlayedHead old) old new r p (λ s l may. may)
+    held (λ lsn s. HasState HasPlayedState new (IsHeaded lsn s)) MayFollow Head (λ lsn. SameRead old new) (λ lsn. SameReader old new) 0 ⊥ (commits_before old) (AnswersPlayedHead old) old new r (before_others old) p (λ s l may. may)
     (λ lsn kept a. head_ends old new lsn kept a)
 
-pub start_held : (after : Lsn) (old new : Played) (r : Result Started SourceError) → Plays 0 ⊥ (before_of old) (AnswersPlayedStart after old) old new r
+pub start_held : (after : Lsn) (old new : Played) (r : Result Started SourceError) → Plays 0 ⊥ (commits_before old) (AnswersPlayedStart after old) old new r
     → Held (λ started s. HasState HasPlayedState new (Starts after started s)) MayFollow Began (λ started. map spelling (played_messages new) ≡ []) (λ started. is_some new.place ≡ is_ready started) old new r
 start_held after old new r p =
-    held (λ started s. HasState HasPlayedState new (Starts after started s)) MayFollow Began (λ started. map spelling (played_messages new) ≡ []) (λ started. is_some new.place ≡ is_ready started) 0 ⊥ (before_of old) (AnswersPlayedStart after old) old new r p
+    held (λ started s. HasState HasPlayedState new (Starts after started s)) MayFollow Began (λ started. map spelling (played_messages new) ≡ []) (λ started. is_some new.place ≡ is_ready started) 0 ⊥ (commits_before old) (AnswersPlayedStart after old) old new r (before_others old) p
     (λ s l may. may) (λ started kept a. start_ends after old new started kept a)
 
-pub read_held : (old new : Played) (r : Result (Option (List ℕ)) SourceError) → Plays 0 (IsUnfit (with_release old)) (before_of old) (AnswersRead old) old new r
+pub read_held : (old new : Played) (r : Result (Option (List ℕ)) SourceError) → Plays 0 (IsUnfit (with_release old)) (commits_before old) (AnswersRead old) old new r
     → Held (λ read s. Takes new read s) MayFollow Read (λ read. ReadBesides old new read) (λ read. SameReader old new) old new r
 read_held old new r p =
-    held (λ read s. Takes new read s) MayFollow Read (λ read. ReadBesides old new read) (λ read. SameReader old new) 0 (IsUnfit (with_release old)) (before_of old) (AnswersRead old) old new r p (λ s l may. may)
+    held (λ read s. Takes new read s) MayFollow Read (λ read. ReadBesides old new read) (λ read. SameReader old new) 0 (IsUnfit (with_release old)) (commits_before old) (AnswersRead old) old new r (before_others old) p (λ s l may. may)
     (λ read kept a. read_ends old new read kept a)
 
 pub select_held : (table : TableName) (above : Option Key) (limit : ℕ) (old new : Played) (r : Result Selected SourceError)
-    → Plays (length (inside_of old)) ⊥ (before_of old ++ inside_of old) (λ answer. AnswersPlayedRows table above limit old answer) old new r
+    → Plays (length (inside_of old)) ⊥ (commits_before old ++ map Changes (inside_of old)) (λ answer. AnswersPlayedRows table above limit old answer) old new r
     → Held (λ answer s. HasState HasPlayedState new (IsSelectAnswer (WasFair new) table above limit answer s)) MayFollow (λ answer. RowsSelected answer) (λ answer. SameRead old new) (λ answer. SameReader old new) old new r
 select_held table above limit old new r p =
     held (λ answer s. HasState HasPlayedState new (IsSelectAnswer (WasFair new) table above limit answer s)) MayFollow (λ answer. RowsSelected answer) (λ answer. SameRead old new) (λ answer. SameReader old new)
-    (length (inside_of old)) ⊥ (before_of old ++ inside_of old) (λ answer. AnswersPlayedRows table above limit old answer) old new r p (λ s l may. may)
+    (length (inside_of old)) ⊥ (commits_before old ++ map Changes (inside_of old)) (λ answer. AnswersPlayedRows table above limit old answer) old new r (around_others old) p (λ s l may. may)
     (λ answer kept a. select_ends table above limit old new answer kept a)
 
-pub mark_held : {T : Type 0} (value : List ℕ) (old new : Played) (r : Result T SourceError) → Plays 1 ⊥ (before_of old) (λ done n. n ≡ with_mark value (with_release old)) old new r
+pub mark_held : {T : Type 0} (value : List ℕ) (old new : Played) (r : Result T SourceError) → Plays 1 ⊥ (commits_before old) (λ done n. n ≡ with_mark value (with_release old)) old new r
     → Held (λ done s. HasState HasPlayedState new (IsMarked value s)) (MayFollowMark value) (λ done. Done) (λ done. SameRead old new) (λ done. SameReader old new) old new r
 mark_held value old new r p =
-    held (λ done s. HasState HasPlayedState new (IsMarked value s)) (MayFollowMark value) (λ done. Done) (λ done. SameRead old new) (λ done. SameReader old new) 1 ⊥ (before_of old) (λ done n. n ≡ with_mark value (with_release old)) old new r p
+    held (λ done s. HasState HasPlayedState new (IsMarked value s)) (MayFollowMark value) (λ done. Done) (λ done. SameRead old new) (λ done. SameReader old new) 1 ⊥ (commits_before old) (λ done n. n ≡ with_mark value (with_release old)) old new r (before_others old) p
     (λ s l may. without_mark value s l may) (λ done kept is. mark_ends value old new kept is)
 
-pub confirm_held : {T : Type 0} (upto : Lsn) (old new : Played) (r : Result T SourceError) → Plays 0 ⊥ (before_of old) (λ done n. n ≡ with_confirmed upto (with_release old)) old new r
+pub confirm_held : {T : Type 0} (upto : Lsn) (old new : Played) (r : Result T SourceError) → Plays 0 ⊥ (commits_before old) (λ done n. n ≡ with_confirmed upto (with_release old)) old new r
     → Held (λ done s. HasState HasPlayedState new (IsConfirmed upto s)) (MayFollowConfirm upto) (λ done. Done) (λ done. SameRead old new) (λ done. SameReader old new) old new r
 confirm_held upto old new r p =
-    held (λ done s. HasState HasPlayedState new (IsConfirmed upto s)) (MayFollowConfirm upto) (λ done. Done) (λ done. SameRead old new) (λ done. SameReader old new) 0 ⊥ (before_of old) (λ done n. n ≡ with_confirmed upto (with_release old)) old new r p
+    held (λ done s. HasState HasPlayedState new (IsConfirmed upto s)) (MayFollowConfirm upto) (λ done. Done) (λ done. SameRead old new) (λ done. SameReader old new) 0 ⊥ (commits_before old) (λ done n. n ≡ with_confirmed upto (with_release old)) old new r (before_others old) p
     (λ s l may. unconfirmed upto s l may) (λ done kept is. confirm_ends upto old new kept is)
 
 -- ---- whether reading has ended
 
-pub describe_still : (name : TableName) (old new : Played) (r : Result (Option RawTable) SourceError) → Plays 0 ⊥ (before_of old) (AnswersPlayedEntry name old) old new r → new.ended ≡ old.ended
-describe_still name old new r p = stays 0 ⊥ (before_of old) (AnswersPlayedEntry name old) old new r p (λ entry a. ap (λ (q : Played). q.ended) a.is)
+pub describe_still : (name : TableName) (old new : Played) (r : Result (Option RawTable) SourceError) → Plays 0 ⊥ (commits_before old) (AnswersPlayedEntry name old) old new r → new.ended ≡ old.ended
+describe_still name old new r p = stays 0 ⊥ (commits_before old) (AnswersPlayedEntry name old) old new r (before_others old) p (λ entry a. ap (λ (q : Played). q.ended) a.is)
 
-pub head_still : (old new : Played) (r : Result Lsn SourceError) → Plays 0 ⊥ (before_of old) (AnswersPlayedHead old) old new r → new.ended ≡ old.ended
-head_still old new r p = stays 0 ⊥ (before_of old) (AnswersPlayedHead old) old new r p (λ lsn a. ap (λ (q : Played). q.ended) a.is)
+pub head_still : (old new : Played) (r : Result Lsn SourceError) → Plays 0 ⊥ (commits_before old) (AnswersPlayedHead old) old new r → new.ended ≡ old.ended
+head_still old new r p = stays 0 ⊥ (commits_before old) (AnswersPlayedHead old) old new r (before_others old) p (λ lsn a. ap (λ (q : Played). q.ended) a.is)
 
-pub start_unended : (after : Lsn) (old new : Played) (r : Result Started SourceError) → Plays 0 ⊥ (before_of old) (AnswersPlayedStart after old) old new r → OnOk r (new.ended ≡ false)
+pub start_unended : (after : Lsn) (old new : Played) (r : Result Started SourceError) → Plays 0 ⊥ (commits_before old) (AnswersPlayedStart after old) old new r → OnOk r (new.ended ≡ false)
 start_unended after old new (Ok started) p = ap (λ (q : Played). q.ended) p.played.is
 start_unended after old new (Err e) p = tt
 
-pub read_none : (old new : Played) (r : Result (Option (List ℕ)) SourceError) → Plays 0 (IsUnfit (with_release old)) (before_of old) (AnswersRead old) old new r → IfOk r (λ read. new.ended ≡ is_none read)
+pub read_none : (old new : Played) (r : Result (Option (List ℕ)) SourceError) → Plays 0 (IsUnfit (with_release old)) (commits_before old) (AnswersRead old) old new r → IfOk r (λ read. new.ended ≡ is_none read)
 read_none old new (Ok read) p = ap (λ (q : Played). q.ended) p.played.is
 read_none old new (Err e) p = tt
 
 pub select_still : (table : TableName) (above : Option Key) (limit : ℕ) (old new : Played) (r : Result Selected SourceError)
-    → Plays (length (inside_of old)) ⊥ (before_of old ++ inside_of old) (λ answer. AnswersPlayedRows table above limit old answer) old new r → new.ended ≡ old.ended
+    → Plays (length (inside_of old)) ⊥ (commits_before old ++ map Changes (inside_of old)) (λ answer. AnswersPlayedRows table above limit old answer) old new r → new.ended ≡ old.ended
 select_still table above limit old new r p =
-    stays (length (inside_of old)) ⊥ (before_of old ++ inside_of old) (λ answer. AnswersPlayedRows table above limit old answer) old new r p (λ answer a. ap (λ (q : Played). q.ended) a.is)
+    stays (length (inside_of old)) ⊥ (commits_before old ++ map Changes (inside_of old)) (λ answer. AnswersPlayedRows table above limit old answer) old new r (around_others old) p (λ answer a. ap (λ (q : Played). q.ended) a.is)
 
-pub mark_still : {T : Type 0} (value : List ℕ) (old new : Played) (r : Result T SourceError) → Plays 1 ⊥ (before_of old) (λ done n. n ≡ with_mark value (with_release old)) old new r → new.ended ≡ old.ended
-mark_still value old new r p = stays 1 ⊥ (before_of old) (λ done n. n ≡ with_mark value (with_release old)) old new r p (λ done is. ap (λ (q : Played). q.ended) is)
+pub mark_still : {T : Type 0} (value : List ℕ) (old new : Played) (r : Result T SourceError) → Plays 1 ⊥ (commits_before old) (λ done n. n ≡ with_mark value (with_release old)) old new r → new.ended ≡ old.ended
+mark_still value old new r p = stays 1 ⊥ (commits_before old) (λ done n. n ≡ with_mark value (with_release old)) old new r (before_others old) p (λ done is. ap (λ (q : Played). q.ended) is)
 
-pub confirm_still : {T : Type 0} (upto : Lsn) (old new : Played) (r : Result T SourceError) → Plays 0 ⊥ (before_of old) (λ done n. n ≡ with_confirmed upto (with_release old)) old new r → new.ended ≡ old.ended
-confirm_still upto old new r p = stays 0 ⊥ (before_of old) (λ done n. n ≡ with_confirmed upto (with_release old)) old new r p (λ done is. ap (λ (q : Played). q.ended) is)
+pub confirm_still : {T : Type 0} (upto : Lsn) (old new : Played) (r : Result T SourceError) → Plays 0 ⊥ (commits_before old) (λ done n. n ≡ with_confirmed upto (with_release old)) old new r → new.ended ≡ old.ended
+confirm_still upto old new r p = stays 0 ⊥ (commits_before old) (λ done n. n ≡ with_confirmed upto (with_release old)) old new r (before_others old) p (λ done is. ap (λ (q : Played). q.ended) is)
 
 -- ---- what they make of the script, where they answer
 
-pub describe_played : (name : TableName) (old new : Played) (r : Result (Option RawTable) SourceError) → Plays 0 ⊥ (before_of old) (AnswersPlayedEntry name old) old new r
+pub describe_played : (name : TableName) (old new : Played) (r : Result (Option RawTable) SourceError) → Plays 0 ⊥ (commits_before old) (AnswersPlayedEntry name old) old new r
     → OnOk r ((place : Option ℕ) × (new ≡ with_answer (answers.Described place) (with_release old)))
 describe_played name old new (Ok entry) p = (p.played.place, p.played.is)
 describe_played name old new (Err e) p = tt
 
-pub describe_named : (name : TableName) (old new : Played) (r : Result (Option RawTable) SourceError) → Plays 0 ⊥ (before_of old) (AnswersPlayedEntry name old) old new r → IfOk r (λ entry. IfSome entry (λ raw. raw.name ≡ name))
-describe_named name old new (Ok entry) p = subst (λ (o : Option RawTable). IfSome o (λ raw. raw.name ≡ name)) (sym (p.played.there ∙ p.played.named)) (found_named (catalogue old.tables) name)
+pub describe_named : (name : TableName) (old new : Played) (r : Result (Option RawTable) SourceError) → Plays 0 ⊥ (commits_before old) (AnswersPlayedEntry name old) old new r → IfOk r (λ entry. IfSome entry (λ raw. raw.name ≡ name))
+describe_named name old new (Ok entry) p = subst (λ (o : Option RawTable). IfSome o (λ raw. raw.name ≡ name)) (sym (p.played.found.there ∙ p.played.found.named)) (found_named (catalogue (tables_now (with_release old))) name)
 describe_named name old new (Err e) p = tt
 
-pub head_played : (old new : Played) (r : Result Lsn SourceError) → Plays 0 ⊥ (before_of old) (AnswersPlayedHead old) old new r → OnOk r (new ≡ with_head (with_release old))
+pub head_played : (old new : Played) (r : Result Lsn SourceError) → Plays 0 ⊥ (commits_before old) (AnswersPlayedHead old) old new r → OnOk r (new ≡ with_head (with_release old))
 head_played old new (Ok lsn) p = p.played.is
 head_played old new (Err e) p = tt
 
-pub start_played : (after : Lsn) (old new : Played) (r : Result Started SourceError) → Plays 0 ⊥ (before_of old) (AnswersPlayedStart after old) old new r
+pub start_played : (after : Lsn) (old new : Played) (r : Result Started SourceError) → Plays 0 ⊥ (commits_before old) (AnswersPlayedStart after old) old new r
     → IfOk r (λ started. (started ≡ started_at after old) × (new ≡ with_start after (with_release old)))
 start_played after old new (Ok started) p = (p.played.told, p.played.is)
 start_played after old new (Err e) p = tt
 
-pub read_played : (old new : Played) (r : Result (Option (List ℕ)) SourceError) → IsTrue (is_some old.place) → Plays 0 (IsUnfit (with_release old)) (before_of old) (AnswersRead old) old new r
+pub read_played : (old new : Played) (r : Result (Option (List ℕ)) SourceError) → IsTrue (is_some old.place) → Plays 0 (IsUnfit (with_release old)) (commits_before old) (AnswersRead old) old new r
     → IfOk r (λ read. (place : ReaderPosition) × (what : Last) × (new ≡ with_answer what (record (with_release old) { place = Some place; ended = is_none read })))
 read_played old new (Ok read) some p = read_plays old new read some p.played
 read_played old new (Err e) some p = tt
 
-pub read_ended : (old new : Played) (r : Result (Option (List ℕ)) SourceError) → Plays 0 (IsUnfit (with_release old)) (before_of old) (AnswersRead old) old new r
+pub read_ended : (old new : Played) (r : Result (Option (List ℕ)) SourceError) → Plays 0 (IsUnfit (with_release old)) (commits_before old) (AnswersRead old) old new r
     → IfOk r (λ read. (read ≡ None) → (place : ReaderPosition) → new.place ≡ Some place → IsAtEnd new.log place)
 read_ended old new (Ok read) p = read_at_end old new read p.played
 read_ended old new (Err e) p = tt
 
 pub select_played : (table : TableName) (above : Option Key) (limit : ℕ) (old new : Played) (r : Result Selected SourceError)
-    → Plays (length (inside_of old)) ⊥ (before_of old ++ inside_of old) (λ answer. AnswersPlayedRows table above limit old answer) old new r
+    → Plays (length (inside_of old)) ⊥ (commits_before old ++ map Changes (inside_of old)) (λ answer. AnswersPlayedRows table above limit old answer) old new r
     → IfOk r (λ answer. (answer ≡ next_selected old) × (new ≡ with_select table above limit (length old.log) (inside_of old) (with_release old)))
 select_played table above limit old new (Ok answer) p = (p.played.told, p.played.is)
 select_played table above limit old new (Err e) p = tt

@@ -39,6 +39,7 @@ use Rattle.dbl_source_log.specs.declared.logged.LogTable.{LogTable}
 use Rattle.dbl_source_log.specs.declared.logged.Logged.{Logged}
 use Rattle.dbl_source_log.specs.declared.logged.Logged.TheVariants.{Changes, Mark}
 use Rattle.dbl_source_log.specs.Relations.{first_oid, relation_column, relation_message}
+use Rattle.dbl_source_log.specs.Alterations.{IsUnaltered}
 use Rattle.dbl_source_log.specs.Sent.{oids_of, onto_relations}
 use Rattle.dbl_source_log.specs.Texts.{key_in}
 use Rattle.dbl_source_log.specs.TextRows.{TextRows, no_text_rows}
@@ -127,11 +128,15 @@ itself = record { distinct = refl; each = (refl, tt) }
 
 -- ---- its history is fit
 
+no_alteration : IsUnaltered log
+no_alteration = (tt, (tt, (tt, tt)))
+
 insert_fits : (rows : TextRows) (text : List ℕ) → IsUtf8 text → rows example_source_name (key_in example_raw_table (Some text ∷ [])) ≡ None → IsFitEntry tables rows (Changes (inserting text))
 unfolding type_of
 insert_fits rows text plain none = record {
   ranges = (omega arith, ((record { schema = plain_s; name = plain_t }, (plain, tt)), tt));
   changes = ((refl, record { wide = refl; key = (refl, tt); absent = none }), tt);
+  alters = tt;
 }
 
 fit_log : AreFitLog tables log
@@ -141,8 +146,9 @@ fit_log = record {
   ranges = (record { name = record { schema = plain_s; name = plain_t }; columns = (record { name = plain_k; oid = omega arith }, tt); key = (plain_k, tt); version = (omega arith, omega arith) }, tt);
   opening = (refl, tt);
   distinct = refl;
+  unaltered = no_alteration;
   entries = (
-    record { ranges = IsUtf8-are_ascii (codes "1-1-L") refl; changes = tt },
+    record { ranges = IsUtf8-are_ascii (codes "1-1-L") refl; changes = tt; alters = tt },
     (insert_fits no_text_rows (codes "a") plain_a refl, (insert_fits (text_rows_at tables no_text_rows (Changes (inserting (codes "a")))) (codes "b") plain_b refl, tt)),
   );
 }
@@ -219,7 +225,8 @@ fair_log : IsFairLog tables log
 fair_log = record {
   named = record { schemas = (not_empty 115 [], tt); distinct = refl };
   relations = (relation_fits, tt);
-  changes = (tt, (((change_of_table (codes "a") plain_a refl, few_faults (codes "a")), tt), (((change_of_table (codes "b") plain_b refl, few_faults (codes "b")), tt), tt)));
+  unaltered = no_alteration;
+  entries = (tt, (((change_of_table (codes "a") plain_a refl, few_faults (codes "a")), tt), (((change_of_table (codes "b") plain_b refl, few_faults (codes "b")), tt), tt)));
 }
 
 -- ---- the rows of its select are those of a position of the call: before the inserts, between them, and after them
@@ -290,8 +297,8 @@ at_place place rows low high first = record {
   place = place;
   not_before = low;
   not_after = high;
-  version = sym (version_kept history place example_source_name (keeps_columns tables log) (refl, tt));
-  are = rows_of_typed history place example_source_name None 10 rows (keeps_columns tables log) (λ infos are. elim (captured log infos are) [
+  version = sym (version_kept history place example_source_name (keeps_columns tables log no_alteration) (refl, tt));
+  are = rows_of_typed history place example_source_name None 10 rows (keeps_columns tables log no_alteration) (λ infos are. elim (captured log infos are) [
     | inl none ↦ subst (AreRows place rows) (sym none) tt
     | inr alone ↦ subst (AreRows place rows) (sym alone) (info_of, first)
   ]);
@@ -334,7 +341,7 @@ is_stale fair =
     let rows : AreAnswered history 3 3 example_source_name None 10 (first_version (row_of (codes "a") ∷ [])) = fair.selects 1 (question_of example_source_name None 10 3 3) refl in
     let place : rows.place ≡ 3 = omega (arith, rows.not_before, rows.not_after) in
     let own : (info : TableInfo) × AreFirstOf infos 0 info (rows_up_to infos history rows.place) None 10 (row_of (codes "a") ∷ []) =
-    typed_rows history rows.place example_source_name None 10 (row_of (codes "a") ∷ []) infos (keeps_columns tables log) itself rows.are in
+    typed_rows history rows.place example_source_name None 10 (row_of (codes "a") ∷ []) infos (keeps_columns tables log no_alteration) itself rows.are in
     let there : Some info_of ≡ Some own.0 = own.1.captured in
     let same : own.0 ≡ info_of = cc in
     let its : AreFirstOf infos 0 info_of (rows_up_to infos history rows.place) None 10 (row_of (codes "a") ∷ []) =

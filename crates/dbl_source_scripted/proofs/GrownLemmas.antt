@@ -31,7 +31,7 @@ module _ (tables : List LogTable) (log more : List Logged) where
   }
 
 pub commits_fair : CommitsKeepFair
-commits_fair commits s returned fit changes fair = grown_fair s.tables s.log (map Changes commits) s.asked s.rows returned fit changes fair
+commits_fair commits s returned fit changes fair = grown_fair s.tables s.log commits s.asked s.rows returned fit changes fair
 
 -- one question more, that was answered right
 asked_fair : (tables : List LogTable) (log : List Logged) (asked : List Asked) (question : Asked) (rows : List Selected) → IsAnswered tables log question (slice_index_or rows (length asked) no_rows_selected) → IsFair tables log asked rows
@@ -60,7 +60,7 @@ selects_fair table above limit from inside s returned fit changes right fair =
 pub have_returned : SelectsHaveReturned
 have_returned = record {
   first = λ raws moves rows fails n question found. cc;
-  commits = λ commits s returned n question found. omega (arith, returned n question found, length-append s.log (map Changes commits));
+  commits = λ commits s returned n question found. omega (arith, returned n question found, length-append s.log commits);
   mark = λ value s returned n question found. omega (arith, returned n question found, length-append s.log (Mark value ∷ []));
   select = λ table above limit from inside s returned. (
       let long : length (s.log ++ map Changes inside) ≡ length s.log + length inside = omega (arith, length-append s.log (map Changes inside), length-map inside Changes) in

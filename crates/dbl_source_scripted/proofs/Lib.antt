@@ -1,4 +1,6 @@
 pub mod PlayLemmas
+pub mod AlterLemmas
+pub mod FilledLemmas
 pub mod CallLemmas
 pub mod PlannedLemmas
 pub mod NewLemmas

@@ -2,31 +2,35 @@
 use Rattle.std.proofs.Common.{◌≡◌, ◌∙◌, inl, inr, ℕ, List, [], length, ap, subst}
 use Rattle.std.specs.Prelude.{Result, Ok, Err, IsErr, IfErr, OnOk, OnErr}
 use Rattle.dbl_pgmsg.specs.declared.messages.Message.{Message}
+use Rattle.dbl_source_log.specs.declared.logged.Logged.{Logged}
 use Rattle.dbl_source_log.specs.declared.error.SourceError.{SourceError}
 use Rattle.dbl_source_log.specs.declared.error.SourceError.TheVariants.{Failed, Memory}
-use Rattle.dbl_source_scripted.specs.Played.{Played, before_of, IsPlannedToFail, IsFullBy, past_move, with_counted_call, committed, with_release, FailsAsPlanned}
+use Rattle.dbl_source_scripted.specs.Played.{Played, before_of, commits_with, commits_before, IsPlannedToFail, IsFullBy, past_move, with_counted_call, committed, with_release, FailsAsPlanned}
 use Rattle.dbl_source_scripted.specs.Steps.{HasFailed}
 
 -- after what other clients commit before the call
-pub released_so : (old mid new : Played) (before : List (List Message)) → mid ≡ past_move old → before ≡ before_of old → new ≡ committed before (with_counted_call mid) → new ≡ with_release old
+pub released_so : (old mid new : Played) (before : List (List Message)) → mid ≡ past_move old → before ≡ before_of old → new ≡ committed (commits_with before mid) (with_counted_call mid) → new ≡ with_release old
 released_so old mid new before past items is =
-    is ∙ ap (λ (b : List (List Message)). committed b (with_counted_call mid)) items ∙ ap (λ (m : Played). committed (before_of old) (with_counted_call m)) past
+    is
+    ∙ ap (λ (b : List (List Message)). committed (commits_with b mid) (with_counted_call mid)) items
+    ∙ ap (λ (m : Played). committed (commits_with (before_of old) m) (with_counted_call m)) past
 
-pub planned_after : {T : Type 0} (old mid new : Played) (before : List (List Message)) (own : ℕ) (result : Result T SourceError) → mid ≡ past_move old → before ≡ before_of old → (IsFullBy (length before) own mid → result ≡ Err Failed)
-    → (IsPlannedToFail mid → IsErr result) → (IsPlannedToFail mid → before ≡ [] → result ≡ Err Failed) → (result ≡ Err Failed → HasFailed before own mid new)
-    → FailsAsPlanned own ⊥ old new result
+pub planned_after : {T : Type 0} (old mid new : Played) (before : List (List Message)) (own : ℕ) (result : Result T SourceError) → mid ≡ past_move old → before ≡ before_of old
+    → (IsFullBy (length (commits_with before mid)) own mid → result ≡ Err Failed) → (IsPlannedToFail mid → IsErr result) → (IsPlannedToFail mid → commits_with before mid ≡ [] → result ≡ Err Failed)
+    → (result ≡ Err Failed → HasFailed (commits_with before mid) own mid new) → FailsAsPlanned own ⊥ old new result
 planned_after old mid new before own result past is full listed failing failed =
-    let fails : result ≡ Err Failed → HasFailed (before_of old) own (past_move old) new =
-    subst (λ (b : List (List Message)). result ≡ Err Failed → HasFailed b own (past_move old) new) is
-    (subst (λ (m : Played). result ≡ Err Failed → HasFailed before own m new) past failed) in
+    let next : commits_with before mid ≡ commits_before old = ap (λ (m : Played). commits_with before m) past ∙ ap (λ (b : List (List Message)). commits_with b (past_move old)) is in
+    let fails : result ≡ Err Failed → HasFailed (commits_before old) own (past_move old) new =
+    subst (λ (cs : List Logged). result ≡ Err Failed → HasFailed cs own (past_move old) new) next
+    (subst (λ (m : Played). result ≡ Err Failed → HasFailed (commits_with before mid) own m new) past failed) in
     record {
       full =
-          subst (λ (b : List (List Message)). IsFullBy (length b) own old → result ≡ Err Failed) is
-          (subst (λ (m : Played). IsFullBy (length before) own m → result ≡ Err Failed) past full);
+          subst (λ (cs : List Logged). IsFullBy (length cs) own old → result ≡ Err Failed) next
+          (subst (λ (m : Played). IsFullBy (length (commits_with before mid)) own m → result ≡ Err Failed) past full);
       listed = subst (λ (m : Played). IsPlannedToFail m → IsErr result) past listed;
       failing =
-          subst (λ (b : List (List Message)). IsPlannedToFail old → b ≡ [] → result ≡ Err Failed) is
-          (subst (λ (m : Played). IsPlannedToFail m → before ≡ [] → result ≡ Err Failed) past failing);
+          subst (λ (cs : List Logged). IsPlannedToFail old → cs ≡ [] → result ≡ Err Failed) next
+          (subst (λ (m : Played). IsPlannedToFail m → commits_with before mid ≡ [] → result ≡ Err Failed) past failing);
       also = λ never. absurd never;
       failed = λ told. elim (fails told) [ inl none ↦ inl none | inr subsequent ↦ inr (inl subsequent) ];
     }

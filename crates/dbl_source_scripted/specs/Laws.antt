@@ -1,5 +1,5 @@
 -- Theorems about fair scripts.
-use Rattle.std.specs.Prelude.{◌≡◌, ◌+◌, ◌<◌, ◌≤◌, ℕ, Option, Some, List, length, map, slice_get, slice_index_or}
+use Rattle.std.specs.Prelude.{◌≡◌, ◌+◌, ◌<◌, ◌≤◌, ◌++◌, ℕ, Option, Some, List, length, map, slice_get, slice_index_or}
 use Rattle.std.specs.List.{AllByRecursion}
 use Rattle.std.specs.Str.{IsUtf8}
 use Rattle.dbl_pgmsg.specs.declared.messages.Message.{Message}
@@ -10,6 +10,8 @@ use Rattle.dbl_model_table.specs.declared.table.RawTable.{RawTable}
 use Rattle.dbl_source_model.specs.declared.selected.Selected.{Selected}
 use Rattle.dbl_source_model.specs.ModelHistory.Ranges.{IsEntryInRange}
 use Rattle.dbl_source_model.specs.ModelHistory.Fit.{IsFitHistory}
+use Rattle.dbl_source_log.specs.declared.logged.Logged.{Logged}
+use Rattle.dbl_source_log.specs.declared.logged.Logged.TheVariants.{Changes}
 use Rattle.dbl_source_log.specs.Relations.{catalogue, all_relations}
 use Rattle.dbl_source_log.specs.Histories.{history_of}
 use Rattle.dbl_source_model.specs.Stated.{IsReadRight}
@@ -54,7 +56,7 @@ HaveReturned s = (n : ℕ) (question : Asked) → slice_get s.asked n ≡ Some q
 -- If memory runs out in a call, a source that all its commits would keep fair is fair with the first ones, if each select returned before
 -- them.
 abbrev pub FirstCommitsAreFair : Type 0
-FirstCommitsAreFair = (commits : List (List Message)) (old new : Played) → HaveReturned old → AddedFirst commits old new
+FirstCommitsAreFair = (commits : List Logged) (old new : Played) → HaveReturned old → AddedFirst commits old new
     → WasFair (committed commits old) → WasFair new
 
 -- A watermark of UTF-8 text keeps a source fair, if its history has room for it.
@@ -64,7 +66,7 @@ MarksKeepFair = (value : List ℕ) (s : Played) → IsUtf8 value → length s.lo
 
 -- Other clients' commits keep a source fair if its history stays valid and they are such as a server sends.
 abbrev pub CommitsKeepFair : Type 0
-CommitsKeepFair = (commits : List (List Message)) (s : Played) → HaveReturned s
+CommitsKeepFair = (commits : List Logged) (s : Played) → HaveReturned s
     → IsFitHistory (history_of s.tables (committed commits s).log) → IsFairLog s.tables (committed commits s).log → WasFair s
     → WasFair (committed commits s)
 
@@ -72,15 +74,15 @@ CommitsKeepFair = (commits : List (List Message)) (s : Played) → HaveReturned 
 -- a server sends, and the history stays valid.
 abbrev pub SelectsKeepFair : Type 0
 SelectsKeepFair = (table : TableName) (above : Option Key) (limit from : ℕ) (inside : List (List Message)) (s : Played) → HaveReturned s
-    → IsFitHistory (history_of s.tables (committed inside s).log) → IsFairLog s.tables (committed inside s).log
-    → IsAnswered s.tables (committed inside s).log (question_of table above limit from (length s.log + length inside)) (next_selected s)
+    → IsFitHistory (history_of s.tables (s.log ++ map Changes inside)) → IsFairLog s.tables (s.log ++ map Changes inside)
+    → IsAnswered s.tables (s.log ++ map Changes inside) (question_of table above limit from (length s.log + length inside)) (next_selected s)
     → WasFair s → WasFair (with_select table above limit from inside s)
 
 -- Each select has returned in a source before its first call, and after adding other clients' commits, a watermark or a select.
 pub record SelectsHaveReturned : Type 0 where
   pub first : (raws : List RawTable) (moves : List Move) (rows : List Selected) (fails : List ℕ)
       → HaveReturned (new_played raws moves rows fails)
-  pub commits : (commits : List (List Message)) (s : Played) → HaveReturned s → HaveReturned (committed commits s)
+  pub commits : (commits : List Logged) (s : Played) → HaveReturned s → HaveReturned (committed commits s)
   pub mark : (value : List ℕ) (s : Played) → HaveReturned s → HaveReturned (with_mark value s)
   pub select : (table : TableName) (above : Option Key) (limit from : ℕ) (inside : List (List Message)) (s : Played) → HaveReturned s
       → HaveReturned (with_select table above limit from inside s)

@@ -1,4 +1,5 @@
 pub mod Moves
+pub mod AlteredRows
 pub mod Played
 pub mod Fairness
 pub mod Steps

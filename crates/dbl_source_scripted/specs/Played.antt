@@ -1,7 +1,7 @@
 -- A source that is played from a script: its fields, its state as a source, and the effect of each call.
-use Rattle.std.specs.Prelude.{◌≡◌, ◌⊎◌, ℕ, ◌+◌, ◌≤◌, nat_lt, max, Bool, true, false, if◌then◌else◌}
+use Rattle.std.specs.Prelude.{◌≡◌, ◌⊎◌, ℕ, ◌+◌, ◌≤◌, ◌==◌, nat_lt, max, Bool, true, false, if◌then◌else◌}
 use Rattle.std.specs.Prelude.{Contains, Option, Some, None, option_map, unwrap_or, Result}
-use Rattle.std.specs.Prelude.{Err, IsErr, slice_get, slice_index_or, List, [], ◌∷◌, ◌++◌, length, map, drop}
+use Rattle.std.specs.Prelude.{Err, IsErr, slice_get, slice_index_or, List, [], ◌∷◌, ◌++◌, length, map, filter, drop}
 use Rattle.dbl_base.specs.declared.lsn.Lsn.{Lsn}
 use Rattle.dbl_base.specs.Streams.{incremented}
 use Rattle.dbl_base.specs.Memory.{Plan, new_plan}
@@ -20,22 +20,26 @@ use Rattle.dbl_source_log.specs.declared.logged.Logged.{Logged}
 use Rattle.dbl_source_log.specs.declared.logged.Logged.TheVariants.{Changes, Mark}
 use Rattle.dbl_source_log.specs.declared.reader_position.ReaderPosition.{ReaderPosition}
 use Rattle.dbl_source_log.specs.Numbers.{lsn_of}
+use Rattle.dbl_source_log.specs.Alterations.{tables_through}
 use Rattle.dbl_source_log.specs.Sent.{told_at}
 use Rattle.dbl_source.specs.LogStates.{log_state, entry_at}
 use Rattle.dbl_source_scripted.specs.declared.asked.Asked.{Asked}
 use Rattle.dbl_source_scripted.specs.declared.asked.Last.{Last}
 use Rattle.dbl_source_scripted.specs.declared.asked.Last.TheVariants as answers
 use Rattle.dbl_source_scripted.specs.declared.moves.Move.{Move}
+use Rattle.dbl_source_scripted.specs.declared.moves.PlannedAlteration.{PlannedAlteration}
+use Rattle.dbl_source_scripted.specs.AlteredRows.{bare_alteration, filled}
 use Rattle.dbl_source_scripted.specs.Fairness.{no_rows_selected}
 use Rattle.dbl_source_log.specs.declared.error.SourceError.{SourceError}
 use Rattle.dbl_source_log.specs.declared.error.SourceError.TheVariants.{Failed}
 use Rattle.dbl_source_log.specs.Numbers.{commit_limit}
 
--- A played source: the script's tables, remaining moves and rows; the selects so far; the log, confirmed position and reader; the planned
--- failures; the last answer; and whether the last read found the end and the source can be used.
+-- A played source: the script's tables, remaining moves, alterations and rows; the selects so far; the log, confirmed position and reader;
+-- the planned failures; the last answer; and whether the last read found the end and the source can be used.
 pub record Played : Type 0 where
   pub tables : List LogTable
   pub moves : List Move
+  pub alters : List PlannedAlteration
   pub rows : List Selected
   pub asked : List Asked
   pub log : List Logged
@@ -55,6 +59,7 @@ abbrev pub new_played : List RawTable → List Move → List Selected → List �
 new_played tables moves rows fails = record {
   tables = map keyed_table tables;
   moves = moves;
+  alters = [];
   rows = rows;
   asked = [];
   log = [];
@@ -65,6 +70,10 @@ new_played tables moves rows fails = record {
   ended = false;
   live = true;
 }
+
+-- The tables with the columns and versions in force at the log's end.
+abbrev pub tables_now : Played → List LogTable
+tables_now s = tables_through s.log s.tables
 
 -- ---- its state as a source
 
@@ -80,7 +89,7 @@ played_messages s = unwrap_or (option_map (told_at s.tables s.log) s.place) []
 
 -- The last answer as the source reports it.
 abbrev pub answer_of : Played → Last → Answer
-answer_of s (answers.Described place) = Described (entry_at s.tables place)
+answer_of s (answers.Described place) = Described (entry_at (tables_now s) place)
 answer_of s (answers.Head lsn) = Head lsn
 answer_of s (answers.Began started) = Began started
 answer_of s answers.Nothing = Read None
@@ -102,6 +111,34 @@ before_of s = unwrap_or (option_map (λ move. move.before) (slice_get s.moves 0)
 abbrev pub inside_of : Played → List (List Message)
 inside_of s = unwrap_or (option_map (λ move. move.inside) (slice_get s.moves 0)) []
 
+-- An alteration at the call with this number.
+abbrev pub planned_alteration : ℕ → RawTable → PlannedAlteration
+planned_alteration call raw = record { call = call; raw = raw }
+
+-- The tables that the call of this number alters, with their new columns, in the order in which they were given.
+abbrev pub altered_at : ℕ → List PlannedAlteration → List RawTable
+altered_at call alters = map (λ alter. alter.raw) (filter (λ alter. alter.call == call) alters)
+
+-- The commits of these alterations and then of these changes, the alterations without their rows.
+abbrev pub bare_commits : List RawTable → List (List Message) → List Logged
+bare_commits raws before = map bare_alteration raws ++ map Changes before
+
+-- What is committed before the call of this number, if other clients have these changes: its alterations, and then the changes.
+abbrev pub commits_at : ℕ → List (List Message) → Played → List Logged
+commits_at call before s = filled s.tables s.log (bare_commits (altered_at call s.alters) before)
+
+-- What is committed before the call that was counted last.
+abbrev pub commits_counted : List (List Message) → Played → List Logged
+commits_counted before s = commits_at s.plan.calls before s
+
+-- What is committed before the next call, if other clients have these changes.
+abbrev pub commits_with : List (List Message) → Played → List Logged
+commits_with before s = commits_at (incremented s.plan.calls) before s
+
+-- What is committed before the next call.
+abbrev pub commits_before : Played → List Logged
+commits_before s = commits_with (before_of s) s
+
 -- Whether the next call is planned to fail.
 abbrev pub IsPlannedToFail : Played → Type 0
 IsPlannedToFail s = Contains s.plan.planned (incremented s.plan.calls)
@@ -110,9 +147,9 @@ IsPlannedToFail s = Contains s.plan.planned (incremented s.plan.calls)
 abbrev pub IsFullBy : ℕ → ℕ → Played → Type 0
 IsFullBy before own s = (commit_limit ≤ length s.log + before) ⊎ ((¬ IsPlannedToFail s) × (commit_limit ≤ length s.log + before + own))
 
--- Whether the history would reach 2^40 commits with those of other clients before the next call.
+-- Whether the history would reach 2^40 commits with those before the next call.
 abbrev pub IsFull : ℕ → Played → Type 0
-IsFull own s = IsFullBy (length (before_of s)) own s
+IsFull own s = IsFullBy (length (commits_before s)) own s
 
 -- The state after a move is used up; the source can't be used until it answers.
 abbrev pub past_move : Played → Played
@@ -122,17 +159,17 @@ past_move s = record s { moves = drop 1 s.moves; live = false }
 abbrev pub with_counted_call : Played → Played
 with_counted_call s = record s { plan = record s.plan { calls = incremented s.plan.calls } }
 
--- The state after other clients' commits.
-abbrev pub committed : List (List Message) → Played → Played
-committed commits s = record s { log = s.log ++ map Changes commits }
+-- The state after further commits.
+abbrev pub committed : List Logged → Played → Played
+committed commits s = record s { log = s.log ++ commits }
 
 -- The state after a call begins.
 abbrev pub called : Played → Played
 called s = with_counted_call (past_move s)
 
--- The state after a call begins and other clients' commits before it.
+-- The state after a call begins, with the commits before it.
 abbrev pub with_release : Played → Played
-with_release s = committed (before_of s) (called s)
+with_release s = committed (commits_before s) (called s)
 
 -- The state after a call that fails counts a fault.
 abbrev pub with_fault : Played → Played
@@ -143,7 +180,7 @@ with_fault s = record s { plan = record s.plan { faults = incremented s.plan.fau
 pub record FailsAsPlanned {T : Type 0} (own : ℕ) (more : Type 0) (old new : Played) (result : Result T SourceError) : Type 0 where
   pub full : IsFull own old → result ≡ Err Failed
   pub listed : IsPlannedToFail old → IsErr result
-  pub failing : IsPlannedToFail old → before_of old ≡ [] → result ≡ Err Failed
+  pub failing : IsPlannedToFail old → commits_before old ≡ [] → result ≡ Err Failed
   pub also : more → IsErr result
   pub failed : result ≡ Err Failed
       → (IsFull own old × (new ≡ with_fault (called old)))

@@ -4,10 +4,9 @@ use Rattle.std.specs.Prelude.{is_some, Option, Some, None, option_map}
 use Rattle.dbl_source_model.specs.ModelHistory.History.{IsRising}
 use Rattle.dbl_source_model.specs.ModelHistory.Fit.{IsFitHistory}
 use Rattle.dbl_source_model.specs.Standings.{Reading, SourceState, CrashState, left_of}
-use Rattle.dbl_source_model.specs.Growth.{KeepsColumns}
 use Rattle.dbl_source_model.specs.Stated.{IsReadRight}
 use Rattle.dbl_source_log.specs.declared.reader_position.ReaderPosition.{ReaderPosition}
-use Rattle.dbl_source_log.proofs.LogLemmas.{is_rising, keeps_columns}
+use Rattle.dbl_source_log.proofs.LogLemmas.{is_rising}
 use Rattle.dbl_source_log.proofs.ReaderLemmas.{read_right}
 use Rattle.dbl_source_scripted.specs.Played.{Played, standing_of}
 use Rattle.dbl_source.specs.LogStates.{reading_at}
@@ -36,10 +35,6 @@ reads_so source s a = ap (λ (t : SourceState). is_some t.reading) a.1 ∙ same_
 -- The LSNs of a played source's history rise.
 pub rising_so : (source : Played) (s : SourceState) → HasPlayedState source s → IsRising s.history
 rising_so source s a = subst (λ (t : SourceState). IsRising t.history) (sym a.1) (is_rising source.tables source.log)
-
--- No commit of a played source's history alters a table.
-pub unaltered_so : (source : Played) (s : SourceState) → HasPlayedState source s → KeepsColumns s.history
-unaltered_so source s a = subst (λ (t : SourceState). KeepsColumns t.history) (sym a.1) (keeps_columns source.tables source.log)
 
 -- A crash of a fair source leaves a valid history.
 pub fit_so : (source : Played) (l : CrashState) → MayLeavePlayed source l → WasFair source → IsFitHistory l.history

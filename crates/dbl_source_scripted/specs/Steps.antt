@@ -1,14 +1,15 @@
 -- A source that is played from a script as a `Source`, and the results of its `read`.
-use Rattle.std.specs.Prelude.{◌≡◌, ◌⊎◌, ℕ, ◌<◌, ◌≤◌, IsTrue, Option, Some, IsSomeAnd, slice_get, List, ◌∷◌, ◌++◌, length, map, take}
-use Rattle.std.specs.BTreeSet.{BTreeSet}
+use Rattle.std.specs.Prelude.{◌≡◌, ◌⊎◌, ℕ, ◌<◌, ◌≤◌, IsTrue, Option, Some, IsSomeAnd, slice_get, List, ◌∷◌, ◌++◌, length, take}
+use Rattle.std.specs.BTreeMap.{BTreeMap}
 use Rattle.dbl_base.specs.Memory.{Plan}
 use Rattle.dbl_pgmsg.specs.declared.messages.Message.{Message}
+use Rattle.dbl_pgmsg.specs.declared.messages.RelationColumn.{RelationColumn}
 use Rattle.dbl_pgmsg.specs.Grammar.{Fits, Spells}
 use Rattle.dbl_source_model.specs.Standings.{SourceState, CrashState, left_of}
 use Rattle.dbl_source_log.specs.declared.logged.LogTable.{LogTable}
 use Rattle.dbl_source_log.specs.declared.logged.Logged.{Logged}
-use Rattle.dbl_source_log.specs.declared.logged.Logged.TheVariants.{Changes}
 use Rattle.dbl_source_log.specs.declared.reader_position.ReaderPosition.{ReaderPosition}
+use Rattle.dbl_source_log.specs.Alterations.{HaveVersions}
 use Rattle.dbl_source_log.specs.Sent.{sent_after, index_of, told_at, IsPlaceIn}
 use Rattle.dbl_source_scripted.specs.declared.asked.Asked.{Asked}
 use Rattle.dbl_source_log.specs.declared.error.SourceError.{SourceError}
@@ -46,11 +47,11 @@ HasCountedCall old plan = ((¬ IsPlannedToFail old) × (plan ≡ (with_counted_c
 
 -- Whether memory ran out in a call that was to add these commits: some first ones of them are in the log, and nothing else changed but the
 -- counts of the plan.
-pub record AddedFirst (commits : List (List Message)) (old new : Played) : Type 0 where
+pub record AddedFirst (commits : List Logged) (old new : Played) : Type 0 where
   pub count : ℕ
   pub few : count ≤ length commits
   pub counts : HasCountedCall old new.plan
-  pub is : new ≡ record old { log = old.log ++ map Changes (take count commits); plan = new.plan }
+  pub is : new ≡ record old { log = old.log ++ take count commits; plan = new.plan }
 
 -- ---- for private clauses and invariants
 
@@ -62,14 +63,14 @@ pub record KeepsPlayed (s : Played) : Type 0 where
   pub placed : (p : ReaderPosition) → s.place ≡ Some p → IsPlaceIn s.log p
 
 -- Whether some first ones of these commits were appended to the log.
-pub record HasPlayed (commits : List (List Message)) (old new : List Logged) : Type 0 where
+pub record HasPlayed (commits old new : List Logged) : Type 0 where
   pub count : ℕ
   pub few : count ≤ length commits
-  pub is : new ≡ old ++ map Changes (take count commits)
+  pub is : new ≡ old ++ take count commits
 
 -- Whether a call that was to add these commits of other clients, and some of its own, failed: with nothing committed if the history is
 -- full, otherwise after these commits if it was planned to fail.
-abbrev pub HasFailed : List (List Message) → ℕ → Played → Played → Type 0
+abbrev pub HasFailed : List Logged → ℕ → Played → Played → Type 0
 HasFailed before own old new =
     (IsFullBy (length before) own old × (new ≡ with_fault (with_counted_call old)))
     ⊎ (IsPlannedToFail old × (¬ IsFullBy (length before) own old) × (new ≡ with_fault (committed before (with_counted_call old))))
@@ -104,10 +105,12 @@ pub record IsUnmoved (old new : Played) : Type 0 where
 abbrev pub FailsToRead : Played → Played → SourceError → Type 0
 FailsToRead old new e = ((e ≡ Memory) × (new ≡ old)) ⊎ ((e ≡ Failed) × (new ≡ with_fault old) × IsUnfit old)
 
--- The invariant of the parts of each played source.
+-- The invariant of the parts of each played source: as above, with the Relations that the reader has read as they were described; and the
+-- versions of its tables have 64 bits after any alterations.
 pub record IsPlayed (tables : List LogTable) (log : List Logged) (asked : List Asked) (place : Option ReaderPosition)
-    (described : BTreeSet ℕ) : Type 0 where
+    (described : BTreeMap ℕ (List RelationColumn)) : Type 0 where
   pub few : length log < commit_limit
   pub before : (n : ℕ) (question : Asked) → slice_get asked n ≡ Some question → question.upto ≤ length log
   pub placed : (p : ReaderPosition) → place ≡ Some p → IsPlaceIn log p
   pub recalled : (p : ReaderPosition) → place ≡ Some p → Describes described (told_at tables log p)
+  pub versions : HaveVersions commit_limit tables

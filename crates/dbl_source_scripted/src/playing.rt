@@ -1,19 +1,18 @@
 //! How a source plays its script: the begin of a call, its effect and its answer. The contracts of
 //! these functions name the resulting state.
 
-ghost use Rattle.std.specs.Prelude.{◌≡◌, ◌+◌, ◌≤◌, ◌<◌, ◌++◌, ◌∷◌, [], false, length, max, Option};
-ghost use Rattle.std.specs.Prelude.{option_copied, Err, IsErr, IfOk, IfErr, OnOk, OnErr};
-ghost use Rattle.dbl_source_model.specs.ModelHistory.History.{entry_of};
-ghost use Rattle.dbl_source_log.specs.declared.logged.Logged.TheVariants.{Mark};
-ghost use Rattle.dbl_source_log.specs.Histories.{history_of};
+ghost use Rattle.std.specs.Prelude.{◌≡◌, ◌↔◌, ◌+◌, ◌≤◌, ◌<◌, ◌++◌, ◌∷◌, [], false, true, length};
+ghost use Rattle.std.specs.Prelude.{map, max, IsTrue};
+ghost use Rattle.std.specs.Prelude.{Option, option_copied, Err, IsErr, IfOk, IfErr, OnOk, OnErr};
+ghost use Rattle.dbl_source_log.specs.declared.logged.Logged.TheVariants.{Changes, Mark};
 ghost use Rattle.dbl_source_log.specs.Numbers.{lsn_of, commit_limit};
 ghost use Rattle.dbl_source_log.specs.declared.error.SourceError.TheVariants.{Failed, Memory};
 ghost use Rattle.dbl_source_scripted.specs.Exits.{Plays, AnswersPlayedEntry, AnswersPlayedHead};
 ghost use Rattle.dbl_source_scripted.specs.Exits.{AnswersPlayedStart, HasReadNext, AnswersRead};
-ghost use Rattle.dbl_source_scripted.specs.Exits.{AnswersPlayedRows};
+ghost use Rattle.dbl_source_scripted.specs.Exits.{AnswersPlayedRows, IsFound};
 ghost use Rattle.dbl_source_scripted.specs.Moves.{HasRoom};
-ghost use Rattle.dbl_source_scripted.specs.Played.{before_of, inside_of, IsPlannedToFail};
-ghost use Rattle.dbl_source.specs.LogStates.{entry_at};
+ghost use Rattle.dbl_source_scripted.specs.Played.{tables_now, before_of, inside_of, commits_counted};
+ghost use Rattle.dbl_source_scripted.specs.Played.{commits_with, commits_before, IsPlannedToFail};
 ghost use Rattle.dbl_source_scripted.specs.Played.{IsFullBy, past_move, with_counted_call, committed};
 ghost use Rattle.dbl_source_scripted.specs.Played.{with_release, with_fault, FailsAsPlanned};
 ghost use Rattle.dbl_source_scripted.specs.Played.{with_answer, with_mark, with_confirmed, started_at};
@@ -23,12 +22,14 @@ ghost use Rattle.dbl_source_scripted.specs.Steps.{IsUnfit, ReadsNextMessage, IsR
 
 use crate::asked::{Last, question, selected_at};
 use crate::catalogue::{entry_at, place_of};
-use crate::moves::{Move, append, has_room, no_move};
+use crate::moves::{Move, append, append_before, count_altered, has_room, no_move};
 use crate::{ScriptedSource, SourceError};
 use dbl_base::{Bytes, Lsn, Seq, Text};
 use dbl_model_table::{Key, RawTable, TableName};
 use dbl_pgmsg::Message;
-use dbl_source_log::{Logged, ReaderPosition, Step, commits_upto, lsn_of, next_step, remember};
+use dbl_source_log::{
+    Logged, ReaderPosition, Step, commits_upto, lsn_of, next_step, remember, tables_through,
+};
 use dbl_source_model::{Selected, Started};
 
 impl ScriptedSource {
@@ -48,11 +49,12 @@ impl ScriptedSource {
         }
     }
 
-    // Appends other clients' commits. Besides a watermark, only this makes the log grow.
+    // Appends other clients' changes.
     fn commit(&mut self, commits: Vec<Seq<Message>>) -> Result<(), SourceError>
         requires { length self.old.log + length commits.items < commit_limit }
-        ensures ok { OnOk result (self.new ≡ committed commits.items self.old) }
-        ensures err { OnErr result (HasPlayed commits.items self.old.log self.new.log) }
+        ensures ok { OnOk result (self.new ≡ committed (map Changes commits.items) self.old) }
+        ensures err { OnErr result
+            (HasPlayed (map Changes commits.items) self.old.log self.new.log) }
         ensures kept { OnErr result (self.new ≡ record self.old { log = self.new.log }) }
         ensures memory { IfErr result (λ e. e ≡ Memory) }
         ensures none { commits.items ≡ [] → OnErr result ⊥ }
@@ -61,27 +63,71 @@ impl ScriptedSource {
         Ok(())
     }
 
+    // Counts the call, and whether it is planned to fail.
+    fn count_call(&mut self) -> bool
+        ensures listed { IsTrue result ↔ IsPlannedToFail self.old }
+        ensures ok { result ≡ false → self.new ≡ with_counted_call self.old }
+        ensures err { result ≡ true → self.new ≡ with_fault (with_counted_call self.old) }
+        ensures later { self.old.plan.faults ≤ self.new.plan.faults }
+    {
+        self.calls = self.calls.saturating_add(1);
+        self.plan.call().is_err()
+    }
+
+    // Whether the history has room for what is committed before the counted call, and for some
+    // commits of its own.
+    fn has_room_for(&self, before: &Vec<Seq<Message>>, own: usize) -> bool
+        ensures { IsTrue result ↔ HasRoom (length self.now.log)
+            (length (commits_counted before.now.items self.now)) own }
+    {
+        let altered = count_altered(&self.alters, self.calls);
+        has_room(self.log.len(), altered.saturating_add(before.len()), own)
+    }
+
+    // Appends the alterations at the counted call, and then these changes.
+    fn commit_before(&mut self, before: Vec<Seq<Message>>) -> Result<(), SourceError>
+        requires { length self.old.log + length (commits_counted before.items self.old)
+            < commit_limit }
+        ensures ok { OnOk result
+            (self.new ≡ committed (commits_counted before.items self.old) self.old) }
+        ensures err { OnErr result
+            (HasPlayed (commits_counted before.items self.old) self.old.log self.new.log) }
+        ensures kept { OnErr result (self.new ≡ record self.old { log = self.new.log }) }
+        ensures memory { IfErr result (λ e. e ≡ Memory) }
+        ensures none { commits_counted before.items self.old ≡ [] → OnErr result ⊥ }
+    {
+        append_before(self.alloc, &mut self.log, &self.alters, self.calls, before)?;
+        Ok(())
+    }
+
     // Counts the call and appends the commits before it to the log; or fails, as planned or if the
     // history is full.
     fn begin(&mut self, before: Vec<Seq<Message>>, own: usize) -> Result<(), SourceError>
-        ensures ok { OnOk result (self.new ≡ committed before.items (with_counted_call self.old)) }
-        ensures room { OnOk result (HasRoom (length self.old.log) (length before.items) own) }
-        ensures full { IsFullBy (length before.items) own self.old → result ≡ Err Failed }
+        ensures ok { OnOk result
+            (self.new ≡ committed (commits_with before.items self.old)
+            (with_counted_call self.old)) }
+        ensures room { OnOk result (HasRoom (length self.old.log)
+            (length (commits_with before.items self.old)) own) }
+        ensures full { IsFullBy (length (commits_with before.items self.old)) own self.old
+            → result ≡ Err Failed }
         ensures listed { IsPlannedToFail self.old → IsErr result }
-        ensures failing { IsPlannedToFail self.old → before.items ≡ [] → result ≡ Err Failed }
-        ensures failed { result ≡ Err Failed → HasFailed before.items own self.old self.new }
-        ensures memory { result ≡ Err Memory → AddedFirst before.items self.old self.new }
+        ensures failing { IsPlannedToFail self.old → commits_with before.items self.old ≡ []
+            → result ≡ Err Failed }
+        ensures failed { result ≡ Err Failed
+            → HasFailed (commits_with before.items self.old) own self.old self.new }
+        ensures memory { result ≡ Err Memory
+            → AddedFirst (commits_with before.items self.old) self.old self.new }
         ensures later { self.old.plan.faults ≤ self.new.plan.faults }
     {
-        let listed = self.plan.call().is_err();
+        let listed = self.count_call();
         let own = if listed { 0 } else { own };
-        if !has_room(self.log.len(), before.len(), own) {
+        if !self.has_room_for(&before, own) {
             if listed {
                 return Err(SourceError::Failed);
             }
             return Err(SourceError::from(self.plan.fault()));
         }
-        self.commit(before)?;
+        self.commit_before(before)?;
         if listed {
             Err(SourceError::Failed)
         } else {
@@ -93,11 +139,11 @@ impl ScriptedSource {
     fn release(&mut self, own: usize) -> Result<(), SourceError>
         ensures ok { OnOk result (self.new ≡ with_release self.old) }
         ensures room { OnOk result
-            (HasRoom (length self.old.log) (length (before_of self.old)) own) }
+            (HasRoom (length self.old.log) (length (commits_before self.old)) own) }
         ensures was { KeepsPlayed self.old }
         ensures planned { FailsAsPlanned own ⊥ self.old self.new result }
         ensures memory { result ≡ Err Memory
-            → AddedFirst (before_of self.old) (past_move self.old) self.new }
+            → AddedFirst (commits_before self.old) (past_move self.old) self.new }
         ensures later { self.old.plan.faults ≤ self.new.plan.faults }
     {
         let Move { before, inside: _ } = self.next_move();
@@ -108,14 +154,15 @@ impl ScriptedSource {
     // that rows may also be of positions after the commits inside of it.
     fn release_around(&mut self) -> Result<(), SourceError>
         ensures ok { OnOk result
-            (self.new ≡ committed (inside_of self.old) (with_release self.old)) }
+            (self.new ≡ committed (map Changes (inside_of self.old)) (with_release self.old)) }
         ensures was { KeepsPlayed self.old }
         ensures planned { FailsAsPlanned (length (inside_of self.old)) ⊥
             self.old self.new result }
         ensures memory { result ≡ Err Memory
-            → AddedFirst (before_of self.old ++ inside_of self.old) (past_move self.old) self.new }
+            → AddedFirst (commits_before self.old ++ map Changes (inside_of self.old))
+            (past_move self.old) self.new }
         ensures listed { IsPlannedToFail self.old → result ≡ Err Memory
-            → AddedFirst (before_of self.old) (past_move self.old) self.new }
+            → AddedFirst (commits_before self.old) (past_move self.old) self.new }
         ensures later { self.old.plan.faults ≤ self.new.plan.faults }
     {
         let Move { before, inside } = self.next_move();
@@ -143,18 +190,14 @@ impl ScriptedSource {
 
     // ---- effects
 
-    fn find(&self, name: &TableName) -> Option<usize>
-        ensures { entry_at self.now.tables result
-            ≡ entry_of (history_of self.now.tables []) name.now }
-    {
-        place_of(&self.tables, name)
-    }
-
-    fn entry(&self, place: Option<usize>) -> Result<Option<RawTable>, SourceError>
-        ensures ok { IfOk result (λ entry. entry ≡ entry_at self.now.tables place) }
+    // The index of the table of this name, and its entry in force at the log's end.
+    fn find(&self, name: &TableName) -> Result<(Option<usize>, Option<RawTable>), SourceError>
+        ensures ok { IfOk result (IsFound name.now (tables_now self.now)) }
         ensures err { IfErr result (λ e. e ≡ Memory) }
     {
-        Ok(entry_at(self.alloc, &self.tables, place)?)
+        let tables = tables_through(self.alloc, &self.log, &self.tables)?;
+        let place = place_of(&tables, name);
+        Ok((place, entry_at(self.alloc, &tables, place)?))
     }
 
     fn last_lsn(&self) -> Lsn
@@ -230,14 +273,16 @@ impl ScriptedSource {
         let Some(entry) = self.log.get(index) else {
             return Ok(None);
         };
+        let tables = tables_through(self.alloc, &self.log[..index], &self.tables)?;
         let next = next_step(
             self.alloc,
-            &self.tables,
+            &tables,
             entry,
             &self.described,
             place,
             index as u64 + 1,
         );
+        drop(tables);
         match next {
             Ok(next) => Ok(Some(self.advance(next)?)),
             Err(error) => Err(self.note_unread(error)),
@@ -314,18 +359,17 @@ impl ScriptedSource {
         &mut self,
         name: &TableName,
     ) -> Result<Option<RawTable>, SourceError>
-        ensures { Plays 0 ⊥ (before_of self.old) (AnswersPlayedEntry name.now self.old)
+        ensures { Plays 0 ⊥ (commits_before self.old) (AnswersPlayedEntry name.now self.old)
             self.old self.new result }
     {
         self.release(0)?;
-        let place = self.find(name);
-        let entry = self.entry(place)?;
+        let (place, entry) = self.find(name)?;
         self.answer(Last::Described(place));
         Ok(entry)
     }
 
     pub(crate) fn play_head(&mut self) -> Result<Lsn, SourceError>
-        ensures { Plays 0 ⊥ (before_of self.old) (AnswersPlayedHead self.old) self.old
+        ensures { Plays 0 ⊥ (commits_before self.old) (AnswersPlayedHead self.old) self.old
             self.new result }
     {
         self.release(0)?;
@@ -335,7 +379,7 @@ impl ScriptedSource {
     }
 
     pub(crate) fn play_start(&mut self, after: Lsn) -> Result<Started, SourceError>
-        ensures { Plays 0 ⊥ (before_of self.old) (AnswersPlayedStart after self.old)
+        ensures { Plays 0 ⊥ (commits_before self.old) (AnswersPlayedStart after self.old)
             self.old self.new result }
     {
         self.release(0)?;
@@ -345,7 +389,7 @@ impl ScriptedSource {
     }
 
     pub(crate) fn play_read(&mut self) -> Result<Option<Bytes>, SourceError>
-        ensures { Plays 0 (IsUnfit (with_release self.old)) (before_of self.old)
+        ensures { Plays 0 (IsUnfit (with_release self.old)) (commits_before self.old)
             (AnswersRead self.old)
             self.old self.new result }
     {
@@ -369,11 +413,11 @@ impl ScriptedSource {
         limit: u32,
     ) -> Result<Selected, SourceError>
         ensures plays { Plays (length (inside_of self.old)) ⊥
-            (before_of self.old ++ inside_of self.old)
+            (commits_before self.old ++ map Changes (inside_of self.old))
             (AnswersPlayedRows table.now (option_copied above.entry) limit self.old)
             self.old self.new result }
         ensures listed { IsPlannedToFail self.old → result ≡ Err Memory
-            → AddedFirst (before_of self.old) (past_move self.old) self.new }
+            → AddedFirst (commits_before self.old) (past_move self.old) self.new }
     {
         let from = self.count();
         self.release_around()?;
@@ -385,7 +429,7 @@ impl ScriptedSource {
     }
 
     pub(crate) fn play_mark(&mut self, value: &Text) -> Result<(), SourceError>
-        ensures { Plays 1 ⊥ (before_of self.old) (λ done new. new ≡ with_mark value.now
+        ensures { Plays 1 ⊥ (commits_before self.old) (λ done new. new ≡ with_mark value.now
             (with_release self.old)) self.old self.new result }
     {
         self.release(1)?;
@@ -395,7 +439,7 @@ impl ScriptedSource {
     }
 
     pub(crate) fn play_confirm(&mut self, upto: Lsn) -> Result<(), SourceError>
-        ensures { Plays 0 ⊥ (before_of self.old) (λ done new. new ≡ with_confirmed upto
+        ensures { Plays 0 ⊥ (commits_before self.old) (λ done new. new ≡ with_confirmed upto
             (with_release self.old)) self.old self.new result }
     {
         self.release(0)?;

@@ -19,7 +19,9 @@ ghost use Rattle.dbl_source_model.specs.Trace.{IsTakenBy, IsTakenAnew, LastAnswe
 ghost use Rattle.dbl_source_log.specs.Relations.{catalogue, all_relations, oid_limit};
 ghost use Rattle.dbl_source_scripted.specs.declared.asked.Last.TheVariants as answers;
 ghost use Rattle.dbl_source_log.specs.declared.error.SourceError.TheVariants.{Failed, Memory};
-ghost use Rattle.dbl_source_scripted.specs.Played.{keyed_table, new_played, trace_of, before_of, inside_of};
+ghost use Rattle.dbl_source_log.specs.declared.logged.Logged.TheVariants.{Changes};
+ghost use Rattle.dbl_source_scripted.specs.Played.{keyed_table, new_played, trace_of, commits_before};
+ghost use Rattle.dbl_source_scripted.specs.Played.{inside_of, planned_alteration};
 ghost use Rattle.dbl_source_scripted.specs.Played.{IsPlannedToFail, past_move, with_release, FailsAsPlanned};
 ghost use Rattle.dbl_source_scripted.specs.Played.{with_answer, with_mark, with_confirmed, started_at};
 ghost use Rattle.dbl_source_scripted.specs.Played.{with_start, with_head, next_selected, with_select};
@@ -28,21 +30,21 @@ ghost use Rattle.dbl_source_scripted.specs.Steps.{MayLeavePlayed, WasFair, IsUnf
 
 use crate::asked::{Asked, Last};
 use crate::catalogue::keyed_tables;
-use crate::moves::Move;
+use crate::moves::{Move, PlannedAlteration};
 use crate::{Source, SourceError};
 use dbl_base::{Bytes, FaultPlan, Lsn, Text};
 use dbl_model_table::{Key, RawTable, TableName};
-use dbl_source_log::{LogTable, Logged, ReaderPosition};
+use dbl_source_log::{Described, LogTable, Logged, ReaderPosition};
 use dbl_source_model::{Selected, Started};
 use std::alloc::Global;
-use std::collections::BTreeSet;
+use std::collections::BTreeMap;
 use std::marker::Model;
 use std::vec::IntoIter;
 
 /// A source that plays a script: other clients' commits before each call, and inside of each
-/// `select` between the rows that it takes and its return; an answer for each `select`; and the
-/// calls that fail. Commits inside of another call can be scripted before that call or before the
-/// next one.
+/// `select` between the rows that it takes and its return; alterations of tables before the others
+/// of a call; an answer for each `select`; and the calls that fail. Commits inside of another call
+/// can be scripted before that call or before the next one.
 ///
 /// It conforms if the script was fair so far: `fair_scripts_are_honest`.
 #[derive(Drop)]
@@ -50,13 +52,18 @@ pub struct ScriptedSource {
     pub(crate) alloc: Global,
     pub(crate) tables: Vec<LogTable>,
     pub(crate) moves: IntoIter<Move>,
+    // In the order in which they were given.
+    pub(crate) alters: Vec<PlannedAlteration>,
     pub(crate) rows: Vec<Selected>,
     pub(crate) asked: Vec<Asked>,
+    // Its alterations are without their rows.
     pub(crate) log: Vec<Logged>,
     pub(crate) confirmed: Lsn,
     pub(crate) place: Option<ReaderPosition>,
-    // The tables that Relations have described since the last start.
-    pub(crate) described: BTreeSet<u32>,
+    // The tables' columns as Relations have described them since the last start.
+    pub(crate) described: Described,
+    // The number of calls so far, as the plan counts them.
+    pub(crate) calls: u64,
     pub(crate) plan: FaultPlan,
     pub(crate) last: Last,
     // Whether the last read since the last start answered that nothing is left.
@@ -65,6 +72,8 @@ pub struct ScriptedSource {
 }
 
 impl Model for ScriptedSource {
+    ghost use Rattle.std.specs.Prelude.{◌≡◌, []};
+    ghost use Rattle.dbl_source_scripted.specs.AlteredRows.{filled};
     ghost use Rattle.dbl_source_scripted.specs.Played.{Played};
     ghost use Rattle.dbl_source_scripted.specs.Steps.{IsPlayed};
 
@@ -75,7 +84,8 @@ impl Model for ScriptedSource {
     ghost view = { played_of };
 
     ghost invariant = { λ s.
-        IsPlayed s.tables.items s.log.items s.asked.items s.place s.described };
+        IsPlayed s.tables.items (filled s.tables.items [] s.log.items) s.asked.items s.place
+        s.described × (s.calls ≡ s.plan.calls) };
 }
 
 impl ScriptedSource {
@@ -114,17 +124,38 @@ impl ScriptedSource {
             alloc,
             tables,
             moves: moves.into_iter(),
+            alters: Vec::new(alloc),
             rows,
             asked: Vec::new(alloc),
             log: Vec::new(alloc),
             confirmed: Lsn(0),
             place: None,
-            described: BTreeSet::new(alloc),
+            described: BTreeMap::new(alloc),
+            calls: 0,
             plan: FaultPlan::make(fails),
             last: Last::Done,
             ended: false,
             live: true,
         })
+    }
+
+    /// Adds an alteration to the script: call number `call`, from 1, commits before its other
+    /// commits that the table of this name gets these columns and the next version. Its rows are
+    /// those just before, in the new columns: a cell has the text of the first old column of its
+    /// name, and is null if there was none. Alterations of one call are committed in the order in
+    /// which they were given.
+    ///
+    /// `raw` names one of the source's tables; an alteration of any other changes none. Its `key`
+    /// and `version` are ignored. A call that was made already alters nothing.
+    pub fn alter(&mut self, call: u64, raw: RawTable) -> Result<(), SourceError>
+        ensures ok { OnOk result (self.new ≡ record self.old {
+          alters = self.old.alters ++ planned_alteration call raw ∷ [];
+        }) }
+        ensures err { OnErr result (self.new ≡ self.old) }
+        ensures memory { IfErr result (λ e. e ≡ Memory) }
+    {
+        self.alters.push(PlannedAlteration { call, raw })?;
+        Ok(())
     }
 }
 
@@ -134,8 +165,7 @@ impl Source for ScriptedSource {
     ghost use Rattle.dbl_source_scripted.specs.Played.{Played, trace_of};
     ghost use Rattle.dbl_source_scripted.specs.Steps.{HasPlayedState, MayLeavePlayed, WasFair};
     ghost use Rattle.dbl_source_scripted.specs.ScriptLaws.{one_standing, only_left, may_leave_so};
-    ghost use Rattle.dbl_source_scripted.specs.ScriptLaws.{reads_so, rising_so, unaltered_so};
-    ghost use Rattle.dbl_source_scripted.specs.ScriptLaws.{fit_so, right_so};
+    ghost use Rattle.dbl_source_scripted.specs.ScriptLaws.{reads_so, rising_so, fit_so, right_so};
 
     ghost stands = { HasPlayedState };
 
@@ -171,8 +201,6 @@ impl Source for ScriptedSource {
 
     ghost rising = { rising_so };
 
-    ghost unaltered = { unaltered_so };
-
     ghost fit = { fit_so };
 
     ghost right = { right_so };
@@ -205,7 +233,7 @@ impl Source for ScriptedSource {
             → OnOk result (self.new.plan.faults ≡ self.old.plan.faults) }
         ensures planned { FailsAsPlanned 0 ⊥ self.old self.new result }
         ensures memory { result ≡ Err Memory
-            → AddedFirst (before_of self.old) (past_move self.old) self.new }
+            → AddedFirst (commits_before self.old) (past_move self.old) self.new }
         ensures played { OnOk result ((place : Option ℕ)
             × (self.new ≡ with_answer (answers.Described place) (with_release self.old))) }
     {
@@ -231,7 +259,7 @@ impl Source for ScriptedSource {
             → OnOk result (self.new.plan.faults ≡ self.old.plan.faults) }
         ensures planned { FailsAsPlanned 0 ⊥ self.old self.new result }
         ensures memory { result ≡ Err Memory
-            → AddedFirst (before_of self.old) (past_move self.old) self.new }
+            → AddedFirst (commits_before self.old) (past_move self.old) self.new }
         ensures played { OnOk result (self.new ≡ with_head (with_release self.old)) }
     {
         self.play_head()
@@ -265,7 +293,7 @@ impl Source for ScriptedSource {
             → OnOk result (self.new.plan.faults ≡ self.old.plan.faults) }
         ensures planned { FailsAsPlanned 0 ⊥ self.old self.new result }
         ensures memory { result ≡ Err Memory
-            → AddedFirst (before_of self.old) (past_move self.old) self.new }
+            → AddedFirst (commits_before self.old) (past_move self.old) self.new }
         ensures played { IfOk result (λ answer. (answer ≡ started_at after self.old)
             × (self.new ≡ with_start after (with_release self.old))) }
     {
@@ -305,7 +333,7 @@ impl Source for ScriptedSource {
         ensures planned { FailsAsPlanned 0 (IsUnfit (with_release self.old)) self.old
             self.new result }
         ensures memory { result ≡ Err Memory
-            → AddedFirst (before_of self.old) (past_move self.old) self.new }
+            → AddedFirst (commits_before self.old) (past_move self.old) self.new }
         ensures played { IfOk result (λ read. (place : ReaderPosition) × (what : Last)
             × (self.new ≡ with_answer what
             (record (with_release self.old) { place = Some place; ended = is_none read }))) }
@@ -342,9 +370,10 @@ impl Source for ScriptedSource {
             → OnOk result (self.new.plan.faults ≡ self.old.plan.faults) }
         ensures planned { FailsAsPlanned (length (inside_of self.old)) ⊥ self.old self.new result }
         ensures memory { result ≡ Err Memory
-            → AddedFirst (before_of self.old ++ inside_of self.old) (past_move self.old) self.new }
+            → AddedFirst (commits_before self.old ++ map Changes (inside_of self.old))
+            (past_move self.old) self.new }
         ensures listed { IsPlannedToFail self.old → result ≡ Err Memory
-            → AddedFirst (before_of self.old) (past_move self.old) self.new }
+            → AddedFirst (commits_before self.old) (past_move self.old) self.new }
         ensures played { IfOk result (λ answer. (answer ≡ next_selected self.old)
             × (self.new ≡ with_select table.now (option_copied above.entry) limit
             (length self.old.log) (inside_of self.old) (with_release self.old))) }
@@ -376,7 +405,7 @@ impl Source for ScriptedSource {
             → OnOk result (self.new.plan.faults ≡ self.old.plan.faults) }
         ensures planned { FailsAsPlanned 1 ⊥ self.old self.new result }
         ensures memory { result ≡ Err Memory
-            → AddedFirst (before_of self.old) (past_move self.old) self.new }
+            → AddedFirst (commits_before self.old) (past_move self.old) self.new }
         ensures played { OnOk result (self.new ≡ with_mark value.now (with_release self.old)) }
     {
         self.play_mark(value)
@@ -405,7 +434,7 @@ impl Source for ScriptedSource {
             → OnOk result (self.new.plan.faults ≡ self.old.plan.faults) }
         ensures planned { FailsAsPlanned 0 ⊥ self.old self.new result }
         ensures memory { result ≡ Err Memory
-            → AddedFirst (before_of self.old) (past_move self.old) self.new }
+            → AddedFirst (commits_before self.old) (past_move self.old) self.new }
         ensures played { OnOk result (self.new ≡ with_confirmed upto (with_release self.old)) }
     {
         self.play_confirm(upto)

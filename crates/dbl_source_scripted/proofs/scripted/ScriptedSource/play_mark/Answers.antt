@@ -1,13 +1,13 @@
 use Rattle.std.proofs.Common.{◌≡◌, ◌∙◌, ap, arith}
 use Rattle.dbl_source_scripted.specs.declared.asked.Last.TheVariants as answers
-use Rattle.dbl_source_scripted.specs.Played.{Played, before_of, past_move, with_release, with_answer, with_mark}
+use Rattle.dbl_source_scripted.specs.Played.{Played, commits_before, past_move, with_release, with_answer, with_mark}
 use Rattle.dbl_source_scripted.proofs.AddedLemmas.{room_left}
 use Rattle.dbl_source_scripted.proofs.PlayedLemmas.{answered}
 use Rattle.dbl_source_scripted.proofs.scripted.ScriptedSource.play_mark.Goals as goal
 
 pub write_mark-requires : goal.write_mark-requires
 write_mark-requires c =
-    room_left (past_move c.args.self.now) c.release.new.self (before_of c.args.self.now) 1 c.in_ok-release.ensures.ok c.in_ok-release.ensures.room
+    room_left (past_move c.args.self.now) c.release.new.self (commits_before c.args.self.now) 1 c.in_ok-release.ensures.ok c.in_ok-release.ensures.room
 
 pub returns : goal.returns
 returns c =

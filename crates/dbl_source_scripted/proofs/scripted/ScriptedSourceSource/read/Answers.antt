@@ -1,3 +1,4 @@
+use Rattle.dbl_source_scripted.proofs.AlterLemmas.{before_others}
 use Rattle.dbl_source_scripted.proofs.ExitLemmas.{both, read_unfaulted, still, unfaulted}
 use Rattle.dbl_source_scripted.proofs.EndLemmas.{read_held, read_none, read_played, read_ended}
 use Rattle.dbl_source_scripted.proofs.scripted.ScriptedSourceSource.read.Goals as goal
@@ -15,7 +16,7 @@ returns c =
       untaken = held.untaken;
       reading = both c.play_read.result held.reading held.unread;
       ended = read_none c.args.self.now c.play_read.new.self c.play_read.result plays;
-      still = still _ _ _ _ c.args.self.now c.play_read.new.self c.play_read.result plays;
+      still = still _ _ _ _ c.args.self.now c.play_read.new.self c.play_read.result (before_others c.args.self.now) plays;
       live = held.live;
       dead = held.dead;
       honest = held.honest;

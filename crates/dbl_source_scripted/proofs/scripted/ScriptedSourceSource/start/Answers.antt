@@ -1,6 +1,7 @@
 use Rattle.std.proofs.Common.{ap}
 use Rattle.std.proofs.lemmas.Result.{IfOk-weaker}
 use Rattle.dbl_source_scripted.specs.Played.{Played}
+use Rattle.dbl_source_scripted.proofs.AlterLemmas.{before_others}
 use Rattle.dbl_source_scripted.proofs.ExitLemmas.{still, unfaulted}
 use Rattle.dbl_source_scripted.proofs.StartLemmas.{start_exact}
 use Rattle.dbl_source_scripted.proofs.EndLemmas.{start_held, start_unended, start_played}
@@ -22,7 +23,7 @@ returns c =
       reading = held.reading;
       unread = held.unread;
       unended = start_unended c.args.after c.args.self.now c.play_start.new.self c.play_start.result plays;
-      still = still _ _ _ _ c.args.self.now c.play_start.new.self c.play_start.result plays;
+      still = still _ _ _ _ c.args.self.now c.play_start.new.self c.play_start.result (before_others c.args.self.now) plays;
       live = held.live;
       dead = held.dead;
       honest = held.honest;

@@ -99,7 +99,7 @@ fn select<S: Source>(
     let table = items::table_name(alloc, items::field(fields, 0))?;
     let above = above(alloc, items::field(fields, 1))?;
     let selected = source.select(&table, above.as_ref(), limit)?;
-    shown::rows(answers, selected.rows.items())
+    shown::selected(answers, &selected)
 }
 
 fn mark<S: Source>(alloc: Global, source: &mut S, word: &str, answers: &mut String) -> Result<()>

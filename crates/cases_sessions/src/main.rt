@@ -6,7 +6,8 @@
 //! The items say what is made, and the calls are those of a source, in their order:
 //!
 //! - `t/public.users/id:23 name:25/id`: a table of the source, its columns with the OIDs of their types, and the columns of its key.
-//!   `u/..`: a second one. `fails/3`: the numbers of the calls that fail, counted from 1.
+//!   `u/..`: a second one. `fails/3`: the numbers of the calls that fail, counted from 1. `alter/2/public.users/id:23 age:23`: before
+//!   what other clients commit at the second call the table gets these columns; several are made in their order.
 //! - With these alone each call is made of a source that plays a script, and each is answered in a line: `describe/public.users`,
 //!   `head`, `start/0`, `read`, `select/public.users/1/10` (`select/public.users//10` with no key to begin above), `mark/1-1-L` and
 //!   `confirm/256`. What other clients commit at a call is written after it (see `script`).

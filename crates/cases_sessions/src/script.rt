@@ -1,10 +1,10 @@
 //! The source that plays the script of a case.
 //!
 //! After a call may stand what other clients commit at it, ` before ` it and ` inside ` of it: commits parted by ` + `, and their
-//! messages by `, `; `nothing` is a commit without one. After these stand the ` rows ` that a `select` answers, parted by `; `, with `~`
-//! for null.
+//! messages by `, `; `nothing` is a commit without one. After these stand the ` version ` that a `select` answers, 1 if there is none,
+//! and its ` rows `, parted by `; `, with `~` for null.
 
-ghost use Rattle.std.specs.Prelude.{◌≡◌, ◌≢◌, ◌<◌, ◌^◌, [], length, map, IsTrue, IfOk};
+ghost use Rattle.std.specs.Prelude.{◌≡◌, ◌≢◌, ◌<◌, ◌^◌, [], length, map, IsTrue, IfOk, OnOk};
 ghost use Rattle.std.specs.List.{AllByRecursion};
 ghost use Rattle.dbl_model_table.specs.Tables.{same_name, are_distinct};
 
@@ -27,6 +27,7 @@ fn part<'a>(item: &'a str, word: &'a str, next: &'a str) -> &'a str {
 /// The call of an item.
 pub fn call_of(item: &str) -> &str {
     let (item, _) = words::split(item, " rows ");
+    let (item, _) = words::split(item, " version ");
     let (item, _) = words::split(item, " inside ");
     let (call, _) = words::split(item, " before ");
     call
@@ -59,8 +60,9 @@ fn commits(alloc: Global, words: &str) -> Result<Seq<Seq<Message>>> {
 
 fn next_move(alloc: Global, item: &str) -> Result<Move> {
     let (without_rows, _) = words::split(item, " rows ");
-    let before = commits(alloc, part(without_rows, " before ", " inside "))?;
-    let inside = commits(alloc, part(without_rows, " inside ", " rows "))?;
+    let (of_others, _) = words::split(without_rows, " version ");
+    let before = commits(alloc, part(of_others, " before ", " inside "))?;
+    let inside = commits(alloc, part(of_others, " inside ", " version "))?;
     Ok(Move { before, inside })
 }
 
@@ -89,14 +91,22 @@ fn rows(alloc: Global, words: &str) -> Result<Vec<RawRow>> {
     Ok(list)
 }
 
-// The answer of each select, of version 1.
+// The version that a select answers.
+fn version(item: &str) -> Result<u64> {
+    match part(item, " version ", " rows ") {
+        "" => Ok(1),
+        word => Ok(word.parse()?),
+    }
+}
+
+// The answer of each select.
 fn selected_rows(alloc: Global, script: &str) -> Result<Vec<Selected>> {
     let mut list = Vec::new(alloc);
     for item in script.split(" | ") {
         if item.starts_with("select/") {
             let (_, words) = words::split(item, " rows ");
             list.push(Selected {
-                version: 1,
+                version: version(item)?,
                 rows: Seq::make(rows(alloc, words)?),
             })?;
         }
@@ -184,6 +194,37 @@ fn tables(alloc: Global, asked: &str) -> Result<Vec<RawTable>>
     }
 }
 
+// At the call of this number a table gets other columns.
+fn alter(alloc: Global, fields: &str, source: &mut ScriptedSource) -> Result<()>
+    ensures { OnOk result (source.new.live ≡ source.old.live) }
+{
+    let call = items::field(fields, 0).parse()?;
+    let name = items::table_name(alloc, items::field(fields, 1))?;
+    let columns = words::all(alloc, items::field(fields, 2))?;
+    source.alter(
+        call,
+        RawTable {
+            name,
+            columns: Seq::make(columns),
+            key: Seq::make(Vec::new(alloc)),
+            version: 1,
+        },
+    )?;
+    Ok(())
+}
+
+// The alterations, in their order.
+fn add_alterations(alloc: Global, asked: &str, source: &mut ScriptedSource) -> Result<()>
+    ensures { OnOk result (source.new.live ≡ source.old.live) }
+{
+    for item in asked.split(" | ") {
+        if let Some(fields) = item.strip_prefix("alter/") {
+            alter(alloc, fields, source)?;
+        }
+    }
+    Ok(())
+}
+
 /// The source of a case, before its first call.
 pub fn source(alloc: Global, asked: &str, script: &str) -> Result<ScriptedSource>
     ensures { IfOk result (λ source. IsTrue source.live) }
@@ -192,5 +233,7 @@ pub fn source(alloc: Global, asked: &str, script: &str) -> Result<ScriptedSource
     let moves = moves(alloc, script)?;
     let rows = selected_rows(alloc, script)?;
     let fails = numbers(alloc, asked, "fails/")?;
-    Ok(ScriptedSource::make(alloc, tables, moves, rows, fails)?)
+    let mut source = ScriptedSource::make(alloc, tables, moves, rows, fails)?;
+    add_alterations(alloc, asked, &mut source)?;
+    Ok(source)
 }

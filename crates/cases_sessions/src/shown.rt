@@ -1,10 +1,10 @@
-//! How the answers of a source are shown: a message by its bytes, rows parted by `; `, with `~` for null.
+//! How the answers of a source are shown: a message by its bytes, rows parted by `; `, with `~` for null, and each version but 1.
 
 use anyhow::Result;
 use cases_items::words;
 use dbl_base::{Bytes, Text};
 use dbl_model_table::{RawColumn, RawRow, RawTable};
-use dbl_source::Started;
+use dbl_source::{Selected, Started};
 use std::alloc::Global;
 use std::fmt::Write;
 
@@ -14,7 +14,7 @@ fn column(answers: &mut String, column: &RawColumn) -> Result<()> {
     Ok(())
 }
 
-// The table's name, its columns with their types, and its key.
+// The table's name, its columns with their types, its key, and its version if that isn't 1.
 fn table(answers: &mut String, raw: &RawTable) -> Result<()> {
     let name = &raw.name;
     write!(answers, "\n  {name},")?;
@@ -24,6 +24,9 @@ fn table(answers: &mut String, raw: &RawTable) -> Result<()> {
     words::add(answers, ", key")?;
     for name in raw.key.items() {
         write!(answers, " {name}")?;
+    }
+    if raw.version != 1 {
+        write!(answers, ", version {}", raw.version)?;
     }
     Ok(())
 }
@@ -76,8 +79,8 @@ fn row(answers: &mut String, row: &RawRow) -> Result<()> {
     Ok(())
 }
 
-/// The rows of a select.
-pub fn rows(answers: &mut String, rows: &Vec<RawRow>) -> Result<()> {
+// The rows of a select.
+fn rows(answers: &mut String, rows: &Vec<RawRow>) -> Result<()> {
     if rows.is_empty() {
         return words::add(answers, "\n  no rows");
     }
@@ -86,4 +89,12 @@ pub fn rows(answers: &mut String, rows: &Vec<RawRow>) -> Result<()> {
         row(answers, each)?;
     }
     Ok(())
+}
+
+/// The rows of a select, after their version if that isn't 1.
+pub fn selected(answers: &mut String, selected: &Selected) -> Result<()> {
+    if selected.version != 1 {
+        write!(answers, "\n  version {}:", selected.version)?;
+    }
+    rows(answers, selected.rows.items())
 }

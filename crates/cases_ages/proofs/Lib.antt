@@ -1,8 +1,6 @@
 mod ToldLemmas
-mod MomentLemmas
+pub mod MomentLemmas
 mod PlainRowLemmas
 mod PlainJsonLemmas
 mod PlainEventLemmas
-mod PlainAgeLemmas
-mod AlteredLemmas
-mod VersionLemmas
+pub mod PlainAgeLemmas

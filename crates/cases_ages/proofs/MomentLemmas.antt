@@ -17,7 +17,7 @@ use Rattle.dbl_consume_laws.specs.Moments.{changes_through, place_moment, record
 pub is_lower : (a b : ℕ) → a < b → nat_lt a b ≡ true
 is_lower a b lt = (Decides-ltb a b).1 lt
 
-pub not_true : (b : Bool) → (b ≡ true → ⊥) → b ≡ false
+not_true : (b : Bool) → (b ≡ true → ⊥) → b ≡ false
 not_true true none = absurd (none refl)
 not_true false none = refl
 

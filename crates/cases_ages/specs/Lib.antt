@@ -2,4 +2,3 @@ pub mod Trace
 pub mod PlainRows
 pub mod PlainEvents
 pub mod PlainAges
-pub mod AlteredHistories

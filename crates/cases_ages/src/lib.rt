@@ -2,7 +2,6 @@
 //! definitions, for the programs of cases alone.
 #![tactic(auto)]
 
-mod courses;
 mod known;
 mod moments;
 mod plain_ages;
@@ -11,16 +10,11 @@ mod plain_json;
 mod plain_records;
 mod plain_rows;
 mod progress;
-mod version_moments;
-mod versions;
 
-pub use courses::{TableCourse, course, is_exact_cell, is_known_in, is_same_cell, records_since};
 pub use known::is_known;
-pub use moments::span_end;
+pub use moments::{change_count, commit_through, event_count, span_end};
 pub use plain_ages::{covers, is_aged_cell, is_touched, occurs};
-pub use plain_image::image_text;
+pub use plain_image::{columns_of, image_text};
 pub use plain_records::plain_envelopes;
-pub use plain_rows::row_at;
+pub use plain_rows::{left_after, row_after_changes, row_after_commit, row_at};
 pub use progress::Log;
-pub use version_moments::{point_at, position_moment, version_moment, version_span_end};
-pub use versions::{AlteredRows, Version, row_upto, was_there_through};

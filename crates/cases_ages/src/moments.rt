@@ -51,8 +51,8 @@ fn count_of(alloc: Global, info: &TableInfo, change: &Change) -> Result<u64, All
     }
 }
 
-// How many a change tells, which is none where its table isn't captured.
-pub(crate) fn event_count(
+/// How many events a change tells, which is none where its table isn't captured.
+pub fn event_count(
     alloc: Global,
     infos: &Vec<TableInfo>,
     change: &Change,
@@ -84,7 +84,8 @@ fn changes_through(
     Ok(changes.items().len() as u64)
 }
 
-pub(crate) fn commit_through(
+/// How many changes of a commit there are up to the one whose event has an ordinal, all if none.
+pub fn commit_through(
     alloc: Global,
     infos: &Vec<TableInfo>,
     commit: &Commit,
@@ -99,7 +100,8 @@ pub(crate) fn commit_through(
     }
 }
 
-pub(crate) fn change_count(commit: &Commit) -> u64
+/// How many changes a commit has.
+pub fn change_count(commit: &Commit) -> u64
     ensures { result ≡ length (changes_of commit.now) }
 {
     match &commit.body {

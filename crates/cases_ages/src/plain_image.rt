@@ -24,7 +24,8 @@ fn place_of_column(columns: &[Column], name: &Text) -> Option<usize>
     None
 }
 
-pub(crate) fn columns_of(infos: &Vec<TableInfo>, table: u32) -> &[Column]
+/// The columns of a table, none if no table is captured at its index.
+pub fn columns_of(infos: &Vec<TableInfo>, table: u32) -> &[Column]
     ensures { result.now ≡ columns_of infos.now.items table }
 {
     match infos.get(table as usize) {

@@ -152,7 +152,7 @@ fn row_changed(
 }
 
 /// The row of a table and key after the first changes of a list.
-pub(crate) fn row_after_changes(
+pub fn row_after_changes(
     alloc: Global,
     infos: &Vec<TableInfo>,
     changes: &Seq<Change>,
@@ -175,7 +175,7 @@ pub(crate) fn row_after_changes(
 }
 
 /// The row of a table and key after the first changes of a commit.
-pub(crate) fn row_after_commit(
+pub fn row_after_commit(
     alloc: Global,
     infos: &Vec<TableInfo>,
     commit: &Commit,
@@ -194,7 +194,7 @@ pub(crate) fn row_after_commit(
 }
 
 /// The part of a number of changes that lies after a commit.
-pub(crate) fn left_after(commit: &Commit, count: u64) -> u64
+pub fn left_after(commit: &Commit, count: u64) -> u64
     ensures { result ≡ count - length (changes_of commit.now) }
 {
     match &commit.body {

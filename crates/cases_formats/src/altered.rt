@@ -18,10 +18,10 @@ use crate::consumers::consumer;
 use crate::histories::{identity_of, key};
 use crate::records::read_record;
 use anyhow::{Context, Result, bail};
-use cases_ages::{
-    AlteredRows, TableCourse, Version, course, image_text, is_aged_cell, is_exact_cell,
-    is_known_in, is_same_cell, plain_envelopes, point_at, position_moment, records_since, row_upto,
-    span_end, version_span_end, was_there_through,
+use cases_ages::{image_text, is_aged_cell, plain_envelopes, span_end};
+use cases_courses::{
+    AlteredRows, TableCourse, Version, course, is_exact_cell, is_known_in, is_same_cell, point_at,
+    position_moment, records_since, row_upto, version_span_end, was_there_through,
 };
 use cases_items::{items, shown, words};
 use dbl_base::{Lsn, Seq, Text};

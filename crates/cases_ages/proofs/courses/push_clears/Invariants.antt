@@ -1,6 +1,0 @@
-use Rattle.std.proofs.Common.{◌≡◌, ◌++◌, replicate}
-use Rattle.dbl_model_table.specs.declared.change.Change.TheVariants.{Clear}
-use Rattle.cases_ages.proofs.courses.push_clears.Given as goal
-
-abbrev pub invariant-loop-number : goal.invariant-loop-number
-invariant-loop-number l = l.out.items ≡ l.fn.out.items ++ replicate l._number (Clear l.table)

@@ -1,0 +1,2 @@
+mod AlteredLemmas
+mod VersionLemmas

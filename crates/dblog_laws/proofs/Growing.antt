@@ -50,8 +50,8 @@ log_more tables n (entry ∷ log) past =
 pub sent_has : (tables : List LogTable) (after : Lsn) (log : List Logged) → sizes (drop (commits_upto after) log) ≤ length (sent_after tables after log)
 sent_has tables after log =
     let rest = drop (commits_upto after) log in
-    let then = tables_through (take (commits_upto after) log) tables in
-    omega (arith, log_more then (commits_upto after + 1) rest [], length-reverse (told_from then (commits_upto after + 1) rest []))
+    let start = tables_through (take (commits_upto after) log) tables in
+    omega (arith, log_more start (commits_upto after + 1) rest [], length-reverse (told_from start (commits_upto after + 1) rest []))
 
 -- ---- a log that grew
 

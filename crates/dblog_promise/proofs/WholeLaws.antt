@@ -85,10 +85,10 @@ module _ (upto : Lsn) where
   read_upto zero tables rows n log low marks = watermarks_since tables rows n log marks
   read_upto (suc k) tables rows n [] low marks = tt
   read_upto (suc k) tables rows n (entry ∷ log) low marks =
-      let then : List LogTable = tables_after entry tables in
+      let others : List LogTable = tables_after entry tables in
       let next : TextRows = text_rows_at tables rows entry in
-      let later : List RawCommit = commits_after upto (commits_from then next (n + 1) log) in
-      subst (λ (b : Bool). AreWatermarks (cond b (raw_commit_at tables rows n entry ∷ later) later)) (sym (not_above upto.0 (256 * n) (omega (arith, low)))) (read_upto k then next (n + 1) log (omega (arith, low)) marks)
+      let later : List RawCommit = commits_after upto (commits_from others next (n + 1) log) in
+      subst (λ (b : Bool). AreWatermarks (cond b (raw_commit_at tables rows n entry ∷ later) later)) (sym (not_above upto.0 (256 * n) (omega (arith, low)))) (read_upto k others next (n + 1) log (omega (arith, low)) marks)
 
 pub all_is_read : (tables : List LogTable) (log : List Logged) (place : ReaderPosition) (upto : Lsn) → IsPlaceIn log place → place.begun ≡ false
     → upto ≡ last_lsn place.after (told_at tables log place) → AllByRecursion IsMark (drop (index_of place) log) → AreWatermarks (commits_after upto (history_of tables log).commits)
@@ -158,13 +158,13 @@ rows_of_all infos cs ds m all same =
 moment_is : (infos : List TableInfo) (tables : List LogTable) (log : List Logged) (k p : ℕ) → 256 * k ≤ p → AllByRecursion IsMark (drop k log) → moment_at (typed infos (history_of tables log)) p ≡ length (all_changes (typed infos (history_of tables log)))
 moment_is infos tables log k p low marks =
     let front = commits_in infos tables no_text_rows 1 (take k log) in
-    let then = tables_through (take k log) tables in
-    let more = commits_in infos then (text_rows_through tables no_text_rows (take k log)) (1 + length (take k log)) (drop k log) in
-    let parts : commits_from tables no_text_rows 1 (take k log ++ drop k log) ≡ commits_from tables no_text_rows 1 (take k log) ++ commits_from then (text_rows_through tables no_text_rows (take k log)) (1 + length (take k log)) (drop k log) = commits_from-append tables no_text_rows 1 (take k log) (drop k log) in
+    let there = tables_through (take k log) tables in
+    let more = commits_in infos there (text_rows_through tables no_text_rows (take k log)) (1 + length (take k log)) (drop k log) in
+    let parts : commits_from tables no_text_rows 1 (take k log ++ drop k log) ≡ commits_from tables no_text_rows 1 (take k log) ++ commits_from there (text_rows_through tables no_text_rows (take k log)) (1 + length (take k log)) (drop k log) = commits_from-append tables no_text_rows 1 (take k log) (drop k log) in
     let whole : typed infos (history_of tables log) ≡ front ++ more =
     ap (λ (l : List Logged). map (typed_commit infos) (commits_from tables no_text_rows 1 l)) (sym (take-append-drop k log)) ∙ ap (map (typed_commit infos)) parts ∙ map-append (typed_commit infos) _ _ in
     let few : length (take k log) ≤ k = omega (arith, length-take k log) in
-    let counted = all_counted front more p (under infos tables no_text_rows 1 (take k log) p (omega (arith, low, few))) (none_in infos then (text_rows_through tables no_text_rows (take k log)) (1 + length (take k log)) (drop k log) marks) in
+    let counted = all_counted front more p (under infos tables no_text_rows 1 (take k log) p (omega (arith, low, few))) (none_in infos there (text_rows_through tables no_text_rows (take k log)) (1 + length (take k log)) (drop k log) marks) in
     subst (λ (cs : List Commit). moment_at cs p ≡ length (all_changes cs)) (sym whole) counted
 
 pub complete_runs_leave_tables_equal : {D : Type 0} (model : DiskModel D) → CompleteRunsLeaveTablesEqual model

@@ -82,7 +82,7 @@ returns-in_err-take_message-in-Some-clause-session g c = record {
       residual_of c.from_residual-in_err-take_message-in-Some.result _ (IsHonestHalt entry (g.S.Source.stands c.read.new.self)) c.from_residual-in_err-take_message-in-Some.ensures.1
       (taken_honest entry (g.S.Source.stands c.read.new.self) s.stage.first.infos T.2.standing s.stage.first.lsn s.stage.messages T.0 c.in-Some.bytes (c.args.report.now.messages + 1) c.args.work.now _ (capturing s) T.2.is reading
       (captured_stays s.stage.history T.2.standing.history s.stage.first.infos T.2.holds.grows.tables s.going.reading.infos)
-      (read_plainly T.2.standing.history _ (g.met.S.Source.fit _ _ (g.met.S.Source.may _ T.2.standing T.2.is) honest).unaltered (g.met.S.Source.right c.read.new.self T.2.standing _ T.2.is honest reading)) infos_are (subst (λ (l : List TableInfo). AreWithoutFault l s.stage.first.lsn s.stage.messages) infos_are s.work_is.is.accepted) T.1
+      (read_plainly T.2.standing.history (record { after = s.stage.first.lsn; messages = T.0 ∷ s.stage.messages }) (g.met.S.Source.fit _ _ (g.met.S.Source.may _ T.2.standing T.2.is) honest).unaltered (g.met.S.Source.right c.read.new.self T.2.standing _ T.2.is honest reading)) infos_are (subst (λ (l : List TableInfo). AreWithoutFault l s.stage.first.lsn s.stage.messages) infos_are s.work_is.is.accepted) T.1
       (let many = many_at g.S.Source g.met.S.Source.one at found b c.args.store.now.offset c.args.work.now c.args.report.now c.args.src.now first s.stage.first.lsn s.stage.messages u is (state_at_stage s.stage) s.source_is refl in sym (one_longer (length s.stage.messages) c.args.report.now.messages many))
       (c.in_err-take_message-in-Some.ensures.halt s.stage.first.lsn s.stage.messages s.ahead s.work_is.is));
   most = λ tell entry s closed.
@@ -569,7 +569,7 @@ returns-in-Some-clause-report g c = record {
       let p = (subst (λ (x : Piece). HasTakenPiece a.reading.after a.reading.messages c.in-Some.bytes c.args.work.now c.take_message.new.work x) c.in-Ended.is (c.in_ok-take_message-in-Some.ensures.taken a.reading.after a.reading.messages own.0 own.1)) in
       let d = delivers_now a.reading.after a.reading.messages c.in-Some.bytes c.args.work.now c.take_message.new.work c.in-Ended.ended p g.K.Sink own.0.start own.0.put c.deliver_commit.new.work c.args.sink.now c.deliver_commit.new.sink (record c.args.report.now { messages = c.args.report.now.messages + 1 }) c.deliver_commit.new.report _ (c.in_ok-closed-in-Ended.ensures.delivers a.reading.messages own.0.start own.0.put (taken_open p.taken own.0.is) (begun_now a.reading.after a.reading.messages c.in-Some.bytes c.args.work.now c.take_message.new.work c.in-Ended.ended p)) in
       awaits_commit g.S.Source c.args.work.now c.args.src.now c.read.new.self a c.in-Some.bytes read.0 read.2.standing read.1 read.2.is read.2.holds c.take_message.new.work c.deliver_commit.new.work (commit_by c.in-Ended.ended (changes_so_far c.args.work.now.offset.infos a.reading.messages)) own.0
-      p.taken own.1.accepted d.stepped (λ is. read_plainly read.2.standing.history _ (g.met.S.Source.fit _ _ (g.met.S.Source.may _ read.2.standing read.2.is) honest).unaltered (g.met.S.Source.right c.read.new.self read.2.standing _ read.2.is honest is));
+      p.taken own.1.accepted d.stepped (λ is. read_plainly read.2.standing.history (record { after = a.reading.after; messages = read.0 ∷ a.reading.messages }) (g.met.S.Source.fit _ _ (g.met.S.Source.may _ read.2.standing read.2.is) honest).unaltered (g.met.S.Source.right c.read.new.self read.2.standing _ read.2.is honest is));
   waits = λ at found b x s x1 x2 x3 is. absurd (ok_some _ _ refl is);
   grows = λ s left is may. longer_grows s.history left.history (c.read.ensures.left s left is may).grows;
   confirmed = λ s t was now. (c.read.ensures.left s (left_of t) was (g.met.S.Source.may c.read.new.self t now)).confirmed;

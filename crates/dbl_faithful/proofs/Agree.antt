@@ -1,5 +1,5 @@
 -- At each fresh record that is the last of its commit a consumer agrees with the source.
-use Rattle.std.proofs.Common.{◌≡◌, ◌∙◌, inl, inr, ◌+◌, ◌-◌, ◌≤◌, ◌<◌, ℕ, zero, suc, ℤ, max, All, List, [], ◌∷◌, ◌++◌, Bool, true, false, Option, Some, length, take, refl, sym, ap, subst, arith, add-one, length-append}
+use Rattle.std.proofs.Common.{◌≡◌, ◌∙◌, inl, inr, ◌+◌, ◌-◌, ◌≤◌, ◌<◌, ℕ, zero, suc, ℤ, All, List, [], ◌∷◌, ◌++◌, Bool, true, false, Option, Some, length, take, refl, sym, ap, subst, arith, add-one, length-append}
 use Rattle.std.specs.Prelude.{slice_get}
 use Rattle.std.specs.List.{AllByRecursion}
 use Rattle.std.proofs.lemmas.Bool.{cases_lt}
@@ -13,20 +13,25 @@ use Rattle.dbl_model_table.specs.declared.row.Key.{Key}
 use Rattle.dbl_model_table.specs.declared.row.Row.{Row}
 use Rattle.dbl_model_table.specs.declared.table.TableInfo.{TableInfo}
 use Rattle.dbl_model_table.specs.declared.change.Commit.{Commit}
-use Rattle.dbl_model_table.specs.Rows.{all_changes, rows, moment_at}
+use Rattle.dbl_model_table.specs.Rows.{rows}
 use Rattle.dbl_consume_laws.specs.ModelHistory.Image.{image_row}
 use Rattle.dbl_consume_laws.specs.ModelEvent.EventJson.{envelopes}
 use Rattle.dbl_consume_laws.specs.ModelEvent.Snapshots.{read_record, read_records, progress_record}
 use Rattle.dbl_consume_laws.proofs.ModelEventEventLemmas.{commits_are_numbered}
 use Rattle.dbl_consume_laws.specs.Laws.{HoldsJsonTexts}
-use Rattle.dbl_consume_laws.specs.Commits.{AreFitCommits}
-use Rattle.dbl_consume_laws.specs.Moments.{record_moment, last_moment}
-use Rattle.dbl_consume_laws.specs.KnownKeys.{IsKnown}
-use Rattle.dbl_consume_laws.specs.Ages.{held_row, IsAged, HasNamedRows}
-use Rattle.dbl_faithful.specs.Agreements.{Agrees}
+use Rattle.dbl_consume_laws.specs.Commits.{moment_after}
+use Rattle.dbl_consume_laws.specs.Ages.{held_row}
 use Rattle.dbl_consume_laws.proofs.Lists.{slice_get-front, slice_get-subsequent}
-use Rattle.dbl_consume_laws.proofs.Moments.{later_places, last_moment-one, reach_under}
-use Rattle.dbl_consume_laws.proofs.Rows.{aged_records_agree}
+use Rattle.dbl_consume_laws.proofs.Notices.{all_append}
+use Rattle.dbl_consume_courses.specs.Versions.{Versioned}
+use Rattle.dbl_consume_courses.specs.Courses.{Course, course}
+use Rattle.dbl_consume_courses.specs.AlteredTables.{IsKnownIn, AgreesInCourse, IsAgedFrom}
+use Rattle.dbl_consume_courses.specs.FitVersions.{AreFitVersions}
+use Rattle.dbl_consume_courses.specs.KeyRows.{HasRowsOfKeys}
+use Rattle.dbl_consume_courses.proofs.AgreementLemmas.{tables_agree}
+use Rattle.dbl_faithful.specs.Agreements.{HasKeyedRows}
+use Rattle.dbl_faithful.proofs.Items.{all_weaker}
+use Rattle.dbl_faithful.proofs.KeyedRows.{of_table}
 
 -- ---- lists
 
@@ -68,26 +73,35 @@ early_end i n lt = omega (arith, lt)
 whole_end : (i a j n w : ℕ) → a ≤ i → j ≡ i - a → j + 1 ≡ n → w ≡ a + n → w ≤ i + 1
 whole_end i a j n w le is end size = omega (arith, le, is, end, size)
 
-under_both : (start here far m : ℕ) → far ≤ max start here → here ≤ m → start ≤ m → max far here ≤ m
-under_both start here far m le one two = omega (arith, le, one, two)
-
 -- ---- records of one position
 
 -- each is at the position, and the last of the list alone says that it is the last
 abbrev pub IsRun : ℕ → List Record → Type 0
 IsRun position rs = (j : ℕ) (item : Record) → slice_get rs j ≡ Some item → (item.position ≡ position) × (item.last ≡ true → j + 1 ≡ length rs)
 
--- what stands before a record represents no later point in the history
-before_under : (infos : List TableInfo) (commits : List Commit) (item : Record) (rs : List Record) → AllByRecursion (λ earlier. IsBefore (place_of earlier) (place_of item)) rs → AllByRecursion (λ earlier. record_moment infos commits earlier ≤ record_moment infos commits item) rs
-before_under infos commits item [] before = tt
-before_under infos commits item (r ∷ rs) before = (later_places infos commits (place_of r) (place_of item) before.0, before_under infos commits item rs before.1)
+-- records up to a fresh one aren't after it
+not_after : (earlier item : Record) → IsBefore (place_of earlier) (place_of item) → earlier.position ≤ item.position
+not_after earlier item (inl lt) = omega (arith, lt)
+not_after earlier item (inr same) = omega (arith, same.0)
 
-module _ (identity : Identity) (infos : List TableInfo) (commits : List Commit) (facts : AreFitCommits infos commits) (start : ℕ) where
-  -- With any front of such records, whose position's moment is this. Where one of the front says that it is the last, the records are
-  -- aged there with all of them.
-  pub agrees_more : (records rs : List Record) (position m n : ℕ) → IsRun position rs → ((j : ℕ) (item : Record) → slice_get rs j ≡ Some item → record_moment infos commits item ≤ m) → moment_at commits position ≡ m → start ≤ m
-      → ((j : ℕ) (item : Record) → slice_get (take n rs) j ≡ Some item → item.last ≡ true → IsAged identity infos commits start (records ++ rs) m) → HasNamedRows identity infos (records ++ rs) → Agrees identity infos commits start records → Agrees identity infos commits start (records ++ take n rs)
-  agrees_more records rs position m n run most is from aged named agrees = record {
+itself : (n : ℕ) → n ≤ n
+itself n = omega arith
+
+under : (records : List Record) (i : ℕ) (item : Record) → slice_get records i ≡ Some item → IsFresh records i → AllByRecursion (λ earlier. earlier.position ≤ item.position) (take (i + 1) records)
+under records i item at fresh =
+    let one : fresh.0 ≡ item = same_item (slice_get records i) fresh.0 item fresh.1 at in
+    let before : AllByRecursion (λ earlier. IsBefore (place_of earlier) (place_of item)) (take i records) =
+    recursion_from_All (λ earlier. IsBefore (place_of earlier) (place_of item)) (take i records) (subst (λ (r : Record). All (λ earlier. IsBefore (place_of earlier) (place_of r)) (take i records)) one fresh.2) in
+    subst (AllByRecursion (λ (earlier : Record). earlier.position ≤ item.position)) (sym (take_next records i item at))
+    (all_append (λ (earlier : Record). earlier.position ≤ item.position) (take i records) (item ∷ [])
+    (all_weaker (λ (earlier : Record). IsBefore (place_of earlier) (place_of item)) (λ (earlier : Record). earlier.position ≤ item.position) (take i records) (λ earlier less. not_after earlier item less) before) (itself item.position, tt))
+
+module _ (identity : Identity) (infos : List TableInfo) (versions : List Versioned) (fit : AreFitVersions infos versions) (start : ℕ) where
+  -- With any front of such records. Where one of the front says that it is the last, the records are aged at its position with all of them.
+  pub agrees_more : (records rs : List Record) (position n : ℕ) → IsRun position rs
+      → ((j : ℕ) (item : Record) → slice_get (take n rs) j ≡ Some item → item.last ≡ true → (table : ℕ) → IsAgedFrom identity infos versions start (records ++ rs) position table)
+      → HasKeyedRows identity infos (records ++ rs) → AgreesInCourse identity infos versions start records → AgreesInCourse identity infos versions start (records ++ take n rs)
+  agrees_more records rs position n run aged keyed agrees = record {
     each = λ i item at fresh last topic text table key names known. elim (cases_lt i (length records)) [
       | inl early ↦ (
           let same : take (i + 1) (records ++ take n rs) ≡ take (i + 1) records = take-append-le (i + 1) records (take n rs) (early_end i (length records) early) in
@@ -95,8 +109,9 @@ module _ (identity : Identity) (infos : List TableInfo) (commits : List Commit) 
           let old_at : slice_get records i ≡ Some item = sym (slice_get-front records (take n rs) i early) ∙ at in
           let old_fresh : IsFresh records i =
           (fresh.0, sym (slice_get-front records (take n rs) i early) ∙ fresh.1, subst (All (λ earlier. IsBefore (place_of earlier) (place_of fresh.0))) front fresh.2) in
-          subst (λ (l : List Record). HoldsJsonTexts (held_row identity l topic text) (image_row infos (rows infos commits (moment_at commits item.position)) table key)) (sym same)
-          (agrees.each i item old_at old_fresh last topic text table key names (subst (λ (l : List Record). IsKnown identity infos (all_changes commits) start l (moment_at commits item.position) table key) same known)))
+          let c : Course = course infos versions start table item.position in
+          subst (λ (l : List Record). HoldsJsonTexts (held_row identity l topic text) (image_row c.infos (rows c.infos c.commits (moment_after c.commits)) table key)) (sym same)
+          (agrees.each i item old_at old_fresh last topic text table key names (subst (λ (l : List Record). IsKnownIn identity c l (moment_after c.commits) table key) same known)))
       | inr late ↦ (
           let j : ℕ = i - length records in
           let at_front : slice_get (take n rs) j ≡ Some item = sym (slice_get-subsequent records (take n rs) i late) ∙ at in
@@ -105,23 +120,12 @@ module _ (identity : Identity) (infos : List TableInfo) (commits : List Commit) 
           let full : take n rs ≡ rs = take_whole n rs j item at_front end in
           let listed : take (i + 1) (records ++ take n rs) ≡ records ++ rs =
           ap (λ (l : List Record). take (i + 1) (records ++ l)) full ∙ take_all (i + 1) (records ++ rs) (whole_end i (length records) j (length rs) (length (records ++ rs)) late refl end (length-append records rs)) in
-          let parted : take i (records ++ take n rs) ++ item ∷ [] ≡ records ++ rs = sym (take_next (records ++ take n rs) i item at) ∙ listed in
-          let one : fresh.0 ≡ item = same_item (slice_get (records ++ take n rs) i) fresh.0 item fresh.1 at in
-          let before : AllByRecursion (λ earlier. IsBefore (place_of earlier) (place_of item)) (take i (records ++ take n rs)) =
-          recursion_from_All (λ earlier. IsBefore (place_of earlier) (place_of item)) (take i (records ++ take n rs)) (subst (λ (r : Record). All (λ earlier. IsBefore (place_of earlier) (place_of r)) (take i (records ++ take n rs))) one fresh.2) in
-          let far : last_moment infos commits start (take i (records ++ take n rs)) ≤ max start (record_moment infos commits item) =
-          reach_under infos commits (record_moment infos commits item) start (take i (records ++ take n rs)) (before_under infos commits item (take i (records ++ take n rs)) before) in
-          let under : max (last_moment infos commits start (take i (records ++ take n rs))) (record_moment infos commits item) ≤ m =
-          under_both start (record_moment infos commits item) (last_moment infos commits start (take i (records ++ take n rs))) m far (most j item at_rs) from in
-          let low : last_moment infos commits start (records ++ rs) ≤ m =
-          subst (λ (l : List Record). last_moment infos commits start l ≤ m) parted (subst (λ (k : ℕ). k ≤ m) (sym (last_moment-one infos commits start (take i (records ++ take n rs)) item)) under) in
-          let moment : moment_at commits item.position ≡ m = ap (moment_at commits) (run j item at_rs).0 ∙ is in
-          let known_there : IsKnown identity infos (all_changes commits) start (records ++ rs) m table key =
-          subst (λ (k : ℕ). IsKnown identity infos (all_changes commits) start (records ++ rs) k table key) moment
-          (subst (λ (l : List Record). IsKnown identity infos (all_changes commits) start l (moment_at commits item.position) table key) listed known) in
-          subst (λ (l : List Record). HoldsJsonTexts (held_row identity l topic text) (image_row infos (rows infos commits (moment_at commits item.position)) table key)) (sym listed)
-          (subst (λ (k : ℕ). HoldsJsonTexts (held_row identity (records ++ rs) topic text) (image_row infos (rows infos commits k) table key)) (sym moment)
-          (aged_records_agree identity infos commits start m (records ++ rs) topic text table key facts (aged j item at_front last) named low names known_there)))
+          let own : IsAgedFrom identity infos versions start (take (i + 1) (records ++ take n rs)) item.position table =
+          subst (λ (l : List Record). IsAgedFrom identity infos versions start l item.position table) (sym listed)
+          (subst (λ (p : ℕ). IsAgedFrom identity infos versions start (records ++ rs) p table) (sym (run j item at_rs).0) (aged j item at_front last table)) in
+          let rows_of : HasRowsOfKeys identity infos (take (i + 1) (records ++ take n rs)) table =
+          subst (λ (l : List Record). HasRowsOfKeys identity infos l table) (sym listed) (of_table identity infos (records ++ rs) table fit.distinct keyed) in
+          tables_agree identity infos versions start item.position table (take (i + 1) (records ++ take n rs)) topic text key fit own (under (records ++ take n rs) i item at fresh) rows_of names known)
     ];
   }
 

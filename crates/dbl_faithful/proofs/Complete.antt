@@ -1,55 +1,128 @@
 -- What faithful stores amount to once every snapshot is done.
-use Rattle.std.proofs.Common.{◌≡◌, ◌∙◌, inl, inr, ◌≤◌, ℕ, Bool, true, false, List, [], ◌∷◌, ◌++◌, sym, ap, subst}
-use Rattle.std.specs.List.{AllByRecursion, AllZip}
+use Rattle.std.proofs.Common.{◌≡◌, ◌∙◌, inl, inr, ◌≤◌, ◌<◌, ℕ, zero, suc, Bool, true, false, List, [], ◌∷◌, ◌++◌, Some, None, length, refl, sym, ap, subst, arith}
+use Rattle.std.specs.Prelude.{slice_get}
+use Rattle.std.specs.List.{AllByRecursion}
+use Rattle.dbl_base.specs.declared.lsn.Lsn.{Lsn}
 use Rattle.dbl_record.specs.declared.record.Record.{Record}
-use Rattle.dbl_model_table.specs.declared.identity.Identity.{Identity}
+use Rattle.dbl_model_table.specs.declared.row.Key.{Key}
 use Rattle.dbl_model_table.specs.declared.table.TableInfo.{TableInfo}
-use Rattle.dbl_model_table.specs.declared.change.Commit.{Commit}
-use Rattle.dbl_model_table.specs.Rows.{moment_at}
+use Rattle.dbl_model_table.proofs.Lists.{slice_get-lt}
 use Rattle.dbl_consume_laws.specs.ModelHistory.declared.cursor.Cursor.{Cursor}
-use Rattle.dbl_consume_laws.specs.ModelHistory.History.{AreRising}
-use Rattle.dbl_consume_laws.proofs.ModelHistoryMomentLemmas.{lsns}
-use Rattle.dbl_consume_laws.specs.Prints.{ReportsProgress}
-use Rattle.dbl_consume_laws.specs.Commits.{moment_after, AreFitCommits}
-use Rattle.dbl_consume_laws.specs.Moments.{last_moment}
-use Rattle.dbl_faithful.specs.CaughtUpLaws.{IsDone}
-use Rattle.dbl_faithful.proofs.Positions.{end_moment}
-use Rattle.dbl_faithful.proofs.Words.{done_logs_are_images, done_logs_have_images, complete_reach}
+use Rattle.dbl_consume_laws.specs.ModelHistory.Fit.{AreInfosOf, IsFitHistory}
+use Rattle.dbl_consume_laws.specs.ModelHistory.History.{History}
+use Rattle.dbl_model_history.proofs.InForceLemmas.{plain_versions}
+use Rattle.dbl_consume_laws.specs.KnownKeys.{IsTold}
+use Rattle.dbl_consume_laws.specs.Ages.{held_row}
+use Rattle.dbl_offset_content.specs.declared.offset.Offset.{Offset}
+use Rattle.dbl_consume_courses.specs.Versions.{Versioned, versions_to, version_rows}
+use Rattle.dbl_consume_courses.specs.Courses.{course, first_course, infos_after}
+use Rattle.dbl_consume_courses.specs.Since.{since}
+use Rattle.dbl_consume_courses.proofs.CourseLemmas.{infos_from}
+use Rattle.dbl_consume_courses.proofs.VersionLemmas.{all_to, cursors_are}
 use Rattle.dbl_faithful.specs.Stores.{top_position}
-use Rattle.dbl_faithful.specs.Lag.{IsRightCursor}
-use Rattle.dbl_faithful.specs.Faithful.{captured_commits}
-use Rattle.dbl_faithful.specs.Complete.{CompleteStoresAreImages}
-use Rattle.dbl_faithful.proofs.Faithful.{faithful_stores_are_caught_up}
+use Rattle.dbl_faithful.specs.Lag.{IsRightCursor, IsOffsetOf}
+use Rattle.dbl_faithful.specs.Laws.{BeginsCaughtUp}
+use Rattle.dbl_faithful.specs.Faithful.{captured_commits, first_infos, IsFaithfulTo}
+use Rattle.dbl_faithful.specs.Complete.{HoldsImage, AreVersionsInForce, CompleteStoresAreImages}
+use Rattle.dbl_faithful.proofs.Faithful.{described_infos, infos_opened, faithful_stores_are_caught_up}
+use Rattle.dbl_faithful.proofs.Items.{at_all, all_weaker}
+use Rattle.dbl_faithful.proofs.StorePositions.{top_has}
+use Rattle.dbl_faithful.proofs.Words.{IsWholeAt, holds_image, image_there}
 
 two_ways : {X : Type 0} (b : Bool) → b ≡ true → b ≡ false → X
 two_ways b is isnt = cc
 
--- a cursor that is done was told so
-done_told : (identity : Identity) (records : List Record) (lsn : ℕ) (infos : List TableInfo) (cursors : List Cursor) → AllZip (IsRightCursor identity records lsn) infos cursors → AllByRecursion (λ cursor. cursor.done ≡ true) cursors
-    → AllByRecursion (IsDone identity records) infos
-done_told identity records lsn [] [] right done = tt
-done_told identity records lsn [] (cursor ∷ cursors) right done = absurd right
-done_told identity records lsn (info ∷ infos) [] right done = absurd right
-done_told identity records lsn (info ∷ infos) (cursor ∷ cursors) right done = (by right.0, done_told identity records lsn infos cursors right.1 done.1)
-  where
-    by : IsRightCursor identity records lsn info cursor → IsDone identity records info
-    by (inl unread) = two_ways cursor.done done.0 unread.1
-    by (inr told) = record { place = told.place; item = told.item; stands = told.stands; through = cursor.last; reports = subst (λ (b : Bool). ReportsProgress identity info told.item cursor.last b) done.0 told.reports }
+item_there : {X : Type 0} (xs : List X) (k : ℕ) → k < length xs → (x : X) × (slice_get xs k ≡ Some x)
+item_there [] k lt = absurd (omega (arith, lt))
+item_there (x ∷ xs) zero lt = (x, refl)
+item_there (x ∷ xs) (suc k) lt = item_there xs k (omega (arith, lt))
+
+same_infos : (infos : List TableInfo) (versions : List Versioned) → AllByRecursion (λ v. (v.infos ≡ infos) × (v.altered ≡ None)) versions → infos_after infos versions ≡ infos
+same_infos infos [] all = refl
+same_infos infos (v ∷ versions) all = ap (λ (l : List TableInfo). infos_after l versions) all.0.0 ∙ same_infos infos versions all.1
+
+all_left : (P : Versioned → Type 0) (xs ys : List Versioned) → AllByRecursion P (xs ++ ys) → AllByRecursion P xs
+all_left P [] ys all = tt
+all_left P (x ∷ xs) ys all = (all.0, all_left P xs ys all.1)
+
+no_later : (p far lsn : ℕ) → p ≤ far → far ≤ lsn → p ≤ lsn
+no_later p far lsn one two = omega (arith, one, two)
+
+module _ (history : History) (confirmed : Lsn) (records : List Record) (offset : Offset) (fit : IsFitHistory history) (faithful : IsFaithfulTo history confirmed records offset) (done : AllByRecursion (λ cursor. cursor.done ≡ true) offset.cursors) (in_force : AreVersionsInForce history offset)
+    (top : top_position records ≤ offset.lsn.0) where
+  abbrev versions : List Versioned
+  versions = captured_commits history offset
+
+  abbrev infos : List TableInfo
+  infos = first_infos history offset
+
+  abbrev is : IsOffsetOf history confirmed records offset
+  is = faithful.lags.offset_is
+
+  begins : BeginsCaughtUp history records offset
+  begins = faithful_stores_are_caught_up history confirmed records offset fit faithful
+
+  captured : AreInfosOf history offset.infos
+  captured = described_infos history confirmed records offset fit is
+
+  -- no table is altered
+  opened : infos ≡ offset.infos
+  opened = infos_opened history offset.infos captured.each
+
+  infos_are : infos_after infos begins.before ≡ offset.infos
+  infos_are =
+      ap (λ (l : List TableInfo). infos_after l begins.before) opened
+      ∙ same_infos offset.infos begins.before
+      (all_left (λ v. (v.infos ≡ offset.infos) × (v.altered ≡ None)) begins.before begins.later
+      (subst (AllByRecursion (λ v. (v.infos ≡ offset.infos) × (v.altered ≡ None))) begins.delivered.spelled (plain_versions offset.infos history captured fit.unaltered).1))
+
+  shown : versions_to offset.lsn.0 versions ≡ begins.before
+  shown = ap (versions_to offset.lsn.0) begins.delivered.spelled ∙ all_to offset.lsn.0 begins.before begins.later begins.delivered.upto begins.delivered.past
+
+  course_infos : (table : ℕ) → (course infos versions offset.start.0 table offset.lsn.0).infos ≡ infos_after infos begins.before
+  course_infos table = infos_from table (first_course infos offset.start.0) (versions_to offset.lsn.0 versions) ∙ ap (infos_after infos) shown
+
+  told : (table : ℕ) (info : TableInfo) (key : Key) → slice_get (infos_after infos begins.before) table ≡ Some info
+      → IsTold offset.identity (infos_after infos begins.before) (since (course infos versions offset.start.0 table offset.lsn.0).start records) table key
+  told table info key at =
+      let at_info : slice_get offset.infos table ≡ Some info = ap (λ (l : List TableInfo). slice_get l table) (sym infos_are) ∙ at in
+      let lt : table < length offset.infos = slice_get-lt offset.infos table info at_info in
+      let version = item_there offset.versions table (subst (λ (n : ℕ). table < n) (sym is.many.0) lt) in
+      let cursor = item_there offset.cursors table (subst (λ (n : ℕ). table < n) (sym is.many.1) lt) in
+      let ended : cursor.0.done ≡ true = at_all (λ (c : Cursor). c.done ≡ true) offset.cursors table cursor.0 done cursor.1 in
+      by version.0 version.1 cursor.0 ended (is.cursors table info version.0 cursor.0 at_info version.1 cursor.1)
+    where
+      by : (version : ℕ) → slice_get offset.versions table ≡ Some version → (cursor : Cursor) → cursor.done ≡ true
+          → IsRightCursor offset.identity versions records offset.start.0 offset.lsn.0 table info version cursor
+          → IsTold offset.identity (infos_after infos begins.before) (since (course infos versions offset.start.0 table offset.lsn.0).start records) table key
+      by version at_version cursor ended (inl unread) = two_ways cursor.done ended unread.1
+      by version at_version cursor ended (inr reported) =
+          subst (λ (l : List TableInfo). IsTold offset.identity l (since (course infos versions offset.start.0 table offset.lsn.0).start records) table key) (course_infos table)
+          (cursors_are offset.identity infos versions records offset.start.0 offset.lsn.0 table info version cursor key reported.told (ap (λ (l : List TableInfo). slice_get l table) (course_infos table) ∙ at) reported.not_before
+          (in_force table version at_version) (inl ended))
+
+  whole : IsWholeAt offset.identity infos versions begins.before begins.later offset.start.0 offset.lsn.0 records
+  whole = record {
+    fit = begins.delivered.fit;
+    spelled = begins.delivered.spelled;
+    upto = begins.delivered.upto;
+    past = begins.delivered.past;
+    aged = faithful.aged;
+    keyed = faithful.keyed;
+    low = all_weaker (λ (item : Record). item.position ≤ top_position records) (λ (item : Record). item.position ≤ offset.lsn.0) records
+        (λ item under. no_later item.position (top_position records) offset.lsn.0 under top) (top_has records);
+    told = told;
+  }
+
+  image : (topic text : List ℕ) → HoldsImage offset.identity (infos_after infos (versions_to offset.lsn.0 versions)) (version_rows (versions_to offset.lsn.0 versions)) records topic text
+  image topic text =
+      let there = image_there offset.identity infos versions begins.before begins.later offset.start.0 offset.lsn.0 records topic text whole (held_row offset.identity records topic text) refl in
+      subst (λ (l : List Versioned). HoldsImage offset.identity (infos_after infos l) (version_rows l) records topic text) (sym shown)
+      (record {
+        image = there.0;
+        is = there.1;
+        holds = holds_image offset.identity infos versions begins.before begins.later offset.start.0 offset.lsn.0 records topic text whole there.0 there.1;
+      })
 
 pub complete_stores_are_images : CompleteStoresAreImages
-complete_stores_are_images history confirmed records offset topic text fit faithful done top =
-    let commits : List Commit = captured_commits history offset in
-    let begins = faithful_stores_are_caught_up history confirmed records offset fit faithful in
-    let facts : AreFitCommits offset.infos commits = begins.delivered.fit in
-    let rise : AreRising 0 (lsns (begins.before ++ begins.later)) = subst (λ (l : List Commit). AreRising 0 (lsns l)) begins.delivered.spelled facts.rise in
-    let moment : moment_at commits offset.lsn.0 ≡ moment_after begins.before = ap (λ (l : List Commit). moment_at l offset.lsn.0) begins.delivered.spelled ∙ end_moment offset.lsn.0 begins.before begins.later rise begins.ends in
-    let low : last_moment offset.infos commits (moment_at commits offset.start.0) records ≤ moment_at commits offset.lsn.0 =
-    subst (λ (m : ℕ). last_moment offset.infos commits (moment_at commits offset.start.0) records ≤ m) (sym moment)
-    (complete_reach offset.identity offset.infos commits begins.before begins.later offset.start.0 (top_position records) 0 offset.lsn.0 records begins.delivered begins.ends top) in
-    let all : AllByRecursion (IsDone offset.identity records) offset.infos = done_told offset.identity records offset.lsn.0 offset.infos offset.cursors faithful.lags.offset_is.cursors done in
-    let there = done_logs_have_images offset.identity offset.infos commits (moment_at commits offset.start.0) (moment_at commits offset.lsn.0) records topic text facts faithful.aged faithful.named low all in
-    record {
-      image = there.0;
-      is = there.1;
-      holds = done_logs_are_images offset.identity offset.infos commits (moment_at commits offset.start.0) (moment_at commits offset.lsn.0) records topic text there.0 facts faithful.aged faithful.named low all there.1;
-    }
+complete_stores_are_images history confirmed records offset topic text fit faithful done in_force top = image history confirmed records offset fit faithful done in_force top topic text

@@ -6,6 +6,7 @@ use Rattle.std.proofs.lemmas.Bool.{cases_eq, cases_order}
 use Rattle.dbl_record.specs.declared.record.Record.{Record}
 use Rattle.dbl_record.specs.Places.{Place, place_of, IsBefore, IsFresh}
 use Rattle.dbl_model_table.specs.declared.identity.Identity.{Identity}
+use Rattle.dbl_model_table.specs.Rows.{no_rows}
 use Rattle.dbl_model_table.proofs.Lists.{bool_case, slice_get-lt}
 use Rattle.dbl_faithful.specs.Kinds.{is_change_record}
 use Rattle.dbl_faithful.specs.ToldEvents.{ToldEvent, events_since, IsPrint, IsAmong, HasRecordOfEvent, ArePutBefore}
@@ -254,9 +255,9 @@ exact_logs_have_one_count identity told records a b one two =
     ∙ (sym (zip_length (IsPrint identity) (take b told) (news records) two.fresh) ∙ taken_length b told two.few))
 
 pub repeats_are_earlier : RepeatsAreEarlier
-repeats_are_earlier identity infos commits start records place item fit log at change isnt =
-    repeats identity (events_since infos start commits) (after_rise infos start 0 commits fit.rise) (after_changes identity infos start commits fit.in_range) records log.0 place item log.1 at change isnt
+repeats_are_earlier identity infos versions start records place item fit log at change isnt =
+    repeats identity (events_since start versions) (after_rise start 0 versions fit.rise) (after_changes identity start no_rows versions fit.fit) records log.0 place item log.1 at change isnt
 
 pub gaps_spoil_exact_logs : GapsSpoilExactLogs
-gaps_spoil_exact_logs identity infos commits start records place number item late event fit at at_told lt unput is log =
-    gaps identity (events_since infos start commits) (after_rise infos start 0 commits fit.rise) (after_changes identity infos start commits fit.in_range) records log.0 place number item late event at at_told lt unput is log.1
+gaps_spoil_exact_logs identity infos versions start records place number item late event fit at at_told lt unput is log =
+    gaps identity (events_since start versions) (after_rise start 0 versions fit.rise) (after_changes identity start no_rows versions fit.fit) records log.0 place number item late event at at_told lt unput is log.1

@@ -5,9 +5,9 @@ use Rattle.std.specs.List.{AllByRecursion}
 use Rattle.dbl_record.specs.declared.record.Record.{Record}
 use Rattle.dbl_model_table.specs.declared.table.RawTable.{RawTable}
 use Rattle.dbl_model_table.specs.declared.table.TableInfo.{TableInfo}
-use Rattle.dbl_model_table.specs.declared.change.Commit.{Commit}
 use Rattle.dbl_consume_laws.specs.ModelHistory.History.{AreRising, RawCommit, History, IsRising}
-use Rattle.dbl_consume_laws.specs.ModelHistory.Typed.{typed_commit}
+use Rattle.dbl_consume_laws.specs.ModelHistory.InForce.{infos_by, versioned_commit, versioned_from, opening_infos, versioned}
+use Rattle.dbl_consume_courses.specs.Versions.{Versioned}
 use Rattle.dbl_faithful.proofs.Items.{first_some, at_left, at_all, all_by_place}
 use Rattle.dbl_faithful.specs.Stores.{IsCommitAt, IsPositionOf, top_position}
 use Rattle.dbl_faithful.specs.Kept.{HasGrown}
@@ -23,10 +23,26 @@ pub map_append : {X Y : Type 0} (f : X → Y) (xs ys : List X) → map f (xs ++ 
 map_append f [] ys = refl
 map_append f (x ∷ xs) ys = ap (λ (l : List _). f x ∷ l) (map_append f xs ys)
 
--- what is said of LSNs is said of what is read of the commits
-pub typed_more : (infos : List TableInfo) (P : ℕ → Type 0) (more : List RawCommit) → AllByRecursion (λ commit. P commit.lsn.0) more → AllByRecursion (λ commit. P commit.lsn.0) (map (typed_commit infos) more)
-typed_more infos P [] all = tt
-typed_more infos P (c ∷ more) all = (all.0, typed_more infos P more all.1)
+-- what is said of LSNs is said of the commits with their captured tables
+pub versioned_all : (infos : List TableInfo) (P : ℕ → Type 0) (more : List RawCommit) → AllByRecursion (λ commit. P commit.lsn.0) more → AllByRecursion (λ v. P v.lsn.0) (versioned_from infos more)
+versioned_all infos P [] all = tt
+versioned_all infos P (c ∷ more) all = (all.0, versioned_all (infos_by c.body infos) P more all.1)
+
+-- the captured tables after some commits
+abbrev pub infos_through : List TableInfo → List RawCommit → List TableInfo
+infos_through infos commits = fold (λ tables commit. infos_by commit.body tables) infos commits
+
+pub versioned_append : (infos : List TableInfo) (commits more : List RawCommit) → versioned_from infos (commits ++ more) ≡ versioned_from infos commits ++ versioned_from (infos_through infos commits) more
+versioned_append infos [] more = refl
+versioned_append infos (c ∷ commits) more =
+    ap (λ (l : List Versioned). versioned_commit (infos_by c.body infos) c ∷ l) (versioned_append (infos_by c.body infos) commits more)
+
+-- the commits of a longer history
+abbrev pub new_versions : List TableInfo → History → List RawCommit → List Versioned
+new_versions infos history more = versioned_from (infos_through (opening_infos history infos) history.commits) more
+
+pub versioned_more : (infos : List TableInfo) (history : History) (more : List RawCommit) → versioned infos (longer history more) ≡ versioned infos history ++ new_versions infos history more
+versioned_more infos history more = versioned_append (opening_infos history infos) history.commits more
 
 -- ---- where new commits stand
 
@@ -81,13 +97,13 @@ both_under : (a b c : ℕ) → a < c → b < c → max a b < c
 both_under a b c one two = omega (arith, one, two)
 
 -- commits after two positions are after the greater one
-pub over_both : (a b : ℕ) (cs : List Commit) → AllByRecursion (λ c. a < c.lsn.0) cs → AllByRecursion (λ c. b < c.lsn.0) cs → AllByRecursion (λ c. max a b < c.lsn.0) cs
+pub over_both : (a b : ℕ) (vs : List Versioned) → AllByRecursion (λ v. a < v.lsn.0) vs → AllByRecursion (λ v. b < v.lsn.0) vs → AllByRecursion (λ v. max a b < v.lsn.0) vs
 over_both a b [] one two = tt
-over_both a b (c ∷ cs) one two = (both_under a b c.lsn.0 one.0 two.0, over_both a b cs one.1 two.1)
+over_both a b (v ∷ vs) one two = (both_under a b v.lsn.0 one.0 two.0, over_both a b vs one.1 two.1)
 
-pub pairs : (a b : ℕ) (cs : List Commit) → AllByRecursion (λ c. a < c.lsn.0) cs → AllByRecursion (λ c. b < c.lsn.0) cs → AllByRecursion (λ c. (a < c.lsn.0) × (b < c.lsn.0)) cs
+pub pairs : (a b : ℕ) (vs : List Versioned) → AllByRecursion (λ v. a < v.lsn.0) vs → AllByRecursion (λ v. b < v.lsn.0) vs → AllByRecursion (λ v. (a < v.lsn.0) × (b < v.lsn.0)) vs
 pairs a b [] one two = tt
-pairs a b (c ∷ cs) one two = ((one.0, two.0), pairs a b cs one.1 two.1)
+pairs a b (v ∷ vs) one two = ((one.0, two.0), pairs a b vs one.1 two.1)
 
 -- ---- the greatest position
 

@@ -1,45 +1,49 @@
 -- Stores that only go on.
-use Rattle.std.proofs.Common.{◌≡◌, ◌∙◌, inl, inr, ◌+◌, ◌<◌, ℕ, suc, Bool, true, false, cond, filter, length, take, drop, subst, arith, List, [], ◌∷◌, ◌++◌, Option, Some, None, refl, sym, ap, append_assoc, append-nil, le_refl}
-use Rattle.std.specs.Prelude.{nat_lt, slice_get, option_map, unwrap_or}
+use Rattle.std.proofs.Common.{◌≡◌, ◌∙◌, inl, inr, ◌+◌, ◌≤◌, ◌<◌, ℕ, suc, Bool, true, false, cond, filter, length, take, drop, subst, arith, List, [], ◌∷◌, ◌++◌, Option, Some, None, refl, sym, ap, append_assoc, append-nil, le_refl}
+use Rattle.std.specs.Prelude.{nat_lt, slice_get, option_map, unwrap_or, zip}
 use Rattle.std.specs.List.{AllByRecursion, AllZip}
 use Rattle.std.proofs.lemmas.Bool.Decides.{Decides-ltb}
 use Rattle.dbl_record.specs.declared.record.Record.{Record}
 use Rattle.dbl_record.specs.Places.{Place, place_of, IsBefore}
 use Rattle.dbl_model_table.specs.declared.config.Config.{Config}
 use Rattle.dbl_model_table.specs.declared.table.TableInfo.{TableInfo}
-use Rattle.dbl_model_table.specs.declared.change.Commit.{Commit}
 use Rattle.dbl_consume_laws.specs.ModelHistory.declared.cursor.Cursor.{Cursor}
 use Rattle.dbl_consume_laws.specs.ModelHistory.History.{History}
+use Rattle.dbl_consume_laws.specs.ModelHistory.InForce.{IsAlike}
 use Rattle.dbl_offset_content.specs.declared.offset.Offset.{Offset}
 use Rattle.dbl_consume_laws.specs.ModelEvent.Snapshots.{chunk_records}
 use Rattle.dbl_consume_laws.proofs.Notices.{all_append}
+use Rattle.dbl_consume_courses.specs.Versions.{Versioned}
 use Rattle.dbl_faithful.specs.ToldEvents.{ToldEvent, commits_since, events_since, IsPrint}
 use Rattle.dbl_faithful.proofs.Items.{taken_at, drop_get, all_by_place, at_all, zip_at}
-use Rattle.dbl_faithful.proofs.RightSnapshots.{event_position, listing, listing_places}
-use Rattle.dbl_faithful.proofs.Trace.{told_place, print_place, told_at, after_rise}
-use Rattle.dbl_faithful.specs.Onward.{IsLaterCursor, OffsetGoesOn, PlacesRise}
+use Rattle.dbl_faithful.proofs.RightSnapshots.{listing, listing_places}
+use Rattle.dbl_faithful.proofs.Trace.{told_place, print_place, told_at, event_position, after_rise}
+use Rattle.dbl_faithful.specs.Onward.{IsLaterCursor, IsLaterProgress, OffsetGoesOn, PlacesRise}
 use Rattle.dbl_faithful.specs.Laws.{StoresStayOnward, AddsGoOn, AddsAreOne, SentRecordsRise, WindowsRise}
 
 -- ---- cursors
 
-pub cursors_stay : (cursors : List Cursor) → AllZip IsLaterCursor cursors cursors
-cursors_stay [] = tt
-cursors_stay (c ∷ cursors) = (record { last = λ key up. up; done = λ is. is }, cursors_stay cursors)
+itself : (cursor : Cursor) → IsLaterCursor cursor cursor
+itself cursor = record { last = λ key up. up; done = λ is. is }
 
-pub cursors_go_on : (a b c : List Cursor) → AllZip IsLaterCursor a b → AllZip IsLaterCursor b c → AllZip IsLaterCursor a c
-cursors_go_on [] [] c one two = two
-cursors_go_on [] (y ∷ b) c one two = absurd one
-cursors_go_on (x ∷ a) [] c one two = absurd one
-cursors_go_on (x ∷ a) (y ∷ b) [] one two = absurd two
-cursors_go_on (x ∷ a) (y ∷ b) (z ∷ c) one two =
-    (record { last = λ key up. two.0.last key (one.0.last key up); done = λ is. two.0.done (one.0.done is) }, cursors_go_on a b c one.1 two.1)
+pub cursors_stay : (cursors : List (ℕ × Cursor)) → AllZip IsLaterProgress cursors cursors
+cursors_stay [] = tt
+cursors_stay (c ∷ cursors) = (λ same. itself c.1, cursors_stay cursors)
+
+pub infos_stay : (infos : List TableInfo) → AllZip IsAlike infos infos
+infos_stay [] = tt
+infos_stay (info ∷ infos) = (record { name = refl; keys = refl; types = refl }, infos_stay infos)
+
+pub versions_stay : (versions : List ℕ) → AllZip (λ before after. before ≤ after) versions versions
+versions_stay [] = tt
+versions_stay (version ∷ versions) = (le_refl version, versions_stay versions)
 
 -- ---- offsets
 
 stays : (config : Config) (history : History) (offset : Option Offset) → OffsetGoesOn config history history offset offset
 stays config history None = tt
 stays config history (Some offset) =
-    record { identity = refl; infos = refl; versions = refl; start = refl; lsn = le_refl offset.lsn.0; cursors = cursors_stay offset.cursors; incarnation = inl refl }
+    record { identity = refl; infos = infos_stay offset.infos; versions = versions_stay offset.versions; start = refl; lsn = le_refl offset.lsn.0; cursors = cursors_stay (zip offset.versions offset.cursors); incarnation = inl refl }
 
 pub stores_stay_onward : StoresStayOnward
 stores_stay_onward config stores = record {
@@ -87,11 +91,11 @@ rise_by_place (r ∷ rs) before = (
 )
 
 -- what a filter leaves passes it
-pub passing : (p : Commit → Bool) (commits : List Commit) → AllByRecursion (λ c. p c ≡ true) (filter p commits)
+pub passing : (p : Versioned → Bool) (versions : List Versioned) → AllByRecursion (λ v. p v ≡ true) (filter p versions)
 passing p [] = tt
-passing p (c ∷ commits) = by (passing p commits) (p c) refl
+passing p (v ∷ versions) = by (passing p versions) (p v) refl
   where
-    by : AllByRecursion (λ x. p x ≡ true) (filter p commits) → (b : Bool) → p c ≡ b → AllByRecursion (λ x. p x ≡ true) (cond b (c ∷ filter p commits) (filter p commits))
+    by : AllByRecursion (λ x. p x ≡ true) (filter p versions) → (b : Bool) → p v ≡ b → AllByRecursion (λ x. p x ≡ true) (cond b (v ∷ filter p versions) (filter p versions))
     by rest true is = (is, rest)
     by rest false is = rest
 
@@ -99,26 +103,27 @@ both_on : (n i j : ℕ) → i < j → n + i < n + j
 both_on n i j lt = omega (arith, lt)
 
 pub sent_records_rise : SentRecordsRise
-sent_records_rise identity infos commits from n more rise zipped = (
+sent_records_rise identity versions from n more rise zipped = (
   all_by_place (λ (item : Record). from < item.position) more (λ j item at. let one = stands j item at in subst (λ (p : ℕ). from < p) (sym (ap (λ (p : Place). p.0) (print_place identity one.0 item one.2))) (after_from (n + j) one.0 one.1)),
   rise_by_place more (λ i j a b lt at_a at_b. (
       let one = stands i a at_a in
       let two = stands j b at_b in
-      let told : IsBefore (told_place one.0) (told_place two.0) = after_rise infos from 0 commits rise (n + i) (n + j) one.0 two.0 (both_on n i j lt) one.1 two.1 in
+      let told : IsBefore (told_place one.0) (told_place two.0) = after_rise from 0 versions rise (n + i) (n + j) one.0 two.0 (both_on n i j lt) one.1 two.1 in
       subst (λ (p : Place). IsBefore p (place_of b)) (sym (print_place identity one.0 a one.2)) (subst (IsBefore (told_place one.0)) (sym (print_place identity two.0 b two.2)) told))),
 )
   where
-    stands : (k : ℕ) (item : Record) → slice_get more k ≡ Some item → (t : ToldEvent) × (slice_get (events_since infos from commits) (n + k) ≡ Some t) × IsPrint identity t item
+    stands : (k : ℕ) (item : Record) → slice_get more k ≡ Some item → (t : ToldEvent) × (slice_get (events_since from versions) (n + k) ≡ Some t) × IsPrint identity t item
     stands k item at =
-        let found = zip_at (IsPrint identity) (take (length more) (drop n (events_since infos from commits))) more k item zipped at in
-        let placed = taken_at (length more) (drop n (events_since infos from commits)) k found.0 found.1 in
-        (found.0, sym (drop_get n (events_since infos from commits) k) ∙ placed.1, found.2)
+        let found = zip_at (IsPrint identity) (take (length more) (drop n (events_since from versions))) more k item zipped at in
+        let placed = taken_at (length more) (drop n (events_since from versions)) k found.0 found.1 in
+        (found.0, sym (drop_get n (events_since from versions) k) ∙ placed.1, found.2)
 
-    after_from : (k : ℕ) (t : ToldEvent) → slice_get (events_since infos from commits) k ≡ Some t → from < t.event.position
+    after_from : (k : ℕ) (t : ToldEvent) → slice_get (events_since from versions) k ≡ Some t → from < t.event.position
     after_from k t at =
-        let found = told_at infos (commits_since from commits) k t at in
-        let passes : nat_lt from t.commit.lsn.0 ≡ true = at_all (λ (c : Commit). nat_lt from c.lsn.0 ≡ true) (commits_since from commits) found.place t.commit (passing (λ (c : Commit). nat_lt from c.lsn.0) commits) found.commit_at in
-        subst (λ (p : ℕ). from < p) (sym (event_position infos (commits_since from commits) t found)) ((Decides-ltb from t.commit.lsn.0).0 passes)
+        let found = told_at (commits_since from versions) k t at in
+        let passes : nat_lt from found.version.lsn.0 ≡ true =
+        at_all (λ (v : Versioned). nat_lt from v.lsn.0 ≡ true) (commits_since from versions) found.place found.version (passing (λ (v : Versioned). nat_lt from v.lsn.0) versions) found.commit_at in
+        subst (λ (p : ℕ). from < p) (sym (event_position (commits_since from versions) t found)) ((Decides-ltb from found.version.lsn.0).0 passes)
 
 by_ordinal : (a b i j : ℕ) → a ≡ 0 + i → b ≡ 0 + j → i < j → a < b
 by_ordinal a b i j one two lt = omega (arith, one, two, lt)

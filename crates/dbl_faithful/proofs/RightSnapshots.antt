@@ -1,5 +1,5 @@
 -- Right snapshots stay right as records and commits are added, and a right window's records are right.
-use Rattle.std.proofs.Common.{◌≡◌, ◌∙◌, ◌⊎◌, inl, inr, ◌+◌, ◌≤◌, ◌<◌, ℕ, zero, suc, ℤ, Bool, true, false, cond, All, List, [], ◌∷◌, ◌++◌, Option, Some, None, length, filter, flat_map, refl, sym, ap, subst, arith, append_assoc, append-nil}
+use Rattle.std.proofs.Common.{◌≡◌, ◌∙◌, ◌⊎◌, inl, inr, ◌+◌, ◌≤◌, ◌<◌, ℕ, zero, suc, ℤ, Bool, true, false, cond, All, List, [], ◌∷◌, ◌++◌, Option, Some, None, length, map, filter, flat_map, refl, sym, ap, subst, arith, append_assoc, append-nil}
 use Rattle.std.specs.Prelude.{◌==◌, nat_lt, slice_get}
 use Rattle.std.specs.List.{AllByRecursion}
 use Rattle.std.proofs.lemmas.Bool.Decides.{Decides-eqb}
@@ -11,32 +11,34 @@ use Rattle.dbl_model_table.specs.declared.row.Key.{Key}
 use Rattle.dbl_model_table.specs.declared.row.Row.{Row}
 use Rattle.dbl_model_table.specs.declared.table.TableInfo.{TableInfo}
 use Rattle.dbl_model_table.specs.declared.change.Body.{Body}
+use Rattle.dbl_model_table.specs.declared.change.Body.TheVariants.{Changes, Mark}
 use Rattle.dbl_model_table.specs.declared.change.Change.{Change}
 use Rattle.dbl_model_table.specs.declared.change.Commit.{Commit}
 use Rattle.dbl_model_table.specs.Infos.{column_types}
 use Rattle.dbl_model_table.specs.Keys.{key_of}
-use Rattle.dbl_model_table.specs.Rows.{Rows, rows_at, changes_of, all_changes, rows, moment_at}
+use Rattle.dbl_model_table.specs.Rows.{changes_of}
 use Rattle.dbl_model_table.proofs.Lists.{bool_case, slice_get-lt}
 use Rattle.dbl_consume_laws.specs.ModelHistory.History.{AreRising}
 use Rattle.dbl_consume_laws.specs.ModelHistory.Fit.{IsKeyOf}
 use Rattle.dbl_consume_laws.specs.ModelHistory.FitsInfos.{AreCellsOf}
+use Rattle.dbl_consume_laws.specs.ModelHistory.MarkTexts.{High, side_text}
 use Rattle.dbl_consume_laws.specs.ModelHistory.Ranges.{IsCommitInRange, IsMomentInRange}
 use Rattle.dbl_consume_laws.proofs.ModelHistoryMomentLemmas.{lsns}
-use Rattle.dbl_consume_laws.proofs.ModelHistoryRowLemmas.{all_changes-append, rows_at-longer}
 use Rattle.dbl_consume_laws.specs.ModelEvent.Events.{Event, notices, numbered, events_of}
 use Rattle.dbl_consume_laws.specs.ModelEvent.Snapshots.{read_record, read_records, progress_record}
 use Rattle.dbl_consume_laws.specs.Snapshots.{IsReadInRange}
-use Rattle.dbl_consume_laws.proofs.Prints.{event_numbered, lsn_one, through_in_range}
+use Rattle.dbl_consume_laws.proofs.Prints.{lsn_one, through_in_range}
 use Rattle.dbl_consume_laws.proofs.Lists.{slice_get-seam}
 use Rattle.dbl_consume_laws.proofs.Snapshot.{cells_in_range}
+use Rattle.dbl_consume_courses.specs.Versions.{Alteration, Versioned, plain_commit, FollowsInfos, AreVersionsFrom}
+use Rattle.dbl_consume_courses.proofs.TableRepeats.{follows_at}
 use Rattle.dbl_faithful.specs.Kinds.{is_change_record}
 use Rattle.dbl_faithful.specs.ToldEvents.{ToldEvent, events_since, commits_since}
 use Rattle.dbl_faithful.specs.RightSnapshots.{IsHighMark, records_at, IsRightSnapshot, AreSnapshotsRight}
-use Rattle.dbl_faithful.proofs.Caught.{moment_at-longer, moment_at-most}
 use Rattle.dbl_faithful.proofs.Exact.{AreBehind, put_more}
-use Rattle.dbl_faithful.proofs.Items.{first_some, at_left, at_cases, take_within, all_by_place, at_all, all_weaker, filter_none}
+use Rattle.dbl_faithful.proofs.Items.{first_some, at_left, at_cases, take_within, map_get, all_by_place, at_all, filter_none}
 use Rattle.dbl_faithful.proofs.RecordKinds.{read_rows_are_rows, progress_is_neither}
-use Rattle.dbl_faithful.proofs.Trace.{IsToldAt, told_at, events_since-append, all_filter}
+use Rattle.dbl_faithful.proofs.Trace.{told_at, event_position, events_since-append, all_filter}
 
 -- ---- tests of positions
 
@@ -87,35 +89,43 @@ filter_from p (y ∷ xs) k x at = by (λ n. filter_from p xs n x) (p y) k at
 pub mark_is_silent : (commit : Commit) → IsHighMark commit → changes_of commit ≡ []
 mark_is_silent commit high = ap (λ (b : Body). changes_of (record { lsn = commit.lsn; end_lsn = commit.end_lsn; time = commit.time; xid = commit.xid; body = b })) high.is
 
--- an event stands at its commit's position
-pub event_position : (infos : List TableInfo) (commits : List Commit) (t : ToldEvent) → IsToldAt infos commits t → t.event.position ≡ t.commit.lsn.0
-event_position infos commits t at = (event_numbered t.commit.lsn.0 0 (flat_map (notices infos) (changes_of t.commit)) at.number t.event at.event_at).0
+-- and alters no table
+no_alteration : (old : List TableInfo) (v : Versioned) (o : Option Alteration) (value : List ℕ) → FollowsInfos old v o → v.body ≡ Mark value → o ≡ None
+no_alteration old v None value follows is = refl
+no_alteration old v (Some alteration) value alters is = let contra : Changes [] ≡ Mark value = sym alters.silent ∙ is in cc
 
--- so none stands at a watermark's
-pub no_event_at_mark : (infos : List TableInfo) (start : ℕ) (commits before : List Commit) (mark : Commit) (later : List Commit) → AreRising 0 (lsns commits) → commits ≡ before ++ mark ∷ later → changes_of mark ≡ []
-    → (number : ℕ) (t : ToldEvent) → slice_get (events_since infos start commits) number ≡ Some t → t.event.position ≡ mark.lsn.0 → ⊥
-no_event_at_mark infos start commits before mark later rise is none number t at same =
-    let found = told_at infos (commits_since start commits) number t at in
-    let stands = filter_from (λ (c : Commit). nat_lt start c.lsn.0) commits found.place t.commit found.commit_at in
-    let marked : slice_get commits (length before) ≡ Some mark = ap (λ (l : List Commit). slice_get l (length before)) is ∙ slice_get-seam before mark later in
-    let lsn : t.commit.lsn.0 ≡ mark.lsn.0 = sym (event_position infos (commits_since start commits) t found) ∙ same in
-    let place : stands.0 ≡ length before = lsn_one 0 commits stands.0 (length before) t.commit mark rise stands.1 marked lsn in
-    let one : t.commit ≡ mark = first_some t.commit mark (sym stands.1 ∙ (ap (slice_get commits) place ∙ marked)) in
-    let empty : events_of infos t.commit ≡ [] = ap (events_of infos) one ∙ ap (λ (l : List Change). numbered mark.lsn.0 0 (flat_map (notices infos) l)) none in
-    never (slice_get (events_of infos t.commit) found.number) t.event (ap (λ (l : List Event). slice_get l found.number) empty) found.event_at
+pub mark_is_unaltered : (infos : List TableInfo) (before : List Versioned) (mark : Versioned) (later : List Versioned) → AreVersionsFrom infos (before ++ mark ∷ later) → IsHighMark (plain_commit mark) → mark.altered ≡ None
+mark_is_unaltered infos before mark later follow high =
+    let found = follows_at infos before mark later follow in
+    no_alteration found.0 mark mark.altered (high.front ++ side_text High) found.1 high.is
+
+-- no event stands at a watermark's position
+pub no_event_at_mark : (start : ℕ) (versions before : List Versioned) (mark : Versioned) (later : List Versioned) → AreRising 0 (lsns (map plain_commit versions)) → versions ≡ before ++ mark ∷ later → changes_of (plain_commit mark) ≡ []
+    → (number : ℕ) (t : ToldEvent) → slice_get (events_since start versions) number ≡ Some t → t.event.position ≡ mark.lsn.0 → ⊥
+no_event_at_mark start versions before mark later rise is none number t at same =
+    let found = told_at (commits_since start versions) number t at in
+    let v : Versioned = found.version in
+    let stands = filter_from (λ (x : Versioned). nat_lt start x.lsn.0) versions found.place v found.commit_at in
+    let marked : slice_get versions (length before) ≡ Some mark = ap (λ (l : List Versioned). slice_get l (length before)) is ∙ slice_get-seam before mark later in
+    let lsn : v.lsn.0 ≡ mark.lsn.0 = sym (event_position (commits_since start versions) t found) ∙ same in
+    let place : stands.0 ≡ length before =
+    lsn_one 0 (map plain_commit versions) stands.0 (length before) (plain_commit v) (plain_commit mark) rise (map_get plain_commit versions stands.0 v stands.1) (map_get plain_commit versions (length before) mark marked) lsn in
+    let one : v ≡ mark = first_some v mark (sym stands.1 ∙ (ap (slice_get versions) place ∙ marked)) in
+    let empty : events_of v.infos (plain_commit v) ≡ [] = ap (λ (x : Versioned). events_of x.infos (plain_commit x)) one ∙ ap (λ (l : List Change). numbered mark.lsn.0 0 (flat_map (notices mark.infos) l)) none in
+    never (slice_get (events_of v.infos (plain_commit v)) found.number) t.event (ap (λ (l : List Event). slice_get l found.number) empty) found.event_at
   where
     never : (o : Option Event) (e : Event) → o ≡ None → o ≡ Some e → ⊥
     never o e one two = cc
 
 -- ---- what right snapshots are to the events
 
-pub right_after : (identity : Identity) (infos : List TableInfo) (start : ℕ) (commits : List Commit) (records : List Record) → AreRising 0 (lsns commits) → AreSnapshotsRight identity infos commits (events_since infos start commits) records
-    → AreBehind identity (events_since infos start commits) records
-right_after identity infos start commits records rise right = record {
+pub right_after : (identity : Identity) (start : ℕ) (versions : List Versioned) (records : List Record) → AreRising 0 (lsns (map plain_commit versions)) → AreSnapshotsRight identity versions (events_since start versions) records
+    → AreBehind identity (events_since start versions) records
+right_after identity start versions records rise right = record {
   put = λ place item at other. (right.each place item at other).put;
   apart = λ place item at other number t at_told same. (
       let window = (right.each place item at other).window in
-      no_event_at_mark infos start commits window.before window.mark window.later rise window.spelled (mark_is_silent window.mark window.is_high) number t at_told (same ∙ sym window.position_is));
+      no_event_at_mark start versions window.before window.mark window.later rise window.spelled (mark_is_silent (plain_commit window.mark) (record { front = window.front; is = window.is_high })) number t at_told (same ∙ sym window.position_is));
 }
 
 -- ---- more records
@@ -131,10 +141,10 @@ fresh_kept records more place fresh =
     at_most : (a b : ℕ) → a < b → a ≤ b
     at_most a b lt = omega (arith, lt)
 
-pub right_kept : (identity : Identity) (infos : List TableInfo) (commits : List Commit) (told : List ToldEvent) (records more : List Record) (place position : ℕ)
+pub right_kept : (identity : Identity) (versions : List Versioned) (told : List ToldEvent) (records more : List Record) (place position : ℕ)
     → ((j : ℕ) (item : Record) → slice_get more j ≡ Some item → item.position ≡ position → ⊥)
-    → IsRightSnapshot identity infos commits told records place position → IsRightSnapshot identity infos commits told (records ++ more) place position
-right_kept identity infos commits told records more place position others right = record {
+    → IsRightSnapshot identity versions told records place position → IsRightSnapshot identity versions told (records ++ more) place position
+right_kept identity versions told records more place position others right = record {
   fresh = fresh_kept records more place right.fresh;
   window = record {
     before = right.window.before;
@@ -142,6 +152,7 @@ right_kept identity infos commits told records more place position others right 
     later = right.window.later;
     spelled = right.window.spelled;
     position_is = right.window.position_is;
+    front = right.window.front;
     is_high = right.window.is_high;
     closed = right.window.closed;
     now = right.window.now;
@@ -149,7 +160,7 @@ right_kept identity infos commits told records more place position others right 
     snapshot = right.window.snapshot;
     listed = right.window.listed;
     count = right.window.count;
-    front = at-append position records more ∙ (ap (λ (l : List Record). records_at position records ++ l) (at_others position more others) ∙ (append-nil (records_at position records) ∙ right.window.front));
+    shown = at-append position records more ∙ (ap (λ (l : List Record). records_at position records ++ l) (at_others position more others) ∙ (append-nil (records_at position records) ∙ right.window.shown));
     right = right.window.right;
   };
   put = λ number t at lt. put_more identity records more t (right.put number t at lt);
@@ -157,29 +168,16 @@ right_kept identity infos commits told records more place position others right 
 
 -- ---- more commits
 
-module _ (identity : Identity) (infos : List TableInfo) (commits more : List Commit) (records : List Record) (start far : ℕ) (placed : AllByRecursion (λ item. item.position ≤ far) records) (above : AllByRecursion (λ commit. (far < commit.lsn.0) × (start < commit.lsn.0)) more) where
-  over : (position : ℕ) → position ≤ far → AllByRecursion (λ commit. position < commit.lsn.0) more
-  over position le = all_weaker (λ (c : Commit). (far < c.lsn.0) × (start < c.lsn.0)) (λ (c : Commit). position < c.lsn.0) more (λ c lt. beyond position far c.lsn.0 le lt.0) above
-    where
-      beyond : (a b c : ℕ) → a ≤ b → b < c → a < c
-      beyond a b c le lt = omega (arith, le, lt)
-
-  -- the rows at a position are those that they were
-  same_rows : (position : ℕ) → position ≤ far → rows infos (commits ++ more) (moment_at (commits ++ more) position) ≡ rows infos commits (moment_at commits position)
-  same_rows position le =
-      ap (λ (n : ℕ). rows infos (commits ++ more) n) (moment_at-longer commits more position (over position le))
-      ∙ (ap (λ (l : List Change). rows_at infos l (moment_at commits position)) (all_changes-append commits more)
-      ∙ rows_at-longer infos (all_changes commits) (all_changes more) (moment_at commits position) (moment_at-most commits position))
-
+module _ (identity : Identity) (versions more : List Versioned) (records : List Record) (start far : ℕ) (placed : AllByRecursion (λ item. item.position ≤ far) records) (above : AllByRecursion (λ v. far < v.lsn.0) more) where
   -- the events of the new commits are after every record
-  new_events : (number : ℕ) (t : ToldEvent) → slice_get (events_since infos start more) number ≡ Some t → far < t.event.position
+  new_events : (number : ℕ) (t : ToldEvent) → slice_get (events_since start more) number ≡ Some t → far < t.event.position
   new_events number t at =
-      let found = told_at infos (commits_since start more) number t at in
-      let lsn : (far < t.commit.lsn.0) × (start < t.commit.lsn.0) =
-      at_all (λ (c : Commit). (far < c.lsn.0) × (start < c.lsn.0)) (commits_since start more) found.place t.commit (all_filter (λ (c : Commit). (far < c.lsn.0) × (start < c.lsn.0)) (λ (c : Commit). nat_lt start c.lsn.0) more above) found.commit_at in
-      subst (λ (p : ℕ). far < p) (sym (event_position infos (commits_since start more) t found)) lsn.0
+      let found = told_at (commits_since start more) number t at in
+      let lsn : far < found.version.lsn.0 =
+      at_all (λ (v : Versioned). far < v.lsn.0) (commits_since start more) found.place found.version (all_filter (λ (v : Versioned). far < v.lsn.0) (λ (v : Versioned). nat_lt start v.lsn.0) more above) found.commit_at in
+      subst (λ (p : ℕ). far < p) (sym (event_position (commits_since start more) t found)) lsn
 
-  pub right_longer : AreSnapshotsRight identity infos commits (events_since infos start commits) records → AreSnapshotsRight identity infos (commits ++ more) (events_since infos start (commits ++ more)) records
+  pub right_longer : AreSnapshotsRight identity versions (events_since start versions) records → AreSnapshotsRight identity (versions ++ more) (events_since start (versions ++ more)) records
   right_longer right = record {
     each = λ place item at other. (
         let old = right.each place item at other in
@@ -190,8 +188,9 @@ module _ (identity : Identity) (infos : List TableInfo) (commits more : List Com
             before = old.window.before;
             mark = old.window.mark;
             later = old.window.later ++ more;
-            spelled = ap (λ (l : List Commit). l ++ more) old.window.spelled ∙ append_assoc old.window.before (old.window.mark ∷ old.window.later) more;
+            spelled = ap (λ (l : List Versioned). l ++ more) old.window.spelled ∙ append_assoc old.window.before (old.window.mark ∷ old.window.later) more;
             position_is = old.window.position_is;
+            front = old.window.front;
             is_high = old.window.is_high;
             closed = old.window.closed;
             now = old.window.now;
@@ -199,10 +198,10 @@ module _ (identity : Identity) (infos : List TableInfo) (commits more : List Com
             snapshot = old.window.snapshot;
             listed = old.window.listed;
             count = old.window.count;
-            front = old.window.front;
-            right = subst (λ (at_position : Rows). AllByRecursion (λ (entry : Key × Row). at_position old.window.closed.table entry.0 ≡ Some entry.1.cells) old.window.closed.rows) (sym (same_rows item.position le)) old.window.right;
+            shown = old.window.shown;
+            right = old.window.right;
           };
-          put = λ number t at_told lt. elim (at_cases (events_since infos start commits) (events_since infos start more) number t (ap (λ (l : List ToldEvent). slice_get l number) (sym (events_since-append infos start commits more)) ∙ at_told)) [
+          put = λ number t at_told lt. elim (at_cases (events_since start versions) (events_since start more) number t (ap (λ (l : List ToldEvent). slice_get l number) (sym (events_since-append start versions more)) ∙ at_told)) [
             | inl known ↦ old.put number t known lt
             | inr new ↦ absurd (not_both far item.position t.event.position le lt (new_events new.0 t new.1))
           ];

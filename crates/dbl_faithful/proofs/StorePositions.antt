@@ -8,21 +8,21 @@ use Rattle.std.proofs.lemmas.List.Elements.{All-contains, All-from_recursion, re
 use Rattle.dbl_record.specs.declared.record.Record.{Record}
 use Rattle.dbl_record.specs.Places.{Place, place_of, IsBefore}
 use Rattle.dbl_model_table.specs.declared.table.TableInfo.{TableInfo}
-use Rattle.dbl_model_table.specs.declared.change.Commit.{Commit}
 use Rattle.dbl_model_table.proofs.Lists.{and_false}
 use Rattle.dbl_consume_laws.specs.ModelHistory.History.{AreRising, RawCommit, History}
-use Rattle.dbl_consume_laws.specs.ModelHistory.Typed.{typed_commit, typed}
-use Rattle.dbl_consume_laws.proofs.ModelHistoryMomentLemmas.{lsns}
+use Rattle.dbl_consume_laws.specs.ModelHistory.InForce.{infos_by, versioned_from, opening_infos, versioned}
 use Rattle.dbl_consume_laws.proofs.Consumers.{all_left, all_right}
+use Rattle.dbl_consume_courses.specs.Versions.{Versioned}
+use Rattle.dbl_consume_courses.specs.AgesBetween.{IsLsnOf}
 use Rattle.dbl_faithful.specs.CaughtUp.{EndAt, IsEndOf}
 use Rattle.dbl_faithful.proofs.Items.{first_some, mapped, map_get, filter_none, filter_whole, all_by_place, all_weaker}
 use Rattle.dbl_faithful.specs.Stores.{IsCommitAt, IsPositionOf, top_position, repeated, TopPositionsAreTops, EmptyLogsHaveNoLag, LagsAreBounded, LaterOffsetsLagLess, RepeatedCommitsStandTogether}
 
 -- ---- commits by their LSNs
 
-lsns-typed : (infos : List TableInfo) (commits : List RawCommit) → lsns (map (typed_commit infos) commits) ≡ map (λ (commit : RawCommit). commit.lsn.0) commits
-lsns-typed infos [] = refl
-lsns-typed infos (commit ∷ commits) = ap (λ (l : List ℕ). commit.lsn.0 ∷ l) (lsns-typed infos commits)
+lsns-versioned : (infos : List TableInfo) (commits : List RawCommit) → map (λ (v : Versioned). v.lsn.0) (versioned_from infos commits) ≡ map (λ (commit : RawCommit). commit.lsn.0) commits
+lsns-versioned infos [] = refl
+lsns-versioned infos (commit ∷ commits) = ap (λ (l : List ℕ). commit.lsn.0 ∷ l) (lsns-versioned (infos_by commit.body infos) commits)
 
 parted_at : {X : Type 0} (xs : List X) (k : ℕ) (x : X) → slice_get xs k ≡ Some x → (front : List X) × (rest : List X) × (xs ≡ front ++ x ∷ rest)
 parted_at [] k x at = cc
@@ -30,22 +30,27 @@ parted_at (y ∷ xs) zero x at = ([], xs, ap (λ (z : _). z ∷ xs) (first_some 
 parted_at (y ∷ xs) (suc k) x at = let rest = parted_at xs k x at in (y ∷ rest.0, rest.1, ap (λ (l : List _). y ∷ l) rest.2)
 
 -- a commit of the captured ones is one of the history
-pub commit_at : (infos : List TableInfo) (history : History) (place : ℕ) (commit : Commit) → slice_get (typed infos history) place ≡ Some commit → IsCommitAt history commit.lsn.0
-commit_at infos history place commit at =
-    (place, ap (λ (l : List ℕ). slice_get l place) (sym (lsns-typed infos history.commits)) ∙ map_get (λ (c : Commit). c.lsn.0) (typed infos history) place commit at)
+pub commit_at : (infos : List TableInfo) (history : History) (place : ℕ) (v : Versioned) → slice_get (versioned infos history) place ≡ Some v → IsCommitAt history v.lsn.0
+commit_at infos history place v at =
+    (place, ap (λ (l : List ℕ). slice_get l place) (sym (lsns-versioned (opening_infos history infos) history.commits)) ∙ map_get (λ (x : Versioned). x.lsn.0) (versioned infos history) place v at)
+
+-- and one of the history is one of them
+pub lsn_at : (infos : List TableInfo) (history : History) (position : ℕ) → IsCommitAt history position → IsLsnOf (versioned infos history) position
+lsn_at infos history position at = (at.0, ap (λ (l : List ℕ). slice_get l at.0) (lsns-versioned (opening_infos history infos) history.commits) ∙ at.1)
 
 -- the commits that end at a position, and the others
-pub record IsEnded (commits : List Commit) (position : ℕ) : Type 0 where
-  pub before : List Commit
-  pub later : List Commit
-  pub spelled : commits ≡ before ++ later
+pub record IsEnded (versions : List Versioned) (position : ℕ) : Type 0 where
+  pub before : List Versioned
+  pub later : List Versioned
+  pub spelled : versions ≡ before ++ later
   pub ends : IsEndOf position before
 
-pub ended_at : (infos : List TableInfo) (history : History) (position : ℕ) → IsPositionOf history position → IsEnded (typed infos history) position
-ended_at infos history position (inl none) = record { before = []; later = typed infos history; spelled = refl; ends = inl (none, refl) }
+pub ended_at : (infos : List TableInfo) (history : History) (position : ℕ) → IsPositionOf history position → IsEnded (versioned infos history) position
+ended_at infos history position (inl none) = record { before = []; later = versioned infos history; spelled = refl; ends = inl (none, refl) }
 ended_at infos history position (inr at) =
-    let found = mapped (λ (c : Commit). c.lsn.0) (typed infos history) at.0 position (ap (λ (l : List ℕ). slice_get l at.0) (lsns-typed infos history.commits) ∙ at.1) in
-    let parts = parted_at (typed infos history) at.0 found.0 found.1 in
+    let is = lsn_at infos history position at in
+    let found = mapped (λ (v : Versioned). v.lsn.0) (versioned infos history) is.0 position is.1 in
+    let parts = parted_at (versioned infos history) is.0 found.0 found.1 in
     let end : EndAt position (parts.0 ++ found.0 ∷ []) = record { front = parts.0; last = found.0; spelled = refl; lsn_is = sym found.2 } in
     record { before = parts.0 ++ found.0 ∷ []; later = parts.1; spelled = parts.2 ∙ sym (append_assoc parts.0 (found.0 ∷ []) parts.1); ends = inr end }
 

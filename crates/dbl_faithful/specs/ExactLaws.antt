@@ -4,8 +4,8 @@ use Rattle.dbl_record.specs.declared.record.Record.{Record}
 use Rattle.dbl_record.specs.Places.{place_of, IsBefore, IsFresh}
 use Rattle.dbl_model_table.specs.declared.identity.Identity.{Identity}
 use Rattle.dbl_model_table.specs.declared.table.TableInfo.{TableInfo}
-use Rattle.dbl_model_table.specs.declared.change.Commit.{Commit}
-use Rattle.dbl_consume_laws.specs.Commits.{AreFitCommits}
+use Rattle.dbl_consume_courses.specs.Versions.{Versioned}
+use Rattle.dbl_consume_courses.specs.FitVersions.{AreFitVersions}
 use Rattle.dbl_faithful.specs.Kinds.{is_change_record}
 use Rattle.dbl_faithful.specs.ToldEvents.{ToldEvent, events_since, IsPrint, HasRecordOfEvent}
 use Rattle.dbl_faithful.specs.ExactLogs.{news, IsExact, IsLogExact}
@@ -45,18 +45,18 @@ pub record Repeats (identity : Identity) (records : List Record) (place : ℕ) (
 
 -- A record of a change that isn't fresh repeats an earlier one.
 abbrev pub RepeatsAreEarlier : Type 0
-RepeatsAreEarlier = (identity : Identity) (infos : List TableInfo) (commits : List Commit) (start : ℕ) (records : List Record)
+RepeatsAreEarlier = (identity : Identity) (infos : List TableInfo) (versions : List Versioned) (start : ℕ) (records : List Record)
     (place : ℕ) (item : Record)
-    → AreFitCommits infos commits → IsLogExact identity infos commits start records
+    → AreFitVersions infos versions → IsLogExact identity versions start records
     → slice_get records place ≡ Some item → is_change_record item ≡ true → (IsFresh records place → ⊥)
     → Repeats identity records place item
 
 -- If a record is after an event that the log lacks, the log can't take that event's record and stay exact. A log with a snapshot's row
 -- therefore has every earlier event.
 abbrev pub GapsSpoilExactLogs : Type 0
-GapsSpoilExactLogs = (identity : Identity) (infos : List TableInfo) (commits : List Commit) (start : ℕ) (records : List Record)
+GapsSpoilExactLogs = (identity : Identity) (infos : List TableInfo) (versions : List Versioned) (start : ℕ) (records : List Record)
     (place number : ℕ) (item late : Record) (event : ToldEvent)
-    → AreFitCommits infos commits
-    → slice_get records place ≡ Some item → slice_get (events_since infos start commits) number ≡ Some event
+    → AreFitVersions infos versions
+    → slice_get records place ≡ Some item → slice_get (events_since start versions) number ≡ Some event
     → event.event.position < item.position → (HasRecordOfEvent identity records event → ⊥) → IsPrint identity event late
-    → IsLogExact identity infos commits start (records ++ late ∷ []) → ⊥
+    → IsLogExact identity versions start (records ++ late ∷ []) → ⊥

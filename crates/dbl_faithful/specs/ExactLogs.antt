@@ -5,8 +5,7 @@ use Rattle.std.specs.List.{AllZip, list_all}
 use Rattle.dbl_record.specs.declared.record.Record.{Record}
 use Rattle.dbl_record.specs.Places.{Place, place_of}
 use Rattle.dbl_model_table.specs.declared.identity.Identity.{Identity}
-use Rattle.dbl_model_table.specs.declared.table.TableInfo.{TableInfo}
-use Rattle.dbl_model_table.specs.declared.change.Commit.{Commit}
+use Rattle.dbl_consume_courses.specs.Versions.{Versioned}
 use Rattle.dbl_faithful.specs.Kinds.{is_change_record}
 use Rattle.dbl_faithful.specs.ToldEvents.{ToldEvent, events_since, IsPrint, IsAmong}
 
@@ -40,5 +39,5 @@ pub record IsExact (identity : Identity) (told : List ToldEvent) (records : List
       → IsAmong identity (take count told) item
 
 -- Whether the log is exact for the commits after a start. The number of their events that it has is unique (theorem ExactLogsHaveOneCount).
-abbrev pub IsLogExact : Identity → List TableInfo → List Commit → ℕ → List Record → Type 0
-IsLogExact identity infos commits start records = (count : ℕ) × IsExact identity (events_since infos start commits) records count
+abbrev pub IsLogExact : Identity → List Versioned → ℕ → List Record → Type 0
+IsLogExact identity versions start records = (count : ℕ) × IsExact identity (events_since start versions) records count

@@ -1,38 +1,40 @@
 -- Faithful stores: the records of a log are true of the source, and a connector can restart from its offset. After the DBLog paper.
-use Rattle.std.specs.Prelude.{◌≡◌, Option, Some, None, List, []}
+use Rattle.std.specs.Prelude.{◌≡◌, ℕ, Option, Some, None, List, []}
 use Rattle.std.specs.List.{AllByRecursion}
 use Rattle.dbl_base.specs.declared.lsn.Lsn.{Lsn}
 use Rattle.dbl_record.specs.declared.record.Record.{Record}
-use Rattle.dbl_model_table.specs.declared.change.Commit.{Commit}
-use Rattle.dbl_model_table.specs.Rows.{moment_at}
+use Rattle.dbl_model_table.specs.declared.table.TableInfo.{TableInfo}
 use Rattle.dbl_consume_laws.specs.ModelHistory.History.{RawBody, History}
 use Rattle.dbl_consume_laws.specs.ModelHistory.History.RawBody.{Changes, Mark, Alter}
-use Rattle.dbl_consume_laws.specs.ModelHistory.Typed.{typed}
+use Rattle.dbl_consume_laws.specs.ModelHistory.InForce.{opening_infos, versioned}
 use Rattle.dbl_offset_content.specs.declared.offset.Offset.{Offset}
-use Rattle.dbl_consume_laws.specs.Ages.{IsAged, HasNamedRows}
-use Rattle.dbl_faithful.specs.Agreements.{Agrees}
+use Rattle.dbl_consume_courses.specs.Versions.{Versioned}
+use Rattle.dbl_consume_courses.specs.AlteredTables.{AgreesInCourse, IsAgedFrom}
+use Rattle.dbl_faithful.specs.Agreements.{HasKeyedRows}
 use Rattle.dbl_faithful.specs.ToldEvents.{events_since}
 use Rattle.dbl_faithful.specs.ExactLogs.{IsLogExact}
 use Rattle.dbl_faithful.specs.RightSnapshots.{AreSnapshotsRight}
 use Rattle.dbl_faithful.specs.Stores.{Stores}
 use Rattle.dbl_faithful.specs.Lag.{IsBehind}
 
--- The commits of the tables that an offset captures.
-abbrev pub captured_commits : History → Offset → List Commit
-captured_commits history offset = typed offset.infos history
+-- The commits of the tables that an offset captures, each with these tables in the columns in force from it on.
+abbrev pub captured_commits : History → Offset → List Versioned
+captured_commits history offset = versioned offset.infos history
+
+-- These tables in the columns that they have before all commits.
+abbrev pub first_infos : History → Offset → List TableInfo
+first_infos history offset = opening_infos history offset.infos
 
 -- Faithful stores with an offset: a consumer agrees with the source at each first delivery; the log is exact and its snapshots right; each
--- cell of a consumer is the source's at some point from the offset on; and a connector can restart from the offset.
+-- table is aged from the offset on, and each row of a consumer is at a key; and a connector can restart from the offset.
 pub record IsFaithfulTo (history : History) (confirmed : Lsn) (records : List Record) (offset : Offset) : Type 0 where
-  pub agrees : Agrees offset.identity offset.infos (captured_commits history offset)
-      (moment_at (captured_commits history offset) offset.start.0) records
-  pub exact : IsLogExact offset.identity offset.infos (captured_commits history offset) offset.start.0 records
-  pub snapshots : AreSnapshotsRight offset.identity offset.infos (captured_commits history offset)
-      (events_since offset.infos offset.start.0 (captured_commits history offset)) records
-  pub aged : IsAged offset.identity offset.infos (captured_commits history offset)
-      (moment_at (captured_commits history offset) offset.start.0) records
-      (moment_at (captured_commits history offset) offset.lsn.0)
-  pub named : HasNamedRows offset.identity offset.infos records
+  pub agrees : AgreesInCourse offset.identity (first_infos history offset) (captured_commits history offset) offset.start.0 records
+  pub exact : IsLogExact offset.identity (captured_commits history offset) offset.start.0 records
+  pub snapshots : AreSnapshotsRight offset.identity (captured_commits history offset)
+      (events_since offset.start.0 (captured_commits history offset)) records
+  pub aged : (table : ℕ) → IsAgedFrom offset.identity (first_infos history offset) (captured_commits history offset) offset.start.0
+      records offset.lsn.0 table
+  pub keyed : HasKeyedRows offset.identity (first_infos history offset) records
   pub lags : IsBehind history confirmed records offset
 
 -- Whether a commit's contents are no watermark.

@@ -3,7 +3,7 @@ use Rattle.std.specs.Prelude.{◌≡◌, ◌≤◌, Option, Some, None, List, �
 use Rattle.std.specs.List.{AllByRecursion}
 use Rattle.dbl_base.specs.declared.lsn.Lsn.{Lsn}
 use Rattle.dbl_record.specs.declared.record.Record.{Record}
-use Rattle.dbl_consume_laws.specs.ModelHistory.History.{RawBody, RawCommit, History}
+use Rattle.dbl_consume_laws.specs.ModelHistory.History.{RawBody, RawCommit, IsRising, History}
 use Rattle.dbl_consume_laws.specs.ModelHistory.Fit.{IsFitHistory}
 use Rattle.dbl_offset_content.specs.declared.offset.Offset.{Offset}
 use Rattle.dbl_faithful.specs.Lag.{IsMarkedBy, IsOffsetOf, IsBehind}
@@ -33,15 +33,16 @@ LongerHistoriesStayFaithful = (old new : History) (more : List RawCommit) (confi
 abbrev pub LongerHistoriesKeepOffsets : Type 0
 LongerHistoriesKeepOffsets = (old new : History) (more : List RawCommit) (confirmed : Lsn) (records : List Record)
     (offset : Offset)
-    → HasGrown old new more → AllByRecursion (λ commit. IsMarkedBy offset.incarnation commit.body) more
+    → HasGrown old new more → IsRising new → AllByRecursion (λ commit. IsMarkedBy offset.incarnation commit.body) more
     → (IsOffsetOf old confirmed records offset → IsOffsetOf new confirmed records offset)
-    × (IsFitHistory new → IsBehind old confirmed records offset → IsBehind new confirmed records offset)
+    × (IsBehind old confirmed records offset → IsBehind new confirmed records offset)
 
 -- ---- more records
 
--- Appended records, of any kind, keep an offset in agreement with the stores, and a connector able to restart from it.
+-- Records that don't lie before an offset's LSN, of any kind, keep it in agreement with the stores, and a connector able to restart from it.
 abbrev pub MoreRecordsKeepOffsets : Type 0
 MoreRecordsKeepOffsets = (history : History) (confirmed : Lsn) (records more : List Record) (offset : Offset)
+    → AllByRecursion (λ item. offset.lsn.0 ≤ item.position) more
     → (IsOffsetOf history confirmed records offset → IsOffsetOf history confirmed (records ++ more) offset)
     × (IsBehind history confirmed records offset → IsBehind history confirmed (records ++ more) offset)
 

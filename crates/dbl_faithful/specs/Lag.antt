@@ -1,5 +1,5 @@
 -- Offsets from which a connector can restart with its log. The uniqueness of watermarks is after the DBLog paper.
-use Rattle.std.specs.Prelude.{◌≡◌, ◌⊎◌, ◌<◌, ◌≤◌, ◌^◌, ℕ, false, Some, None, List, slice_get}
+use Rattle.std.specs.Prelude.{◌≡◌, ◌⊎◌, ◌<◌, ◌≤◌, ◌^◌, ℕ, false, Some, None, List, length, slice_get}
 use Rattle.std.specs.List.{AllByRecursion, AllZip}
 use Rattle.dbl_base.specs.declared.lsn.Lsn.{Lsn}
 use Rattle.dbl_record.specs.declared.record.Record.{Record}
@@ -8,10 +8,13 @@ use Rattle.dbl_model_table.specs.declared.table.TableInfo.{TableInfo}
 use Rattle.dbl_consume_laws.specs.ModelHistory.declared.cursor.Cursor.{Cursor}
 use Rattle.dbl_consume_laws.specs.ModelHistory.History.{RawBody, History}
 use Rattle.dbl_consume_laws.specs.ModelHistory.History.RawBody.{Changes, Mark, Alter}
-use Rattle.dbl_consume_laws.specs.ModelHistory.Typed.{typed}
-use Rattle.dbl_consume_laws.specs.ModelHistory.Fit.{AreInfosOf}
+use Rattle.dbl_consume_laws.specs.ModelHistory.InForce.{entry_at, versioned}
+use Rattle.dbl_consume_laws.specs.ModelHistory.Laws.{AreDistinctTables}
 use Rattle.dbl_consume_laws.specs.ModelHistory.MarkTexts.{Side, mark_text}
-use Rattle.dbl_consume_laws.specs.Prints.{ReportsProgress}
+use Rattle.dbl_model_table.specs.declared.table.RawTable.{RawTable}
+use Rattle.dbl_model_table.specs.Infos.{IsInfoOf}
+use Rattle.dbl_consume_courses.specs.Versions.{Versioned}
+use Rattle.dbl_consume_courses.specs.VersionStores.{IsCursorOf}
 use Rattle.dbl_offset_content.specs.declared.offset.Offset.{Offset}
 use Rattle.dbl_faithful.specs.ToldEvents.{ToldEvent, events_since, HasRecordOfEvent}
 use Rattle.dbl_faithful.specs.Stores.{IsCommitAt, IsPositionOf}
@@ -22,17 +25,25 @@ use Rattle.dbl_faithful.specs.Stores.{IsCommitAt, IsPositionOf}
 abbrev pub IsUnread : Cursor → Type 0
 IsUnread cursor = (cursor.last ≡ None) × (cursor.done ≡ false)
 
--- Whether a record that isn't after this position reports the table's progress.
-pub record IsCursorTold (identity : Identity) (records : List Record) (lsn : ℕ) (info : TableInfo) (cursor : Cursor) : Type 0 where
-  pub place : ℕ
-  pub item : Record
-  pub stands : slice_get records place ≡ Some item
-  pub reports : ReportsProgress identity info item cursor.last cursor.done
-  pub not_after : item.position ≤ lsn
+-- Whether the progress of a table is that of a record of the log in the table's version there, after which no record lies before it. The
+-- record isn't before the log's start: of what was reported before, the log need not show any row.
+pub record IsReported (identity : Identity) (versions : List Versioned) (records : List Record) (start lsn table : ℕ) (info : TableInfo)
+    (version : ℕ) (cursor : Cursor) : Type 0 where
+  pub told : IsCursorOf identity versions records lsn table info version cursor
+  pub not_before : start ≤ told.item.position
 
--- Whether the progress of a table is that of a record of the log, or nothing was read of the table.
-abbrev pub IsRightCursor : Identity → List Record → ℕ → TableInfo → Cursor → Type 0
-IsRightCursor identity records lsn info cursor = IsUnread cursor ⊎ IsCursorTold identity records lsn info cursor
+-- Whether the progress of a table is as a record of the log reports it, or nothing was read of the table.
+abbrev pub IsRightCursor : Identity → List Versioned → List Record → ℕ → ℕ → ℕ → TableInfo → ℕ → Cursor → Type 0
+IsRightCursor identity versions records start lsn table info version cursor =
+    IsUnread cursor ⊎ IsReported identity versions records start lsn table info version cursor
+
+-- Whether a captured table is as the catalogue describes it at some point of the history, and the version is the one there.
+pub record IsDescribedAt (history : History) (info : TableInfo) (version : ℕ) : Type 0 where
+  pub place : ℕ
+  pub entry : RawTable
+  pub stands : entry_at history place info.name ≡ Some entry
+  pub is : IsInfoOf entry info
+  pub version_is : entry.version ≡ version
 
 -- ---- watermarks
 
@@ -64,19 +75,23 @@ pub record IsOffsetOf (history : History) (confirmed : Lsn) (records : List Reco
   pub start : IsPositionOf history offset.start.0
   pub lsn : (offset.lsn.0 ≡ offset.start.0) ⊎ IsCommitAt history offset.lsn.0
   pub order : offset.start.0 ≤ offset.lsn.0
-  -- Each table's progress is as a record of the log reports it, or nothing was read of the table.
-  pub cursors : AllZip (IsRightCursor offset.identity records offset.lsn.0) offset.infos offset.cursors
+  -- Each table has one stored version and one progress, which is as a record of the log reports it, or nothing was read of the table.
+  pub many : (length offset.versions ≡ length offset.infos) × (length offset.cursors ≡ length offset.infos)
+  pub cursors : (table : ℕ) (info : TableInfo) (version : ℕ) (cursor : Cursor) → slice_get offset.infos table ≡ Some info
+      → slice_get offset.versions table ≡ Some version → slice_get offset.cursors table ≡ Some cursor
+      → IsRightCursor offset.identity (versioned offset.infos history) records offset.start.0 offset.lsn.0 table info version cursor
   -- The source has kept its log from the LSN on.
   pub confirmed_to : confirmed.0 ≤ offset.lsn.0
   -- No watermark is a later session's, nor another client's.
   pub marks : AreMarksOf offset.incarnation history
-  -- The captured tables are those of the source's catalogue.
-  pub infos : AreInfosOf history offset.infos
+  -- The captured tables are distinct, and each is as the source described it at some point.
+  pub distinct : AreDistinctTables offset.infos
+  pub infos : AllZip (IsDescribedAt history) offset.infos offset.versions
 
 -- Whether a connector can restart from the offset: it agrees with the stores, and each event after its start up to its LSN has a record in
 -- the log.
 pub record IsBehind (history : History) (confirmed : Lsn) (records : List Record) (offset : Offset) : Type 0 where
   pub offset_is : IsOffsetOf history confirmed records offset
   pub has_records : (number : ℕ) (event : ToldEvent)
-      → slice_get (events_since offset.infos offset.start.0 (typed offset.infos history)) number ≡ Some event
+      → slice_get (events_since offset.start.0 (versioned offset.infos history)) number ≡ Some event
       → event.event.position ≤ offset.lsn.0 → HasRecordOfEvent offset.identity records event

@@ -1,5 +1,5 @@
 -- Theorems about faithful stores, and how a session keeps them so.
-use Rattle.std.specs.Prelude.{◌≡◌, ℕ, ℤ, ◌<◌, Some, List, length, take, drop, slice_get}
+use Rattle.std.specs.Prelude.{◌≡◌, ℕ, ℤ, ◌<◌, ◌≤◌, Some, List, length, map, take, drop, slice_get}
 use Rattle.std.specs.List.{AllByRecursion, AllZip}
 use Rattle.dbl_base.specs.declared.lsn.Lsn.{Lsn}
 use Rattle.dbl_record.specs.declared.record.Record.{Record}
@@ -10,40 +10,51 @@ use Rattle.dbl_model_table.specs.declared.table.TableInfo.{TableInfo}
 use Rattle.dbl_model_table.specs.declared.change.Commit.{Commit}
 use Rattle.dbl_consume_laws.specs.ModelHistory.declared.cursor.Cursor.{Cursor}
 use Rattle.dbl_consume_laws.specs.ModelHistory.History.{History}
-use Rattle.dbl_consume_laws.specs.ModelHistory.Fit.{AreInfosOf, IsFitHistory}
-use Rattle.dbl_consume_laws.specs.ModelHistory.Laws.{CommitsRise}
+use Rattle.dbl_consume_laws.specs.ModelHistory.Fit.{IsFitHistory}
+use Rattle.dbl_consume_laws.specs.ModelHistory.Laws.{CommitsRise, AreDistinctTables}
 use Rattle.dbl_offset_content.specs.declared.offset.Offset.{Offset}
 use Rattle.dbl_consume_laws.specs.ModelEvent.declared.closed.Closed.{Closed}
 use Rattle.dbl_consume_laws.specs.ModelEvent.SnapshotLists.{IsSnapshot}
 use Rattle.dbl_consume_laws.specs.KnownKeys.{AreToldUpTo}
 use Rattle.dbl_faithful.specs.ToldEvents.{events_since, IsPrint}
-use Rattle.dbl_faithful.specs.CaughtUp.{IsEndOf, HasDeliveredUpTo}
+use Rattle.dbl_consume_courses.specs.Versions.{Versioned, plain_commit}
+use Rattle.dbl_consume_courses.specs.Courses.{course}
+use Rattle.dbl_consume_courses.specs.Since.{since}
+use Rattle.dbl_consume_courses.specs.VersionStores.{version_to}
+use Rattle.dbl_faithful.specs.CaughtUp.{HasDeliveredUpTo}
 use Rattle.dbl_faithful.specs.Stores.{Stores, IsCommitAt, IsPositionOf, top_position}
-use Rattle.dbl_faithful.specs.Lag.{IsUnread, IsOffsetOf, IsBehind}
-use Rattle.dbl_faithful.specs.Faithful.{captured_commits, IsFaithfulTo, IsUntouched}
+use Rattle.dbl_faithful.specs.Lag.{IsUnread, IsDescribedAt, IsOffsetOf, IsBehind}
+use Rattle.dbl_faithful.specs.Faithful.{captured_commits, first_infos, IsFaithfulTo, IsUntouched}
 use Rattle.dbl_faithful.specs.Onward.{GoesOnward, PlacesRise, Adds}
 
 -- ---- the beginning of a session
 
 -- What a session initially knows of its log: it has the records of all commits up to the offset's LSN.
 pub record BeginsCaughtUp (history : History) (records : List Record) (offset : Offset) : Type 0 where
-  pub before : List Commit
-  pub later : List Commit
-  pub ends : IsEndOf offset.lsn.0 before
-  pub delivered : HasDeliveredUpTo offset.identity offset.infos (captured_commits history offset) offset.start.0
-      (top_position records) before later 0 records
+  pub before : List Versioned
+  pub later : List Versioned
+  pub delivered : HasDeliveredUpTo offset.identity (first_infos history offset) (captured_commits history offset) offset.start.0
+      offset.lsn.0 offset.lsn.0 (top_position records) before later 0 records
 
 -- A session on faithful stores has all records of the commits up to the offset's LSN in its log.
 abbrev pub FaithfulStoresAreCaughtUp : Type 0
 FaithfulStoresAreCaughtUp = (history : History) (confirmed : Lsn) (records : List Record) (offset : Offset)
     → IsFitHistory history → IsFaithfulTo history confirmed records offset → BeginsCaughtUp history records offset
 
--- Each key up to the last one of the stored progress is covered, so that the next window may begin there.
+-- Each key up to the last one of the stored progress is covered by the log since its table's last alteration, if the stored version is the
+-- one at the offset's LSN, so that the next window may begin there.
 abbrev pub CursorsWereTold : Type 0
 CursorsWereTold = (history : History) (confirmed : Lsn) (records : List Record) (offset : Offset) (table : ℕ) (info : TableInfo)
-    (cursor : Cursor)
-    → IsBehind history confirmed records offset → slice_get offset.infos table ≡ Some info → slice_get offset.cursors table ≡ Some cursor
-    → AreToldUpTo offset.identity offset.infos records table cursor.last
+    (version : ℕ) (cursor : Cursor)
+    → IsBehind history confirmed records offset → slice_get offset.infos table ≡ Some info
+    → slice_get offset.versions table ≡ Some version → slice_get offset.cursors table ≡ Some cursor
+    → version ≡ version_to (captured_commits history offset) table offset.lsn.0
+    → slice_get (course (first_infos history offset) (captured_commits history offset) offset.start.0 table offset.lsn.0).infos table
+    ≡ Some info
+    → AreToldUpTo offset.identity
+    (course (first_infos history offset) (captured_commits history offset) offset.start.0 table offset.lsn.0).infos
+    (since (course (first_infos history offset) (captured_commits history offset) offset.start.0 table offset.lsn.0).start records) table
+    cursor.last
 
 -- Each record of the log has the position of a commit of the history, so that new commits are after all of them.
 abbrev pub FaithfulRecordsStand : Type 0
@@ -55,16 +66,18 @@ FaithfulRecordsStand = (history : History) (confirmed : Lsn) (records : List Rec
 -- A delivered log is faithful to each offset of these stores that isn't after the delivered commits.
 abbrev pub CaughtUpStoresAreFaithful : Type 0
 CaughtUpStoresAreFaithful = (history : History) (confirmed : Lsn) (records : List Record) (offset : Offset)
-    (before later : List Commit) (far sent : ℕ)
-    → AllByRecursion (λ commit. offset.lsn.0 < commit.lsn.0) later
+    (before later : List Versioned) (low high far sent : ℕ)
+    → low ≤ offset.lsn.0 → offset.lsn.0 ≤ high
     → IsOffsetOf history confirmed records offset
-    → HasDeliveredUpTo offset.identity offset.infos (captured_commits history offset) offset.start.0 far before later sent records
+    → HasDeliveredUpTo offset.identity (first_infos history offset) (captured_commits history offset) offset.start.0 low high far before
+    later sent records
     → IsFaithfulTo history confirmed records offset
 
 -- The first offset of a connector is faithful, with nothing read of any table and its LSN at its start.
 abbrev pub FirstOffsetsAreFaithful : Type 0
 FirstOffsetsAreFaithful = (history : History) (confirmed : Lsn) (records : List Record) (offset : Offset)
-    → IsFitHistory history → IsUntouched history confirmed records → AreInfosOf history offset.infos
+    → IsFitHistory history → IsUntouched history confirmed records → AreDistinctTables offset.infos
+    → AllZip (IsDescribedAt history) offset.infos offset.versions → length offset.cursors ≡ length offset.infos
     → IsPositionOf history offset.start.0 → offset.lsn.0 ≡ offset.start.0
     → AllZip (λ info cursor. IsUnread cursor) offset.infos offset.cursors
     → IsFaithfulTo history confirmed records offset
@@ -87,9 +100,9 @@ AddsAreOne = (from : ℕ) (old new : List Record) (one two : Adds from old new) 
 
 -- The records that a session sends of the events after a position are after it, and their positions rise.
 abbrev pub SentRecordsRise : Type 0
-SentRecordsRise = (identity : Identity) (infos : List TableInfo) (commits : List Commit) (from n : ℕ) (more : List Record)
-    → CommitsRise commits
-    → AllZip (IsPrint identity) (take (length more) (drop n (events_since infos from commits))) more
+SentRecordsRise = (identity : Identity) (versions : List Versioned) (from n : ℕ) (more : List Record)
+    → CommitsRise (map plain_commit versions)
+    → AllZip (IsPrint identity) (take (length more) (drop n (events_since from versions))) more
     → AllByRecursion (λ item. from < item.position) more × PlacesRise more
 
 -- The records of a window are at its high watermark, and their positions rise.

@@ -1,5 +1,6 @@
 pub use Rattle.dbl_offset_content.specs as Offset
 pub use Rattle.dbl_consume_laws.specs as ConsumeLaws
+pub use Rattle.dbl_consume_courses.specs as ConsumeCourses
 pub use Rattle.dbl_consume_laws.specs.ModelEvent
 pub use Rattle.dbl_consume_laws.specs.ModelHistory
 pub mod Agreements

@@ -1,5 +1,5 @@
 -- The changes that a session may make to the stores: they only advance.
-use Rattle.std.specs.Prelude.{◌≡◌, ◌⊎◌, ℕ, ◌+◌, ◌<◌, ◌≤◌, true, Option, Some, None, List, [], ◌∷◌, ◌++◌, map}
+use Rattle.std.specs.Prelude.{◌≡◌, ◌⊎◌, ℕ, ◌+◌, ◌<◌, ◌≤◌, true, Option, Some, None, List, [], ◌∷◌, ◌++◌, map, zip}
 use Rattle.std.specs.List.{AllByRecursion, AllZip}
 use Rattle.dbl_record.specs.declared.record.Record.{Record}
 use Rattle.dbl_record.specs.Places.{place_of, IsBefore}
@@ -7,6 +7,7 @@ use Rattle.dbl_model_table.specs.declared.config.Config.{Config}
 use Rattle.dbl_model_table.specs.declared.row.Key.{Key}
 use Rattle.dbl_consume_laws.specs.ModelHistory.declared.cursor.Cursor.{Cursor}
 use Rattle.dbl_consume_laws.specs.ModelHistory.History.{History}
+use Rattle.dbl_consume_laws.specs.ModelHistory.InForce.{IsAlike}
 use Rattle.dbl_consume_laws.specs.ModelHistory.KeyBounds.{IsUpTo}
 use Rattle.dbl_offset_content.specs.declared.offset.Offset.{Offset}
 use Rattle.dbl_faithful.specs.Stores.{Stores, IsPositionOf}
@@ -23,15 +24,19 @@ pub record IsLaterCursor (old new : Cursor) : Type 0 where
   pub last : (key : Key) → IsUpTo old.last key → IsUpTo new.last key
   pub done : old.done ≡ true → new.done ≡ true
 
--- Whether an offset of the same connector is a later one: not before the old one, in the log and in each table's snapshot, and of the same
--- session or of the next.
+-- Whether no less was read of a table whose version is the same; one that was altered is read again.
+abbrev pub IsLaterProgress : ℕ × Cursor → ℕ × Cursor → Type 0
+IsLaterProgress old new = (old.0 ≡ new.0) → IsLaterCursor old.1 new.1
+
+-- Whether an offset of the same connector is a later one: not before the old one, in the log and in each table's snapshot, of the same
+-- tables and keys, in no earlier version, and of the same session or of the next.
 pub record IsLaterOffset (old new : Offset) : Type 0 where
   pub identity : new.identity ≡ old.identity
-  pub infos : new.infos ≡ old.infos
-  pub versions : new.versions ≡ old.versions
+  pub infos : AllZip IsAlike old.infos new.infos
+  pub versions : AllZip (λ before after. before ≤ after) old.versions new.versions
   pub start : new.start ≡ old.start
   pub lsn : old.lsn.0 ≤ new.lsn.0
-  pub cursors : AllZip IsLaterCursor old.cursors new.cursors
+  pub cursors : AllZip IsLaterProgress (zip old.versions old.cursors) (zip new.versions new.cursors)
   pub incarnation : (new.incarnation ≡ old.incarnation) ⊎ (new.incarnation ≡ old.incarnation + 1)
 
 -- A first offset: of the session's configuration, and from a position of the history that isn't before its end when the session began.

@@ -3,12 +3,12 @@
 use Rattle.std.specs.Prelude.{◌≡◌, ℕ, ℤ, ◌<◌, nat_lt, Some, None, List, map, filter, flat_map, slice_get}
 use Rattle.dbl_record.specs.declared.record.Record.{Record}
 use Rattle.dbl_model_table.specs.declared.identity.Identity.{Identity}
-use Rattle.dbl_model_table.specs.declared.table.TableInfo.{TableInfo}
 use Rattle.dbl_model_table.specs.declared.change.Commit.{Commit}
 use Rattle.dbl_consume_laws.specs.ModelHistory.Ranges.{IsMomentInRange}
 use Rattle.dbl_consume_laws.specs.ModelEvent.Events.{Event, events_of}
 use Rattle.dbl_consume_laws.specs.ModelEvent.EventJson.{print}
 use Rattle.dbl_consume_laws.specs.ModelEvent.Clashes.{notice_clash}
+use Rattle.dbl_consume_courses.specs.Versions.{Versioned, plain_commit}
 
 -- An event with its commit.
 pub record ToldEvent : Type 0 where
@@ -19,21 +19,21 @@ pub record ToldEvent : Type 0 where
 abbrev pub tell : Commit → Event → ToldEvent
 tell commit event = record { commit = commit; event = event }
 
--- The events of a commit.
-abbrev pub events_of_commit : List TableInfo → Commit → List ToldEvent
-events_of_commit infos commit = map (tell commit) (events_of infos commit)
+-- The events of a commit, in the columns in force from it on. An alteration has none.
+abbrev pub events_of_commit : Versioned → List ToldEvent
+events_of_commit v = map (tell (plain_commit v)) (events_of v.infos (plain_commit v))
 
 -- The events of some commits, in order.
-abbrev pub events_of_commits : List TableInfo → List Commit → List ToldEvent
-events_of_commits infos commits = flat_map (events_of_commit infos) commits
+abbrev pub events_of_commits : List Versioned → List ToldEvent
+events_of_commits versions = flat_map events_of_commit versions
 
 -- The commits after a position.
-abbrev pub commits_since : ℕ → List Commit → List Commit
-commits_since position commits = filter (λ commit. nat_lt position commit.lsn.0) commits
+abbrev pub commits_since : ℕ → List Versioned → List Versioned
+commits_since position versions = filter (λ v. nat_lt position v.lsn.0) versions
 
 -- The events of the commits after a position.
-abbrev pub events_since : List TableInfo → ℕ → List Commit → List ToldEvent
-events_since infos position commits = events_of_commits infos (commits_since position commits)
+abbrev pub events_since : ℕ → List Versioned → List ToldEvent
+events_since position versions = events_of_commits (commits_since position versions)
 
 -- Whether the record encodes this event, made at any time.
 pub record IsPrint (identity : Identity) (told : ToldEvent) (item : Record) : Type 0 where

@@ -2,8 +2,8 @@
 //! (`HasDeliveredUpTo`).
 ghost use Rattle.dbl_faithful.specs.CaughtUpLaws.{StartsAreCaughtUp, PutLogsAreCaughtUp};
 ghost use Rattle.dbl_faithful.specs.CaughtUpLaws.{SentRecordsAreCaughtUp, CommitsAreCaughtUp};
-ghost use Rattle.dbl_faithful.specs.CaughtUpLaws.{SilentCommitsAreCaughtUp, SnapshotsAreCaughtUp};
-ghost use Rattle.dbl_faithful.specs.CaughtUpLaws.{LongerHistoriesAreCaughtUp, CaughtUpLogsAreRight};
+ghost use Rattle.dbl_faithful.specs.CaughtUpLaws.{SnapshotsAreCaughtUp, CaughtUpLogsAreRight};
+ghost use Rattle.dbl_faithful.specs.CaughtUpLaws.{LongerHistoriesAreCaughtUp};
 ghost use Rattle.dbl_faithful.specs.CaughtUpLaws.{DeliveredEventsArePut};
 
 /// The empty log of a first session is delivered up to the start.
@@ -21,14 +21,10 @@ pub fn sent_records_are_caught_up()
     ensures { SentRecordsAreCaughtUp }
 {}
 
-/// Once it has all records of the next commit, the log is delivered up to that one.
+/// Once it has all records of the next commit, the log is delivered up to that one; an alteration
+/// has none.
 pub fn commits_are_caught_up()
     ensures { CommitsAreCaughtUp }
-{}
-
-/// A log delivered up to a commit without records is delivered after it.
-pub fn silent_commits_are_caught_up()
-    ensures { SilentCommitsAreCaughtUp }
 {}
 
 /// Appending a prefix of a right window's records keeps the log delivered.

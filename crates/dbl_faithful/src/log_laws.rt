@@ -3,7 +3,6 @@ ghost use Rattle.dbl_faithful.specs.Controls.{CellsMissEmptyRows, TornWindowsAre
 ghost use Rattle.dbl_faithful.specs.ExactLaws.{NewsAreFresh, NewsRise, ExactLogsHaveOneCount};
 ghost use Rattle.dbl_faithful.specs.ExactLaws.{RepeatsAreEarlier, GapsSpoilExactLogs};
 ghost use Rattle.dbl_faithful.specs.CaughtUpLaws.{PositionsEndOnce, SnapshotRowsOverwriteNothing};
-ghost use Rattle.dbl_faithful.specs.CaughtUpLaws.{DoneLogsAreImages, DoneLogsHaveImages};
 ghost use Rattle.dbl_faithful.specs.CaughtUpLaws.{CompleteLogsAreImages};
 ghost use Rattle.dbl_faithful.specs.TornExample.{TornWindowsStand};
 
@@ -41,16 +40,6 @@ pub fn positions_end_once()
 /// No row of a snapshot overwrites a later change.
 pub fn snapshot_rows_overwrite_nothing()
     ensures { SnapshotRowsOverwriteNothing }
-{}
-
-/// If every snapshot is done, a consumer of an aged log has the source's tables.
-pub fn done_logs_are_images()
-    ensures { DoneLogsAreImages }
-{}
-
-/// A consumer of such a log has an image at each topic and text.
-pub fn done_logs_have_images()
-    ensures { DoneLogsHaveImages }
 {}
 
 /// If every snapshot is done, a consumer of a delivered log has the source's tables.

@@ -278,7 +278,7 @@ module _ (entry : SessionStart) (stage : Stage) (more : List RawCommit) (chunk :
             to = k.to;
             stored_is = offset_longer entry stage more fit p.parts marks p.position stage.stored going.reading.of_session.incarnation k.stored_is;
             next_is = offset_longer entry stage more fit p.parts marks p.position (next_offset stage) refl k.next_is;
-            up = up_longer entry stage more fit p.parts marks p.position infos_on k.next_is k.stand k.up;
+            up = up_longer entry stage more fit p.parts marks p.position going.reading.fit going.reading.infos infos_on k.stand k.up;
             adds = k.adds;
             within = k.within;
             grouped = k.grouped;

@@ -4,6 +4,8 @@ use Rattle.std.specs.List.{AllByRecursion}
 use Rattle.dbl_base.specs.declared.lsn.Lsn.{Lsn}
 use Rattle.dbl_record.specs.declared.record.Record.{Record}
 use Rattle.dbl_record.specs.Cuts.{joined}
+use Rattle.dbl_model_table.specs.declared.table.TableInfo.{TableInfo}
+use Rattle.dbl_faithful.specs.ModelHistory.declared.cursor.Cursor.{Cursor}
 use Rattle.dbl_faithful.specs.ModelHistory.History.{RawBody, RawCommit, History, IsRising}
 use Rattle.dbl_faithful.specs.ModelHistory.History.RawBody.{Changes, Mark, Alter}
 use Rattle.dbl_faithful.specs.ModelHistory.Fit.{AreInfosOf, IsFitHistory}
@@ -11,20 +13,22 @@ use Rattle.dbl_follow.specs.SourceModel.Growth.{HasChanges, AreOthers, Grows}
 use Rattle.dbl_follow.specs.SourceModel.Standings.{CrashState}
 use Rattle.dbl_follow.proofs.SourceModelGrowthLemmas.{grows_on}
 use Rattle.dbl_faithful.specs.Offset.declared.offset.Offset.{Offset}
-use Rattle.dbl_faithful.proofs.Items.{all_weaker}
+use Rattle.dbl_faithful.proofs.Items.{all_weaker, zip_length}
 use Rattle.dbl_faithful.specs.Stores.{IsPositionOf, lag}
 use Rattle.dbl_faithful.specs.Faithful.{IsFaithful, IsFaithfulTo}
+use Rattle.dbl_faithful.specs.Lag.{IsUnread}
 use Rattle.dbl_faithful.specs.Kept.{HasGrown, IsNewBody}
 use Rattle.dbl_faithful.specs.Onward.{OffsetGoesOn}
 use Rattle.dbl_faithful.proofs.Faithful.{faithful_records_stand, first_offsets_are_faithful}
 use Rattle.dbl_faithful.proofs.Longer.{longer_histories_stay_faithful}
-use Rattle.dbl_faithful.proofs.Onward.{cursors_stay}
+use Rattle.dbl_capture_model.proofs.LaterCursors.{cursors_stay, progress_on}
+use Rattle.dbl_faithful.proofs.Onward.{infos_stay, versions_stay}
 use Rattle.dbl_faithful.proofs.Offsets.{later_sessions_stay_faithful}
 use Rattle.dbl_faithful.proofs.StorePositions.{empty_logs_have_no_lag}
-use Rattle.dbl_follow.proofs.WindowHonestLemmas.{captured_stays}
 use Rattle.dbl_capture_model.specs.Entries.{SessionStart}
 use Rattle.dbl_capture_model.specs.Stages.{IsOfSession}
-use Rattle.dbl_capture_model.specs.Going.{IsFirstOf}
+use Rattle.dbl_capture_model.specs.Going.{IsUnstarted, IsFirstOf}
+use Rattle.dbl_capture_model.proofs.Growing.{unstarted_longer}
 use Rattle.dbl_capture_model.specs.Exits.{UnreadSessionsFollow, FirstOffsetsFollow}
 use Rattle.dbl_faithful.proofs.Lists.{longer, is_longer, after_top, still_position}
 use Rattle.dbl_capture_model.proofs.Ending.{offset_goes, lag_far}
@@ -71,7 +75,15 @@ module _ (entry : SessionStart) (left : CrashState) (fit : IsFitHistory entry.hi
   stays : (offset : Option Offset) → OffsetGoesOn entry.config entry.history left.history offset offset
   stays None = tt
   stays (Some offset) =
-      record { identity = refl; infos = refl; versions = refl; start = refl; lsn = le_refl offset.lsn.0; cursors = cursors_stay offset.cursors; incarnation = inl refl }
+      record {
+        identity = refl;
+        infos = infos_stay offset.infos;
+        versions = versions_stay offset.versions;
+        start = refl;
+        lsn = le_refl offset.lsn.0;
+        cursors = progress_on offset.versions offset.cursors offset.cursors (cursors_stay offset.cursors);
+        incarnation = inl refl;
+      }
 
   lag_at : (offset : Option Offset) → IsFaithful entry.history entry.confirmed (joined entry.groups) offset → lag left.history (joined entry.groups) offset ≤ max entry.config.every (lag entry.history (joined entry.groups) offset)
   lag_at None is = zero_le (max entry.config.every 0)
@@ -89,10 +101,11 @@ module _ (entry : SessionStart) (left : CrashState) (fit : IsFitHistory entry.hi
       → IsFaithful entry.history entry.confirmed (joined entry.groups) old → IsFaithfulTo left.history left.confirmed (joined entry.groups) first
   begun history first None on infos began same is =
       let longer_is : left.history ≡ longer history on.others = is_longer history left.history on.others (record { tables = on.tables; commits = on.commits }) in
+      let still_unread : IsUnstarted left.history first = subst (λ (h : History). IsUnstarted h first) (sym longer_is) (unstarted_longer history on.others first began.1) in
       first_offsets_are_faithful left.history left.confirmed (joined entry.groups) first fit_left (still None same is)
-      (captured_stays history left.history first.infos on.tables infos)
+      still_unread.distinct still_unread.infos (sym (zip_length (λ (info : TableInfo) (cursor : Cursor). IsUnread cursor) first.infos first.cursors still_unread.unread))
       (subst (λ (h : History). IsPositionOf h first.start.0) (sym longer_is) (still_position history on.others first.start.0 began.0.start))
-      (ap (λ (l : Lsn). l.0) began.1) began.2
+      (ap (λ (l : Lsn). l.0) still_unread.at_start) still_unread.unread
   begun history first (Some old) on infos began same is = (later_sessions_stay_faithful left.history left.confirmed (joined entry.groups) old first began.0).1 (still (Some old) same is)
 
 pub unread_sessions_follow : UnreadSessionsFollow

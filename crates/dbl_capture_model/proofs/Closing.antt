@@ -1,6 +1,6 @@
 -- A window that is closed: it is right at its high watermark, and its snapshot keeps the log.
-use Rattle.std.proofs.Common.{◌≡◌, ◌∙◌, ◌+◌, ◌≤◌, ◌<◌, ℕ, zero, suc, max, Bool, true, false, Option, Some, None, List, [], ◌∷◌, ◌++◌, length, map, take, drop, refl, sym, ap, ap₂, subst, arith, append_assoc, length-append, le_refl}
-use Rattle.std.specs.Prelude.{if◌then◌else◌, codes, decimal, flat_map, slice_get}
+use Rattle.std.proofs.Common.{◌≡◌, ◌∙◌, ◌+◌, ◌≤◌, ◌<◌, ℕ, zero, suc, max, Bool, true, false, Option, Some, None, List, [], ◌∷◌, ◌++◌, length, take, drop, refl, sym, ap, ap₂, subst, arith, append_assoc, le_refl}
+use Rattle.std.specs.Prelude.{if◌then◌else◌, codes, decimal, slice_get}
 use Rattle.std.specs.List.{AllByRecursion}
 use Rattle.std.proofs.lemmas.List.{take-append-drop}
 use Rattle.std.proofs.lemmas.Slice.Eq.{bytes_eq-Decides}
@@ -11,31 +11,34 @@ use Rattle.dbl_model_table.specs.declared.row.Key.{Key}
 use Rattle.dbl_model_table.specs.declared.table.TableInfo.{TableInfo}
 use Rattle.dbl_model_table.specs.declared.change.Body.{Body}
 use Rattle.dbl_model_table.specs.declared.change.Body.TheVariants.{Changes, Mark}
+use Rattle.dbl_model_table.specs.declared.change.Change.{Change}
 use Rattle.dbl_model_table.specs.declared.change.Commit.{Commit}
-use Rattle.dbl_model_table.specs.Rows.{changes_of, all_changes, moment_at}
+use Rattle.dbl_model_table.specs.Rows.{changes_of, all_changes}
 use Rattle.dbl_faithful.specs.ModelHistory.History.{AreRising, RawCommit}
 use Rattle.dbl_faithful.specs.ModelHistory.History as raw
+use Rattle.dbl_faithful.specs.ModelHistory.InForce.{opening_infos, versioned}
 use Rattle.dbl_faithful.specs.ModelHistory.MarkTexts.{mark_text, side_text}
 use Rattle.dbl_faithful.specs.ModelHistory.MarkTexts.Side.{Low, High}
 use Rattle.dbl_faithful.specs.ModelHistory.Ranges.{IsMomentInRange}
 use Rattle.dbl_faithful.specs.ModelHistory.Typed.{typed_commit}
 use Rattle.dbl_faithful.proofs.ModelHistoryMomentLemmas.{lsns}
 use Rattle.dbl_faithful.specs.ModelEvent.Clashes.{snapshot_clash}
-use Rattle.dbl_faithful.specs.ModelEvent.Events.{notices, numbered}
 use Rattle.dbl_faithful.specs.ModelEvent.SnapshotLists.{IsSnapshot}
 use Rattle.dbl_faithful.specs.ConsumeLaws.Commits.{moment_after}
 use Rattle.dbl_faithful.specs.ConsumeLaws.KnownKeys.{AreToldUpTo}
 use Rattle.dbl_faithful.specs.ConsumeLaws.Windows.{IsRightWindow}
+use Rattle.dbl_faithful.proofs.ConsumeLawsCommits.{fit_commits}
 use Rattle.dbl_faithful.proofs.ConsumeLawsLists.{slice_get-seam}
-use Rattle.dbl_faithful.specs.ToldEvents.{tell, events_of_commit}
-use Rattle.dbl_faithful.specs.CaughtUp.{HasDeliveredUpTo}
+use Rattle.dbl_faithful.proofs.ConsumeLawsNotices.{all_append}
+use Rattle.dbl_consume_courses.specs.Courses.{Course, course}
+use Rattle.dbl_consume_courses.specs.Since.{since}
 use Rattle.dbl_faithful.specs.RightSnapshots.{IsHighMark}
-use Rattle.dbl_faithful.proofs.CaughtUp.{snapshots_are_caught_up}
-use Rattle.dbl_faithful.proofs.Items.{mapped, map_get, all_weaker}
-use Rattle.dbl_faithful.proofs.Positions.{all_above, start_moment}
+use Rattle.dbl_faithful.proofs.Items.{mapped, map_get, all_weaker, at_all, take_within}
+use Rattle.dbl_capture_model.proofs.Rising.{all_above}
 use Rattle.dbl_faithful.specs.Stores.{top_position}
 use Rattle.dbl_faithful.specs.Lag.{IsBehind}
-use Rattle.dbl_faithful.proofs.Faithful.{cursors_were_told, caught_up_stores_are_faithful}
+use Rattle.dbl_faithful.proofs.Faithful.{cursors_were_told}
+use Rattle.dbl_faithful.proofs.Plainly.{versions_in_force}
 use Rattle.dbl_follow.specs.Window.Plans.{Plan, Chunk, low_text, high_text}
 use Rattle.dbl_follow.specs.Window.Changing.{AreLeft}
 use Rattle.dbl_follow.specs.Window.Laws.{between}
@@ -48,10 +51,12 @@ use Rattle.dbl_follow.specs.Followed.{Following}
 use Rattle.dbl_follow.specs.Steps.{watermark_in, mark_of, has_text, clash_in, closed_of, closing, records_by}
 use Rattle.dbl_capture_model.specs.Entries.{SessionStart, StoodInLog, WasFaithful}
 use Rattle.dbl_capture_model.specs.Stages.{Stage, records_of_stage, next_offset, commits_at, read_at, far_at}
+use Rattle.dbl_capture_model.specs.Delivered.{IsDelivered}
 use Rattle.dbl_capture_model.specs.Marked.{IsOpenAt, IsWindowAt, IsOwnWindow}
 use Rattle.dbl_capture_model.specs.Counted.{IsOnTable, IsWaiting}
 use Rattle.dbl_capture_model.specs.Going.{IsPlacedInHistory, KeepsStage, IsGoing, begun_after}
 use Rattle.dbl_capture_model.specs.Steps.{WasFollowed}
+use Rattle.dbl_capture_model.proofs.Delivered.{course_is, told_on, window_on, delivered_faithful}
 use Rattle.dbl_capture_model.proofs.Windowing.{raw_mark}
 
 -- ---- which window it is
@@ -84,12 +89,9 @@ marked_so : (body : Body) (value : List ℕ) → watermark_in body ≡ Some valu
 marked_so (Changes changes) value is = cc
 marked_so (Mark v) value is = let same : v ≡ value = cc in ap (λ (l : List ℕ). Mark l) same
 
--- a watermark tells no event
-pub closing_silent : (stage : Stage) (commit : Commit) (chunk : Chunk) → closing stage.following.window (mark_of commit) ≡ Some chunk → length (events_of_commit stage.first.infos commit) ≡ 0
-closing_silent stage commit chunk is =
-    let closes = closes_open stage.following.window (mark_of commit) chunk is in
-    let body_is : commit.body ≡ Mark (high_text chunk.plan) = marked_so commit.body (high_text chunk.plan) closes.mark_is in
-    ap (λ (b : Body). length (map (tell commit) (numbered commit.lsn.0 0 (flat_map (notices stage.first.infos) (elim b [ Changes cs ↦ cs | Mark v ↦ [] ]))))) body_is
+-- a watermark has no changes
+mark_silent : (commit : Commit) (value : List ℕ) → commit.body ≡ Mark value → changes_of commit ≡ []
+mark_silent commit value is = ap (λ (b : Body). elim b as (λ x. List Change) [ Changes cs ↦ cs | Mark v ↦ [] ]) is
 
 -- ---- commits by their places
 
@@ -111,23 +113,34 @@ over_place low position zero (x ∷ cs) c rise at le =
     all_weaker (λ (y : Commit). x.lsn.0 < y.lsn.0) (λ (y : Commit). position < y.lsn.0) cs (λ y lt. further position x.lsn.0 y.lsn.0 (subst (λ (z : Commit). position ≤ z.lsn.0) (sym same) le) lt) (all_above x.lsn.0 cs rise.1)
 over_place low position (suc k) (x ∷ cs) c rise at le = over_place x.lsn.0 position k cs c rise.1 at le
 
--- more commits have no fewer changes
-moment_mono : (a b : ℕ) (cs : List Commit) → a ≤ b → length (all_changes (take a cs)) ≤ length (all_changes (take b cs))
-moment_mono zero b cs le = zero_le (length (all_changes (take b cs)))
-  where
-    zero_le : (n : ℕ) → 0 ≤ n
-    zero_le n = omega arith
-moment_mono (suc a) zero cs le = absurd (omega (arith, le))
-moment_mono (suc a) (suc b) [] le = le_refl 0
-moment_mono (suc a) (suc b) (c ∷ cs) le =
-    more (length (changes_of c)) (length (all_changes (take a cs))) (length (all_changes (take b cs))) (length (changes_of c ++ all_changes (take a cs))) (length (changes_of c ++ all_changes (take b cs)))
-    (moment_mono a b cs (lower a b le)) (length-append (changes_of c) (all_changes (take a cs))) (length-append (changes_of c) (all_changes (take b cs)))
-  where
-    lower : (x y : ℕ) → suc x ≤ suc y → x ≤ y
-    lower x y l = omega (arith, l)
+-- what is up to a place isn't after what is there
+under_place : (low k : ℕ) (cs : List Commit) (c : Commit) → AreRising low (lsns cs) → slice_get cs k ≡ Some c → AllByRecursion (λ x. x.lsn.0 ≤ c.lsn.0) (take (suc k) cs)
+under_place low k [] c rise at = cc
+under_place low zero (x ∷ cs) c rise at =
+    let same : x ≡ c = cc in
+    (subst (λ (z : Commit). x.lsn.0 ≤ z.lsn.0) same (le_refl x.lsn.0), tt)
+under_place low (suc k) (x ∷ cs) c rise at = (under x.lsn.0 c.lsn.0 (at_all (λ (y : Commit). x.lsn.0 < y.lsn.0) cs k c (all_above x.lsn.0 cs rise.1) at), under_place x.lsn.0 k cs c rise.1 at)
 
-    more : (n x y u v : ℕ) → x ≤ y → u ≡ n + x → v ≡ n + y → u ≤ v
-    more n x y u v l one two = omega (arith, l, one, two)
+rising_first : (low : ℕ) (xs ys : List Commit) → AreRising low (lsns (xs ++ ys)) → AreRising low (lsns xs)
+rising_first low [] ys rise = tt
+rising_first low (x ∷ xs) ys rise = (rise.0, rising_first x.lsn.0 xs ys rise.1)
+
+first_at : {X : Type 0} (xs ys : List X) (k : ℕ) (x : X) → k < length xs → slice_get (xs ++ ys) k ≡ Some x → slice_get xs k ≡ Some x
+first_at [] ys k x lt at = absurd (omega (arith, lt))
+first_at (y ∷ xs) ys zero x lt at = at
+first_at (y ∷ xs) ys (suc k) x lt at = first_at xs ys k x (less k (length xs) lt) at
+  where
+    less : (a b : ℕ) → suc a < suc b → a < b
+    less a b l = omega (arith, l)
+
+beside : {X Y : Type 0} (xs : List X) (ys : List Y) (k : ℕ) (x : X) → length ys ≡ length xs → slice_get xs k ≡ Some x → (y : Y) × (slice_get ys k ≡ Some y)
+beside [] ys k x long at = cc
+beside (x' ∷ xs) [] k x long at = cc
+beside (x' ∷ xs) (y ∷ ys) zero x long at = (y, refl)
+beside (x' ∷ xs) (y ∷ ys) (suc k) x long at = beside xs ys k x (less (length ys) (length xs) long) at
+  where
+    less : (a b : ℕ) → suc a ≡ suc b → a ≡ b
+    less a b l = omega (arith, l)
 
 -- ---- it is right
 
@@ -150,7 +163,7 @@ suc_one n = omega arith
 module _ (entry : SessionStart) (stage : Stage) (m : Message) (commit : Commit) (new : Following) (in_range : IsMomentInRange entry.now) (followed : WasFollowed stage entry.now m commit new)
     (faithful : WasFaithful entry) (stood : StoodInLog entry) (going : IsGoing entry stage) (chunk : Chunk) (is : closing stage.following.window (mark_of commit) ≡ Some chunk) (rest : List Commit)
     (spelled : commits_at stage ≡ ((going.placed stood).parts.old ++ read_at stage) ++ commit ∷ rest)
-    (up : HasDeliveredUpTo stage.first.identity stage.first.infos (commits_at stage) stage.first.start.0 (far_at entry stage) ((going.placed stood).parts.old ++ read_at stage) (commit ∷ rest) 0 (records_of_stage stage))
+    (up : IsDelivered stage.first.identity stage.first.infos stage.history stage.first.start.0 stage.first.lsn.0 stage.lsn.0 (far_at entry stage) ((going.placed stood).parts.old ++ read_at stage) (commit ∷ rest) 0 (records_of_stage stage))
     (over : AllByRecursion (λ c. stage.lsn.0 < c.lsn.0) (commit ∷ rest)) where
   abbrev p : IsPlacedInHistory stage
   p = going.placed stood
@@ -228,30 +241,74 @@ module _ (entry : SessionStart) (stage : Stage) (m : Message) (commit : Commit) 
   start_lt : stage.first.start.0 < w.marked.low_is.commit.lsn.0
   start_lt = further stage.first.start.0 stage.first.lsn.0 w.marked.low_is.commit.lsn.0 k.order (right_max (top_position (joined entry.groups)) stage.first.lsn.0 w.marked.low_is.commit.lsn.0 low_after)
 
-  start_le : moment_at (commits_at stage) stage.first.start.0 ≤ moment_after_first (commits_at stage) (w.low + 1)
-  start_le =
-      subst (λ (l : List Commit). moment_at l stage.first.start.0 ≤ moment_after_first (commits_at stage) (w.low + 1)) (take-append-drop (w.low + 1) (commits_at stage))
-      (start_moment stage.first.start.0 (take (w.low + 1) (commits_at stage)) (drop (w.low + 1) (commits_at stage))
-      (subst (λ (n : ℕ). AllByRecursion (λ (c : Commit). stage.first.start.0 < c.lsn.0) (drop n (commits_at stage))) (suc_one w.low)
-      (over_place 0 stage.first.start.0 w.low (commits_at stage) (typed_commit stage.first.infos w.marked.low_is.commit) up.fit.rise low_commit (under stage.first.start.0 w.marked.low_is.commit.lsn.0 start_lt))))
+  -- ---- its low watermark, among the commits that were followed
 
-  low_le : moment_after_first (commits_at stage) (w.low + 1) ≤ moment_after before
-  low_le =
-      subst (λ (n : ℕ). moment_after_first (commits_at stage) (w.low + 1) ≤ n) (ap (λ (n : ℕ). moment_after_first (commits_at stage) n) same_place ∙ before_is)
-      (moment_mono (w.low + 1) (length before) (commits_at stage) (next_le w.low (length before) w.opened))
+  abbrev low_mark : Commit
+  low_mark = typed_commit stage.first.infos w.marked.low_is.commit
+
+  rise : AreRising 0 (lsns (commits_at stage))
+  rise = (fit_commits stage.history stage.first.infos going.reading.fit going.reading.infos).rise
+
+  rise_before : AreRising 0 (lsns before)
+  rise_before = rising_first 0 before (commit ∷ rest) (subst (λ (l : List Commit). AreRising 0 (lsns l)) spelled rise)
+
+  low_at : slice_get before w.low ≡ Some low_mark
+  low_at = first_at before (commit ∷ rest) w.low low_mark w.opened (ap (λ (l : List Commit). slice_get l w.low) (sym spelled) ∙ low_commit)
+
+  abbrev lows : List Commit
+  lows = take (w.low + 1) before
+
+  abbrev mids : List Commit
+  mids = drop (w.low + 1) before
+
+  parted : lows ++ mids ≡ before
+  parted = take-append-drop (w.low + 1) before
+
+  upto : AllByRecursion (λ c. c.lsn.0 ≤ low_mark.lsn.0) lows
+  upto = subst (λ (n : ℕ). AllByRecursion (λ (c : Commit). c.lsn.0 ≤ low_mark.lsn.0) (take n before)) (suc_one w.low) (under_place 0 w.low before low_mark rise_before low_at)
+
+  low_under : low_mark.lsn.0 < commit.lsn.0
+  low_under = further low_mark.lsn.0 stage.lsn.0 commit.lsn.0 (at_all (λ (c : Commit). c.lsn.0 ≤ stage.lsn.0) before w.low low_mark p.parts.under low_at) over.0
+
+  past : AllByRecursion (λ c. low_mark.lsn.0 < c.lsn.0) (mids ++ commit ∷ [])
+  past =
+      all_append (λ (c : Commit). low_mark.lsn.0 < c.lsn.0) mids (commit ∷ [])
+      (subst (λ (n : ℕ). AllByRecursion (λ (c : Commit). low_mark.lsn.0 < c.lsn.0) (drop n before)) (suc_one w.low) (over_place 0 low_mark.lsn.0 w.low before low_mark rise_before low_at (le_refl low_mark.lsn.0))) (low_under, tt)
+
+  within : w.low + 1 ≤ length before
+  within = next_le w.low (length before) w.opened
     where
       next_le : (a b : ℕ) → a < b → a + 1 ≤ b
       next_le a b lt = omega (arith, lt)
 
+  lows_are : moment_after_first (commits_at stage) (w.low + 1) ≡ moment_after lows
+  lows_are =
+      ap (λ (l : List Commit). length (all_changes (take (w.low + 1) l))) spelled
+      ∙ ap (λ (l : List Commit). length (all_changes l)) (take_within (w.low + 1) before (commit ∷ rest) within)
+
+  right_parted : IsRightWindow stage.first.infos (all_changes (commits_at stage)) (moment_after lows) (moment_after (lows ++ mids)) chunk.plan.above (closed_of chunk)
+  right_parted =
+      subst (λ (l : List Commit). IsRightWindow stage.first.infos (all_changes (commits_at stage)) (moment_after lows) (moment_after l) chunk.plan.above (closed_of chunk)) (sym parted)
+      (subst (λ (n : ℕ). IsRightWindow stage.first.infos (all_changes (commits_at stage)) n (moment_after before) chunk.plan.above (closed_of chunk)) lows_are right)
+
   -- ---- what was told
 
   lags : IsBehind stage.history stage.confirmed (records_of_stage stage) (next_offset stage)
-  lags = (caught_up_stores_are_faithful stage.history stage.confirmed (records_of_stage stage) (next_offset stage) before (commit ∷ rest) (far_at entry stage) 0 over k.next_is up).lags
+  lags = (delivered_faithful stage.history stage.confirmed (records_of_stage stage) (next_offset stage) stage.first.lsn.0 stage.lsn.0 (far_at entry stage) before (commit ∷ rest) 0 p.parts.order (le_refl stage.lsn.0) k.next_is up).lags
 
-  told : AreToldUpTo stage.first.identity stage.first.infos (records_of_stage stage) chunk.plan.table chunk.plan.above
+  version_at : (version : ℕ) × (slice_get stage.first.versions chunk.plan.table ≡ Some version)
+  version_at = beside stage.first.infos stage.first.versions chunk.plan.table chunk.plan.info k.next_is.many.0 waits.captured
+
+  abbrev courses : ℕ → Course
+  courses position = course (opening_infos stage.history stage.first.infos) (versioned stage.first.infos stage.history) stage.first.start.0 chunk.plan.table position
+
+  told : AreToldUpTo stage.first.identity (courses commit.lsn.0).infos (since (courses commit.lsn.0).start (records_of_stage stage)) chunk.plan.table chunk.plan.above
   told =
-      subst (λ (bound : Option Key). AreToldUpTo stage.first.identity stage.first.infos (records_of_stage stage) chunk.plan.table bound) (sym waits.above)
-      (cursors_were_told stage.history stage.confirmed (records_of_stage stage) (next_offset stage) chunk.plan.table chunk.plan.info waits.cursor lags waits.captured waits.cursor_is)
+      told_on stage.first.identity stage.first.infos stage.history going.reading.fit going.reading.infos stage.first.start.0 stage.first.lsn.0 (records_of_stage stage) chunk.plan.table stage.lsn.0 commit.lsn.0 chunk.plan.above
+      (subst (λ (bound : Option Key). AreToldUpTo stage.first.identity (courses stage.lsn.0).infos (since (courses stage.lsn.0).start (records_of_stage stage)) chunk.plan.table bound) (sym waits.above)
+      (cursors_were_told stage.history stage.confirmed (records_of_stage stage) (next_offset stage) chunk.plan.table chunk.plan.info version_at.0 waits.cursor lags waits.captured version_at.1 waits.cursor_is
+      (versions_in_force stage.history stage.confirmed (records_of_stage stage) (next_offset stage) going.reading.fit k.next_is chunk.plan.table version_at.0 version_at.1)
+      (ap (λ (l : List TableInfo). slice_get l chunk.plan.table) (course_is stage.first.identity stage.first.infos stage.history going.reading.fit going.reading.infos stage.first.start.0 stage.first.lsn.0 chunk.plan.table stage.lsn.0).0 ∙ waits.captured)))
 
   far : far_at entry stage < commit.lsn.0
   far =
@@ -277,15 +334,21 @@ module _ (entry : SessionStart) (stage : Stage) (m : Message) (commit : Commit) 
       subst (λ (i : Identity). IsSnapshot i stage.first.infos (closed_of chunk) commit entry.now (records_by stage.following commit entry.now)) going.reading.follows_identity
       (subst (λ (infos : List TableInfo). IsSnapshot stage.following.identity infos (closed_of chunk) commit entry.now (records_by stage.following commit entry.now)) going.reading.follows_infos listed)
 
-  pub closed_up : (n : ℕ) → HasDeliveredUpTo stage.first.identity stage.first.infos (commits_at stage) stage.first.start.0 commit.lsn.0 before (commit ∷ rest) 0 (records_of_stage stage ++ take n (records_by stage.following commit entry.now))
+  pub closed_up : (n : ℕ) → IsDelivered stage.first.identity stage.first.infos stage.history stage.first.start.0 stage.first.lsn.0 commit.lsn.0 commit.lsn.0 (before ++ commit ∷ []) rest 0 (records_of_stage stage ++ take n (records_by stage.following commit entry.now))
   closed_up n =
-      snapshots_are_caught_up stage.first.identity stage.first.infos (commits_at stage) before commit rest stage.first.start.0 (far_at entry stage) (moment_after_first (commits_at stage) (w.low + 1)) chunk.plan.above (closed_of chunk)
-      (records_of_stage stage) (records_by stage.following commit entry.now) entry.now n is_high far in_range listed_own clear right start_le low_le told up
+      subst (λ (l : List Commit). IsDelivered stage.first.identity stage.first.infos stage.history stage.first.start.0 stage.first.lsn.0 commit.lsn.0 commit.lsn.0 (l ++ commit ∷ []) rest 0 (records_of_stage stage ++ take n (records_by stage.following commit entry.now))) parted
+      (window_on stage.first.identity stage.first.infos stage.history going.reading.fit going.reading.infos stage.first.start.0 stage.first.lsn.0 stage.lsn.0 (far_at entry stage) lows mids commit rest low_mark.lsn.0 chunk.plan.above (closed_of chunk)
+      (records_of_stage stage) (records_by stage.following commit entry.now) entry.now n is_high far in_range listed_own clear (mark_silent commit (high_text chunk.plan) body_is) (under stage.first.start.0 low_mark.lsn.0 start_lt) upto past
+      (both_lt stage.first.start.0 low_mark.lsn.0 commit.lsn.0 start_lt low_under) right_parted told
+      (subst (λ (l : List Commit). IsDelivered stage.first.identity stage.first.infos stage.history stage.first.start.0 stage.first.lsn.0 stage.lsn.0 (far_at entry stage) l (commit ∷ rest) 0 (records_of_stage stage)) (sym parted) up))
+    where
+      both_lt : (a b c : ℕ) → a < b → b < c → a < c
+      both_lt a b c one two = omega (arith, one, two)
 
 pub closing_up : (entry : SessionStart) (stage : Stage) (m : Message) (commit : Commit) (new : Following) (in_range : IsMomentInRange entry.now) (followed : WasFollowed stage entry.now m commit new)
     (faithful : WasFaithful entry) (stood : StoodInLog entry) (going : IsGoing entry stage) (chunk : Chunk) → closing stage.following.window (mark_of commit) ≡ Some chunk → (rest : List Commit)
     → commits_at stage ≡ ((going.placed stood).parts.old ++ read_at stage) ++ commit ∷ rest → AllByRecursion (λ c. stage.lsn.0 < c.lsn.0) (commit ∷ rest)
-    → HasDeliveredUpTo stage.first.identity stage.first.infos (commits_at stage) stage.first.start.0 (far_at entry stage) ((going.placed stood).parts.old ++ read_at stage) (commit ∷ rest) 0 (records_of_stage stage)
+    → IsDelivered stage.first.identity stage.first.infos stage.history stage.first.start.0 stage.first.lsn.0 stage.lsn.0 (far_at entry stage) ((going.placed stood).parts.old ++ read_at stage) (commit ∷ rest) 0 (records_of_stage stage)
     → (n : ℕ)
-    → HasDeliveredUpTo stage.first.identity stage.first.infos (commits_at stage) stage.first.start.0 commit.lsn.0 ((going.placed stood).parts.old ++ read_at stage) (commit ∷ rest) 0 (records_of_stage stage ++ take n (records_by stage.following commit entry.now))
+    → IsDelivered stage.first.identity stage.first.infos stage.history stage.first.start.0 stage.first.lsn.0 commit.lsn.0 commit.lsn.0 (((going.placed stood).parts.old ++ read_at stage) ++ commit ∷ []) rest 0 (records_of_stage stage ++ take n (records_by stage.following commit entry.now))
 closing_up entry stage m commit new in_range followed faithful stood going chunk is rest spelled over up n = closed_up entry stage m commit new in_range followed faithful stood going chunk is rest spelled up over n

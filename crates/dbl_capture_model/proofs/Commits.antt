@@ -1,33 +1,32 @@
 -- A session that has followed a commit keeps what it keeps.
 use Rattle.std.proofs.Common.{◌≡◌, ◌∙◌, ◌⊎◌, inl, inr, ◌+◌, ◌≤◌, ◌<◌, ℕ, max, Some, List, [], ◌∷◌, ◌++◌, length, take, refl, sym, ap, subst, arith, append_assoc, le_refl, length-append}
 use Rattle.std.specs.Prelude.{slice_get}
-use Rattle.std.specs.List.{AllByRecursion, AllZip}
+use Rattle.std.specs.List.{AllByRecursion}
 use Rattle.dbl_pgmsg.specs.declared.messages.Message.{Message}
 use Rattle.dbl_record.specs.declared.record.Record.{Record}
 use Rattle.dbl_record.specs.Cuts.{cut, joined}
 use Rattle.dbl_model_table.specs.declared.table.TableInfo.{TableInfo}
 use Rattle.dbl_model_table.specs.declared.change.Commit.{Commit}
 use Rattle.dbl_faithful.specs.ModelHistory.History.{AreRising, RawCommit}
+use Rattle.dbl_faithful.specs.ModelHistory.InForce.{versioned}
 use Rattle.dbl_faithful.specs.ModelHistory.Ranges.{IsMomentInRange}
 use Rattle.dbl_faithful.specs.ModelHistory.Typed.{typed_commit}
 use Rattle.dbl_faithful.proofs.ModelHistoryMomentLemmas.{lsns}
 use Rattle.dbl_faithful.proofs.ConsumeLawsCommits.{fit_commits}
 use Rattle.dbl_faithful.proofs.ConsumeLawsLists.{slice_get-seam}
 use Rattle.dbl_faithful.proofs.ConsumeLawsNotices.{all_append}
-use Rattle.dbl_faithful.specs.Offset.declared.offset.Offset.{Offset}
-use Rattle.dbl_faithful.specs.CaughtUp.{HasDeliveredUpTo}
-use Rattle.dbl_faithful.proofs.CaughtUp.{commits_are_caught_up}
 use Rattle.dbl_faithful.proofs.Items.{mapped, all_weaker}
-use Rattle.dbl_faithful.proofs.Positions.{all_above, rising_after}
+use Rattle.dbl_capture_model.proofs.Rising.{all_above, rising_after, commit_at}
 use Rattle.dbl_faithful.specs.Stores.{IsCommitAt, IsPositionOf, top_position}
-use Rattle.dbl_faithful.specs.Lag.{IsRightCursor, IsOffsetOf}
+use Rattle.dbl_faithful.specs.Lag.{IsOffsetOf}
 use Rattle.dbl_faithful.specs.Onward.{PlacesRise}
-use Rattle.dbl_faithful.proofs.StorePositions.{commit_at}
-use Rattle.dbl_faithful.proofs.Offsets.{more_records_keep_offsets}
+use Rattle.dbl_consume_courses.specs.VersionStores.{version_to}
+use Rattle.dbl_faithful.proofs.Plainly.{plain_version, versions_in_force}
 use Rattle.dbl_follow.specs.Followed.{Following}
 use Rattle.dbl_follow.specs.Steps.{Becomes, mark_of, closing, records_by}
 use Rattle.dbl_capture_model.specs.Entries.{SessionStart, StoodInLog, WasFaithful}
 use Rattle.dbl_capture_model.specs.Stages.{Stage, records_of_stage, next_offset, commits_at, read_at, PartsHistory}
+use Rattle.dbl_capture_model.specs.Delivered.{IsDelivered}
 use Rattle.dbl_capture_model.specs.Marked.{IsAwaited, IsWindowAt, IsOwnWindow}
 use Rattle.dbl_capture_model.specs.Going.{IsNear, KeepsStage, IsGoing, begun_after}
 use Rattle.dbl_capture_model.specs.Steps.{CommitsKeepGoing, WasFollowed, followed_at}
@@ -37,9 +36,9 @@ use Rattle.dbl_capture_model.proofs.Telling.{told_by, told_on}
 use Rattle.dbl_capture_model.proofs.Stepping.{read_le}
 use Rattle.dbl_capture_model.proofs.Windowing.{awaited_step, window_step, own_step}
 use Rattle.dbl_capture_model.proofs.Counts.{counted_step}
-use Rattle.dbl_capture_model.proofs.Cursors.{cursors_step, told_step}
-use Rattle.dbl_capture_model.proofs.Sending.{IsNextOf, next_is, read_more, AreSent, adds_more, grouped_more, within_more}
-use Rattle.dbl_capture_model.proofs.Following.{lt, next, raw, sent, sent_all, top_more}
+use Rattle.dbl_capture_model.proofs.Cursors.{cursors_step, AreRightCursors, many_step, told_step}
+use Rattle.dbl_capture_model.proofs.Sending.{IsNextOf, next_is, read_more, AreSent, at_commit, adds_more, grouped_more, within_more}
+use Rattle.dbl_capture_model.proofs.Following.{lt, next, raw, sent, sent_all, top_more, stored_more}
 
 -- ---- where it stands
 
@@ -174,18 +173,27 @@ module _ (entry : SessionStart) (stage : Stage) (m : Message) (commit : Commit) 
       same_le a b is = omega (arith, is)
 
   -- the log has all records of it
-  up_followed : HasDeliveredUpTo stage.first.identity stage.first.infos (commits_at stage) stage.first.start.0 (max (top_position (joined entry.groups)) commit.lsn.0) (parts.old ++ read_at after) (next entry stage m commit new in_range followed faithful stood going).rest 0 (records_of_stage after)
+  up_followed : IsDelivered stage.first.identity stage.first.infos stage.history stage.first.start.0 stage.first.lsn.0 commit.lsn.0 (max (top_position (joined entry.groups)) commit.lsn.0) (parts.old ++ read_at after) (next entry stage m commit new in_range followed faithful stood going).rest 0 (records_of_stage after)
   up_followed =
       let all = sent_all entry stage m commit new in_range followed faithful stood going (length rs) in
-      subst (λ (l : List Record). HasDeliveredUpTo stage.first.identity stage.first.infos (commits_at stage) stage.first.start.0 (max (top_position (joined entry.groups)) commit.lsn.0) (parts.old ++ read_at after) (next entry stage m commit new in_range followed faithful stood going).rest 0 l)
+      subst (λ (l : List Record). IsDelivered stage.first.identity stage.first.infos stage.history stage.first.start.0 stage.first.lsn.0 commit.lsn.0 (max (top_position (joined entry.groups)) commit.lsn.0) (parts.old ++ read_at after) (next entry stage m commit new in_range followed faithful stood going).rest 0 l)
       (ap (λ (l : List Record). records_of_stage stage ++ l) whole ∙ sym joined_is)
-      (subst (λ (l : List Commit). HasDeliveredUpTo stage.first.identity stage.first.infos (commits_at stage) stage.first.start.0 (max (top_position (joined entry.groups)) commit.lsn.0) l (next entry stage m commit new in_range followed faithful stood going).rest 0 (records_of_stage stage ++ take (length rs) rs))
-      (sym (read_all entry stage m commit new followed going parts))
-      (commits_are_caught_up stage.first.identity stage.first.infos (commits_at stage) (parts.old ++ read_at stage) commit (next entry stage m commit new in_range followed faithful stood going).rest stage.first.start.0
-      (max (top_position (joined entry.groups)) commit.lsn.0) all.count (records_of_stage stage ++ take (length rs) rs) (all.whole refl) all.is))
+      (subst (λ (l : List Commit). IsDelivered stage.first.identity stage.first.infos stage.history stage.first.start.0 stage.first.lsn.0 commit.lsn.0 (max (top_position (joined entry.groups)) commit.lsn.0) l (next entry stage m commit new in_range followed faithful stood going).rest 0 (records_of_stage stage ++ take (length rs) rs))
+      (sym (read_all entry stage m commit new followed going parts)) (all.whole refl))
 
-  offset_more : (offset : Offset) → IsOffsetOf stage.history stage.confirmed (records_of_stage stage) offset → IsOffsetOf stage.history stage.confirmed (records_of_stage after) offset
-  offset_more offset is = subst (λ (l : List Record). IsOffsetOf stage.history stage.confirmed l offset) (sym joined_is) ((more_records_keep_offsets stage.history stage.confirmed (records_of_stage stage) rs offset).0 is)
+  stored_followed : IsOffsetOf stage.history stage.confirmed (records_of_stage after) stage.stored
+  stored_followed =
+      subst (λ (l : List Record). IsOffsetOf stage.history stage.confirmed l stage.stored) (ap (λ (l : List Record). records_of_stage stage ++ l) whole ∙ sym joined_is)
+      (stored_more entry stage m commit new in_range followed faithful stood going (length rs))
+
+  -- the stored versions are those in force everywhere
+  in_force : (table version : ℕ) → slice_get stage.first.versions table ≡ Some version → version ≡ version_to (versioned stage.first.infos stage.history) table commit.lsn.0
+  in_force table version at =
+      versions_in_force stage.history stage.confirmed (records_of_stage stage) (next_offset stage) going.reading.fit k.next_is table version at
+      ∙ (plain_version stage.history stage.first.infos table stage.lsn.0 going.reading.fit going.reading.infos ∙ sym (plain_version stage.history stage.first.infos table commit.lsn.0 going.reading.fit going.reading.infos))
+
+  at_it : AllByRecursion (λ item. item.position ≡ commit.lsn.0) rs
+  at_it = subst (AllByRecursion (λ (item : Record). item.position ≡ commit.lsn.0)) whole (at_commit entry stage parts k commit rs subsequent are_sent (length rs))
 
   -- the offset that would be stored now
   next_followed : IsOffsetOf stage.history stage.confirmed (records_of_stage after) (next_offset after)
@@ -193,10 +201,15 @@ module _ (entry : SessionStart) (stage : Stage) (m : Message) (commit : Commit) 
     start = k.next_is.start;
     lsn = inr (commit_place (position_followed entry stage m commit new followed going parts) subsequent);
     order = le_lt stage.first.start.0 stage.lsn.0 commit.lsn.0 k.next_is.order subsequent;
-    cursors = subst (λ (l : List Record). AllZip (IsRightCursor stage.first.identity l commit.lsn.0) stage.first.infos new.cursors) (sym joined_is)
-        (told_step stage.first.identity stage.first.infos stage.following new commit entry.now stage.lsn (records_of_stage stage) rs going.reading.follows_identity going.reading.follows_infos followed.steps followed.listed subsequent k.next_is.cursors);
+    many = (
+      k.next_is.many.0,
+      many_step stage.first.identity stage.first.infos stage.first.versions (versioned stage.first.infos stage.history) stage.first.start.0 stage.following new commit entry.now stage.lsn (records_of_stage stage) rs going.reading.follows_identity going.reading.follows_infos followed.steps followed.listed subsequent k.next_is.order at_it in_force k.next_is.many.1,
+    );
+    cursors = subst (λ (l : List Record). AreRightCursors stage.first.identity stage.first.infos stage.first.versions (versioned stage.first.infos stage.history) stage.first.start.0 l commit.lsn.0 new.cursors) (sym joined_is)
+        (told_step stage.first.identity stage.first.infos stage.first.versions (versioned stage.first.infos stage.history) stage.first.start.0 stage.following new commit entry.now stage.lsn (records_of_stage stage) rs going.reading.follows_identity going.reading.follows_infos followed.steps followed.listed subsequent k.next_is.order at_it in_force k.next_is.cursors);
     confirmed_to = le_lt stage.confirmed.0 stage.lsn.0 commit.lsn.0 k.next_is.confirmed_to subsequent;
     marks = k.next_is.marks;
+    distinct = k.next_is.distinct;
     infos = k.next_is.infos;
   }
     where
@@ -227,7 +240,7 @@ module _ (entry : SessionStart) (stage : Stage) (m : Message) (commit : Commit) 
     window = window_followed;
     from = k.from;
     to = le_lt stage.stored.lsn.0 stage.lsn.0 commit.lsn.0 k.to subsequent;
-    stored_is = offset_more stage.stored k.stored_is;
+    stored_is = stored_followed;
     next_is = next_followed;
     up = up_followed;
     adds = record {

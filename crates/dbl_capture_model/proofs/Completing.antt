@@ -17,6 +17,7 @@ use Rattle.dbl_faithful.specs.Stores.{top_position}
 use Rattle.dbl_faithful.specs.Faithful.{IsFaithful}
 use Rattle.dbl_faithful.proofs.Complete.{complete_stores_are_images}
 use Rattle.dbl_faithful.proofs.Faithful.{faithful_records_stand}
+use Rattle.dbl_faithful.proofs.Plainly.{versions_in_force}
 use Rattle.dbl_follow.specs.declared.window.Window.{Window}
 use Rattle.dbl_follow.specs.declared.window.Window.TheVariants.{Absent, Armed, Open}
 use Rattle.dbl_follow.specs.Window.Plans.{low_text, high_text}
@@ -111,5 +112,6 @@ read_sessions_are_complete entry stage left more faithful is done may confirmed 
       done = done;
       not_before = all;
       confirmed = confirmed;
-      images = λ topic text. complete_stores_are_images left.history left.confirmed (records_of_stage stage) (next_offset stage) topic text may.fit follows.faithful done top;
+      images = λ topic text. complete_stores_are_images left.history left.confirmed (records_of_stage stage) (next_offset stage) topic text may.fit follows.faithful done
+          (versions_in_force left.history left.confirmed (records_of_stage stage) (next_offset stage) may.fit follows.faithful.lags.offset_is) top;
     }

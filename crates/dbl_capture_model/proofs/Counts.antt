@@ -24,7 +24,7 @@ use Rattle.dbl_follow.specs.SourceModel.Selected.{rows_up_to}
 use Rattle.dbl_faithful.proofs.ConsumeLawsNotices.{all_append}
 use Rattle.dbl_faithful.proofs.Items.{first_some, at_cases, at_all, all_by_place, all_weaker, mapped, zip_beside}
 use Rattle.dbl_faithful.specs.Onward.{IsLaterCursor}
-use Rattle.dbl_faithful.proofs.Onward.{cursors_stay, cursors_go_on}
+use Rattle.dbl_capture_model.proofs.LaterCursors.{cursors_stay, cursors_go_on}
 use Rattle.dbl_follow.specs.Window.Plans.{Plan, Chunk, low_text, high_text}
 use Rattle.dbl_follow.specs.declared.window.Window.{Window}
 use Rattle.dbl_follow.specs.declared.window.Window.TheVariants.{Absent, Armed, Open}

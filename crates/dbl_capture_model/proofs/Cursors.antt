@@ -1,7 +1,7 @@
 -- What a closed window makes of the cursors.
-use Rattle.std.proofs.Common.{◌≡◌, ◌∙◌, inl, inr, ◌+◌, ◌≤◌, ◌<◌, ℕ, zero, suc, ℤ, Option, Some, None, List, [], ◌∷◌, ◌++◌, length, refl, sym, ap, subst, arith, le_refl}
+use Rattle.std.proofs.Common.{◌≡◌, ◌∙◌, ◌⊎◌, inl, inr, ◌+◌, ◌≤◌, ◌<◌, ℕ, zero, suc, ℤ, Option, Some, None, List, [], ◌∷◌, ◌++◌, length, refl, sym, ap, subst, arith, append_assoc, le_refl}
 use Rattle.std.specs.Prelude.{option_map, slice_get, slice_set, unwrap_or}
-use Rattle.std.specs.List.{AllZip}
+use Rattle.std.specs.List.{AllByRecursion, AllZip}
 use Rattle.dbl_base.specs.declared.lsn.Lsn.{Lsn}
 use Rattle.dbl_record.specs.declared.record.Record.{Record}
 use Rattle.dbl_model_table.specs.declared.identity.Identity.{Identity}
@@ -12,9 +12,11 @@ use Rattle.dbl_faithful.specs.ModelHistory.Cursors.{IsCursorOf, AreCursorsOf}
 use Rattle.dbl_faithful.specs.ModelEvent.Snapshots.{read_records, progress_record, chunk_records}
 use Rattle.dbl_faithful.specs.ModelEvent.SnapshotLists.{IsSnapshot}
 use Rattle.dbl_faithful.proofs.ConsumeLawsPrints.{progress_records_tell}
-use Rattle.dbl_faithful.proofs.ConsumeLawsLists.{slice_get-seam}
-use Rattle.dbl_faithful.proofs.Items.{first_some, at_left, at_right, zip_weaker}
-use Rattle.dbl_faithful.specs.Lag.{IsCursorTold, IsRightCursor}
+use Rattle.dbl_faithful.proofs.Items.{first_some, all_weaker}
+use Rattle.dbl_faithful.proofs.Reported.{reported_more, reported_later, reported_now}
+use Rattle.dbl_consume_courses.specs.Versions.{Versioned}
+use Rattle.dbl_consume_courses.specs.VersionStores.{version_to}
+use Rattle.dbl_faithful.specs.Lag.{IsReported, IsRightCursor}
 use Rattle.dbl_follow.specs.Window.Plans.{Chunk}
 use Rattle.dbl_follow.specs.Followed.{Following}
 use Rattle.dbl_follow.specs.Steps.{Steps, mark_of, closed_of, closing, cursors_after}
@@ -43,44 +45,80 @@ cursors_step infos old new commit now records same steps listed cursors = by (cl
 
 -- ---- they are told
 
-lower : (a b c : ℕ) → a ≤ b → b < c → a ≤ c
-lower a b c le lt = omega (arith, le, lt)
+-- what is at a place of a list with another item
+set_cases : {X : Type 0} (ys : List X) (k j : ℕ) (y c : X) → slice_get (slice_set ys k y) j ≡ Some c → ((j ≡ k) × (y ≡ c)) ⊎ (slice_get ys j ≡ Some c)
+set_cases [] k j y c at = cc
+set_cases (z ∷ ys) zero zero y c at = inl (refl, first_some y c at)
+set_cases (z ∷ ys) zero (suc j) y c at = inr at
+set_cases (z ∷ ys) (suc k) zero y c at = inr at
+set_cases (z ∷ ys) (suc k) (suc j) y c at = elim (set_cases ys k j y c at) [ inl same ↦ inl (ap (λ (n : ℕ). suc n) same.0, same.1) | inr other ↦ inr other ]
 
--- what was told stays told, by records that aren't after a later LSN
-told_on : (identity : Identity) (records more : List Record) (low high : ℕ) → low < high → (info : TableInfo) (cursor : Cursor) → IsRightCursor identity records low info cursor → IsRightCursor identity (records ++ more) high info cursor
-told_on identity records more low high lt info cursor (inl unread) = inl unread
-told_on identity records more low high lt info cursor (inr told) =
-    inr (record { place = told.place; item = told.item; stands = at_left records more told.place told.item told.stands; reports = told.reports; not_after = lower told.item.position low high told.not_after lt })
+set_length : {X : Type 0} (ys : List X) (k : ℕ) (y : X) → length (slice_set ys k y) ≡ length ys
+set_length [] k y = refl
+set_length (z ∷ ys) zero y = refl
+set_length (z ∷ ys) (suc k) y = ap (λ (n : ℕ). suc n) (set_length ys k y)
+
+at_le : (a b c d : ℕ) → a ≤ b → b < c → d ≡ c → a ≤ d
+at_le a b c d one two is = omega (arith, one, two, is)
+
+lt_le : (a b : ℕ) → a < b → a ≤ b
+lt_le a b lt = omega (arith, lt)
 
 -- the last record of a snapshot tells how far it has come
-told_last : (identity : Identity) (infos : List TableInfo) (chunk : Chunk) (commit : Commit) (now : ℤ) (records sent : List Record) → (listed : IsSnapshot identity infos (closed_of chunk) commit now sent)
-    → IsCursorTold identity (records ++ sent) commit.lsn.0 listed.info (record { last = chunk.through; done = chunk.done })
-told_last identity infos chunk commit now records sent listed =
+told_last : (identity : Identity) (infos : List TableInfo) (versions : List Versioned) (start version : ℕ) (chunk : Chunk) (commit : Commit) (now : ℤ) (records sent : List Record) → version ≡ version_to versions chunk.plan.table commit.lsn.0 → start ≤ commit.lsn.0
+    → (listed : IsSnapshot identity infos (closed_of chunk) commit now sent)
+    → IsReported identity versions (records ++ sent) start commit.lsn.0 chunk.plan.table listed.info version (record { last = chunk.through; done = chunk.done })
+told_last identity infos versions start version chunk commit now records sent version_is start_le listed =
     let rows : List Record = read_records identity listed.info commit now 0 chunk.rows in
     let progress : Record = progress_record identity listed.info commit (length chunk.rows) chunk.through chunk.done in
     let sent_is : sent ≡ read_records identity listed.info commit now 0 chunk.rows ++ progress_record identity listed.info commit (length chunk.rows) chunk.through chunk.done ∷ [] =
     listed.records_are ∙ ap (λ (o : Option TableInfo). unwrap_or (option_map (λ i. chunk_records identity i chunk.rows chunk.through chunk.done commit now) o) []) listed.captured in
-    record {
-      place = length records + length rows;
-      item = progress;
-      stands = at_right records sent (length rows) progress (ap (λ (l : List Record). slice_get l (length rows)) sent_is ∙ slice_get-seam rows progress []);
-      reports = progress_records_tell identity listed.info commit (length chunk.rows) chunk.through chunk.done listed.fits.through;
-      not_after = le_refl commit.lsn.0;
-    }
+    subst (λ (l : List Record). IsReported identity versions l start commit.lsn.0 chunk.plan.table listed.info version (record { last = chunk.through; done = chunk.done }))
+    (append_assoc records rows (progress ∷ []) ∙ ap (λ (l : List Record). records ++ l) (sym sent_is))
+    (subst (λ (n : ℕ). IsReported identity versions ((records ++ read_records identity listed.info commit now 0 chunk.rows) ++ progress_record identity listed.info commit (length chunk.rows) chunk.through chunk.done ∷ []) start commit.lsn.0 chunk.plan.table listed.info n (record { last = chunk.through; done = chunk.done })) (sym version_is)
+    (reported_now identity versions (records ++ read_records identity listed.info commit now 0 chunk.rows) (progress_record identity listed.info commit (length chunk.rows) chunk.through chunk.done) start chunk.plan.table listed.info (record { last = chunk.through; done = chunk.done })
+    (progress_records_tell identity listed.info commit (length chunk.rows) chunk.through chunk.done listed.fits.through) start_le))
 
-pub told_step : (identity : Identity) (infos : List TableInfo) (old new : Following) (commit : Commit) (now : ℤ) (lsn : Lsn) (records sent : List Record) → old.identity ≡ identity → old.infos ≡ infos → Steps old commit new
-    → ((chunk : Chunk) → closing old.window (mark_of commit) ≡ Some chunk → IsSnapshot old.identity old.infos (closed_of chunk) commit now sent) → lsn.0 < commit.lsn.0
-    → AllZip (IsRightCursor identity records lsn.0) infos old.cursors → AllZip (IsRightCursor identity (records ++ sent) commit.lsn.0) infos new.cursors
-told_step identity infos old new commit now lsn records sent same_identity same_infos steps listed lt told = by (closing old.window (mark_of commit)) refl
-  where
-    later : AllZip (IsRightCursor identity (records ++ sent) commit.lsn.0) infos old.cursors
-    later = zip_weaker (IsRightCursor identity records lsn.0) (IsRightCursor identity (records ++ sent) commit.lsn.0) infos old.cursors (λ info cursor right. told_on identity records sent lsn.0 commit.lsn.0 lt info cursor right) told
+-- Each table's cursor is as the log reports it, or nothing was read of the table.
+abbrev pub AreRightCursors : Identity → List TableInfo → List ℕ → List Versioned → ℕ → List Record → ℕ → List Cursor → Type 0
+AreRightCursors identity infos in_versions versions start records lsn cursors =
+    (table : ℕ) (info : TableInfo) (version : ℕ) (cursor : Cursor) → slice_get infos table ≡ Some info → slice_get in_versions table ≡ Some version → slice_get cursors table ≡ Some cursor
+    → IsRightCursor identity versions records start lsn table info version cursor
 
-    by : (o : Option Chunk) → closing old.window (mark_of commit) ≡ o → AllZip (IsRightCursor identity (records ++ sent) commit.lsn.0) infos new.cursors
-    by None is = subst (AllZip (IsRightCursor identity (records ++ sent) commit.lsn.0) infos) (sym (steps.cursors ∙ ap (cursors_after old.cursors) is)) later
-    by (Some chunk) is =
-        let list = listed chunk is in
-        subst (AllZip (IsRightCursor identity (records ++ sent) commit.lsn.0) infos) (sym (steps.cursors ∙ ap (cursors_after old.cursors) is))
-        (zip_set (IsRightCursor identity (records ++ sent) commit.lsn.0) infos old.cursors chunk.plan.table list.info (record { last = chunk.through; done = chunk.done }) later
-        (ap (λ (l : List TableInfo). slice_get l chunk.plan.table) (sym same_infos) ∙ list.captured)
-        (inr (subst (λ (i : Identity). IsCursorTold i (records ++ sent) commit.lsn.0 list.info (record { last = chunk.through; done = chunk.done })) same_identity (told_last old.identity old.infos chunk commit now records sent list))))
+module _ (identity : Identity) (infos : List TableInfo) (in_versions : List ℕ) (versions : List Versioned) (start : ℕ) (old new : Following) (commit : Commit) (now : ℤ) (lsn : Lsn) (records sent : List Record) (same_identity : old.identity ≡ identity) (same_infos : old.infos ≡ infos) (steps : Steps old commit new)
+    (listed : (chunk : Chunk) → closing old.window (mark_of commit) ≡ Some chunk → IsSnapshot old.identity old.infos (closed_of chunk) commit now sent) (lt : lsn.0 < commit.lsn.0) (begun : start ≤ lsn.0) (run : AllByRecursion (λ item. item.position ≡ commit.lsn.0) sent)
+    (in_force : (table version : ℕ) → slice_get in_versions table ≡ Some version → version ≡ version_to versions table commit.lsn.0) where
+  late : AllByRecursion (λ item. lsn.0 ≤ item.position) sent
+  late = all_weaker (λ (item : Record). item.position ≡ commit.lsn.0) (λ (item : Record). lsn.0 ≤ item.position) sent (λ item is. at_le lsn.0 lsn.0 commit.lsn.0 item.position (le_refl lsn.0) lt is) run
+
+  -- what was reported stays reported
+  still : (table : ℕ) (info : TableInfo) (version : ℕ) (cursor : Cursor) → IsRightCursor identity versions records start lsn.0 table info version cursor → IsRightCursor identity versions (records ++ sent) start commit.lsn.0 table info version cursor
+  still table info version cursor (inl unread) = inl unread
+  still table info version cursor (inr reported) =
+      inr (reported_later identity versions (records ++ sent) start lsn.0 table info version cursor (reported_more identity versions records start lsn.0 table info version cursor reported sent late) commit.lsn.0 (lt_le lsn.0 commit.lsn.0 lt))
+
+  pub many_step : length old.cursors ≡ length infos → length new.cursors ≡ length infos
+  many_step long = by (closing old.window (mark_of commit)) refl
+    where
+      by : (o : Option Chunk) → closing old.window (mark_of commit) ≡ o → length new.cursors ≡ length infos
+      by None is = ap length (steps.cursors ∙ ap (cursors_after old.cursors) is) ∙ long
+      by (Some chunk) is = ap length (steps.cursors ∙ ap (cursors_after old.cursors) is) ∙ (set_length old.cursors chunk.plan.table (record { last = chunk.through; done = chunk.done }) ∙ long)
+
+  pub told_step : AreRightCursors identity infos in_versions versions start records lsn.0 old.cursors → AreRightCursors identity infos in_versions versions start (records ++ sent) commit.lsn.0 new.cursors
+  told_step told table info version cursor captured at_version at = by (closing old.window (mark_of commit)) refl
+    where
+      by : (o : Option Chunk) → closing old.window (mark_of commit) ≡ o → IsRightCursor identity versions (records ++ sent) start commit.lsn.0 table info version cursor
+      by None is =
+          still table info version cursor (told table info version cursor captured at_version (ap (λ (l : List Cursor). slice_get l table) (sym (steps.cursors ∙ ap (cursors_after old.cursors) is)) ∙ at))
+      by (Some chunk) is = elim (set_cases old.cursors chunk.plan.table table (record { last = chunk.through; done = chunk.done }) cursor (ap (λ (l : List Cursor). slice_get l table) (sym (steps.cursors ∙ ap (cursors_after old.cursors) is)) ∙ at)) [
+        | inl same ↦ (
+            let list = listed chunk is in
+            let info_is : list.info ≡ info =
+            first_some list.info info (sym list.captured ∙ (ap (λ (l : List TableInfo). slice_get l chunk.plan.table) same_infos ∙ (ap (λ (t : ℕ). slice_get infos t) (sym same.0) ∙ captured))) in
+            inr (subst (λ (t : ℕ). IsReported identity versions (records ++ sent) start commit.lsn.0 t info version cursor) (sym same.0)
+            (subst (λ (c : Cursor). IsReported identity versions (records ++ sent) start commit.lsn.0 chunk.plan.table info version c) same.1
+            (subst (λ (i : TableInfo). IsReported identity versions (records ++ sent) start commit.lsn.0 chunk.plan.table i version (record { last = chunk.through; done = chunk.done })) info_is
+            (subst (λ (i : Identity). IsReported i versions (records ++ sent) start commit.lsn.0 chunk.plan.table list.info version (record { last = chunk.through; done = chunk.done })) same_identity
+            (told_last old.identity old.infos versions start version chunk commit now records sent (subst (λ (t : ℕ). version ≡ version_to versions t commit.lsn.0) same.0 (in_force table version at_version)) (at_le start lsn.0 commit.lsn.0 commit.lsn.0 begun lt refl) list))))))
+        | inr other ↦ still table info version cursor (told table info version cursor captured at_version other)
+      ]

@@ -1,6 +1,6 @@
 -- What a session leaves where it ends.
 use Rattle.std.proofs.Common.{◌≡◌, ◌∙◌, ◌⊎◌, inl, inr, ◌≤◌, ◌<◌, ℕ, max, Option, Some, None, List, [], ◌∷◌, ◌++◌, length, map, refl, sym, ap, subst, arith, append_assoc, le_refl}
-use Rattle.std.specs.Prelude.{IfSome}
+use Rattle.std.specs.Prelude.{IfSome, zip}
 use Rattle.std.specs.List.{AllByRecursion, AllZip}
 use Rattle.dbl_base.specs.declared.lsn.Lsn.{Lsn}
 use Rattle.dbl_record.specs.declared.record.Record.{Record}
@@ -11,26 +11,29 @@ use Rattle.dbl_model_table.specs.declared.change.Commit.{Commit}
 use Rattle.dbl_faithful.specs.ModelHistory.declared.cursor.Cursor.{Cursor}
 use Rattle.dbl_faithful.specs.ModelHistory.History.{AreRising, RawCommit, History, IsRising}
 use Rattle.dbl_faithful.specs.ModelHistory.Fit.{IsFitHistory}
-use Rattle.dbl_faithful.specs.ModelHistory.Typed.{typed}
+use Rattle.dbl_faithful.specs.ModelHistory.InForce.{IsAlike}
 use Rattle.dbl_faithful.proofs.ConsumeLawsNotices.{all_append}
 use Rattle.dbl_follow.specs.SourceModel.Standings.{CrashState}
 use Rattle.dbl_faithful.specs.Offset.declared.offset.Offset.{Offset}
-use Rattle.dbl_faithful.specs.CaughtUp.{HasDeliveredUpTo}
 use Rattle.dbl_faithful.proofs.Items.{all_weaker}
 use Rattle.dbl_faithful.specs.Stores.{IsCommitAt, IsPositionOf, StandTogether, top_position, repeated, lag}
 use Rattle.dbl_faithful.specs.Lag.{IsOffsetOf}
-use Rattle.dbl_faithful.specs.Faithful.{captured_commits, IsFaithful}
-use Rattle.dbl_faithful.specs.Onward.{IsLaterCursor, OffsetGoesOn, GoesOnward, Adds}
-use Rattle.dbl_faithful.proofs.Faithful.{faithful_records_stand, caught_up_stores_are_faithful}
+use Rattle.dbl_faithful.specs.Faithful.{IsFaithful}
+use Rattle.dbl_faithful.specs.Onward.{IsLaterCursor, IsLaterProgress, OffsetGoesOn, GoesOnward, Adds}
+use Rattle.dbl_faithful.proofs.Onward.{infos_stay, versions_stay}
+use Rattle.dbl_faithful.proofs.Faithful.{faithful_records_stand}
 use Rattle.dbl_faithful.proofs.StorePositions.{lags_are_bounded, repeated_commits_stand_together}
 use Rattle.dbl_follow.proofs.WindowHonestLemmas.{captured_stays}
 use Rattle.dbl_capture_model.specs.Entries.{SessionStart, StoodInLog, WasFaithful, stores_at, stores_left, appends_after}
 use Rattle.dbl_capture_model.specs.Stages.{Stage, records_of_stage, next_offset, read_at, IsOfSession, far_at}
+use Rattle.dbl_capture_model.specs.Delivered.{IsDelivered}
 use Rattle.dbl_capture_model.specs.Going.{IsFirstOf, IsPlacedInHistory, KeepsStage, IsGoing}
 use Rattle.dbl_capture_model.specs.Exits.{MayBeLeft, SourcesMayEnd, StoresMayEnd}
 use Rattle.dbl_capture_model.specs.Outcomes.{FollowsSession}
 use Rattle.dbl_faithful.proofs.Lists.{longer, is_longer, after_position, after_top, still_position}
-use Rattle.dbl_capture_model.proofs.Growing.{confirmed_so, offset_longer, up_longer, parts_longer, new}
+use Rattle.dbl_capture_model.proofs.LaterCursors.{progress_on}
+use Rattle.dbl_capture_model.proofs.Delivered.{delivered_faithful}
+use Rattle.dbl_capture_model.proofs.Growing.{confirmed_so, offset_longer, up_longer, new}
 
 -- ---- what was known when it began
 
@@ -51,13 +54,13 @@ rising_front low (x ∷ xs) ys rise = (rise.0, rising_front x.lsn.0 xs ys rise.1
 
 -- ---- an offset of the session
 
-pub up_of : (first offset : Offset) (history : History) (far : ℕ) (before later : List Commit) (sent : ℕ) (records : List Record) → IsOfSession first offset
-    → HasDeliveredUpTo first.identity first.infos (typed first.infos history) first.start.0 far before later sent records
-    → HasDeliveredUpTo offset.identity offset.infos (captured_commits history offset) offset.start.0 far before later sent records
-up_of first offset history far before later sent records is up =
-    subst (λ (i : Identity). HasDeliveredUpTo i offset.infos (typed offset.infos history) offset.start.0 far before later sent records) (sym is.identity)
-    (subst (λ (infos : List TableInfo). HasDeliveredUpTo first.identity infos (typed infos history) offset.start.0 far before later sent records) (sym is.infos)
-    (subst (λ (start : Lsn). HasDeliveredUpTo first.identity first.infos (typed first.infos history) start.0 far before later sent records) (sym is.start) up))
+pub up_of : (first offset : Offset) (history : History) (low high far : ℕ) (before later : List Commit) (sent : ℕ) (records : List Record) → IsOfSession first offset
+    → IsDelivered first.identity first.infos history first.start.0 low high far before later sent records
+    → IsDelivered offset.identity offset.infos history offset.start.0 low high far before later sent records
+up_of first offset history low high far before later sent records is up =
+    subst (λ (i : Identity). IsDelivered i offset.infos history offset.start.0 low high far before later sent records) (sym is.identity)
+    (subst (λ (infos : List TableInfo). IsDelivered first.identity infos history offset.start.0 low high far before later sent records) (sym is.infos)
+    (subst (λ (start : Lsn). IsDelivered first.identity first.infos history start.0 low high far before later sent records) (sym is.start) up))
 
 le_on : (a b c : ℕ) → a ≤ b → b ≤ c → a ≤ c
 le_on a b c one two = omega (arith, one, two)
@@ -80,17 +83,18 @@ offset_goes entry history new more first offset None same began is le later = re
 }
 offset_goes entry history new more first offset (Some old) same began is le later = record {
   identity = is.identity ∙ began.0.identity;
-  infos = is.infos ∙ began.0.infos;
-  versions = is.versions ∙ began.0.versions;
+  infos = subst (AllZip IsAlike old.infos) (sym (is.infos ∙ began.0.infos)) (infos_stay old.infos);
+  versions = subst (AllZip (λ (before after : ℕ). before ≤ after) old.versions) (sym (is.versions ∙ began.0.versions)) (versions_stay old.versions);
   start = is.start ∙ began.0.start;
   lsn = le_on old.lsn.0 first.lsn.0 offset.lsn.0 (same_le first.lsn.0 old.lsn.0 (ap (λ (l : Lsn). l.0) began.0.lsn)) le;
-  cursors = subst (λ (l : List Cursor). AllZip IsLaterCursor l offset.cursors) began.0.cursors later;
+  cursors = subst (λ (l : List ℕ). AllZip IsLaterProgress (zip old.versions old.cursors) (zip l offset.cursors)) (sym (is.versions ∙ began.0.versions))
+      (progress_on old.versions old.cursors offset.cursors (subst (λ (l : List Cursor). AllZip IsLaterCursor l offset.cursors) began.0.cursors later));
   incarnation = inr (is.incarnation ∙ began.1);
 }
 
 -- the position after which it appends
 pub appends_so : (entry : SessionStart) (history : History) (first offset : Offset) (old : Option Offset) → IsFirstOf entry history first old → IsOfSession first offset → appends_after old (Some offset) ≡ first.lsn.0
-appends_so entry history first offset None began is = ap (λ (l : Lsn). l.0) is.start ∙ sym (ap (λ (l : Lsn). l.0) began.1)
+appends_so entry history first offset None began is = ap (λ (l : Lsn). l.0) is.start ∙ sym (ap (λ (l : Lsn). l.0) began.1.at_start)
 appends_so entry history first offset (Some old) began is = sym (ap (λ (l : Lsn). l.0) began.0.lsn)
 
 -- ---- how far it lags
@@ -147,13 +151,10 @@ module _ (entry : SessionStart) (stage : Stage) (left : CrashState) (faithful : 
   fit_longer = subst IsFitHistory same may.fit
 
   -- the log is delivered up to the commits before the history that is left
-  pub up_left : HasDeliveredUpTo stage.first.identity stage.first.infos (typed stage.first.infos left.history) stage.first.start.0 (far_at entry stage) (placed.parts.old ++ read_at stage) (placed.parts.later ++ new entry stage may.more fit_longer) 0 (records_of_stage stage)
+  pub up_left : IsDelivered stage.first.identity stage.first.infos left.history stage.first.start.0 stage.first.lsn.0 stage.lsn.0 (far_at entry stage) (placed.parts.old ++ read_at stage) (placed.parts.later ++ new entry stage may.more fit_longer) 0 (records_of_stage stage)
   up_left =
-      subst (λ (h : History). HasDeliveredUpTo stage.first.identity stage.first.infos (typed stage.first.infos h) stage.first.start.0 (far_at entry stage) (placed.parts.old ++ read_at stage) (placed.parts.later ++ new entry stage may.more fit_longer) 0 (records_of_stage stage)) (sym same)
-      (up_longer entry stage may.more fit_longer placed.parts may.marks placed.position (captured_stays stage.history (longer stage.history may.more) stage.first.infos refl going.reading.infos) kept.next_is kept.stand kept.up)
-
-  pub over_later : AllByRecursion (λ c. stage.lsn.0 < c.lsn.0) (placed.parts.later ++ new entry stage may.more fit_longer)
-  over_later = (parts_longer entry stage may.more fit_longer placed.position placed.parts).over
+      subst (λ (h : History). IsDelivered stage.first.identity stage.first.infos h stage.first.start.0 stage.first.lsn.0 stage.lsn.0 (far_at entry stage) (placed.parts.old ++ read_at stage) (placed.parts.later ++ new entry stage may.more fit_longer) 0 (records_of_stage stage)) (sym same)
+      (up_longer entry stage may.more fit_longer placed.parts may.marks placed.position going.reading.fit going.reading.infos (captured_stays stage.history (longer stage.history may.more) stage.first.infos refl going.reading.infos) kept.stand kept.up)
 
   pub offset_left : (offset : Offset) → offset.incarnation ≡ stage.first.incarnation → left.confirmed.0 ≤ offset.lsn.0 → IsOffsetOf stage.history stage.confirmed (records_of_stage stage) offset → IsOffsetOf left.history left.confirmed (records_of_stage stage) offset
   offset_left offset is le of =
@@ -226,14 +227,12 @@ module _ (entry : SessionStart) (stage : Stage) (left : CrashState) (faithful : 
       → AllZip IsLaterCursor stage.first.cursors offset.cursors → FollowsSession entry left stage.groups (Some offset)
   follows_at offset is from to of later =
       let low : left.confirmed.0 ≤ offset.lsn.0 = le_on left.confirmed.0 stage.stored.lsn.0 offset.lsn.0 may.confirmed from in
-      let over : AllByRecursion (λ (c : Commit). offset.lsn.0 < c.lsn.0) (placed.parts.later ++ new entry stage may.more fit_longer) =
-      all_weaker (λ (c : Commit). stage.lsn.0 < c.lsn.0) (λ (c : Commit). offset.lsn.0 < c.lsn.0) (placed.parts.later ++ new entry stage may.more fit_longer) (λ c lt. lt_on offset.lsn.0 stage.lsn.0 c.lsn.0 to lt) over_later in
-      let up : HasDeliveredUpTo offset.identity offset.infos (captured_commits left.history offset) offset.start.0 (far_at entry stage) (placed.parts.old ++ read_at stage) (placed.parts.later ++ new entry stage may.more fit_longer) 0 (records_of_stage stage) =
-      up_of stage.first offset left.history (far_at entry stage) (placed.parts.old ++ read_at stage) (placed.parts.later ++ new entry stage may.more fit_longer) 0 (records_of_stage stage) is up_left in
+      let lower : stage.first.lsn.0 ≤ offset.lsn.0 = le_on stage.first.lsn.0 stage.stored.lsn.0 offset.lsn.0 kept.from from in
       record {
-        faithful = caught_up_stores_are_faithful left.history left.confirmed (records_of_stage stage) offset (placed.parts.old ++ read_at stage) (placed.parts.later ++ new entry stage may.more fit_longer) (far_at entry stage) 0 over
-            (offset_left offset is.incarnation low of) up;
-        onward = onward_at offset is (le_on stage.first.lsn.0 stage.stored.lsn.0 offset.lsn.0 kept.from from) later;
+        faithful = delivered_faithful left.history left.confirmed (records_of_stage stage) offset stage.first.lsn.0 stage.lsn.0 (far_at entry stage) (placed.parts.old ++ read_at stage) (placed.parts.later ++ new entry stage may.more fit_longer) 0 lower to
+            (offset_left offset is.incarnation low of)
+            (up_of stage.first offset left.history stage.first.lsn.0 stage.lsn.0 (far_at entry stage) (placed.parts.old ++ read_at stage) (placed.parts.later ++ new entry stage may.more fit_longer) 0 (records_of_stage stage) is up_left);
+        onward = onward_at offset is lower later;
         no_fall = le_on entry.confirmed.0 stage.confirmed.0 left.confirmed.0 going.reading.no_fall may.no_fall;
         adds = adds_at offset is;
         grouped = kept.grouped;

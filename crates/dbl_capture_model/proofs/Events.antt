@@ -13,14 +13,14 @@ use Rattle.dbl_model_table.specs.declared.table.TableInfo.{TableInfo}
 use Rattle.dbl_model_table.specs.declared.change.Commit.{Commit}
 use Rattle.dbl_model_table.specs.Rows.{changes_of}
 use Rattle.dbl_faithful.specs.ModelHistory.Ranges.{IsMomentInRange}
-use Rattle.dbl_faithful.specs.ModelEvent.Events.{Notice, notices, numbered}
+use Rattle.dbl_faithful.specs.ModelEvent.Events.{Notice, notices, numbered, events_of}
 use Rattle.dbl_faithful.specs.ModelEvent.EventJson.{print, envelopes}
 use Rattle.dbl_faithful.specs.ModelEvent.Clashes.{Clash, notice_clash, first_found, clash_of}
 use Rattle.dbl_faithful.specs.ModelEvent.Snapshots.{chunk_records}
 use Rattle.dbl_faithful.specs.ModelEvent.SnapshotLists.{IsSnapshot}
 use Rattle.dbl_faithful.specs.ModelEvent.declared.closed.Closed.{Closed}
 use Rattle.dbl_faithful.proofs.ConsumeLawsNotices.{all_append}
-use Rattle.dbl_faithful.specs.ToldEvents.{tell, events_of_commit, IsClearPrint}
+use Rattle.dbl_faithful.specs.ToldEvents.{tell, IsClearPrint}
 use Rattle.dbl_faithful.proofs.Agree.{IsRun, chunk_run}
 use Rattle.dbl_faithful.proofs.Items.{taken_at, all_by_place, all_weaker}
 use Rattle.dbl_faithful.specs.Onward.{PlacesRise}
@@ -62,7 +62,7 @@ clear_from identity commit now in_range position ordinal (suc n) (x ∷ ns) clea
 
 -- some first records of a commit are clear prints of its first events
 pub clear_prints : (identity : Identity) (infos : List TableInfo) (commit : Commit) (now : ℤ) (n : ℕ) → IsMomentInRange now → clash_of identity infos commit ≡ None
-    → AllZip (IsClearPrint identity) (take n (events_of_commit infos commit)) (take n (envelopes identity infos commit now))
+    → AllZip (IsClearPrint identity) (take n (map (tell commit) (events_of infos commit))) (take n (envelopes identity infos commit now))
 clear_prints identity infos commit now n in_range clear = clear_from identity commit now in_range commit.lsn.0 0 n (flat_map (notices infos) (changes_of commit)) clear
 
 -- ---- where they stand

@@ -1,5 +1,5 @@
 -- What a session keeps while the source's history goes on.
-use Rattle.std.proofs.Common.{◌≡◌, ◌∙◌, ◌≤◌, ◌<◌, ℕ, true, Option, Some, None, List, ◌++◌, map, refl, sym, ap, subst, arith, append_assoc}
+use Rattle.std.proofs.Common.{◌≡◌, ◌∙◌, ◌≤◌, ◌<◌, ℕ, max, true, Option, Some, None, List, [], ◌∷◌, ◌++◌, map, refl, sym, ap, subst, arith, append_assoc}
 use Rattle.std.specs.Prelude.{nat_lt, slice_get}
 use Rattle.std.specs.List.{AllByRecursion}
 use Rattle.std.proofs.lemmas.Bool.Decides.{nat_tests}
@@ -13,22 +13,21 @@ use Rattle.dbl_faithful.specs.ModelHistory.History.{RawCommit, History}
 use Rattle.dbl_faithful.specs.ModelHistory.Fit.{AreInfosOf, IsFitHistory}
 use Rattle.dbl_faithful.specs.ModelHistory.Typed.{typed_commit}
 use Rattle.dbl_faithful.proofs.ConsumeLawsNotices.{all_append}
-use Rattle.dbl_faithful.specs.ConsumeLaws.Commits.{AreFitCommits}
-use Rattle.dbl_faithful.proofs.ConsumeLawsCommits.{fit_commits}
 use Rattle.dbl_follow.specs.SourceModel.Stated.{commits_after, to_state, ReadsRight}
 use Rattle.dbl_follow.proofs.SourceModelReadLemmas.{right_more}
 use Rattle.dbl_faithful.specs.Offset.declared.offset.Offset.{Offset}
-use Rattle.dbl_faithful.specs.CaughtUp.{HasDeliveredUpTo}
-use Rattle.dbl_faithful.proofs.CaughtUp.{longer_histories_are_caught_up}
-use Rattle.dbl_faithful.proofs.Items.{all_weaker, filter_whole}
+use Rattle.dbl_faithful.proofs.Items.{all_weaker, filter_whole, zip_weaker}
 use Rattle.dbl_faithful.specs.Stores.{IsCommitAt, IsPositionOf, top_position}
-use Rattle.dbl_faithful.specs.Lag.{IsMarkedBy, IsOffsetOf}
+use Rattle.dbl_faithful.specs.Lag.{IsMarkedBy, IsDescribedAt, IsOffsetOf}
 use Rattle.dbl_faithful.specs.Kept.{HasGrown}
-use Rattle.dbl_faithful.proofs.Longer.{longer_histories_keep_offsets}
+use Rattle.dbl_faithful.proofs.Longer.{still_described, longer_histories_keep_offsets}
 use Rattle.dbl_capture_model.specs.Entries.{SessionStart}
-use Rattle.dbl_capture_model.specs.Stages.{Stage, records_of_stage, next_offset, commits_at, read_at, PartsHistory, far_at}
-use Rattle.dbl_capture_model.specs.Going.{IsFirstOf, IsNear}
-use Rattle.dbl_faithful.proofs.Lists.{longer, map_append, typed_more, after_position, after_top, still_position, over_both, pairs}
+use Rattle.dbl_capture_model.specs.Stages.{Stage, records_of_stage, commits_at, read_at, PartsHistory, far_at}
+use Rattle.dbl_capture_model.specs.Delivered.{IsDelivered}
+use Rattle.dbl_capture_model.specs.Going.{IsUnstarted, IsFirstOf, IsNear}
+use Rattle.dbl_faithful.proofs.Lists.{longer, map_append, after_position, after_top, still_position}
+use Rattle.dbl_capture_model.proofs.Rising.{typed_more}
+use Rattle.dbl_capture_model.proofs.Delivered.{longer_on}
 
 -- ---- what names no stage
 
@@ -39,12 +38,19 @@ state_longer infos after history more =
     ap (map (typed_commit infos)) (filter-append (λ (commit : RawCommit). nat_lt after.0 commit.lsn.0) history.commits more)
     ∙ map_append (typed_commit infos) (commits_after after history.commits) (commits_after after more)
 
+pub unstarted_longer : (history : History) (more : List RawCommit) (first : Offset) → IsUnstarted history first → IsUnstarted (longer history more) first
+unstarted_longer history more first is = record {
+  at_start = is.at_start;
+  unread = is.unread;
+  distinct = is.distinct;
+  infos = zip_weaker (IsDescribedAt history) (IsDescribedAt (longer history more)) first.infos first.versions (λ info version described. still_described history more info version described) is.infos;
+}
+
 -- a first offset stays one
 pub first_longer : (entry : SessionStart) (history : History) (more : List RawCommit) (first : Offset) (offset : Option Offset) → IsFirstOf entry history first offset → IsFirstOf entry (longer history more) first offset
 first_longer entry history more first None is = (
   record { identity = is.0.identity; tables = is.0.tables; start = still_position history more first.start.0 is.0.start; not_before = is.0.not_before; incarnation = is.0.incarnation },
-  is.1,
-  is.2,
+  unstarted_longer history more first is.1,
 )
 first_longer entry history more first (Some old) is = is
 
@@ -57,6 +63,8 @@ confirmed_so history confirmed other records offset le is = record {
   cursors = is.cursors;
   confirmed_to = le;
   marks = is.marks;
+  many = is.many;
+  distinct = is.distinct;
   infos = is.infos;
 }
 
@@ -117,24 +125,26 @@ module _ (entry : SessionStart) (stage : Stage) (more : List RawCommit) (fit : I
   module _ (parts : PartsHistory stage) (marks : AllByRecursion (λ commit. IsMarkedBy stage.first.incarnation commit.body) more) (at : IsPositionOf stage.history stage.lsn.0) where
     pub offset_longer : (offset : Offset) → offset.incarnation ≡ stage.first.incarnation → IsOffsetOf stage.history stage.confirmed (records_of_stage stage) offset → IsOffsetOf (longer stage.history more) stage.confirmed (records_of_stage stage) offset
     offset_longer offset same is =
-        (longer_histories_keep_offsets stage.history (longer stage.history more) more stage.confirmed (records_of_stage stage) offset (grown_self stage.history more)
+        (longer_histories_keep_offsets stage.history (longer stage.history more) more stage.confirmed (records_of_stage stage) offset (grown_self stage.history more) fit.rising
         (subst (λ (n : ℕ). AllByRecursion (λ (commit : RawCommit). IsMarkedBy n commit.body) more) (sym same) marks)).0 is
 
-    start_under : (offset : Offset) → IsOffsetOf stage.history stage.confirmed (records_of_stage stage) offset → AllByRecursion (λ c. offset.start.0 < c.lsn.0) new
-    start_under offset is = typed_more stage.first.infos (λ n. offset.start.0 < n) more (after_position stage.history more fit.rising offset.start.0 is.start)
+    both_over : AllByRecursion (λ commit. top_position (joined entry.groups) < commit.lsn.0) more → AllByRecursion (λ commit. stage.lsn.0 < commit.lsn.0) more → AllByRecursion (λ commit. far_at entry stage < commit.lsn.0) more
+    both_over one two = both more one two
+      where
+        greatest : (a b c : ℕ) → a < c → b < c → max a b < c
+        greatest a b c left right = omega (arith, left, right)
 
-    pub up_longer : AreInfosOf (longer stage.history more) stage.first.infos → IsOffsetOf stage.history stage.confirmed (records_of_stage stage) (next_offset stage)
+        both : (cs : List RawCommit) → AllByRecursion (λ commit. top_position (joined entry.groups) < commit.lsn.0) cs → AllByRecursion (λ commit. stage.lsn.0 < commit.lsn.0) cs → AllByRecursion (λ commit. far_at entry stage < commit.lsn.0) cs
+        both [] first second = tt
+        both (c ∷ cs) first second = (greatest (top_position (joined entry.groups)) stage.lsn.0 c.lsn.0 first.0 second.0, both cs first.1 second.1)
+
+    pub up_longer : IsFitHistory stage.history → AreInfosOf stage.history stage.first.infos → AreInfosOf (longer stage.history more) stage.first.infos
         → ((place : ℕ) (item : Record) → slice_get (joined entry.groups) place ≡ Some item → IsCommitAt stage.history item.position)
-        → HasDeliveredUpTo stage.first.identity stage.first.infos (commits_at stage) stage.first.start.0 (far_at entry stage) (parts.old ++ read_at stage) parts.later 0 (records_of_stage stage)
-        → HasDeliveredUpTo stage.first.identity stage.first.infos (commits_at later_stage) stage.first.start.0 (far_at entry stage) (parts.old ++ read_at stage) (parts.later ++ new) 0 (records_of_stage stage)
-    up_longer infos is stand up =
-        let facts : AreFitCommits stage.first.infos (commits_at stage ++ new) = subst (AreFitCommits stage.first.infos) list (fit_commits (longer stage.history more) stage.first.infos fit infos) in
-        let far : AllByRecursion (λ (c : Commit). far_at entry stage < c.lsn.0) new =
-        over_both (top_position (joined entry.groups)) stage.lsn.0 new
-        (typed_more stage.first.infos (λ n. top_position (joined entry.groups) < n) more (after_top stage.history more fit.rising (joined entry.groups) stand)) (over_lsn at) in
-        subst (λ (l : List Commit). HasDeliveredUpTo stage.first.identity stage.first.infos l stage.first.start.0 (far_at entry stage) (parts.old ++ read_at stage) (parts.later ++ new) 0 (records_of_stage stage)) (sym list)
-        (longer_histories_are_caught_up stage.first.identity stage.first.infos (commits_at stage) (parts.old ++ read_at stage) parts.later new stage.first.start.0 (far_at entry stage) 0 (records_of_stage stage) facts
-        (pairs (far_at entry stage) stage.first.start.0 new far (start_under (next_offset stage) is)) up)
+        → IsDelivered stage.first.identity stage.first.infos stage.history stage.first.start.0 stage.first.lsn.0 stage.lsn.0 (far_at entry stage) (parts.old ++ read_at stage) parts.later 0 (records_of_stage stage)
+        → IsDelivered stage.first.identity stage.first.infos (longer stage.history more) stage.first.start.0 stage.first.lsn.0 stage.lsn.0 (far_at entry stage) (parts.old ++ read_at stage) (parts.later ++ new) 0 (records_of_stage stage)
+    up_longer fit_old infos_old infos stand up =
+        longer_on stage.first.identity stage.first.infos stage.history fit_old infos_old stage.first.start.0 stage.first.lsn.0 more fit infos stage.lsn.0 (far_at entry stage) (parts.old ++ read_at stage) parts.later 0 (records_of_stage stage)
+        (both_over (after_top stage.history more fit.rising (joined entry.groups) stand) (after_position stage.history more fit.rising stage.lsn.0 at)) (after_position stage.history more fit.rising stage.lsn.0 at) up
 
     pub near_longer : IsNear entry stage → IsNear entry later_stage
     near_longer near = record {

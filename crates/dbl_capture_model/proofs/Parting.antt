@@ -17,26 +17,25 @@ use Rattle.dbl_model_table.specs.Heads.{commit_head, commit_so_far}
 use Rattle.dbl_model_table.specs.Rows.{changes_of}
 use Rattle.dbl_faithful.specs.ModelHistory.History.{AreRising, RawCommit}
 use Rattle.dbl_faithful.specs.ModelHistory.Ranges.{IsMomentInRange}
-use Rattle.dbl_faithful.specs.ModelHistory.Typed.{typed, typed_commit}
+use Rattle.dbl_faithful.specs.ModelHistory.Typed.{typed_commit}
 use Rattle.dbl_faithful.proofs.ModelHistoryMomentLemmas.{lsns}
-use Rattle.dbl_faithful.specs.ModelEvent.Events.{Notice, notices, numbered}
+use Rattle.dbl_faithful.specs.ModelEvent.Events.{Notice, notices, numbered, events_of}
 use Rattle.dbl_faithful.specs.ModelEvent.EventJson.{print, source_data, envelopes}
 use Rattle.dbl_faithful.specs.ModelEvent.Clashes.{notice_clash, first_found, clash_of}
+use Rattle.dbl_faithful.proofs.ConsumeLawsCommits.{fit_commits}
 use Rattle.dbl_faithful.proofs.ConsumeLawsNotices.{all_append}
-use Rattle.dbl_faithful.specs.ToldEvents.{tell, events_of_commit, IsClearPrint}
-use Rattle.dbl_faithful.specs.CaughtUp.{HasDeliveredUpTo}
+use Rattle.dbl_faithful.specs.ToldEvents.{tell, IsClearPrint}
 use Rattle.dbl_faithful.proofs.Agree.{commit_run}
-use Rattle.dbl_faithful.proofs.CaughtUp.{sent_records_are_caught_up}
 use Rattle.dbl_faithful.proofs.Items.{all_weaker}
-use Rattle.dbl_faithful.proofs.Positions.{all_above, rising_after}
+use Rattle.dbl_capture_model.proofs.Rising.{all_above, rising_after, raw_next}
 use Rattle.dbl_faithful.specs.Stores.{IsCommitAt, top_position, lag}
 use Rattle.dbl_faithful.specs.Faithful.{IsFaithful}
 use Rattle.dbl_faithful.specs.Lag.{IsOffsetOf}
 use Rattle.dbl_faithful.specs.Onward.{IsLaterCursor, Adds}
 use Rattle.dbl_faithful.specs.Offset.declared.offset.Offset.{Offset}
-use Rattle.dbl_faithful.proofs.Faithful.{faithful_records_stand, caught_up_stores_are_faithful}
+use Rattle.dbl_faithful.proofs.Faithful.{faithful_records_stand}
 use Rattle.dbl_faithful.proofs.Offsets.{more_records_keep_offsets}
-use Rattle.dbl_faithful.proofs.Splits.{RawNext, raw_next, top_sent}
+use Rattle.dbl_faithful.proofs.Splits.{RawNext, top_sent}
 use Rattle.dbl_faithful.proofs.Lists.{after_position, after_top}
 use Rattle.dbl_follow.specs.SourceModel.Standings.{CrashState}
 use Rattle.dbl_follow.specs.SourceModel.Stated.{StatesSome, ReadsRight, to_state}
@@ -46,13 +45,16 @@ use Rattle.dbl_follow.specs.ModelCommit.Stated.{open_changes}
 use Rattle.dbl_follow.specs.ModelCommit.BegunCommits.{BeginsCommit}
 use Rattle.dbl_capture_model.specs.Entries.{SessionStart, WasFaithful}
 use Rattle.dbl_capture_model.specs.Stages.{Stage, records_of_stage, next_offset, read_at, IsOfSession, far_at}
+use Rattle.dbl_follow.proofs.WindowHonestLemmas.{captured_stays}
+use Rattle.dbl_capture_model.specs.Delivered.{IsDelivered}
+use Rattle.dbl_capture_model.proofs.Delivered.{sent_on, delivered_faithful}
 use Rattle.dbl_capture_model.specs.Going.{IsFirstOf, IsPlacedInHistory, KeepsStage, IsGoing}
 use Rattle.dbl_capture_model.specs.Exits.{MayBeLeft, PartsMayBeLeft, ReadHistoriesAreClosed}
 use Rattle.dbl_capture_model.specs.Outcomes.{FollowsSession}
 use Rattle.dbl_capture_model.proofs.Events.{cancel, no_first, no_other, envelopes_rise}
 use Rattle.dbl_capture_model.proofs.Growing.{new}
 use Rattle.dbl_capture_model.proofs.Sending.{AreSent, adds_more, grouped_more, joined_more, at_commit}
-use Rattle.dbl_capture_model.proofs.Ending.{stood_of, rising_front, offset_goes, appends_so, lag_near, lag_far, up_of, up_left, over_later, offset_left, grown_all, rise_all, fit_longer, same}
+use Rattle.dbl_capture_model.proofs.Ending.{stood_of, rising_front, offset_goes, appends_so, lag_near, lag_far, up_of, up_left, offset_left, grown_all, rise_all, fit_longer, same}
 
 -- ---- the commit that the open transaction begins
 
@@ -142,13 +144,13 @@ printed_so identity infos commit changes now = refl
 
 pub zipped_part : (identity : Identity) (infos : List TableInfo) (commit : Commit) (changes more : List Change) (now : ℤ) (n : ℕ) → IsMomentInRange now → changes_of commit ≡ changes ++ more
     → clash_of identity infos (so_far commit changes) ≡ None → n < length (envelopes identity infos (so_far commit changes) now)
-    → AllZip (IsClearPrint identity) (take (length (take n (envelopes identity infos (so_far commit changes) now))) (drop 0 (events_of_commit infos commit))) (take n (envelopes identity infos (so_far commit changes) now))
+    → AllZip (IsClearPrint identity) (take (length (take n (envelopes identity infos (so_far commit changes) now))) (drop 0 (map (tell commit) (events_of infos commit)))) (take n (envelopes identity infos (so_far commit changes) now))
 zipped_part identity infos commit changes more now n in_range is clear lt =
     let ns = flat_map (notices infos) changes in
     let long : length (envelopes identity infos (so_far commit changes) now) ≡ length ns =
     length-map (numbered commit.lsn.0 0 ns) (print identity (so_far commit changes) now) ∙ numbered_long commit.lsn.0 0 ns in
-    subst (λ (k : ℕ). AllZip (IsClearPrint identity) (take k (events_of_commit infos commit)) (take n (envelopes identity infos (so_far commit changes) now))) (sym (short_take n (envelopes identity infos (so_far commit changes) now) lt))
-    (subst (λ (l : List Record). AllZip (IsClearPrint identity) (take n (events_of_commit infos commit)) (take n l)) (sym (printed_so identity infos commit changes now))
+    subst (λ (k : ℕ). AllZip (IsClearPrint identity) (take k (map (tell commit) (events_of infos commit))) (take n (envelopes identity infos (so_far commit changes) now))) (sym (short_take n (envelopes identity infos (so_far commit changes) now) lt))
+    (subst (λ (l : List Record). AllZip (IsClearPrint identity) (take n (map (tell commit) (events_of infos commit))) (take n l)) (sym (printed_so identity infos commit changes now))
     (subst (λ (l : List Notice). AllZip (IsClearPrint identity) (take n (map (tell commit) (numbered commit.lsn.0 0 l))) (take n (map (print identity commit now) (numbered commit.lsn.0 0 ns))))
     (sym (ap (flat_map (notices infos)) is ∙ flat_map-append (notices infos) changes more))
     (clear_front identity commit now in_range commit.lsn.0 0 n ns (flat_map (notices infos) more) (subst (λ (k : ℕ). n < k) long lt) clear)))
@@ -158,8 +160,8 @@ zipped_part identity infos commit changes more now n in_range is clear lt =
 trans_le : (a b c : ℕ) → a ≤ b → b ≤ c → a ≤ c
 trans_le a b c one two = omega (arith, one, two)
 
-trans_lt : (a b c : ℕ) → a ≤ b → b < c → a < c
-trans_lt a b c le lt = omega (arith, le, lt)
+at_le : (a b c d : ℕ) → a ≤ b → b < c → d ≡ c → a ≤ d
+at_le a b c d le lt is = omega (arith, le, lt, is)
 
 same_le : (a b : ℕ) → a ≡ b → a ≤ b
 same_le a b is = omega (arith, is)
@@ -209,14 +211,11 @@ module _ (entry : SessionStart) (stage : Stage) (left : CrashState) (faithful : 
   longer_is = ap (λ (l : List Commit). l ++ new entry stage may.more (fit_longer entry stage left faithful may going)) later_is
 
   -- the log with the part, in the history that is left
-  up_part : HasDeliveredUpTo stage.first.identity stage.first.infos (typed stage.first.infos left.history) stage.first.start.0 (max (far_at entry stage) commit.lsn.0) before (commit ∷ later) (0 + length part) (records_of_stage stage ++ part)
+  up_part : IsDelivered stage.first.identity stage.first.infos left.history stage.first.start.0 stage.first.lsn.0 stage.lsn.0 (max (far_at entry stage) commit.lsn.0) before (commit ∷ later) (0 + length part) (records_of_stage stage ++ part)
   up_part =
-      sent_records_are_caught_up stage.first.identity stage.first.infos (typed stage.first.infos left.history) before commit later stage.first.start.0 (far_at entry stage) 0 (records_of_stage stage) part
+      sent_on stage.first.identity stage.first.infos left.history may.fit (captured_stays stage.history left.history stage.first.infos may.grown.tables going.reading.infos) stage.first.start.0 stage.first.lsn.0 stage.lsn.0 (far_at entry stage) before commit later 0 (records_of_stage stage)
+      (subst (λ (l : List Commit). IsDelivered stage.first.identity stage.first.infos left.history stage.first.start.0 stage.first.lsn.0 stage.lsn.0 (far_at entry stage) before l 0 (records_of_stage stage)) longer_is (up_left entry stage left faithful may going)) part
       (zipped_part stage.first.identity stage.first.infos commit changes more entry.now n in_range changes_are clear few)
-      (subst (λ (l : List Commit). HasDeliveredUpTo stage.first.identity stage.first.infos (typed stage.first.infos left.history) stage.first.start.0 (far_at entry stage) before l 0 (records_of_stage stage)) longer_is (up_left entry stage left faithful may going))
-
-  over_later_all : AllByRecursion (λ c. stage.lsn.0 < c.lsn.0) (commit ∷ later)
-  over_later_all = subst (AllByRecursion (λ (c : Commit). stage.lsn.0 < c.lsn.0)) longer_is (over_later entry stage left faithful may going)
 
   joined_is : joined (stage.groups ++ cut part) ≡ records_of_stage stage ++ part
   joined_is = joined_more entry stage placed.parts kept commit all lt sent n
@@ -227,7 +226,7 @@ module _ (entry : SessionStart) (stage : Stage) (left : CrashState) (faithful : 
   -- ---- how far it lags
 
   over_rest : AllByRecursion (λ c. commit.lsn.0 < c.lsn.0) rest
-  over_rest = all_above commit.lsn.0 rest (rising_after 0 before commit rest (subst (λ (l : List Commit). AreRising 0 (lsns l)) (placed.parts.spelled ∙ ap (λ (l : List Commit). before ++ l) later_is) kept.up.fit.rise))
+  over_rest = all_above commit.lsn.0 rest (rising_after 0 before commit rest (subst (λ (l : List Commit). AreRising 0 (lsns l)) (placed.parts.spelled ∙ ap (λ (l : List Commit). before ++ l) later_is) (fit_commits stage.history stage.first.infos going.reading.fit going.reading.infos).rise))
 
   raw : RawNext kept.near.later commit.lsn.0
   raw =
@@ -288,13 +287,14 @@ module _ (entry : SessionStart) (stage : Stage) (left : CrashState) (faithful : 
       → AllZip IsLaterCursor stage.first.cursors offset.cursors → FollowsSession entry left (stage.groups ++ cut part) (Some offset)
   part_follows offset is from to of later_cursors =
       let low : left.confirmed.0 ≤ offset.lsn.0 = trans_le left.confirmed.0 stage.stored.lsn.0 offset.lsn.0 may.confirmed from in
-      let over : AllByRecursion (λ (c : Commit). offset.lsn.0 < c.lsn.0) (commit ∷ later) =
-      all_weaker (λ (c : Commit). stage.lsn.0 < c.lsn.0) (λ (c : Commit). offset.lsn.0 < c.lsn.0) (commit ∷ later) (λ c less. trans_lt offset.lsn.0 stage.lsn.0 c.lsn.0 to less) over_later_all in
+      let late : AllByRecursion (λ (item : Record). offset.lsn.0 ≤ item.position) part =
+      all_weaker (λ (item : Record). item.position ≡ commit.lsn.0) (λ (item : Record). offset.lsn.0 ≤ item.position) part (λ item at. at_le offset.lsn.0 stage.lsn.0 commit.lsn.0 item.position to lt at) (at_commit entry stage placed.parts kept commit all lt sent n) in
       record {
         faithful = subst (λ (l : List Record). IsFaithful left.history left.confirmed l (Some offset)) (sym joined_is)
-            (caught_up_stores_are_faithful left.history left.confirmed (records_of_stage stage ++ part) offset before (commit ∷ later) (max (far_at entry stage) commit.lsn.0) (0 + length part) over
-            ((more_records_keep_offsets left.history left.confirmed (records_of_stage stage) part offset).0 (offset_left entry stage left faithful may going offset is.incarnation low of))
-            (up_of stage.first offset left.history (max (far_at entry stage) commit.lsn.0) before (commit ∷ later) (0 + length part) (records_of_stage stage ++ part) is up_part));
+            (delivered_faithful left.history left.confirmed (records_of_stage stage ++ part) offset stage.first.lsn.0 stage.lsn.0 (max (far_at entry stage) commit.lsn.0) before (commit ∷ later) (0 + length part)
+            (trans_le stage.first.lsn.0 stage.stored.lsn.0 offset.lsn.0 kept.from from) to
+            ((more_records_keep_offsets left.history left.confirmed (records_of_stage stage) part offset late).0 (offset_left entry stage left faithful may going offset is.incarnation low of))
+            (up_of stage.first offset left.history stage.first.lsn.0 stage.lsn.0 (max (far_at entry stage) commit.lsn.0) before (commit ∷ later) (0 + length part) (records_of_stage stage ++ part) is up_part));
         onward = record {
           tables = may.grown.tables ∙ going.reading.grown.tables;
           commits = record { more = going.reading.more ++ may.more; is = grown_all entry stage left faithful may going };

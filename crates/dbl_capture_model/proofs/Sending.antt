@@ -1,20 +1,20 @@
 -- A commit that is followed: its records, all of them or some first ones, after those that were put.
-use Rattle.std.proofs.Common.{◌≡◌, ◌∙◌, ◌+◌, ◌≤◌, ◌<◌, ℕ, zero, suc, ℤ, max, Option, Some, None, List, [], ◌∷◌, ◌++◌, length, take, drop, refl, sym, ap, subst, arith, append_assoc}
+use Rattle.std.proofs.Common.{◌≡◌, ◌∙◌, ◌+◌, ◌≤◌, ◌<◌, ℕ, zero, suc, ℤ, max, Option, Some, None, List, [], ◌∷◌, ◌++◌, length, map, take, drop, refl, sym, ap, subst, arith, append_assoc}
 use Rattle.std.specs.List.{AllByRecursion, AllZip}
 use Rattle.dbl_pgmsg.specs.declared.messages.Message.{Message}
 use Rattle.dbl_record.specs.declared.record.Record.{Record}
 use Rattle.dbl_record.specs.Cuts.{cut, joined}
 use Rattle.dbl_record.proofs.CutLaws.{cut_apart}
 use Rattle.dbl_model_table.specs.declared.change.Commit.{Commit}
+use Rattle.dbl_faithful.specs.ModelHistory.Fit.{AreInfosOf, IsFitHistory}
 use Rattle.dbl_faithful.specs.ModelHistory.Ranges.{IsMomentInRange}
+use Rattle.dbl_faithful.specs.ModelEvent.Events.{events_of}
 use Rattle.dbl_faithful.specs.ModelEvent.EventJson.{envelopes}
 use Rattle.dbl_faithful.specs.ModelEvent.Clashes.{clash_of}
 use Rattle.dbl_faithful.proofs.ConsumeLawsNotices.{all_append}
 use Rattle.dbl_follow.specs.ModelCommit.Stated.{list_of, ended_commit, commits_of}
-use Rattle.dbl_faithful.specs.ToldEvents.{events_of_commit, IsClearPrint}
-use Rattle.dbl_faithful.specs.CaughtUp.{HasDeliveredUpTo}
+use Rattle.dbl_faithful.specs.ToldEvents.{tell, IsClearPrint}
 use Rattle.dbl_faithful.proofs.Agree.{IsRun, commit_run}
-use Rattle.dbl_faithful.proofs.CaughtUp.{sent_records_are_caught_up}
 use Rattle.dbl_faithful.proofs.Items.{all_weaker}
 use Rattle.dbl_faithful.specs.Onward.{PlacesRise, Adds}
 use Rattle.dbl_faithful.proofs.Onward.{windows_rise}
@@ -22,9 +22,11 @@ use Rattle.dbl_follow.specs.Window.Plans.{Chunk}
 use Rattle.dbl_follow.specs.Followed.{Following}
 use Rattle.dbl_follow.specs.Steps.{mark_of, closed_of, closing, records_of, records_by}
 use Rattle.dbl_capture_model.specs.Entries.{SessionStart}
-use Rattle.dbl_capture_model.specs.Stages.{Stage, records_of_stage, commits_at, read_at, PartsHistory}
+use Rattle.dbl_capture_model.specs.Stages.{Stage, records_of_stage, read_at, PartsHistory}
+use Rattle.dbl_capture_model.specs.Delivered.{IsDelivered}
 use Rattle.dbl_capture_model.specs.Steps.{WasFollowed}
 use Rattle.dbl_capture_model.specs.Going.{IsReading, KeepsStage}
+use Rattle.dbl_capture_model.proofs.Delivered.{sent_on}
 use Rattle.dbl_capture_model.proofs.Events.{cancel, clear_prints, snapshot_run, run_at, joined_cut, parted_at, all_before, rise_append, envelopes_rise}
 
 -- ---- the commit comes next
@@ -114,28 +116,6 @@ module _ (entry : SessionStart) (stage : Stage) (parts : PartsHistory stage) (ke
 
 -- ---- a log that is delivered up to some commits
 
--- no record lies further
-pub far_on : (stage : Stage) (far other : ℕ) (before later : List Commit) (sent : ℕ) (records : List Record) → far ≤ other
-    → HasDeliveredUpTo stage.first.identity stage.first.infos (commits_at stage) stage.first.start.0 far before later sent records
-    → HasDeliveredUpTo stage.first.identity stage.first.infos (commits_at stage) stage.first.start.0 other before later sent records
-far_on stage far other before later sent records le up = record {
-  fit = up.fit;
-  spelled = up.spelled;
-  after_start = up.after_start;
-  kept = up.kept;
-  own = up.own;
-  parted = up.parted;
-  agrees_up_to = up.agrees_up_to;
-  few = up.few;
-  sending = up.sending;
-  log = up.log;
-  snapshots = up.snapshots;
-  placed = all_weaker (λ (item : Record). item.position ≤ far) (λ (item : Record). item.position ≤ other) records (λ item low. on item.position far other low le) up.placed;
-}
-  where
-    on : (a b c : ℕ) → a ≤ b → b ≤ c → a ≤ c
-    on a b c one two = omega (arith, one, two)
-
 take_again : {X : Type 0} (k : ℕ) (xs : List X) → take (length (take k xs)) xs ≡ take k xs
 take_again zero xs = refl
 take_again (suc k) [] = refl
@@ -143,21 +123,21 @@ take_again (suc k) (x ∷ xs) = ap (λ (l : List _). x ∷ l) (take_again k xs)
 
 -- some first records tell the first so many events
 zipped : (stage : Stage) (commit : Commit) (now : ℤ) (n : ℕ) → IsMomentInRange now → clash_of stage.first.identity stage.first.infos commit ≡ None
-    → AllZip (IsClearPrint stage.first.identity) (take (length (take n (envelopes stage.first.identity stage.first.infos commit now))) (drop 0 (events_of_commit stage.first.infos commit))) (take n (envelopes stage.first.identity stage.first.infos commit now))
+    → AllZip (IsClearPrint stage.first.identity) (take (length (take n (envelopes stage.first.identity stage.first.infos commit now))) (drop 0 (map (tell commit) (events_of stage.first.infos commit)))) (take n (envelopes stage.first.identity stage.first.infos commit now))
 zipped stage commit now n in_range clear =
-    subst (λ (l : List Record). AllZip (IsClearPrint stage.first.identity) (take (length (take n (envelopes stage.first.identity stage.first.infos commit now))) (events_of_commit stage.first.infos commit)) l)
+    subst (λ (l : List Record). AllZip (IsClearPrint stage.first.identity) (take (length (take n (envelopes stage.first.identity stage.first.infos commit now))) (map (tell commit) (events_of stage.first.infos commit))) l)
     (take_again n (envelopes stage.first.identity stage.first.infos commit now))
     (clear_prints stage.first.identity stage.first.infos commit now (length (take n (envelopes stage.first.identity stage.first.infos commit now))) in_range clear)
 
 -- with some first records of a commit that closes no window
-pub sent_up : (stage : Stage) (far : ℕ) (before : List Commit) (commit : Commit) (later : List Commit) (records : List Record) (now : ℤ) (n : ℕ) → IsMomentInRange now
+pub sent_up : (stage : Stage) (fit : IsFitHistory stage.history) (captured : AreInfosOf stage.history stage.first.infos) (low high far : ℕ) (before : List Commit) (commit : Commit) (later : List Commit) (records : List Record) (now : ℤ) (n : ℕ) → IsMomentInRange now
     → clash_of stage.first.identity stage.first.infos commit ≡ None
-    → HasDeliveredUpTo stage.first.identity stage.first.infos (commits_at stage) stage.first.start.0 far before (commit ∷ later) 0 records
-    → HasDeliveredUpTo stage.first.identity stage.first.infos (commits_at stage) stage.first.start.0 (max far commit.lsn.0) before (commit ∷ later) (length (take n (envelopes stage.first.identity stage.first.infos commit now))) (records ++ take n (envelopes stage.first.identity stage.first.infos commit now))
-sent_up stage far before commit later records now n in_range clear up =
-    subst (λ (k : ℕ). HasDeliveredUpTo stage.first.identity stage.first.infos (commits_at stage) stage.first.start.0 (max far commit.lsn.0) before (commit ∷ later) k (records ++ take n (envelopes stage.first.identity stage.first.infos commit now)))
+    → IsDelivered stage.first.identity stage.first.infos stage.history stage.first.start.0 low high far before (commit ∷ later) 0 records
+    → IsDelivered stage.first.identity stage.first.infos stage.history stage.first.start.0 low high (max far commit.lsn.0) before (commit ∷ later) (length (take n (envelopes stage.first.identity stage.first.infos commit now))) (records ++ take n (envelopes stage.first.identity stage.first.infos commit now))
+sent_up stage fit captured low high far before commit later records now n in_range clear up =
+    subst (λ (k : ℕ). IsDelivered stage.first.identity stage.first.infos stage.history stage.first.start.0 low high (max far commit.lsn.0) before (commit ∷ later) k (records ++ take n (envelopes stage.first.identity stage.first.infos commit now)))
     (none_first (length (take n (envelopes stage.first.identity stage.first.infos commit now))))
-    (sent_records_are_caught_up stage.first.identity stage.first.infos (commits_at stage) before commit later stage.first.start.0 far 0 records (take n (envelopes stage.first.identity stage.first.infos commit now)) (zipped stage commit now n in_range clear) up)
+    (sent_on stage.first.identity stage.first.infos stage.history fit captured stage.first.start.0 low high far before commit later 0 records up (take n (envelopes stage.first.identity stage.first.infos commit now)) (zipped stage commit now n in_range clear))
   where
     none_first : (n : ℕ) → 0 + n ≡ n
     none_first n = omega arith

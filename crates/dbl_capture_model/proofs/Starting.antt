@@ -1,27 +1,25 @@
 -- A session that begins: it has stored its first offset, and nothing was read.
-use Rattle.std.proofs.Common.{◌≡◌, ◌∙◌, inl, inr, ◌+◌, ◌*◌, ◌≤◌, ◌<◌, ◌^◌, ℕ, max, Bool, true, false, cond, Option, Some, None, List, [], ◌∷◌, ◌++◌, length, refl, sym, ap, subst, arith, lit<, append-nil, le_refl}
+use Rattle.std.proofs.Common.{◌≡◌, ◌∙◌, inl, inr, ◌+◌, ◌*◌, ◌≤◌, ◌<◌, ◌^◌, ℕ, max, Bool, true, false, cond, Option, Some, None, List, [], ◌∷◌, ◌++◌, length, map, refl, sym, ap, subst, arith, lit<, append-nil, le_refl}
 use Rattle.std.specs.Prelude.{IfSome, nat_lt, slice_get}
 use Rattle.std.specs.List.{AllByRecursion}
 use Rattle.std.proofs.lemmas.Bool.Decides.{nat_tests}
 use Rattle.dbl_base.specs.declared.lsn.Lsn.{Lsn}
 use Rattle.dbl_record.specs.Cuts.{joined}
 use Rattle.dbl_model_table.specs.declared.change.Commit.{Commit}
-use Rattle.dbl_faithful.specs.ModelHistory.History.{AreRising, RawBody, RawCommit, History}
+use Rattle.dbl_faithful.specs.ModelHistory.History.{RawBody, RawCommit, History}
 use Rattle.dbl_faithful.specs.ModelHistory.History as raw
 use Rattle.dbl_faithful.specs.ModelHistory.Fit.{AreInfosOf, IsFitHistory}
 use Rattle.dbl_faithful.specs.ModelHistory.MarkTexts.{Side, mark_text}
-use Rattle.dbl_faithful.specs.ModelHistory.Typed.{typed}
 use Rattle.dbl_faithful.proofs.ModelHistoryMarkLemmas.{marks_tell}
-use Rattle.dbl_faithful.proofs.ModelHistoryMomentLemmas.{lsns}
 use Rattle.dbl_faithful.proofs.ConsumeLawsNotices.{all_append}
 use Rattle.dbl_follow.specs.SourceModel.Growth.{HasChanges, Grows, marks_in}
 use Rattle.dbl_follow.specs.SourceModel.Stated.{commits_after, to_state}
 use Rattle.dbl_follow.proofs.SourceModelGrowthLemmas.{grows_none, no_mark_more}
 use Rattle.dbl_follow.proofs.SourceModelReadLemmas.{parts_at}
 use Rattle.dbl_faithful.specs.Offset.declared.offset.Offset.{Offset}
-use Rattle.dbl_faithful.specs.CaughtUp.{HasDeliveredUpTo}
+use Rattle.dbl_consume_courses.specs.Versions.{plain_commit}
 use Rattle.dbl_faithful.proofs.Items.{at_all, all_weaker}
-use Rattle.dbl_faithful.proofs.Positions.{end_after, end_under}
+use Rattle.dbl_faithful.proofs.Plainly.{commits_are, to_plain}
 use Rattle.dbl_faithful.specs.Stores.{IsPositionOf, StandTogether, top_position, repeated}
 use Rattle.dbl_faithful.specs.Lag.{IsMarkedBy}
 use Rattle.dbl_faithful.specs.Faithful.{HasNoMark, IsFaithful, IsFaithfulTo}
@@ -30,13 +28,14 @@ use Rattle.dbl_faithful.proofs.Faithful.{faithful_stores_are_caught_up, faithful
 use Rattle.dbl_faithful.proofs.StorePositions.{repeated_commits_stand_together}
 use Rattle.dbl_capture_model.specs.Entries.{SessionStart, WasFaithful}
 use Rattle.dbl_capture_model.specs.Stages.{Stage, PartsHistory}
+use Rattle.dbl_capture_model.specs.Delivered.{IsDelivered}
 use Rattle.dbl_capture_model.specs.Counted.{ended_of}
 use Rattle.dbl_capture_model.specs.Going.{IsFirstOf, BeganWith, KeepsStage}
 use Rattle.dbl_capture_model.specs.Steps.{SessionsBegin, begun_at, following_of}
-use Rattle.dbl_faithful.proofs.Onward.{cursors_stay}
-use Rattle.dbl_faithful.proofs.Lists.{is_longer, still_position, typed_more}
-use Rattle.dbl_faithful.proofs.Splits.{split_once, split_front}
-use Rattle.dbl_capture_model.proofs.Sending.{far_on}
+use Rattle.dbl_capture_model.proofs.LaterCursors.{cursors_stay}
+use Rattle.dbl_faithful.proofs.Lists.{is_longer, map_append, still_position}
+use Rattle.dbl_capture_model.proofs.Rising.{typed_more, split_once, split_front}
+use Rattle.dbl_capture_model.proofs.Delivered.{far_on}
 use Rattle.dbl_capture_model.proofs.Beginning.{begun}
 
 -- ---- where reading begins
@@ -56,7 +55,7 @@ abbrev stage_of : SessionStart → History → Offset → Stage
 stage_of entry history first = begun_at entry history first (following_of first)
 
 pub position_of : (entry : SessionStart) (history : History) (first : Offset) (old : Option Offset) → Grows entry.history history → IsFirstOf entry history first old → IfSome old (λ o. IsPositionOf entry.history o.lsn.0) → IsPositionOf history first.lsn.0
-position_of entry history first None grows began stood = subst (λ (l : Lsn). IsPositionOf history l.0) (sym began.1) began.0.start
+position_of entry history first None grows began stood = subst (λ (l : Lsn). IsPositionOf history l.0) (sym began.1.at_start) began.0.start
 position_of entry history first (Some old) grows began stood =
     subst (λ (l : Lsn). IsPositionOf history l.0) (sym began.0.lsn)
     (subst (λ (h : History). IsPositionOf h old.lsn.0) (sym (is_longer entry.history history grows.others (record { tables = grows.tables; commits = grows.commits }))) (still_position entry.history grows.others old.lsn.0 stood))
@@ -129,32 +128,36 @@ module _ (entry : SessionStart) (history : History) (first : Offset) (fit_found 
   begins : BeginsCaughtUp history (joined entry.groups) first
   begins = faithful_stores_are_caught_up history entry.confirmed (joined entry.groups) first fit faithful_first
 
-  rises : AreRising 0 (lsns (begins.before ++ begins.later))
-  rises = subst (λ (l : List Commit). AreRising 0 (lsns l)) begins.delivered.spelled begins.delivered.fit.rise
+  abbrev plain_before : List Commit
+  plain_before = map plain_commit begins.before
 
-  both : begins.before ++ begins.later ≡ (parts_of entry history first fit).old ++ to_state first.infos first.lsn history
-  both = sym begins.delivered.spelled ∙ (parts_at first.infos first.lsn history fit.rising).1
+  abbrev plain_later : List Commit
+  plain_later = map plain_commit begins.later
 
-  later_is : begins.later ≡ to_state first.infos first.lsn history
+  both : plain_before ++ plain_later ≡ (parts_of entry history first fit).old ++ to_state first.infos first.lsn history
+  both =
+      sym (map_append plain_commit begins.before begins.later)
+      ∙ (ap (map plain_commit) (sym begins.delivered.spelled) ∙ (commits_are history first.infos fit infos ∙ (parts_at first.infos first.lsn history fit.rising).1))
+
+  later_is : plain_later ≡ to_state first.infos first.lsn history
   later_is =
-      split_once first.lsn.0 begins.before begins.later (parts_of entry history first fit).old (to_state first.infos first.lsn history) both (end_under first.lsn.0 begins.before begins.later rises begins.ends)
-      (end_after first.lsn.0 begins.before begins.later rises begins.ends) (parts_at first.infos first.lsn history fit.rising).2 (parts_of entry history first fit).over
+      split_once first.lsn.0 plain_before plain_later (parts_of entry history first fit).old (to_state first.infos first.lsn history) both (to_plain (λ (n : ℕ). n ≤ first.lsn.0) begins.before begins.delivered.upto)
+      (to_plain (λ (n : ℕ). first.lsn.0 < n) begins.later begins.delivered.past) (parts_at first.infos first.lsn history fit.rising).2 (parts_of entry history first fit).over
 
-  before_is : begins.before ≡ (parts_of entry history first fit).old ++ []
+  before_is : plain_before ≡ (parts_of entry history first fit).old ++ []
   before_is =
-      split_front first.lsn.0 begins.before begins.later (parts_of entry history first fit).old (to_state first.infos first.lsn history) both (end_under first.lsn.0 begins.before begins.later rises begins.ends)
-      (end_after first.lsn.0 begins.before begins.later rises begins.ends) (parts_at first.infos first.lsn history fit.rising).2 (parts_of entry history first fit).over
+      split_front first.lsn.0 plain_before plain_later (parts_of entry history first fit).old (to_state first.infos first.lsn history) both (to_plain (λ (n : ℕ). n ≤ first.lsn.0) begins.before begins.delivered.upto)
+      (to_plain (λ (n : ℕ). first.lsn.0 < n) begins.later begins.delivered.past) (parts_at first.infos first.lsn history fit.rising).2 (parts_of entry history first fit).over
       ∙ sym (append-nil (parts_of entry history first fit).old)
 
   left_le : (a b : ℕ) → a ≤ max a b
   left_le a b = omega arith
 
-  up_first : HasDeliveredUpTo first.identity first.infos (typed first.infos history) first.start.0 (max (top_position (joined entry.groups)) first.lsn.0) ((parts_of entry history first fit).old ++ []) (to_state first.infos first.lsn history) 0 (joined entry.groups)
+  up_first : IsDelivered first.identity first.infos history first.start.0 first.lsn.0 first.lsn.0 (max (top_position (joined entry.groups)) first.lsn.0) ((parts_of entry history first fit).old ++ []) (to_state first.infos first.lsn history) 0 (joined entry.groups)
   up_first =
-      far_on (stage_of entry history first) (top_position (joined entry.groups)) (max (top_position (joined entry.groups)) first.lsn.0) ((parts_of entry history first fit).old ++ []) (to_state first.infos first.lsn history) 0 (joined entry.groups)
+      far_on first.identity first.infos history fit infos first.start.0 first.lsn.0 first.lsn.0 (top_position (joined entry.groups)) (max (top_position (joined entry.groups)) first.lsn.0) ((parts_of entry history first fit).old ++ []) (to_state first.infos first.lsn history) 0 (joined entry.groups)
       (left_le (top_position (joined entry.groups)) first.lsn.0)
-      (subst (λ (l : List Commit). HasDeliveredUpTo first.identity first.infos (typed first.infos history) first.start.0 (top_position (joined entry.groups)) l (to_state first.infos first.lsn history) 0 (joined entry.groups)) before_is
-      (subst (λ (l : List Commit). HasDeliveredUpTo first.identity first.infos (typed first.infos history) first.start.0 (top_position (joined entry.groups)) begins.before l 0 (joined entry.groups)) later_is begins.delivered))
+      (record { read = begins.before; unread = begins.later; read_is = before_is; unread_is = later_is; up = begins.delivered })
 
   together : StandTogether history (joined entry.groups) first
   together = repeated_commits_stand_together history (joined entry.groups) first fit.rising

@@ -11,13 +11,13 @@ use Rattle.dbl_faithful.specs.ModelHistory.Typed.{typed_commit}
 use Rattle.dbl_faithful.proofs.ConsumeLawsNotices.{all_append}
 use Rattle.dbl_follow.specs.ModelCommit.Stated.{list_of, ended_commit, commits_of}
 use Rattle.dbl_follow.specs.SourceModel.Growth.{AreOthers, Grows}
-use Rattle.dbl_faithful.specs.CaughtUp.{EndAt, HasDeliveredUpTo}
 use Rattle.dbl_faithful.proofs.Items.{all_weaker}
 use Rattle.dbl_faithful.specs.Lag.{IsMarkedBy}
 use Rattle.dbl_faithful.specs.Kept.{HasGrown}
 use Rattle.dbl_follow.proofs.WindowHonestLemmas.{captured_stays}
 use Rattle.dbl_capture_model.specs.Entries.{SessionStart}
-use Rattle.dbl_capture_model.specs.Stages.{Stage, records_of_stage, next_offset, commits_at, read_at, PartsHistory, later_count, far_at}
+use Rattle.dbl_capture_model.specs.Stages.{Stage, records_of_stage, next_offset, read_at, IsLastAt, PartsHistory, later_count, far_at}
+use Rattle.dbl_capture_model.specs.Delivered.{IsDelivered}
 use Rattle.dbl_capture_model.specs.Marked.{IsAwaited, IsWindowAt}
 use Rattle.dbl_faithful.specs.Offset.declared.offset.Offset.{Offset}
 use Rattle.dbl_capture_model.specs.Going.{IsReading, IsNear, IsGoing, begun_after}
@@ -73,7 +73,7 @@ others_longer entry stage more others g fit going = record {
         to = k.to;
         stored_is = offset_longer entry stage more fit p.parts marks p.position stage.stored going.reading.of_session.incarnation k.stored_is;
         next_is = offset_longer entry stage more fit p.parts marks p.position (next_offset stage) refl k.next_is;
-        up = up_longer entry stage more fit p.parts marks p.position infos k.next_is k.stand k.up;
+        up = up_longer entry stage more fit p.parts marks p.position r.fit r.infos infos k.stand k.up;
         adds = k.adds;
         within = k.within;
         grouped = k.grouped;
@@ -200,7 +200,7 @@ parts_took stage m none parts = record {
   later = parts.later;
   spelled = parts.spelled ∙ ap (λ (l : List Commit). (parts.old ++ l) ++ parts.later) (sym (read_on stage m none));
   stated = parts.stated ∙ ap (λ (l : List Commit). l ++ parts.later) (sym (read_on stage m none));
-  last = subst (λ (l : List Commit). ((stage.lsn ≡ stage.first.lsn) × (l ≡ [])) ⊎ EndAt stage.lsn.0 l) (sym (read_on stage m none)) parts.last;
+  last = subst (λ (l : List Commit). ((stage.lsn ≡ stage.first.lsn) × (l ≡ [])) ⊎ IsLastAt stage.lsn.0 l) (sym (read_on stage m none)) parts.last;
   under = subst (λ (l : List Commit). AllByRecursion (λ (c : Commit). c.lsn.0 ≤ stage.lsn.0) (parts.old ++ l)) (sym (read_on stage m none)) parts.under;
   over = parts.over;
   order = parts.order;
@@ -246,7 +246,7 @@ messages_keep_going entry stage m fields clean none right going = record {
         to = k.to;
         stored_is = k.stored_is;
         next_is = k.next_is;
-        up = subst (λ (l : List Commit). HasDeliveredUpTo stage.first.identity stage.first.infos (commits_at stage) stage.first.start.0 (far_at entry stage) (p.parts.old ++ l) p.parts.later 0 (records_of_stage stage)) (sym (read_on stage m none)) k.up;
+        up = subst (λ (l : List Commit). IsDelivered stage.first.identity stage.first.infos stage.history stage.first.start.0 stage.first.lsn.0 stage.lsn.0 (far_at entry stage) (p.parts.old ++ l) p.parts.later 0 (records_of_stage stage)) (sym (read_on stage m none)) k.up;
         adds = k.adds;
         within = k.within;
         grouped = k.grouped;

@@ -7,29 +7,37 @@ use Rattle.dbl_pgmsg.specs.Grammar.{FitsFields}
 use Rattle.dbl_faithful.specs.ModelHistory.History.{RawCommit, History}
 use Rattle.dbl_faithful.specs.ModelHistory.Fit.{AreInfosOf, IsFitHistory}
 use Rattle.dbl_faithful.specs.ModelHistory.Cursors.{AreCursorsOf}
+use Rattle.dbl_faithful.specs.ModelHistory.Laws.{AreDistinctTables}
 use Rattle.dbl_follow.specs.ModelCommit.Blocks.{AreWithoutFault}
 use Rattle.dbl_follow.specs.SourceModel.Stated.{to_state, ReadsRight}
 use Rattle.dbl_faithful.specs.Offset.declared.offset.Offset.{Offset}
-use Rattle.dbl_faithful.specs.CaughtUp.{HasDeliveredUpTo}
 use Rattle.dbl_faithful.specs.Stores.{IsCommitAt, IsPositionOf, top_position}
-use Rattle.dbl_faithful.specs.Lag.{IsUnread, IsOffsetOf}
+use Rattle.dbl_faithful.specs.Lag.{IsUnread, IsDescribedAt, IsOffsetOf}
 use Rattle.dbl_faithful.specs.Kept.{HasGrown, IsTakenOver}
 use Rattle.dbl_faithful.specs.Onward.{IsFirstOffset, IsLaterCursor, Adds}
 use Rattle.dbl_capture_model.specs.Entries.{SessionStart, StoodInLog, WasFaithful}
-use Rattle.dbl_capture_model.specs.Stages.{Stage, records_of_stage, next_offset, commits_at}
+use Rattle.dbl_capture_model.specs.Stages.{Stage, records_of_stage, next_offset}
 use Rattle.dbl_capture_model.specs.Stages.{read_at, PartsHistory, IsOfSession, later_count, far_at}
+use Rattle.dbl_capture_model.specs.Delivered.{IsDelivered}
 use Rattle.dbl_capture_model.specs.Marked.{AreOwnMarks, IsAwaited, IsWindowAt, IsOwnWindow}
 use Rattle.dbl_capture_model.specs.Counted.{IsCounted}
 use Rattle.dbl_capture_model.specs.Reports.{ReportsWindowsOnce}
 
 -- ---- where a session begins
 
+-- No table is started, and the position is the start. The tables are distinct, each as the source describes it at some point of the history,
+-- in the version there.
+pub record IsUnstarted (history : History) (first : Offset) : Type 0 where
+  pub at_start : first.lsn ≡ first.start
+  pub unread : AllZip (λ info cursor. IsUnread cursor) first.infos first.cursors
+  pub distinct : AreDistinctTables first.infos
+  pub infos : AllZip (IsDescribedAt history) first.infos first.versions
+
 -- The offset that a session stores first: the stored one with the next incarnation, or else one of the configured tables at the head of the
 -- history, with no table started.
 abbrev pub IsFirstOf : SessionStart → History → Offset → Option Offset → Type 0
 IsFirstOf entry history first None =
-    IsFirstOffset entry.config entry.history history first × (first.lsn ≡ first.start)
-    × AllZip (λ info cursor. IsUnread cursor) first.infos first.cursors
+    IsFirstOffset entry.config entry.history history first × IsUnstarted history first
 IsFirstOf entry history first (Some old) = IsTakenOver old first × (first.incarnation ≡ old.incarnation + 1)
 
 -- The first offset follows from what was stored when the session began.
@@ -103,8 +111,8 @@ pub record KeepsStage (entry : SessionStart) (stage : Stage) (parts : PartsHisto
   pub to : stage.stored.lsn.0 ≤ stage.lsn.0
   pub stored_is : IsOffsetOf stage.history stage.confirmed (records_of_stage stage) stage.stored
   pub next_is : IsOffsetOf stage.history stage.confirmed (records_of_stage stage) (next_offset stage)
-  pub up : HasDeliveredUpTo stage.first.identity stage.first.infos (commits_at stage) stage.first.start.0 (far_at entry stage)
-      (parts.old ++ read_at stage) parts.later 0 (records_of_stage stage)
+  pub up : IsDelivered stage.first.identity stage.first.infos stage.history stage.first.start.0 stage.first.lsn.0 stage.lsn.0
+      (far_at entry stage) (parts.old ++ read_at stage) parts.later 0 (records_of_stage stage)
   pub adds : Adds stage.first.lsn.0 (joined entry.groups) (records_of_stage stage)
   pub within : AllByRecursion (λ item. item.position ≤ stage.lsn.0) adds.more
   pub grouped : stage.groups ≡ entry.groups ++ cut adds.more

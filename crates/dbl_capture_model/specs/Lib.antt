@@ -8,3 +8,4 @@ pub mod Going
 pub mod Outcomes
 pub mod Steps
 pub mod Exits
+pub mod Delivered

@@ -7,14 +7,15 @@ use Rattle.dbl_record.specs.declared.record.Record.{Record}
 use Rattle.dbl_record.specs.Cuts.{cut, joined}
 use Rattle.dbl_model_table.specs.declared.row.Key.{Key}
 use Rattle.dbl_model_table.specs.declared.table.TableInfo.{TableInfo}
-use Rattle.dbl_model_table.specs.Rows.{rows, moment_at}
 use Rattle.dbl_faithful.specs.ModelHistory.History.{History}
 use Rattle.dbl_follow.specs.SourceModel.Growth.{marks_in}
 use Rattle.dbl_follow.specs.SourceModel.Selected.{rows_up_to}
 use Rattle.dbl_follow.specs.SourceModel.Standings.{CrashState}
 use Rattle.dbl_faithful.specs.Offset.declared.offset.Offset.{Offset}
+use Rattle.dbl_consume_courses.specs.Versions.{version_rows, versions_to}
+use Rattle.dbl_consume_courses.specs.Courses.{infos_after}
 use Rattle.dbl_faithful.specs.Stores.{lag}
-use Rattle.dbl_faithful.specs.Faithful.{captured_commits, IsFaithful}
+use Rattle.dbl_faithful.specs.Faithful.{captured_commits, first_infos, IsFaithful}
 use Rattle.dbl_faithful.specs.Onward.{GoesOnward, Adds}
 use Rattle.dbl_faithful.specs.Complete.{HoldsImage}
 use Rattle.dbl_capture_model.specs.Entries.{SessionStart, stores_at, stores_left, appends_after}
@@ -55,11 +56,11 @@ AddsFewMarks entry left (Some offset) = HasFewMarks offset.infos entry.config.ch
 -- ---- complete
 
 -- Each captured table was read to its end; the offset is at or above every commit that existed when the session began, and is confirmed;
--- and a consumer of the records has the source's tables at the offset's LSN.
+-- and a consumer of the records has the source's tables at the offset's LSN, in the columns in force there.
 pub record IsComplete (entry : SessionStart) (left : CrashState) (groups : List (List Record)) (offset : Offset) : Type 0 where
   pub done : AllByRecursion (λ cursor. cursor.done ≡ true) offset.cursors
   pub not_before : AllByRecursion (λ commit. commit.lsn.0 ≤ offset.lsn.0) entry.history.commits
   pub confirmed : offset.lsn.0 ≤ left.confirmed.0
-  pub images : (topic text : List ℕ) → HoldsImage offset.identity offset.infos
-      (rows offset.infos (captured_commits left.history offset) (moment_at (captured_commits left.history offset) offset.lsn.0))
-      (joined groups) topic text
+  pub images : (topic text : List ℕ) → HoldsImage offset.identity
+      (infos_after (first_infos left.history offset) (versions_to offset.lsn.0 (captured_commits left.history offset)))
+      (version_rows (versions_to offset.lsn.0 (captured_commits left.history offset))) (joined groups) topic text

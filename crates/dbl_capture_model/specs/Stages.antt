@@ -1,5 +1,5 @@
 -- The state of a session between two of its calls.
-use Rattle.std.specs.Prelude.{◌≡◌, ◌⊎◌, ℕ, ◌≤◌, ◌<◌, max, List, [], ◌++◌, length}
+use Rattle.std.specs.Prelude.{◌≡◌, ◌⊎◌, ℕ, ◌≤◌, ◌<◌, max, List, [], ◌∷◌, ◌++◌, length}
 use Rattle.std.specs.List.{AllByRecursion}
 use Rattle.dbl_base.specs.declared.lsn.Lsn.{Lsn}
 use Rattle.dbl_pgmsg.specs.declared.messages.Message.{Message}
@@ -11,7 +11,6 @@ use Rattle.dbl_faithful.specs.ModelHistory.Typed.{typed}
 use Rattle.dbl_follow.specs.ModelCommit.Stated.{commits_of}
 use Rattle.dbl_follow.specs.SourceModel.Stated.{to_state}
 use Rattle.dbl_faithful.specs.Offset.declared.offset.Offset.{Offset}
-use Rattle.dbl_faithful.specs.CaughtUp.{EndAt}
 use Rattle.dbl_follow.specs.Followed.{Following}
 use Rattle.dbl_faithful.specs.Stores.{top_position}
 use Rattle.dbl_capture_model.specs.Entries.{SessionStart}
@@ -58,9 +57,16 @@ read_at stage = commits_of stage.first.infos stage.messages
 
 -- ---- how far it has read
 
+-- These commits end with one of this LSN.
+pub record IsLastAt (position : ℕ) (commits : List Commit) : Type 0 where
+  pub front : List Commit
+  pub last : Commit
+  pub spelled : commits ≡ front ++ last ∷ []
+  pub lsn_is : last.lsn.0 ≡ position
+
 -- The last commit that was followed is the last one that was read; before the first one, the stage's LSN is where reading began.
 abbrev pub IsLastRead : Stage → Type 0
-IsLastRead stage = ((stage.lsn ≡ stage.first.lsn) × (read_at stage ≡ [])) ⊎ EndAt stage.lsn.0 (read_at stage)
+IsLastRead stage = ((stage.lsn ≡ stage.first.lsn) × (read_at stage ≡ [])) ⊎ IsLastAt stage.lsn.0 (read_at stage)
 
 -- The history is split at the session's position: the commits up to where reading began, those that it has read, and those that it hasn't.
 pub record PartsHistory (stage : Stage) : Type 0 where

@@ -1,5 +1,5 @@
 -- What a session begins with: tables as the catalogue describes them, and the offset that is made of them.
-use Rattle.std.proofs.Common.{◌≡◌, ◌∙◌, ◌⊎◌, inl, inr, ◌+◌, ◌≤◌, ◌<◌, ℕ, zero, suc, Option, Some, None, List, [], ◌∷◌, ◌++◌, length, map, take, drop, fold, get_or, refl, sym, ap, ap₂, subst, arith, append-nil, length-append, IsTrue, drop-cons}
+use Rattle.std.proofs.Common.{◌≡◌, ◌∙◌, ◌⊎◌, inl, inr, ◌+◌, ◌≤◌, ◌<◌, ℕ, zero, suc, Bool, true, false, cond, if◌then◌else◌, Option, Some, None, List, [], ◌∷◌, ◌++◌, length, map, take, drop, fold, get_or, refl, sym, ap, ap₂, subst, arith, append-nil, length-append, IsTrue, drop-cons}
 use Rattle.std.specs.Prelude.{◌^◌, find, max, option_map, Contains, IfSome, IsSomeAnd}
 use Rattle.std.specs.List.{AllByRecursion, AllZip}
 use Rattle.std.proofs.lemmas.List.{length-map, map-append, take-append-drop, take-append-le, take_more}
@@ -8,6 +8,7 @@ use Rattle.dbl_base.specs.declared.lsn.Lsn.{Lsn}
 use Rattle.dbl_model_table.specs.declared.config.Config.{Config}
 use Rattle.dbl_model_table.specs.declared.error.ModelError.{ModelError}
 use Rattle.dbl_model_table.specs.declared.error.ModelError.TheVariants as model
+use Rattle.dbl_model_table.specs.declared.table.RawColumn.{RawColumn}
 use Rattle.dbl_model_table.specs.declared.table.RawTable.{RawTable}
 use Rattle.dbl_model_table.specs.declared.table.TableInfo.{TableInfo}
 use Rattle.dbl_model_table.specs.declared.table.TableName.{TableName}
@@ -22,7 +23,8 @@ use Rattle.dbl_model_table.proofs.Capturable.{no_fault}
 use Rattle.dbl_model_history.specs.declared.cursor.Cursor.{Cursor}
 use Rattle.dbl_model_history.specs.Cursors.{AreCursorsOf}
 use Rattle.dbl_model_history.specs.Fit.{AreInfosOf, IsKeyOf}
-use Rattle.dbl_model_history.specs.History.{History, IsRising, RawCommit, entry_of}
+use Rattle.dbl_model_history.specs.History.{History, IsRising, RawBody, RawCommit, entry_of}
+use Rattle.dbl_model_history.specs.History.RawBody.{Changes, Mark, Alter}
 use Rattle.dbl_model_history.specs.InForce.{entry_after, entry_at}
 use Rattle.dbl_source_model.specs.Answered.{IsDescribed}
 use Rattle.dbl_source_model.specs.Calls.{IsHead, Moved}
@@ -34,7 +36,7 @@ use Rattle.dbl_source_model.proofs.PlainLemmas.{entry_kept}
 use Rattle.dbl_offset_content.specs.declared.offset.Offset.{Offset}
 use Rattle.dbl_offset.specs.Offsets.{IsOffset}
 use Rattle.dbl_capture_model.proofs.FaithfulItems.{all_weaker}
-use Rattle.dbl_capture_model.specs.Faithful.Lag.{IsUnread}
+use Rattle.dbl_capture_model.specs.Faithful.Lag.{IsDescribedAt, IsUnread}
 use Rattle.dbl_capture_work.specs.declared.halt.Halt.{Halt}
 use Rattle.dbl_capture_work.specs.declared.halt.Halt.TheVariants as halt
 use Rattle.dbl_capture_work.specs.Begins.{AreCounted, AreInfosAt, AreUnread, CanBeCaptured, HadEntry, IsAbsentAfter, IsAbsentHalt, IsDescribedAs, IsFaultOf, IsFirstOffsetAtHead, IsFirstAtFault, IsInfoAt, IsOffsetFor, MayRest}
@@ -139,6 +141,67 @@ first_entry history name = itself (entry_of history name)
     itself : (o : Option RawTable) → option_map (λ (table : RawTable). table) o ≡ o
     itself None = refl
     itself (Some table) = refl
+
+-- ---- versions are counted from 1
+
+from_one : (n : ℕ) → n ≡ 1 → 1 ≤ n
+from_one n is = omega (arith, is)
+
+one_up : (n : ℕ) → 1 ≤ n → 1 ≤ n + 1
+one_up n one = omega (arith, one)
+
+same_count : (a b : ℕ) → 1 ≤ a → b ≡ max 1 a → a ≡ b
+same_count a b one is = omega (arith, one, is)
+
+abbrev entry_by : List RawColumn → RawTable → Bool → RawTable
+entry_by columns table same = if same then record table { columns = columns; version = table.version + 1 } else table
+
+still_counted : (body : RawBody) (table : RawTable) → 1 ≤ table.version → 1 ≤ (entry_after body table).version
+still_counted (Changes changes) table one = one
+still_counted (Mark value) table one = one
+still_counted (Alter name columns rows) table one = by (same_name table.name name)
+  where
+    by : (same : Bool) → 1 ≤ (entry_by columns table same).version
+    by true = one_up table.version one
+    by false = one
+
+counted_through : (commits : List RawCommit) (table : RawTable) → 1 ≤ table.version → 1 ≤ (fold (λ (entry : RawTable) (commit : RawCommit). entry_after commit.body entry) table commits).version
+counted_through [] table one = one
+counted_through (c ∷ commits) table one = counted_through commits (entry_after c.body table) (still_counted c.body table one)
+
+found_counted : (name : TableName) (tables : List RawTable) (raw : RawTable) → AllByRecursion (λ (r : RawTable). r.version ≡ 1) tables → find (λ (table : RawTable). same_name table.name name) tables ≡ Some raw → 1 ≤ raw.version
+found_counted name [] raw all is = cc
+found_counted name (t ∷ tables) raw all is = by (λ later. found_counted name tables raw all.1 later) (same_name t.name name) is
+  where
+    by : (find (λ (table : RawTable). same_name table.name name) tables ≡ Some raw → 1 ≤ raw.version) → (b : Bool) → cond b (Some t) (find (λ (table : RawTable). same_name table.name name) tables) ≡ Some raw → 1 ≤ raw.version
+    by rest true here = let same : t ≡ raw = cc in subst (λ (r : RawTable). 1 ≤ r.version) same (from_one t.version all.0)
+    by rest false later = rest later
+
+-- so is that of each entry that the catalogue had, if the first ones have version 1
+counted_entry : (history : History) (place : ℕ) (name : TableName) (raw : RawTable) → AllByRecursion (λ (r : RawTable). r.version ≡ 1) history.tables → entry_at history place name ≡ Some raw → 1 ≤ raw.version
+counted_entry history place name raw first is = by (entry_of history name) refl is
+  where
+    by : (o : Option RawTable) → entry_of history name ≡ o → option_map (λ (table : RawTable). fold (λ (entry : RawTable) (commit : RawCommit). entry_after commit.body entry) table (take place history.commits)) o ≡ Some raw → 1 ≤ raw.version
+    by None here none = cc
+    by (Some table) here some =
+        let same : fold (λ (entry : RawTable) (commit : RawCommit). entry_after commit.body entry) table (take place history.commits) ≡ raw = cc in
+        subst (λ (r : RawTable). 1 ≤ r.version) same (counted_through (take place history.commits) table (found_counted name history.tables table first here))
+
+-- a description and its version are then those of one entry, as it is
+pub described_at : (history : History) (infos : List TableInfo) (versions : List ℕ) → AllByRecursion (λ (r : RawTable). r.version ≡ 1) history.tables → AreInfosAt history infos versions → AllZip (IsDescribedAt history) infos versions
+described_at history [] [] first are = tt
+described_at history [] (v ∷ versions) first are = absurd are
+described_at history (info ∷ infos) [] first are = absurd are
+described_at history (info ∷ infos) (v ∷ versions) first are = (
+  record {
+    place = are.0.entry.place;
+    entry = are.0.raw;
+    stands = are.0.entry.is;
+    is = are.0.is;
+    version_is = same_count are.0.raw.version v (counted_entry history are.0.entry.place info.name are.0.raw first are.0.entry.is) are.0.counted;
+  },
+  described_at history infos versions first are.1,
+)
 
 -- ---- if no table is altered
 

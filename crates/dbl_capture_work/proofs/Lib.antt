@@ -11,6 +11,7 @@ pub use Rattle.dbl_capture_model.proofs.Events as CaptureModelEvents
 pub use Rattle.dbl_capture_model.proofs.FaithfulAgree
 pub use Rattle.dbl_capture_model.proofs.FaithfulExact
 pub use Rattle.dbl_capture_model.proofs.FaithfulFaithful
+pub use Rattle.dbl_capture_model.proofs.FaithfulInForce
 pub use Rattle.dbl_capture_model.proofs.FaithfulItems
 pub use Rattle.dbl_capture_model.proofs.FaithfulLists
 pub use Rattle.dbl_capture_model.proofs.FaithfulLonger

@@ -40,7 +40,7 @@ use Rattle.dbl_capture_work.proofs.CaptureModelStarting.{sessions_begin}
 use Rattle.dbl_capture_work.specs.declared.work.SessionState.{SessionState}
 use Rattle.dbl_capture_work.specs.Begins.{AreInfosAt, IsAgain, IsFirstOffsetAtHead, IsOffsetFor}
 use Rattle.dbl_capture_work.specs.Works.{IsWork}
-use Rattle.dbl_capture_work.proofs.Describing.{infos_of}
+use Rattle.dbl_capture_work.proofs.Describing.{described_at, infos_of}
 use Rattle.dbl_capture_laws.proofs.Opened.{opens_none, rest_none}
 use Rattle.dbl_capture_laws.specs.Found.{BeganAt, BeginsAt, IsFirstAtHead}
 use Rattle.dbl_capture_laws.specs.Sessions.{InSession, AddsFewOrNoMarks, LeavesBy}
@@ -212,18 +212,24 @@ again_for config None first is = absurd is
 again_for config (Some stored) first is = is
 
 -- or with a first one
-pub begins_first : (entry : SessionStart) (config : Config) (first : Offset) (s t : SourceState) → entry.config ≡ config → entry.offset ≡ None → s.history ≡ entry.history → IsRising t.history → Moved s t → (infos : List TableInfo) (head : Lsn) → IsFirstOffsetAtHead config infos head first
-    → map (λ info. info.name) infos ≡ config.tables → AreInfosOf t.history infos → IsHead head s t → BeginsAt entry first s t
-begins_first entry config first s t asked none history rise moved infos head is names are at = record {
-  moved = moved;
-  infos = subst (AreInfosOf t.history) (sym is.infos_are) are;
-  began = subst (λ (o : Option Offset). IsFirstOf entry t.history first o) (sym none) (
-    subst (λ (h : History). IsFirstOffset entry.config h t.history first) history
-        (subst (λ (c : Config). IsFirstOffset c s.history t.history first) (sym asked) (first_offset config infos head first s t moved.grows rise is names at)),
-    is.lsn ∙ sym is.start,
-    unread_zip first.infos first.cursors (is.cursors.many ∙ ap length (sym is.infos_are)) is.cursors.each,
-  );
-}
+pub begins_first : (entry : SessionStart) (config : Config) (first : Offset) (s t : SourceState) → entry.config ≡ config → entry.offset ≡ None → s.history ≡ entry.history → IsFitHistory t.history → Moved s t → (infos : List TableInfo) (head : Lsn) → IsFirstOffsetAtHead config infos head first
+    → map (λ info. info.name) infos ≡ config.tables → AreInfosOf t.history infos → IsHead head s t → AreInfosAt t.history first.infos first.versions → BeginsAt entry first s t
+begins_first entry config first s t asked none history fit moved infos head is names are at described =
+    let own : AreInfosOf t.history first.infos = subst (AreInfosOf t.history) (sym is.infos_are) are in
+    record {
+      moved = moved;
+      infos = own;
+      began = subst (λ (o : Option Offset). IsFirstOf entry t.history first o) (sym none) (
+        subst (λ (h : History). IsFirstOffset entry.config h t.history first) history
+            (subst (λ (c : Config). IsFirstOffset c s.history t.history first) (sym asked) (first_offset config infos head first s t moved.grows fit.rising is names at)),
+        record {
+          at_start = is.lsn ∙ sym is.start;
+          unread = unread_zip first.infos first.cursors (is.cursors.many ∙ ap length (sym is.infos_are)) is.cursors.each;
+          distinct = own.distinct;
+          infos = described_at t.history first.infos first.versions fit.opening described;
+        },
+      );
+    }
 
 -- ---- what may be left
 

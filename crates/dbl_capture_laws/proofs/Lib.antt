@@ -18,6 +18,7 @@ pub use Rattle.dbl_capture_work.proofs.ConsumeLawsReadRows
 pub use Rattle.dbl_capture_work.proofs.ConsumeLawsSnapshot
 pub use Rattle.dbl_capture_work.proofs.FaithfulExact
 pub use Rattle.dbl_capture_work.proofs.FaithfulFaithful
+pub use Rattle.dbl_capture_work.proofs.FaithfulInForce
 pub use Rattle.dbl_capture_work.proofs.FaithfulItems
 pub use Rattle.dbl_capture_work.proofs.FaithfulLists
 pub use Rattle.dbl_capture_work.proofs.FaithfulLonger

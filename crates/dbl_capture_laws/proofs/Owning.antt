@@ -22,6 +22,7 @@ use Rattle.dbl_capture_work.specs.ModelHistory.History.{History}
 use Rattle.dbl_capture_work.specs.ModelCommit.Stated.{ended_commit, stated, transaction_fault}
 use Rattle.dbl_capture_work.specs.ModelEvent.Clashes.{Clash, clash_of}
 use Rattle.dbl_capture_work.specs.ModelEvent.EventJson.{envelopes}
+use Rattle.dbl_capture_work.proofs.FaithfulFaithful.{described_infos}
 use Rattle.dbl_capture_work.proofs.FaithfulItems.{first_some}
 use Rattle.dbl_capture_work.specs.SourceModel.Calls.{Moved, HasReadOneMore}
 use Rattle.dbl_capture_work.specs.SourceModel.Standings.{Reading, SourceState}
@@ -302,10 +303,10 @@ module _ (config : Config) (history : History) where
 pub none_some : (offset : Offset) → None ≡ Some offset → ⊥
 none_some offset is = cc
 
--- faithful stores have the tables of the source's catalogue
-had_so : (history : History) (confirmed : Lsn) (records : List Record) (offset : Option Offset) → IsFaithful history confirmed records offset → IfSome offset (λ o. AreInfosOf history o.infos)
-had_so history confirmed records None is = tt
-had_so history confirmed records (Some offset) is = is.lags.offset_is.infos
+-- faithful stores have the tables of the source's catalogue, if no table is altered
+had_so : (history : History) (confirmed : Lsn) (records : List Record) (offset : Option Offset) → IsFitHistory history → IsFaithful history confirmed records offset → IfSome offset (λ o. AreInfosOf history o.infos)
+had_so history confirmed records None fit is = tt
+had_so history confirmed records (Some offset) fit is = described_infos history confirmed records offset fit is.lags.offset_is
 
-pub had_of : (entry : SessionStart) → WasFaithful entry → HadOwnTables entry
-had_of entry faithful = had_so entry.history entry.confirmed (joined entry.groups) entry.offset faithful
+pub had_of : (entry : SessionStart) → IsFitHistory entry.history → WasFaithful entry → HadOwnTables entry
+had_of entry fit faithful = had_so entry.history entry.confirmed (joined entry.groups) entry.offset fit faithful

@@ -249,7 +249,7 @@ all_unread [] (c ∷ cursors) unread = absurd unread
 all_unread (i ∷ infos) (c ∷ cursors) unread = (unread.0, all_unread infos cursors unread.1)
 
 were_begun : (entry : SessionStart) (history : History) (first : Offset) (found : Option Offset) → IsFirstOf entry history first found → WereBegun found first.cursors
-were_begun entry history first None began = all_unread first.infos first.cursors began.2
+were_begun entry history first None began = all_unread first.infos first.cursors began.1.unread
 were_begun entry history first (Some found) began = began.0.cursors
 
 -- the closed windows account for an offset with the follower's cursors

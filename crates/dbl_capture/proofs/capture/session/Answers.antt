@@ -16,6 +16,7 @@ use Rattle.dbl_capture_laws.proofs.Openings.{going_left, source_found, told_foun
 use Rattle.dbl_capture_laws.specs.Closed.{HasClosedRead}
 use Rattle.dbl_capture_laws.specs.Failing.{FailsNext}
 use Rattle.dbl_capture_laws.proofs.Unclosed.{closed_either, closed_read, closed_unread}
+use Rattle.dbl_model_history.specs.Fit.{IsFitHistory}
 use Rattle.dbl_source.specs.SourceModel.Standings.{SourceState, HasState, left_of}
 use Rattle.dbl_capture_laws.specs.Musts.{MustHalt, MustHaltStood, MustHaltTold}
 use Rattle.dbl_capture_laws.specs.Reported.{HasReadMessages, HasSettled, HasStoodAfter, IsFollowed, StoodAtLast}
@@ -517,7 +518,8 @@ returns-in_err-work-clause-content g c entry asked f honest faithful =
 
 pub returns-clause-content : goal.returns-clause-content
 returns-clause-content g c entry asked f honest faithful =
-    let in_session = c.in_ok-work.ensures.session.next true entry asked.config_is (asked.now_is ∙ sym (to_z-of_z c.ranges.now_ms)) (told_found f) (c.process_messages.ensures.source.honest honest) (had_of entry faithful) in
+    let fit : IsFitHistory entry.history = subst IsFitHistory f.history (g.met.S.Source.fit _ (left_of f.standing) (g.met.S.Source.may _ f.standing f.source_is) (c.open_session.ensures.source.honest (c.process_messages.ensures.source.honest honest))) in
+    let in_session = c.in_ok-work.ensures.session.next true entry asked.config_is (asked.now_is ∙ sym (to_z-of_z c.ranges.now_ms)) (told_found f) (c.process_messages.ensures.source.honest honest) (had_of entry fit faithful) in
     let way = c.in_ok-work.ensures.report.under_way None (at_none g.S.Source.stands c.args.src.now) (refl, refl, refl) in
     let b = beginning_at c.args.config.now c.args.now_ms c.args.offsets.now.offset way.0 in
     let u = subst (λ (n : ℤ). IsUnderWay g.S.Source None (g.S.Source.told c.args.src.now) (beginning_at c.args.config.now n c.args.offsets.now.offset way.0) c.open_session.new.store.offset c.in_ok-work.work c.open_session.new.report c.open_session.new.src) (to_z-of_z c.ranges.now_ms) way.1 in
@@ -528,7 +530,8 @@ returns-in_err-work-clause-unclosed g c entry asked f honest faithful t now = cl
 
 pub returns-clause-unclosed : goal.returns-clause-unclosed
 returns-clause-unclosed g c entry asked f honest faithful t now =
-    let in_session = c.in_ok-work.ensures.session.next true entry asked.config_is (asked.now_is ∙ sym (to_z-of_z c.ranges.now_ms)) (told_found f) (c.process_messages.ensures.source.honest honest) (had_of entry faithful) in
+    let fit : IsFitHistory entry.history = subst IsFitHistory f.history (g.met.S.Source.fit _ (left_of f.standing) (g.met.S.Source.may _ f.standing f.source_is) (c.open_session.ensures.source.honest (c.process_messages.ensures.source.honest honest))) in
+    let in_session = c.in_ok-work.ensures.session.next true entry asked.config_is (asked.now_is ∙ sym (to_z-of_z c.ranges.now_ms)) (told_found f) (c.process_messages.ensures.source.honest honest) (had_of entry fit faithful) in
     let way = c.in_ok-work.ensures.report.under_way (Some f.standing) (at_some g.S.Source.stands c.args.src.now f.standing f.source_is) (refl, refl, refl) in
     let b = beginning_at c.args.config.now c.args.now_ms c.args.offsets.now.offset way.0 in
     let u = subst (λ (n : ℤ). IsUnderWay g.S.Source (Some f.standing) (g.S.Source.told c.args.src.now) (beginning_at c.args.config.now n c.args.offsets.now.offset way.0) c.open_session.new.store.offset c.in_ok-work.work c.open_session.new.report c.open_session.new.src) (to_z-of_z c.ranges.now_ms) way.1 in

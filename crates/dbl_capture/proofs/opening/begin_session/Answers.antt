@@ -72,10 +72,10 @@ returns-in_err-put_offset-clause-session g c = record {
       (λ left is. g.met.S.Source.only _ stood.standing left stood.is is) (g.met.S.Source.may _ stood.standing stood.is) stood.holds
       (λ t. subst (λ (o : Offset). LeavesOffset g.D.Disk (disk_of c.put_offset.new.store) (λ left. (left ≡ entry.offset) ⊎ (left ≡ Some o))) c.in_ok-stored.ensures (c.put_offset.ensures.left entry.offset (f.store_is t))));
   content = λ entry stored report asked f honest faithful.
-      let stood = c.in_ok-offset.ensures.found.begins entry asked f.offset_is (had_of entry faithful) f.standing f.source_is f.history honest in
+      let fit : IsFitHistory entry.history = subst IsFitHistory f.history (g.met.S.Source.fit _ (left_of f.standing) (g.met.S.Source.may _ f.standing f.source_is) (c.offset_of.ensures.source.honest honest)) in
+      let stood = c.in_ok-offset.ensures.found.begins entry asked f.offset_is (had_of entry fit faithful) f.standing f.source_is f.history honest in
       residual_of c.from_residual-in_err-put_offset.result _ (IsFaithfulHalt entry stored report (g.S.Source.stands c.offset_of.new.src) (g.K.Sink.holds c.args.sink.now)) c.from_residual-in_err-put_offset.ensures.1
-      (first_own entry stored report (g.S.Source.stands c.offset_of.new.src) (g.K.Sink.holds c.args.sink.now) f.standing stood.standing c.in_ok-offset.offset _ faithful f.history f.confirmed
-      (subst IsFitHistory f.history (g.met.S.Source.fit _ (left_of f.standing) (g.met.S.Source.may _ f.standing f.source_is) (c.offset_of.ensures.source.honest honest)))
+      (first_own entry stored report (g.S.Source.stands c.offset_of.new.src) (g.K.Sink.holds c.args.sink.now) f.standing stood.standing c.in_ok-offset.offset _ faithful f.history f.confirmed fit
       (g.met.S.Source.fit _ _ (g.met.S.Source.may _ stood.standing stood.is) honest) stood.holds stood.is (f.sink_is refl)
       (subst (λ (o : Offset). (c.in_err-put_offset.field-0.0 ≡ halt.Memory) ⊎ ((c.in_err-put_offset.field-0.0 ≡ halt.Offsets) ⊎ IsTooLong o c.in_err-put_offset.field-0.0)) c.in_ok-stored.ensures c.in_err-put_offset.ensures.halt));
 }

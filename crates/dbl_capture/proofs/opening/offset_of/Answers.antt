@@ -95,7 +95,7 @@ returns-in-None-clause-found g c = record {
       record {
         standing = stood.standing;
         is = stood.is;
-        holds = begins_first entry c.args.config.now offset s stood.standing asked (same ∙ none_again c.args.store.now.offset (subst (IsAgain c.args.store.now.offset) c.in-None.is c.in_ok-offset.ensures.again)) history (g.met.S.Source.rising _ stood.standing stood.is) found.moved found.infos found.head found.is found.names found.are found.at;
+        holds = begins_first entry c.args.config.now offset s stood.standing asked (same ∙ none_again c.args.store.now.offset (subst (IsAgain c.args.store.now.offset) c.in-None.is c.in_ok-offset.ensures.again)) history (g.met.S.Source.fit _ (left_of stood.standing) (g.met.S.Source.may _ stood.standing stood.is) honest) found.moved found.infos found.head found.is found.names found.are found.at found.described;
       });
   offset = c.first_offset.ensures.asked;
   of = subst (λ (o : Option Offset). IfOk c.first_offset.result (IsOffsetFor c.args.config.now o)) (sym (none_again c.args.store.now.offset (subst (IsAgain c.args.store.now.offset) c.in-None.is c.in_ok-offset.ensures.again))) c.first_offset.ensures.of;

@@ -71,6 +71,9 @@ none_le n = omega arith
 not_before : (a b c d : ℕ) → a ≤ b → b ≤ c → c < d → a < d
 not_before a b c d one two lt = omega (arith, one, two, lt)
 
+after_start : (a b c d p : ℕ) → a ≤ b → b ≤ c → c < d → p ≡ d → a ≤ p
+after_start a b c d p one two lt is = omega (arith, one, two, lt, is)
+
 up_to_next : (a b c : ℕ) → a ≤ b → b < c → a ≤ c
 up_to_next a b c le lt = omega (arith, le, lt)
 
@@ -128,9 +131,9 @@ module _ (identity : Identity) (infos : List TableInfo) (versions before later :
       → AllByRecursion (λ v. v.lsn.0 ≤ high) before → AllByRecursion (λ v. high < v.lsn.0) later
       → AgreesUpTo identity infos versions start records low high
       → IsExactLog identity (events_since start versions) records (length (events_since start before))
-      → AreSnapshotsRight identity versions (events_since start versions) records → AllByRecursion (λ item. item.position ≤ far) records
+      → AreSnapshotsRight identity versions (events_since start versions) records → AllByRecursion (λ item. start ≤ item.position) records → AllByRecursion (λ item. item.position ≤ far) records
       → HasDeliveredUpTo identity infos versions start low high far before later 0 records
-  fresh_start records fit is order lower ends upto past caught log snapshots placed = record {
+  fresh_start records fit is order lower ends upto past caught log snapshots late placed = record {
     fit = fit;
     spelled = is;
     order = order;
@@ -146,6 +149,7 @@ module _ (identity : Identity) (infos : List TableInfo) (versions before later :
     sending = tt;
     log = subst (IsExactLog identity (events_since start versions) records) (nothing_sent (length (events_since start before))) log;
     snapshots = snapshots;
+    late = late;
     placed = placed;
   }
 
@@ -161,10 +165,10 @@ starts_are_caught_up identity infos versions before later start far fit is ends 
       exact = record { few = none_le (length (events_since start versions)); fresh = tt; others = λ place item at change. no_item place item at };
       not_after = subst (λ (l : List ToldEvent). length l ≤ 0) (sym none) (le_refl 0);
     })
-    (record { each = λ place item at other. no_item place item at }) tt
+    (record { each = λ place item at other. no_item place item at }) tt tt
 
 pub put_logs_are_caught_up : PutLogsAreCaughtUp
-put_logs_are_caught_up identity infos versions before later start low far records fit is upto past order put aged agrees keyed exact snapshots placed =
+put_logs_are_caught_up identity infos versions before later start low far records fit is upto past order put aged agrees keyed exact snapshots late placed =
     let told : List ToldEvent = events_since start versions in
     let parts : told ≡ events_since start before ++ events_of_commits later = told_parts start versions before later is (ahead_of start low low later order (le_refl low) past) in
     let under : (k : ℕ) (t : ToldEvent) → slice_get (events_since start before) k ≡ Some t → k < exact.0 =
@@ -172,7 +176,7 @@ put_logs_are_caught_up identity infos versions before later start low far record
     (ap (λ (l : List ToldEvent). slice_get l k) parts ∙ at_left (events_since start before) (events_of_commits later) k t at) (put k t at)) in
     fresh_start identity infos versions before later start low low far records fit is order (le_refl low) (inl refl) upto past
     (record { aged = aged; agrees = agrees; keyed = keyed })
-    (record { count = exact.0; exact = exact.1; not_after = under_count (events_since start before) exact.0 under }) snapshots placed
+    (record { count = exact.0; exact = exact.1; not_after = under_count (events_since start before) exact.0 under }) snapshots late placed
 
 -- ---- records of the next commit
 
@@ -256,6 +260,8 @@ sent_records_are_caught_up identity infos versions before v later start low high
           | inr new ↦ two_ways (is_change_record item) (change new.0 item new.1) other
         ];
       };
+      late = all_append (λ (item : Record). start ≤ item.position) records more up.late
+          (all_by_place (λ (item : Record). start ≤ item.position) more (λ j item at. after_start start low high v.lsn.0 item.position up.order up.lower up.past.0 (position j item at)));
       placed = all_append (λ (item : Record). item.position ≤ max far v.lsn.0) records more
           (all_weaker (λ (item : Record). item.position ≤ far) (λ (item : Record). item.position ≤ max far v.lsn.0) records (λ item le. no_farther item.position far v.lsn.0 le) up.placed)
           (all_by_place (λ (item : Record). item.position ≤ max far v.lsn.0) more (λ j item at. at_most_there item.position far v.lsn.0 (position j item at)));
@@ -293,6 +299,7 @@ commits_are_caught_up identity infos versions before v later start low high far 
           (index_on (length (events_since start before)) sent (length (events_since start (before ++ v ∷ [])))
           (told_next start before v (not_before start low high v.lsn.0 up.order up.lower up.past.0) ∙ ap (λ (k : ℕ). length (events_since start before) + k) (sym all))) up.log;
       snapshots = up.snapshots;
+      late = up.late;
       placed = up.placed;
     }
 
@@ -465,6 +472,10 @@ module _ (identity : Identity) (infos : List TableInfo) (versions before : List 
       (all_weaker (λ (item : Record). item.position ≤ far) (λ (item : Record). item.position ≤ mark.lsn.0) records (λ item le. below_le item.position far mark.lsn.0 le beyond) up.placed)
       (all_by_place (λ (item : Record). item.position ≤ mark.lsn.0) (take n snapshot) (λ j item at. same_le item.position mark.lsn.0 (places j item at).0))
 
+  window_late : AllByRecursion (λ item. start ≤ item.position) (records ++ take n snapshot)
+  window_late = all_append (λ (item : Record). start ≤ item.position) records (take n snapshot) up.late
+      (all_by_place (λ (item : Record). start ≤ item.position) (take n snapshot) (λ j item at. after_start start low high mark.lsn.0 item.position up.order up.lower up.past.0 (places j item at).0))
+
   window_log : IsExactLog identity told (records ++ take n snapshot) (length (events_since start before))
   window_log =
       log_others identity told (after_rise start 0 versions up.fit.rise) (after_changes identity start no_rows versions up.fit.fit) records (take n snapshot) (length (events_since start before)) others
@@ -490,6 +501,7 @@ snapshots_are_caught_up identity infos versions before mark later start low high
     (subst (IsExactLog identity (events_since start versions) (records ++ take n snapshot)) (sym count)
     (window_log identity infos versions before mark later start low high far begun above closed records snapshot now n is_high beyond in_time listed window up))
     (window_right identity infos versions before mark later start low high far begun above closed records snapshot now n is_high beyond in_time listed window up)
+    (window_late identity infos versions before mark later start low high far begun above closed records snapshot now n is_high beyond in_time listed window up)
     (window_placed identity infos versions before mark later start low high far begun above closed records snapshot now n is_high beyond in_time listed window up)
 
 -- ---- other clients' commits
@@ -546,6 +558,7 @@ longer_histories_are_caught_up identity infos versions before later more start l
       log = subst (λ (l : List ToldEvent). IsExactLog identity l records (length (events_since start before) + sent)) (sym told_are)
           (record { count = up.log.count; exact = exact_longer identity (events_since start versions) (events_since start more) records up.log.count up.log.exact; not_after = up.log.not_after });
       snapshots = right_longer identity versions more records start far up.placed after_far up.snapshots;
+      late = up.late;
       placed = up.placed;
     }
 

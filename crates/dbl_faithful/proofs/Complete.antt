@@ -24,7 +24,7 @@ use Rattle.dbl_faithful.specs.Lag.{IsRightCursor, IsOffsetOf}
 use Rattle.dbl_faithful.specs.Laws.{BeginsCaughtUp}
 use Rattle.dbl_faithful.specs.Faithful.{captured_commits, first_infos, IsFaithfulTo}
 use Rattle.dbl_faithful.specs.Complete.{HoldsImage, AreVersionsInForce, CompleteStoresAreImages}
-use Rattle.dbl_faithful.proofs.Faithful.{described_infos, infos_opened, faithful_stores_are_caught_up}
+use Rattle.dbl_faithful.proofs.Faithful.{described_infos, infos_opened, faithful_stores_are_caught_up, told_after}
 use Rattle.dbl_faithful.proofs.Items.{at_all, all_weaker}
 use Rattle.dbl_faithful.proofs.StorePositions.{top_has}
 use Rattle.dbl_faithful.proofs.Words.{IsWholeAt, holds_image, image_there}
@@ -93,13 +93,13 @@ module _ (history : History) (confirmed : Lsn) (records : List Record) (offset :
       by version.0 version.1 cursor.0 ended (is.cursors table info version.0 cursor.0 at_info version.1 cursor.1)
     where
       by : (version : ℕ) → slice_get offset.versions table ≡ Some version → (cursor : Cursor) → cursor.done ≡ true
-          → IsRightCursor offset.identity versions records offset.start.0 offset.lsn.0 table info version cursor
+          → IsRightCursor offset.identity versions records offset.lsn.0 table info version cursor
           → IsTold offset.identity (infos_after infos begins.before) (since (course infos versions offset.start.0 table offset.lsn.0).start records) table key
       by version at_version cursor ended (inl unread) = two_ways cursor.done ended unread.1
-      by version at_version cursor ended (inr reported) =
+      by version at_version cursor ended (inr told) =
           subst (λ (l : List TableInfo). IsTold offset.identity l (since (course infos versions offset.start.0 table offset.lsn.0).start records) table key) (course_infos table)
-          (cursors_are offset.identity infos versions records offset.start.0 offset.lsn.0 table info version cursor key reported.told (ap (λ (l : List TableInfo). slice_get l table) (course_infos table) ∙ at) reported.not_before
-          (in_force table version at_version) (inl ended))
+          (cursors_are offset.identity infos versions records offset.start.0 offset.lsn.0 table info version cursor key told (ap (λ (l : List TableInfo). slice_get l table) (course_infos table) ∙ at)
+          (told_after offset.identity versions records offset.start.0 offset.lsn.0 table info version cursor faithful.late told) (in_force table version at_version) (inl ended))
 
   whole : IsWholeAt offset.identity infos versions begins.before begins.later offset.start.0 offset.lsn.0 records
   whole = record {

@@ -27,6 +27,7 @@ use Rattle.dbl_consume_courses.specs.Courses.{course}
 use Rattle.dbl_consume_courses.specs.Since.{since}
 use Rattle.dbl_consume_courses.specs.AlteredTables.{IsAgedFrom}
 use Rattle.dbl_consume_courses.specs.AgesBetween.{IsLsnOf}
+use Rattle.dbl_consume_courses.specs.VersionStores.{IsCursorOf}
 use Rattle.dbl_consume_courses.specs.FitVersions.{AreFitVersions}
 use Rattle.dbl_consume_courses.proofs.FitHistoryLemmas.{plain_fit_versions}
 use Rattle.dbl_consume_courses.proofs.VersionLemmas.{cursors_are}
@@ -117,19 +118,26 @@ faithful_stores_are_caught_up history confirmed records offset fit faithful =
       later = end.later;
       delivered = put_logs_are_caught_up offset.identity infos versions end.before end.later offset.start.0 lsn (top_position records) records facts end.spelled upto past lags.offset_is.order put
           (λ table position at lower upper. subst (λ (p : ℕ). IsAgedFrom offset.identity infos versions offset.start.0 records p table) (one_position lsn position lower upper) (faithful.aged table))
-          faithful.agrees faithful.keyed faithful.exact faithful.snapshots (top_has records);
+          faithful.agrees faithful.keyed faithful.exact faithful.snapshots faithful.late (top_has records);
     }
 
+-- what reports progress is a record of the log, and isn't before its start
+pub told_after : (identity : Identity) (versions : List Versioned) (records : List Record) (start lsn table : ℕ) (info : TableInfo) (version : ℕ) (cursor : Cursor) → AllByRecursion (λ item. start ≤ item.position) records
+    → (told : IsCursorOf identity versions records lsn table info version cursor) → start ≤ told.item.position
+told_after identity versions records start lsn table info version cursor late told =
+    at_all (λ (item : Record). start ≤ item.position) records (length told.earlier) told.item late (ap (λ (l : List Record). slice_get l (length told.earlier)) told.spelled ∙ slice_get-seam told.earlier told.item told.later)
+
 pub cursors_were_told : CursorsWereTold
-cursors_were_told history confirmed records offset table info version cursor lags captured at_version at version_is in_force =
+cursors_were_told history confirmed records offset table info version cursor lags late captured at_version at version_is in_force =
     by (lags.offset_is.cursors table info version cursor captured at_version at)
   where
-    by : IsRightCursor offset.identity (captured_commits history offset) records offset.start.0 offset.lsn.0 table info version cursor → (key : Key) → IsUpTo cursor.last key
+    by : IsRightCursor offset.identity (captured_commits history offset) records offset.lsn.0 table info version cursor → (key : Key) → IsUpTo cursor.last key
         → IsTold offset.identity (course (first_infos history offset) (captured_commits history offset) offset.start.0 table offset.lsn.0).infos
         (since (course (first_infos history offset) (captured_commits history offset) offset.start.0 table offset.lsn.0).start records) table key
     by (inl unread) key up_to = absurd (subst (λ (bound : Option Key). IsUpTo bound key) unread.0 up_to)
-    by (inr reported) key up_to =
-        cursors_are offset.identity (first_infos history offset) (captured_commits history offset) records offset.start.0 offset.lsn.0 table info version cursor key reported.told in_force reported.not_before version_is (inr up_to)
+    by (inr told) key up_to =
+        cursors_are offset.identity (first_infos history offset) (captured_commits history offset) records offset.start.0 offset.lsn.0 table info version cursor key told in_force
+        (told_after offset.identity (captured_commits history offset) records offset.start.0 offset.lsn.0 table info version cursor late told) version_is (inr up_to)
 
 pub faithful_records_stand : FaithfulRecordsStand
 faithful_records_stand history confirmed records offset place item faithful at = by (bool_case (is_change_record item))
@@ -167,6 +175,7 @@ pub caught_up_stores_are_faithful : CaughtUpStoresAreFaithful
 caught_up_stores_are_faithful history confirmed records offset before later low high far sent lower upper is up =
     let right = caught_up_logs_are_right offset.identity (first_infos history offset) (captured_commits history offset) before later offset.start.0 low high far sent records up in
     record {
+      late = up.late;
       agrees = right.0.agrees;
       exact = right.1;
       snapshots = right.2;

@@ -28,7 +28,6 @@ pub mod TornWindows
 pub mod TornExample
 pub mod StorePositions
 pub mod Faithful
-pub mod Reported
 pub mod Onward
 pub mod InForce
 pub mod Offsets

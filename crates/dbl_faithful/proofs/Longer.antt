@@ -16,6 +16,7 @@ use Rattle.dbl_offset_content.specs.declared.offset.Offset.{Offset}
 use Rattle.dbl_consume_laws.proofs.Notices.{all_append}
 use Rattle.dbl_consume_courses.specs.Versions.{Versioned}
 use Rattle.dbl_consume_courses.specs.FitVersions.{AreFitVersions}
+use Rattle.dbl_consume_courses.proofs.StoreSteps.{longer_histories}
 use Rattle.dbl_faithful.specs.CaughtUp.{HasDeliveredUpTo}
 use Rattle.dbl_faithful.specs.ToldEvents.{ToldEvent, commits_since, events_since}
 use Rattle.dbl_faithful.proofs.CaughtUp.{longer_histories_are_caught_up}
@@ -27,7 +28,6 @@ use Rattle.dbl_faithful.specs.Faithful.{captured_commits, first_infos, HasNoMark
 use Rattle.dbl_faithful.specs.Kept.{LongerHistoriesStayFaithful, LongerHistoriesKeepOffsets}
 use Rattle.dbl_faithful.proofs.Faithful.{described_infos, fit_commits, faithful_stores_are_caught_up, caught_up_stores_are_faithful, faithful_records_stand}
 use Rattle.dbl_faithful.proofs.Lists.{longer, is_longer, versioned_all, new_versions, versioned_more, infos_through, after_position, after_top, still_at, still_position, pairs}
-use Rattle.dbl_faithful.proofs.Reported.{reported_longer}
 
 not_both : (p l : ℕ) → p ≤ l → l < p → ⊥
 not_both p l le lt = omega (arith, le, lt)
@@ -79,12 +79,12 @@ module _ (history : History) (more : List RawCommit) (confirmed : Lsn) (records 
       by (inr at) = after_position history more rising offset.lsn.0 (inr at)
 
   still_cursor : (table : ℕ) (info : TableInfo) (version : ℕ) (cursor : Cursor) → AllByRecursion (λ v. offset.lsn.0 < v.lsn.0) new
-      → IsRightCursor offset.identity (captured_commits history offset) records offset.start.0 offset.lsn.0 table info version cursor
-      → IsRightCursor offset.identity (captured_commits (longer history more) offset) records offset.start.0 offset.lsn.0 table info version cursor
+      → IsRightCursor offset.identity (captured_commits history offset) records offset.lsn.0 table info version cursor
+      → IsRightCursor offset.identity (captured_commits (longer history more) offset) records offset.lsn.0 table info version cursor
   still_cursor table info version cursor ahead (inl unread) = inl unread
-  still_cursor table info version cursor ahead (inr reported) =
-      subst (λ (l : List Versioned). IsRightCursor offset.identity l records offset.start.0 offset.lsn.0 table info version cursor) (sym list)
-      (inr (reported_longer offset.identity (captured_commits history offset) records offset.start.0 offset.lsn.0 table info version cursor reported new ahead))
+  still_cursor table info version cursor ahead (inr told) =
+      subst (λ (l : List Versioned). IsRightCursor offset.identity l records offset.lsn.0 table info version cursor) (sym list)
+      (inr (longer_histories offset.identity (captured_commits history offset) new records offset.lsn.0 table info version cursor ahead told))
 
   still_offset : IsOffsetOf history confirmed records offset → IsOffsetOf (longer history more) confirmed records offset
   still_offset is = record {

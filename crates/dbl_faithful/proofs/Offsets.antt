@@ -12,6 +12,7 @@ use Rattle.dbl_consume_laws.specs.ModelHistory.History.{RawBody, RawCommit, Hist
 use Rattle.dbl_consume_laws.specs.ModelHistory.declared.cursor.Cursor.{Cursor}
 use Rattle.dbl_offset_content.specs.declared.offset.Offset.{Offset}
 use Rattle.dbl_consume_courses.specs.Versions.{Versioned}
+use Rattle.dbl_consume_courses.proofs.StoreSteps.{more_records}
 use Rattle.dbl_faithful.specs.ToldEvents.{ToldEvent, commits_since, events_since}
 use Rattle.dbl_faithful.proofs.Exact.{put_more}
 use Rattle.dbl_faithful.proofs.Items.{at_all, all_weaker}
@@ -20,15 +21,13 @@ use Rattle.dbl_faithful.specs.Lag.{IsRightCursor, IsMarkedBy, IsOffsetOf}
 use Rattle.dbl_faithful.specs.Faithful.{captured_commits, IsFaithfulTo}
 use Rattle.dbl_faithful.specs.Kept.{IsTakenOver, MoreRecordsKeepOffsets, StartOffsetsLag, ConfirmsStayFaithful, LaterSessionsStayFaithful}
 use Rattle.dbl_faithful.proofs.Onward.{passing}
-use Rattle.dbl_faithful.proofs.Reported.{reported_more}
 
 -- ---- more records
 
-more_told : (identity : Identity) (versions : List Versioned) (records more : List Record) (start lsn table : ℕ) (info : TableInfo) (version : ℕ) (cursor : Cursor) → AllByRecursion (λ item. lsn ≤ item.position) more
-    → IsRightCursor identity versions records start lsn table info version cursor → IsRightCursor identity versions (records ++ more) start lsn table info version cursor
-more_told identity versions records more start lsn table info version cursor late (inl unread) = inl unread
-more_told identity versions records more start lsn table info version cursor late (inr reported) =
-    inr (reported_more identity versions records start lsn table info version cursor reported more late)
+more_told : (identity : Identity) (versions : List Versioned) (records more : List Record) (lsn table : ℕ) (info : TableInfo) (version : ℕ) (cursor : Cursor) → AllByRecursion (λ item. lsn ≤ item.position) more
+    → IsRightCursor identity versions records lsn table info version cursor → IsRightCursor identity versions (records ++ more) lsn table info version cursor
+more_told identity versions records more lsn table info version cursor late (inl unread) = inl unread
+more_told identity versions records more lsn table info version cursor late (inr told) = inr (more_records identity versions records more lsn table info version cursor late told)
 
 more_offset : (history : History) (confirmed : Lsn) (records more : List Record) (offset : Offset) → AllByRecursion (λ item. offset.lsn.0 ≤ item.position) more → IsOffsetOf history confirmed records offset → IsOffsetOf history confirmed (records ++ more) offset
 more_offset history confirmed records more offset late is = record {
@@ -37,7 +36,7 @@ more_offset history confirmed records more offset late is = record {
   order = is.order;
   many = is.many;
   cursors = λ table info version cursor at_info at_version at_cursor.
-      more_told offset.identity (captured_commits history offset) records more offset.start.0 offset.lsn.0 table info version cursor late (is.cursors table info version cursor at_info at_version at_cursor);
+      more_told offset.identity (captured_commits history offset) records more offset.lsn.0 table info version cursor late (is.cursors table info version cursor at_info at_version at_cursor);
   confirmed_to = is.confirmed_to;
   marks = is.marks;
   distinct = is.distinct;
@@ -77,6 +76,7 @@ confirmed_offset history confirmed next records offset le is = record { start = 
 
 pub confirms_stay_faithful : ConfirmsStayFaithful
 confirms_stay_faithful history confirmed next records offset le faithful = record {
+  late = faithful.late;
   agrees = faithful.agrees;
   exact = faithful.exact;
   snapshots = faithful.snapshots;
@@ -116,6 +116,7 @@ module _ (history : History) (confirmed : Lsn) (records : List Record) (old : Of
 
   raised_faithful : IsFaithfulTo history confirmed records old → IsFaithfulTo history confirmed records (raised old incarnation end)
   raised_faithful faithful = record {
+    late = faithful.late;
     agrees = faithful.agrees;
     exact = faithful.exact;
     snapshots = faithful.snapshots;

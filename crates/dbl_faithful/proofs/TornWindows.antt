@@ -440,6 +440,7 @@ module _ (identity : Identity) (infos : List TableInfo) (versions : List Version
 
   meets : MeetsAllElse identity infos versions start records
   meets = record {
+    late = from_start;
     agrees = record { each = λ i item at fresh last topic text table key names known. both_ways item.last last (not_last i item at) };
     exact = (log.count, log.exact);
     aged = aged;

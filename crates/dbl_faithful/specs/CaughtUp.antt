@@ -41,7 +41,7 @@ next_told [] = []
 next_told (v ∷ later) = events_of_commit v
 
 -- Whether the log has all records of the commits `before`, which end at the position `high`, and the first `sent` of the next commit. It
--- begins after the position `start`, its offset is at `low`, and no record is after `far`.
+-- starts at the position `start`, its offset is at `low`, and no record is before `start` or after `far`.
 pub record HasDeliveredUpTo (identity : Identity) (infos : List TableInfo) (versions : List Versioned) (start low high far : ℕ)
     (before later : List Versioned) (sent : ℕ) (records : List Record) : Type 0 where
   pub fit : AreFitVersions infos versions
@@ -62,4 +62,5 @@ pub record HasDeliveredUpTo (identity : Identity) (infos : List TableInfo) (vers
   -- The log as a whole, for any division of its records.
   pub log : IsExactLog identity (events_since start versions) records (length (events_since start before) + sent)
   pub snapshots : AreSnapshotsRight identity versions (events_since start versions) records
+  pub late : AllByRecursion (λ item. start ≤ item.position) records
   pub placed : AllByRecursion (λ item. item.position ≤ far) records

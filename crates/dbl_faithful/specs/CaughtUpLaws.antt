@@ -57,7 +57,7 @@ PutLogsAreCaughtUp = (identity : Identity) (infos : List TableInfo) (versions be
     → AgreesInCourse identity infos versions start records → HasKeyedRows identity infos records
     → IsLogExact identity versions start records
     → AreSnapshotsRight identity versions (events_since start versions) records
-    → AllByRecursion (λ item. item.position ≤ far) records
+    → AllByRecursion (λ item. start ≤ item.position) records → AllByRecursion (λ item. item.position ≤ far) records
     → HasDeliveredUpTo identity infos versions start low low far before later 0 records
 
 -- ---- records

@@ -1,5 +1,6 @@
 -- Why two definitions are as strong as they are.
 use Rattle.std.specs.Prelude.{◌≡◌, ℕ, ℤ, ◌<◌, ◌≤◌, false, Option, Some, None, List, [], ◌∷◌, ◌++◌, length, take, map, slice_get}
+use Rattle.std.specs.List.{AllByRecursion}
 use Rattle.dbl_record.specs.declared.record.Record.{Record}
 use Rattle.dbl_record.specs.Consumers.{held_at}
 use Rattle.dbl_record.specs.Places.{IsFresh}
@@ -67,6 +68,7 @@ pub record IsTornWindow (identity : Identity) (infos : List TableInfo) (versions
 -- Whether a log whose offset is at its start satisfies all requirements of stores except that the events before a snapshot's row are in it.
 pub record MeetsAllElse (identity : Identity) (infos : List TableInfo) (versions : List Versioned) (start : ℕ)
     (records : List Record) : Type 0 where
+  pub late : AllByRecursion (λ item. start ≤ item.position) records
   pub agrees : AgreesInCourse identity infos versions start records
   pub exact : IsLogExact identity versions start records
   pub aged : (table : ℕ) → IsAgedFrom identity infos versions start records start table

@@ -1,5 +1,5 @@
 -- Faithful stores: the records of a log are true of the source, and a connector can restart from its offset. After the DBLog paper.
-use Rattle.std.specs.Prelude.{◌≡◌, ℕ, Option, Some, None, List, []}
+use Rattle.std.specs.Prelude.{◌≡◌, ◌≤◌, ℕ, Option, Some, None, List, []}
 use Rattle.std.specs.List.{AllByRecursion}
 use Rattle.dbl_base.specs.declared.lsn.Lsn.{Lsn}
 use Rattle.dbl_record.specs.declared.record.Record.{Record}
@@ -25,9 +25,12 @@ captured_commits history offset = versioned offset.infos history
 abbrev pub first_infos : History → Offset → List TableInfo
 first_infos history offset = opening_infos history offset.infos
 
--- Faithful stores with an offset: a consumer agrees with the source at each first delivery; the log is exact and its snapshots right; each
--- table is aged from the offset on, and each row of a consumer is at a key; and a connector can restart from the offset.
+-- Faithful stores with an offset: no record is before the log's start; a consumer agrees with the source at each first delivery; the log is
+-- exact and its snapshots right; each table is aged from the offset on, and each row of a consumer is at a key; and a connector can restart
+-- from the offset.
 pub record IsFaithfulTo (history : History) (confirmed : Lsn) (records : List Record) (offset : Offset) : Type 0 where
+  -- Of a record before the start, age would say nothing: only those since the start of its table's course count there.
+  pub late : AllByRecursion (λ item. offset.start.0 ≤ item.position) records
   pub agrees : AgreesInCourse offset.identity (first_infos history offset) (captured_commits history offset) offset.start.0 records
   pub exact : IsLogExact offset.identity (captured_commits history offset) offset.start.0 records
   pub snapshots : AreSnapshotsRight offset.identity (captured_commits history offset)

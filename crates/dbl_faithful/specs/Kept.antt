@@ -39,7 +39,7 @@ LongerHistoriesKeepOffsets = (old new : History) (more : List RawCommit) (confir
 
 -- ---- more records
 
--- Records that don't lie before an offset's LSN, of any kind, keep it in agreement with the stores, and a connector able to restart from it.
+-- Records that aren't before an offset's LSN, of any kind, keep it in agreement with the stores, and a connector able to restart from it.
 abbrev pub MoreRecordsKeepOffsets : Type 0
 MoreRecordsKeepOffsets = (history : History) (confirmed : Lsn) (records more : List Record) (offset : Offset)
     → AllByRecursion (λ item. offset.lsn.0 ≤ item.position) more

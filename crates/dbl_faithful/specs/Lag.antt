@@ -25,17 +25,10 @@ use Rattle.dbl_faithful.specs.Stores.{IsCommitAt, IsPositionOf}
 abbrev pub IsUnread : Cursor → Type 0
 IsUnread cursor = (cursor.last ≡ None) × (cursor.done ≡ false)
 
--- Whether the progress of a table is that of a record of the log in the table's version there, after which no record lies before it. The
--- record isn't before the log's start: of what was reported before, the log need not show any row.
-pub record IsReported (identity : Identity) (versions : List Versioned) (records : List Record) (start lsn table : ℕ) (info : TableInfo)
-    (version : ℕ) (cursor : Cursor) : Type 0 where
-  pub told : IsCursorOf identity versions records lsn table info version cursor
-  pub not_before : start ≤ told.item.position
-
--- Whether the progress of a table is as a record of the log reports it, or nothing was read of the table.
-abbrev pub IsRightCursor : Identity → List Versioned → List Record → ℕ → ℕ → ℕ → TableInfo → ℕ → Cursor → Type 0
-IsRightCursor identity versions records start lsn table info version cursor =
-    IsUnread cursor ⊎ IsReported identity versions records start lsn table info version cursor
+-- Whether the progress of a table is as a record of the log reports it, in the table's version there, or nothing was read of the table.
+abbrev pub IsRightCursor : Identity → List Versioned → List Record → ℕ → ℕ → TableInfo → ℕ → Cursor → Type 0
+IsRightCursor identity versions records lsn table info version cursor =
+    IsUnread cursor ⊎ IsCursorOf identity versions records lsn table info version cursor
 
 -- Whether a captured table is as the catalogue describes it at some point of the history, and the version is the one there.
 pub record IsDescribedAt (history : History) (info : TableInfo) (version : ℕ) : Type 0 where
@@ -79,7 +72,7 @@ pub record IsOffsetOf (history : History) (confirmed : Lsn) (records : List Reco
   pub many : (length offset.versions ≡ length offset.infos) × (length offset.cursors ≡ length offset.infos)
   pub cursors : (table : ℕ) (info : TableInfo) (version : ℕ) (cursor : Cursor) → slice_get offset.infos table ≡ Some info
       → slice_get offset.versions table ≡ Some version → slice_get offset.cursors table ≡ Some cursor
-      → IsRightCursor offset.identity (versioned offset.infos history) records offset.start.0 offset.lsn.0 table info version cursor
+      → IsRightCursor offset.identity (versioned offset.infos history) records offset.lsn.0 table info version cursor
   -- The source has kept its log from the LSN on.
   pub confirmed_to : confirmed.0 ≤ offset.lsn.0
   -- No watermark is a later session's, nor another client's.

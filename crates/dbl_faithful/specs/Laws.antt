@@ -46,8 +46,9 @@ FaithfulStoresAreCaughtUp = (history : History) (confirmed : Lsn) (records : Lis
 abbrev pub CursorsWereTold : Type 0
 CursorsWereTold = (history : History) (confirmed : Lsn) (records : List Record) (offset : Offset) (table : ℕ) (info : TableInfo)
     (version : ℕ) (cursor : Cursor)
-    → IsBehind history confirmed records offset → slice_get offset.infos table ≡ Some info
-    → slice_get offset.versions table ≡ Some version → slice_get offset.cursors table ≡ Some cursor
+    → IsBehind history confirmed records offset → AllByRecursion (λ item. offset.start.0 ≤ item.position) records
+    → slice_get offset.infos table ≡ Some info → slice_get offset.versions table ≡ Some version
+    → slice_get offset.cursors table ≡ Some cursor
     → version ≡ version_to (captured_commits history offset) table offset.lsn.0
     → slice_get (course (first_infos history offset) (captured_commits history offset) offset.start.0 table offset.lsn.0).infos table
     ≡ Some info

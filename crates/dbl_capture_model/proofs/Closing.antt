@@ -306,7 +306,7 @@ module _ (entry : SessionStart) (stage : Stage) (m : Message) (commit : Commit) 
   told =
       told_on stage.first.identity stage.first.infos stage.history going.reading.fit going.reading.infos stage.first.start.0 stage.first.lsn.0 (records_of_stage stage) chunk.plan.table stage.lsn.0 commit.lsn.0 chunk.plan.above
       (subst (λ (bound : Option Key). AreToldUpTo stage.first.identity (courses stage.lsn.0).infos (since (courses stage.lsn.0).start (records_of_stage stage)) chunk.plan.table bound) (sym waits.above)
-      (cursors_were_told stage.history stage.confirmed (records_of_stage stage) (next_offset stage) chunk.plan.table chunk.plan.info version_at.0 waits.cursor lags waits.captured version_at.1 waits.cursor_is
+      (cursors_were_told stage.history stage.confirmed (records_of_stage stage) (next_offset stage) chunk.plan.table chunk.plan.info version_at.0 waits.cursor lags up.up.late waits.captured version_at.1 waits.cursor_is
       (versions_in_force stage.history stage.confirmed (records_of_stage stage) (next_offset stage) going.reading.fit k.next_is chunk.plan.table version_at.0 version_at.1)
       (ap (λ (l : List TableInfo). slice_get l chunk.plan.table) (course_is stage.first.identity stage.first.infos stage.history going.reading.fit going.reading.infos stage.first.start.0 stage.first.lsn.0 chunk.plan.table stage.lsn.0).0 ∙ waits.captured)))
 

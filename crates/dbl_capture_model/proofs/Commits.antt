@@ -203,10 +203,10 @@ module _ (entry : SessionStart) (stage : Stage) (m : Message) (commit : Commit) 
     order = le_lt stage.first.start.0 stage.lsn.0 commit.lsn.0 k.next_is.order subsequent;
     many = (
       k.next_is.many.0,
-      many_step stage.first.identity stage.first.infos stage.first.versions (versioned stage.first.infos stage.history) stage.first.start.0 stage.following new commit entry.now stage.lsn (records_of_stage stage) rs going.reading.follows_identity going.reading.follows_infos followed.steps followed.listed subsequent k.next_is.order at_it in_force k.next_is.many.1,
+      many_step stage.first.identity stage.first.infos stage.first.versions (versioned stage.first.infos stage.history) stage.following new commit entry.now stage.lsn (records_of_stage stage) rs going.reading.follows_identity going.reading.follows_infos followed.steps followed.listed subsequent at_it in_force k.next_is.many.1,
     );
-    cursors = subst (λ (l : List Record). AreRightCursors stage.first.identity stage.first.infos stage.first.versions (versioned stage.first.infos stage.history) stage.first.start.0 l commit.lsn.0 new.cursors) (sym joined_is)
-        (told_step stage.first.identity stage.first.infos stage.first.versions (versioned stage.first.infos stage.history) stage.first.start.0 stage.following new commit entry.now stage.lsn (records_of_stage stage) rs going.reading.follows_identity going.reading.follows_infos followed.steps followed.listed subsequent k.next_is.order at_it in_force k.next_is.cursors);
+    cursors = subst (λ (l : List Record). AreRightCursors stage.first.identity stage.first.infos stage.first.versions (versioned stage.first.infos stage.history) l commit.lsn.0 new.cursors) (sym joined_is)
+        (told_step stage.first.identity stage.first.infos stage.first.versions (versioned stage.first.infos stage.history) stage.following new commit entry.now stage.lsn (records_of_stage stage) rs going.reading.follows_identity going.reading.follows_infos followed.steps followed.listed subsequent at_it in_force k.next_is.cursors);
     confirmed_to = le_lt stage.confirmed.0 stage.lsn.0 commit.lsn.0 k.next_is.confirmed_to subsequent;
     marks = k.next_is.marks;
     distinct = k.next_is.distinct;

@@ -13,10 +13,10 @@ use Rattle.dbl_faithful.specs.ModelEvent.Snapshots.{read_records, progress_recor
 use Rattle.dbl_faithful.specs.ModelEvent.SnapshotLists.{IsSnapshot}
 use Rattle.dbl_faithful.proofs.ConsumeLawsPrints.{progress_records_tell}
 use Rattle.dbl_faithful.proofs.Items.{first_some, all_weaker}
-use Rattle.dbl_faithful.proofs.Reported.{reported_more, reported_later, reported_now}
 use Rattle.dbl_consume_courses.specs.Versions.{Versioned}
 use Rattle.dbl_consume_courses.specs.VersionStores.{version_to}
-use Rattle.dbl_faithful.specs.Lag.{IsReported, IsRightCursor}
+use Rattle.dbl_consume_courses.proofs.StoreSteps.{more_records, later_positions, reports_are}
+use Rattle.dbl_faithful.specs.Lag.{IsRightCursor}
 use Rattle.dbl_follow.specs.Window.Plans.{Chunk}
 use Rattle.dbl_follow.specs.Followed.{Following}
 use Rattle.dbl_follow.specs.Steps.{Steps, mark_of, closed_of, closing, cursors_after}
@@ -65,37 +65,37 @@ lt_le : (a b : ℕ) → a < b → a ≤ b
 lt_le a b lt = omega (arith, lt)
 
 -- the last record of a snapshot tells how far it has come
-told_last : (identity : Identity) (infos : List TableInfo) (versions : List Versioned) (start version : ℕ) (chunk : Chunk) (commit : Commit) (now : ℤ) (records sent : List Record) → version ≡ version_to versions chunk.plan.table commit.lsn.0 → start ≤ commit.lsn.0
+told_last : (identity : Identity) (infos : List TableInfo) (versions : List Versioned) (version : ℕ) (chunk : Chunk) (commit : Commit) (now : ℤ) (records sent : List Record) → version ≡ version_to versions chunk.plan.table commit.lsn.0
     → (listed : IsSnapshot identity infos (closed_of chunk) commit now sent)
-    → IsReported identity versions (records ++ sent) start commit.lsn.0 chunk.plan.table listed.info version (record { last = chunk.through; done = chunk.done })
-told_last identity infos versions start version chunk commit now records sent version_is start_le listed =
+    → IsRightCursor identity versions (records ++ sent) commit.lsn.0 chunk.plan.table listed.info version (record { last = chunk.through; done = chunk.done })
+told_last identity infos versions version chunk commit now records sent version_is listed =
     let rows : List Record = read_records identity listed.info commit now 0 chunk.rows in
     let progress : Record = progress_record identity listed.info commit (length chunk.rows) chunk.through chunk.done in
     let sent_is : sent ≡ read_records identity listed.info commit now 0 chunk.rows ++ progress_record identity listed.info commit (length chunk.rows) chunk.through chunk.done ∷ [] =
     listed.records_are ∙ ap (λ (o : Option TableInfo). unwrap_or (option_map (λ i. chunk_records identity i chunk.rows chunk.through chunk.done commit now) o) []) listed.captured in
-    subst (λ (l : List Record). IsReported identity versions l start commit.lsn.0 chunk.plan.table listed.info version (record { last = chunk.through; done = chunk.done }))
+    subst (λ (l : List Record). IsRightCursor identity versions l commit.lsn.0 chunk.plan.table listed.info version (record { last = chunk.through; done = chunk.done }))
     (append_assoc records rows (progress ∷ []) ∙ ap (λ (l : List Record). records ++ l) (sym sent_is))
-    (subst (λ (n : ℕ). IsReported identity versions ((records ++ read_records identity listed.info commit now 0 chunk.rows) ++ progress_record identity listed.info commit (length chunk.rows) chunk.through chunk.done ∷ []) start commit.lsn.0 chunk.plan.table listed.info n (record { last = chunk.through; done = chunk.done })) (sym version_is)
-    (reported_now identity versions (records ++ read_records identity listed.info commit now 0 chunk.rows) (progress_record identity listed.info commit (length chunk.rows) chunk.through chunk.done) start chunk.plan.table listed.info (record { last = chunk.through; done = chunk.done })
-    (progress_records_tell identity listed.info commit (length chunk.rows) chunk.through chunk.done listed.fits.through) start_le))
+    (subst (λ (n : ℕ). IsRightCursor identity versions ((records ++ read_records identity listed.info commit now 0 chunk.rows) ++ progress_record identity listed.info commit (length chunk.rows) chunk.through chunk.done ∷ []) commit.lsn.0 chunk.plan.table listed.info n (record { last = chunk.through; done = chunk.done })) (sym version_is)
+    (inr (reports_are identity versions (records ++ read_records identity listed.info commit now 0 chunk.rows) (progress_record identity listed.info commit (length chunk.rows) chunk.through chunk.done) chunk.plan.table listed.info (record { last = chunk.through; done = chunk.done })
+    (progress_records_tell identity listed.info commit (length chunk.rows) chunk.through chunk.done listed.fits.through))))
 
 -- Each table's cursor is as the log reports it, or nothing was read of the table.
-abbrev pub AreRightCursors : Identity → List TableInfo → List ℕ → List Versioned → ℕ → List Record → ℕ → List Cursor → Type 0
-AreRightCursors identity infos in_versions versions start records lsn cursors =
+abbrev pub AreRightCursors : Identity → List TableInfo → List ℕ → List Versioned → List Record → ℕ → List Cursor → Type 0
+AreRightCursors identity infos in_versions versions records lsn cursors =
     (table : ℕ) (info : TableInfo) (version : ℕ) (cursor : Cursor) → slice_get infos table ≡ Some info → slice_get in_versions table ≡ Some version → slice_get cursors table ≡ Some cursor
-    → IsRightCursor identity versions records start lsn table info version cursor
+    → IsRightCursor identity versions records lsn table info version cursor
 
-module _ (identity : Identity) (infos : List TableInfo) (in_versions : List ℕ) (versions : List Versioned) (start : ℕ) (old new : Following) (commit : Commit) (now : ℤ) (lsn : Lsn) (records sent : List Record) (same_identity : old.identity ≡ identity) (same_infos : old.infos ≡ infos) (steps : Steps old commit new)
-    (listed : (chunk : Chunk) → closing old.window (mark_of commit) ≡ Some chunk → IsSnapshot old.identity old.infos (closed_of chunk) commit now sent) (lt : lsn.0 < commit.lsn.0) (begun : start ≤ lsn.0) (run : AllByRecursion (λ item. item.position ≡ commit.lsn.0) sent)
+module _ (identity : Identity) (infos : List TableInfo) (in_versions : List ℕ) (versions : List Versioned) (old new : Following) (commit : Commit) (now : ℤ) (lsn : Lsn) (records sent : List Record) (same_identity : old.identity ≡ identity) (same_infos : old.infos ≡ infos) (steps : Steps old commit new)
+    (listed : (chunk : Chunk) → closing old.window (mark_of commit) ≡ Some chunk → IsSnapshot old.identity old.infos (closed_of chunk) commit now sent) (lt : lsn.0 < commit.lsn.0) (run : AllByRecursion (λ item. item.position ≡ commit.lsn.0) sent)
     (in_force : (table version : ℕ) → slice_get in_versions table ≡ Some version → version ≡ version_to versions table commit.lsn.0) where
   late : AllByRecursion (λ item. lsn.0 ≤ item.position) sent
   late = all_weaker (λ (item : Record). item.position ≡ commit.lsn.0) (λ (item : Record). lsn.0 ≤ item.position) sent (λ item is. at_le lsn.0 lsn.0 commit.lsn.0 item.position (le_refl lsn.0) lt is) run
 
   -- what was reported stays reported
-  still : (table : ℕ) (info : TableInfo) (version : ℕ) (cursor : Cursor) → IsRightCursor identity versions records start lsn.0 table info version cursor → IsRightCursor identity versions (records ++ sent) start commit.lsn.0 table info version cursor
+  still : (table : ℕ) (info : TableInfo) (version : ℕ) (cursor : Cursor) → IsRightCursor identity versions records lsn.0 table info version cursor → IsRightCursor identity versions (records ++ sent) commit.lsn.0 table info version cursor
   still table info version cursor (inl unread) = inl unread
-  still table info version cursor (inr reported) =
-      inr (reported_later identity versions (records ++ sent) start lsn.0 table info version cursor (reported_more identity versions records start lsn.0 table info version cursor reported sent late) commit.lsn.0 (lt_le lsn.0 commit.lsn.0 lt))
+  still table info version cursor (inr told) =
+      inr (later_positions identity versions (records ++ sent) lsn.0 commit.lsn.0 table info version cursor (lt_le lsn.0 commit.lsn.0 lt) (more_records identity versions records sent lsn.0 table info version cursor late told))
 
   pub many_step : length old.cursors ≡ length infos → length new.cursors ≡ length infos
   many_step long = by (closing old.window (mark_of commit)) refl
@@ -104,10 +104,10 @@ module _ (identity : Identity) (infos : List TableInfo) (in_versions : List ℕ)
       by None is = ap length (steps.cursors ∙ ap (cursors_after old.cursors) is) ∙ long
       by (Some chunk) is = ap length (steps.cursors ∙ ap (cursors_after old.cursors) is) ∙ (set_length old.cursors chunk.plan.table (record { last = chunk.through; done = chunk.done }) ∙ long)
 
-  pub told_step : AreRightCursors identity infos in_versions versions start records lsn.0 old.cursors → AreRightCursors identity infos in_versions versions start (records ++ sent) commit.lsn.0 new.cursors
+  pub told_step : AreRightCursors identity infos in_versions versions records lsn.0 old.cursors → AreRightCursors identity infos in_versions versions (records ++ sent) commit.lsn.0 new.cursors
   told_step told table info version cursor captured at_version at = by (closing old.window (mark_of commit)) refl
     where
-      by : (o : Option Chunk) → closing old.window (mark_of commit) ≡ o → IsRightCursor identity versions (records ++ sent) start commit.lsn.0 table info version cursor
+      by : (o : Option Chunk) → closing old.window (mark_of commit) ≡ o → IsRightCursor identity versions (records ++ sent) commit.lsn.0 table info version cursor
       by None is =
           still table info version cursor (told table info version cursor captured at_version (ap (λ (l : List Cursor). slice_get l table) (sym (steps.cursors ∙ ap (cursors_after old.cursors) is)) ∙ at))
       by (Some chunk) is = elim (set_cases old.cursors chunk.plan.table table (record { last = chunk.through; done = chunk.done }) cursor (ap (λ (l : List Cursor). slice_get l table) (sym (steps.cursors ∙ ap (cursors_after old.cursors) is)) ∙ at)) [
@@ -115,10 +115,10 @@ module _ (identity : Identity) (infos : List TableInfo) (in_versions : List ℕ)
             let list = listed chunk is in
             let info_is : list.info ≡ info =
             first_some list.info info (sym list.captured ∙ (ap (λ (l : List TableInfo). slice_get l chunk.plan.table) same_infos ∙ (ap (λ (t : ℕ). slice_get infos t) (sym same.0) ∙ captured))) in
-            inr (subst (λ (t : ℕ). IsReported identity versions (records ++ sent) start commit.lsn.0 t info version cursor) (sym same.0)
-            (subst (λ (c : Cursor). IsReported identity versions (records ++ sent) start commit.lsn.0 chunk.plan.table info version c) same.1
-            (subst (λ (i : TableInfo). IsReported identity versions (records ++ sent) start commit.lsn.0 chunk.plan.table i version (record { last = chunk.through; done = chunk.done })) info_is
-            (subst (λ (i : Identity). IsReported i versions (records ++ sent) start commit.lsn.0 chunk.plan.table list.info version (record { last = chunk.through; done = chunk.done })) same_identity
-            (told_last old.identity old.infos versions start version chunk commit now records sent (subst (λ (t : ℕ). version ≡ version_to versions t commit.lsn.0) same.0 (in_force table version at_version)) (at_le start lsn.0 commit.lsn.0 commit.lsn.0 begun lt refl) list))))))
+            subst (λ (t : ℕ). IsRightCursor identity versions (records ++ sent) commit.lsn.0 t info version cursor) (sym same.0)
+            (subst (λ (c : Cursor). IsRightCursor identity versions (records ++ sent) commit.lsn.0 chunk.plan.table info version c) same.1
+            (subst (λ (i : TableInfo). IsRightCursor identity versions (records ++ sent) commit.lsn.0 chunk.plan.table i version (record { last = chunk.through; done = chunk.done })) info_is
+            (subst (λ (i : Identity). IsRightCursor i versions (records ++ sent) commit.lsn.0 chunk.plan.table list.info version (record { last = chunk.through; done = chunk.done })) same_identity
+            (told_last old.identity old.infos versions version chunk commit now records sent (subst (λ (t : ℕ). version ≡ version_to versions t commit.lsn.0) same.0 (in_force table version at_version)) list)))))
         | inr other ↦ still table info version cursor (told table info version cursor captured at_version other)
       ]

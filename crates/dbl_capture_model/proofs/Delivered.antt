@@ -94,6 +94,7 @@ module _ (identity : Identity) (infos : List TableInfo) (history : History) (fit
       sending = is.up.sending;
       log = is.up.log;
       snapshots = is.up.snapshots;
+      late = is.up.late;
       placed = all_weaker (λ (item : Record). item.position ≤ far) (λ (item : Record). item.position ≤ other) records (λ item under. le_on item.position far other under le) is.up.placed;
     };
   }

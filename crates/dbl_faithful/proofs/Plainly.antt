@@ -1,5 +1,5 @@
 -- Histories in which no table is altered: their commits with captured tables, and what a session reads of them.
-use Rattle.std.proofs.Common.{◌≡◌, ◌∙◌, ℕ, ℤ, ◌≤◌, ◌<◌, Bool, true, false, cond, Option, Some, None, List, [], ◌∷◌, ◌++◌, map, refl, sym, ap, ap₂, subst}
+use Rattle.std.proofs.Common.{◌≡◌, ◌∙◌, ℕ, ◌≤◌, ◌<◌, Bool, true, false, cond, Option, Some, None, List, [], ◌∷◌, ◌++◌, map, refl, sym, ap, ap₂, subst}
 use Rattle.std.specs.Prelude.{find}
 use Rattle.std.specs.List.{AllByRecursion}
 use Rattle.dbl_base.specs.declared.lsn.Lsn.{Lsn}
@@ -18,7 +18,6 @@ use Rattle.dbl_consume_laws.specs.ModelHistory.Typed.{typed}
 use Rattle.dbl_model_history.proofs.InForceLemmas.{unaltered_entries, plain_versions}
 use Rattle.dbl_consume_laws.specs.ModelEvent.declared.closed.Closed.{Closed}
 use Rattle.dbl_consume_laws.specs.ModelEvent.Events.{events_of}
-use Rattle.dbl_consume_laws.specs.ModelEvent.EventJson.{envelopes}
 use Rattle.dbl_consume_laws.specs.Commits.{moment_after}
 use Rattle.dbl_consume_laws.specs.KnownKeys.{AreToldUpTo}
 use Rattle.dbl_consume_laws.specs.Windows.{IsRightWindow}
@@ -140,15 +139,11 @@ pub to_plain : (P : ℕ → Type 0) (vs : List Versioned) → AllByRecursion (λ
 to_plain P [] all = tt
 to_plain P (v ∷ vs) all = (all.0, to_plain P vs all.1)
 
--- ---- its events and records
+-- ---- its events
 
 pub events_plain : (infos : List TableInfo) (v : Versioned) (commit : Commit) → v.infos ≡ infos → plain_commit v ≡ commit → events_of_commit v ≡ map (tell commit) (events_of infos commit)
 events_plain infos v commit infos_are commit_is =
     ap (λ (l : List TableInfo). map (tell (plain_commit v)) (events_of l (plain_commit v))) infos_are ∙ ap (λ (c : Commit). map (tell c) (events_of infos c)) commit_is
-
-pub envelopes_plain : (identity : Identity) (infos : List TableInfo) (v : Versioned) (commit : Commit) (now : ℤ) → v.infos ≡ infos → plain_commit v ≡ commit → envelopes identity v.infos (plain_commit v) now ≡ envelopes identity infos commit now
-envelopes_plain identity infos v commit now infos_are commit_is =
-    ap (λ (l : List TableInfo). envelopes identity l (plain_commit v) now) infos_are ∙ ap (λ (c : Commit). envelopes identity infos c now) commit_is
 
 -- ---- its windows
 

@@ -70,25 +70,15 @@ module _ (position : ℕ) (before later : List Versioned) (rise : AreRising 0 (l
 
 -- ---- commits part at a position in one way
 
-abbrev pub tail_of : List Versioned → List Versioned
+abbrev tail_of : List Versioned → List Versioned
 tail_of [] = []
 tail_of (v ∷ vs) = vs
 
-abbrev pub head_lsn : List Versioned → ℕ
+abbrev head_lsn : List Versioned → ℕ
 head_lsn [] = 0
 head_lsn (v ∷ vs) = v.lsn.0
 
-pub split_once : (position : ℕ) (a x b y : List Versioned) → a ++ x ≡ b ++ y → AllByRecursion (λ v. v.lsn.0 ≤ position) a → AllByRecursion (λ v. position < v.lsn.0) x → AllByRecursion (λ v. v.lsn.0 ≤ position) b
-    → AllByRecursion (λ v. position < v.lsn.0) y → x ≡ y
-split_once position [] x [] y is low_a high_x low_b high_y = is
-split_once position [] [] (d ∷ b) y is low_a high_x low_b high_y = cc
-split_once position [] (c ∷ x) (d ∷ b) y is low_a high_x low_b high_y = absurd (never d.lsn.0 position low_b.0 (subst (λ (n : ℕ). position < n) (ap head_lsn is) high_x.0))
-split_once position (c ∷ a) x [] [] is low_a high_x low_b high_y = cc
-split_once position (c ∷ a) x [] (d ∷ y) is low_a high_x low_b high_y = absurd (never c.lsn.0 position low_a.0 (subst (λ (n : ℕ). position < n) (sym (ap head_lsn is)) high_y.0))
-split_once position (c ∷ a) x (d ∷ b) y is low_a high_x low_b high_y = split_once position a x b y (ap tail_of is) low_a.1 high_x low_b.1 high_y
-
--- and the first ones are the same, too
-pub split_front : (position : ℕ) (a x b y : List Versioned) → a ++ x ≡ b ++ y → AllByRecursion (λ v. v.lsn.0 ≤ position) a → AllByRecursion (λ v. position < v.lsn.0) x → AllByRecursion (λ v. v.lsn.0 ≤ position) b
+split_front : (position : ℕ) (a x b y : List Versioned) → a ++ x ≡ b ++ y → AllByRecursion (λ v. v.lsn.0 ≤ position) a → AllByRecursion (λ v. position < v.lsn.0) x → AllByRecursion (λ v. v.lsn.0 ≤ position) b
     → AllByRecursion (λ v. position < v.lsn.0) y → a ≡ b
 split_front position [] x [] y is low_a high_x low_b high_y = refl
 split_front position [] [] (d ∷ b) y is low_a high_x low_b high_y = cc

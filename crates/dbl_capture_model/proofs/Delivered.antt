@@ -44,10 +44,6 @@ use Rattle.dbl_capture_model.proofs.Events.{cancel}
 
 -- ---- lists
 
-map_both : (xs ys : List Versioned) → map plain_commit (xs ++ ys) ≡ map plain_commit xs ++ map plain_commit ys
-map_both [] ys = refl
-map_both (x ∷ xs) ys = ap (λ (l : List Commit). plain_commit x ∷ l) (map_both xs ys)
-
 all_back : (P : Versioned → Type 0) (xs ys : List Versioned) → AllByRecursion P (xs ++ ys) → AllByRecursion P ys
 all_back P [] ys all = all
 all_back P (x ∷ xs) ys all = all_back P xs ys all.1
@@ -130,7 +126,7 @@ module _ (identity : Identity) (infos : List TableInfo) (history : History) (fit
     new_plain =
         cancel (typed infos history) (map plain_commit new) (map (typed_commit infos) more)
         (ap (λ (l : List Commit). l ++ map plain_commit new) (sym (commits_are history infos fit captured))
-        ∙ (sym (map_both (versioned infos history) new)
+        ∙ (sym (map_append plain_commit (versioned infos history) new)
         ∙ (ap (map plain_commit) (sym list) ∙ (commits_are (longer history more) infos fit_longer captured_longer ∙ map_append (typed_commit infos) history.commits more))))
 
     valid_longer : AreFitVersions (opening_infos history infos) (versioned infos history ++ new)
@@ -145,7 +141,7 @@ module _ (identity : Identity) (infos : List TableInfo) (history : History) (fit
       read = is.read;
       unread = is.unread ++ new;
       read_is = is.read_is;
-      unread_is = map_both is.unread new ∙ ap₂ (λ (xs ys : List Commit). xs ++ ys) is.unread_is new_plain;
+      unread_is = map_append plain_commit is.unread new ∙ ap₂ (λ (xs ys : List Commit). xs ++ ys) is.unread_is new_plain;
       up = subst (λ (l : List Versioned). HasDeliveredUpTo identity (opening_infos history infos) l start low high far is.read (is.unread ++ new) sent records) (sym list)
           (longer_histories_are_caught_up identity (opening_infos history infos) (versioned infos history) is.read is.unread new start low high far sent records valid_longer
           (pairs far high new (versioned_all (infos_through (opening_infos history infos) history.commits) (λ n. far < n) more beyond)
@@ -180,7 +176,7 @@ module _ (identity : Identity) (infos : List TableInfo) (history : History) (fit
     unread_again = ap₂ (λ (c : Commit) (l : List Commit). c ∷ l) next.commit_is next.rest_is
 
     read_on : map plain_commit (is.read ++ v ∷ []) ≡ before ++ commit ∷ []
-    read_on = map_both is.read (v ∷ []) ∙ ap₂ (λ (l : List Commit) (c : Commit). l ++ c ∷ []) is.read_is next.commit_is
+    read_on = map_append plain_commit is.read (v ∷ []) ∙ ap₂ (λ (l : List Commit) (c : Commit). l ++ c ∷ []) is.read_is next.commit_is
 
     -- with more records of it
     pub sent_on : (more : List Record) → AllZip (IsClearPrint identity) (take (length more) (drop sent (map (tell commit) (events_of infos commit)))) more
@@ -241,7 +237,7 @@ module _ (identity : Identity) (infos : List TableInfo) (history : History) (fit
     place = ap (λ (c : Commit). c.lsn.0) nexts.commit_is
 
     mids_is : map plain_commit (parts.back ++ w ∷ []) ≡ mids ++ mark ∷ []
-    mids_is = map_both parts.back (w ∷ []) ∙ ap₂ (λ (l : List Commit) (c : Commit). l ++ c ∷ []) parts.back_is nexts.commit_is
+    mids_is = map_append plain_commit parts.back (w ∷ []) ∙ ap₂ (λ (l : List Commit) (c : Commit). l ++ c ∷ []) parts.back_is nexts.commit_is
 
     valid : AreFitVersions F V
     valid = subst (λ (l : List TableInfo). AreFitVersions l V) (sym opened) (are_valid history infos fit captured)

@@ -82,7 +82,8 @@ example_window = record {
 
 -- The log of the example.
 abbrev pub example_records : List Record
-example_records = read_record example_identity example_table (plain_commit high_mark) (pos 0) 0 (keyed (codes "a"), example_text_row (codes "a")) ∷ []
+example_records =
+    read_record example_identity example_table (plain_commit high_mark) (pos 0) 0 (keyed (codes "a"), example_text_row (codes "a")) ∷ []
 
 -- The history is valid, and the window is torn after the first commit.
 abbrev pub TornWindowsStand : Type 0

@@ -25,8 +25,8 @@ use Rattle.dbl_capture_model.specs.Reports.{ReportsWindowsOnce}
 
 -- ---- where a session begins
 
--- No table is started, and the position is the start. The tables are distinct, each as the source describes it at some point of the history,
--- in the version there.
+-- No table is started, and the position is the start. The tables are distinct, each as the source describes it at some point of the
+-- history, in the version there.
 pub record IsUnstarted (history : History) (first : Offset) : Type 0 where
   pub at_start : first.lsn ≡ first.start
   pub unread : AllZip (λ info cursor. IsUnread cursor) first.infos first.cursors

@@ -91,16 +91,7 @@ pub still_position : (history : History) (more : List RawCommit) (position : ℕ
 still_position history more position (inl none) = inl none
 still_position history more position (inr at) = inr (still_at history more position at)
 
--- ---- two bounds
-
-both_under : (a b c : ℕ) → a < c → b < c → max a b < c
-both_under a b c one two = omega (arith, one, two)
-
--- commits after two positions are after the greater one
-pub over_both : (a b : ℕ) (vs : List Versioned) → AllByRecursion (λ v. a < v.lsn.0) vs → AllByRecursion (λ v. b < v.lsn.0) vs → AllByRecursion (λ v. max a b < v.lsn.0) vs
-over_both a b [] one two = tt
-over_both a b (v ∷ vs) one two = (both_under a b v.lsn.0 one.0 two.0, over_both a b vs one.1 two.1)
-
+-- commits after two positions
 pub pairs : (a b : ℕ) (vs : List Versioned) → AllByRecursion (λ v. a < v.lsn.0) vs → AllByRecursion (λ v. b < v.lsn.0) vs → AllByRecursion (λ v. (a < v.lsn.0) × (b < v.lsn.0)) vs
 pairs a b [] one two = tt
 pairs a b (v ∷ vs) one two = ((one.0, two.0), pairs a b vs one.1 two.1)

@@ -1,5 +1,5 @@
 -- What a session begins with: tables as the catalogue describes them, and the offset that is made of them.
-use Rattle.std.proofs.Common.{◌≡◌, ◌∙◌, ◌⊎◌, inl, inr, ◌+◌, ◌≤◌, ◌<◌, ℕ, zero, suc, Bool, true, false, cond, if◌then◌else◌, Option, Some, None, List, [], ◌∷◌, ◌++◌, length, map, take, drop, fold, get_or, refl, sym, ap, ap₂, subst, arith, append-nil, length-append, IsTrue, drop-cons}
+use Rattle.std.proofs.Common.{◌≡◌, ◌∙◌, ◌⊎◌, inl, inr, ◌+◌, ◌≤◌, ◌<◌, ℕ, zero, suc, Bool, true, false, cond, if◌then◌else◌, Option, Some, None, List, [], ◌∷◌, ◌++◌, length, map, take, drop, fold, get_or, refl, sym, ap, ap₂, subst, arith, append-nil, length-append, le_refl, IsTrue, drop-cons}
 use Rattle.std.specs.Prelude.{◌^◌, find, max, option_map, Contains, IfSome, IsSomeAnd}
 use Rattle.std.specs.List.{AllByRecursion, AllZip}
 use Rattle.std.proofs.lemmas.List.{length-map, map-append, take-append-drop, take-append-le, take_more}
@@ -39,7 +39,7 @@ use Rattle.dbl_capture_model.proofs.FaithfulItems.{all_weaker}
 use Rattle.dbl_capture_model.specs.Faithful.Lag.{IsDescribedAt, IsUnread}
 use Rattle.dbl_capture_work.specs.declared.halt.Halt.{Halt}
 use Rattle.dbl_capture_work.specs.declared.halt.Halt.TheVariants as halt
-use Rattle.dbl_capture_work.specs.Begins.{AreCounted, AreInfosAt, AreUnread, CanBeCaptured, HadEntry, IsAbsentAfter, IsAbsentHalt, IsDescribedAs, IsFaultOf, IsFirstOffsetAtHead, IsFirstAtFault, IsInfoAt, IsOffsetFor, MayRest}
+use Rattle.dbl_capture_work.specs.Begins.{AreCounted, AreInfosAt, AreUnread, CanBeCaptured, CouldBeCaptured, HadEntry, HadEntrySince, IsAbsentAfter, IsAbsentHalt, IsDescribedAs, IsFaultOf, IsFirstOffsetAtHead, IsFirstAtFault, IsInfoAt, IsOffsetFor, MayRest, WasAbsentHalt, WasFirstAtFault}
 use Rattle.dbl_capture_work.specs.Halts.{model_halt}
 use Rattle.dbl_capture_work.proofs.Exits.{moved_on}
 
@@ -49,24 +49,24 @@ clean_of : (raw : RawTable) (info : TableInfo) → IsInfoOf raw info → table_f
 clean_of raw info is = subst (λ (r : RawTable). table_fault r ≡ None) is (no_fault info)
 
 -- it is the first of one
-first_alone : (history : History) (name : TableName) → IsFirstAtFault (name ∷ []) history name
-first_alone history name = record { before = []; after = []; parted = refl; earlier = tt }
+first_alone : (history : History) (from : ℕ) (name : TableName) → WasFirstAtFault (name ∷ []) history from name
+first_alone history from name = record { before = []; after = []; parted = refl; earlier = tt }
 
 -- tables neither come nor go
 no_entry : {A B : Type 0} (f : A → B) (o : Option A) → None ≡ option_map f o → o ≡ None
 no_entry f None is = refl
 no_entry f (Some x) is = cc
 
-pub absent_here : (history : History) (name : TableName) (place : ℕ) (entry : Option RawTable) (h : Halt) → place ≤ length history.commits → entry ≡ entry_at history place name → IsFaultOf name entry h → IsAbsentHalt (name ∷ []) history h
-absent_here history name place None h within is fault =
-    subst (IsAbsentHalt (name ∷ []) history) (sym fault)
-    (first_alone history name, no_entry (λ table. fold (λ entry commit. entry_after commit.body entry) table (take place history.commits)) (entry_of history name) is)
-absent_here history name place (Some raw) h within is fault =
-    subst (IsAbsentHalt (name ∷ []) history) (sym fault.2)
-    (name, raw, first_alone history name, record { place = place; not_after = within; is = sym is }, fault.1)
+pub absent_here : (history : History) (from : ℕ) (name : TableName) (place : ℕ) (entry : Option RawTable) (h : Halt) → from ≤ place → place ≤ length history.commits → entry ≡ entry_at history place name → IsFaultOf name entry h → WasAbsentHalt (name ∷ []) history from h
+absent_here history from name place None h since within is fault =
+    subst (WasAbsentHalt (name ∷ []) history from) (sym fault)
+    (first_alone history from name, no_entry (λ table. fold (λ entry commit. entry_after commit.body entry) table (take place history.commits)) (entry_of history name) is)
+absent_here history from name place (Some raw) h since within is fault =
+    subst (WasAbsentHalt (name ∷ []) history from) (sym fault.2)
+    (name, raw, first_alone history from name, record { place = place; not_before = since; not_after = within; is = sym is }, fault.1)
 
 -- an error that the catalogue requires, of a source that is still in a state
-pub absent_after : (stands : SourceState → Type 0) (s t : SourceState) (names : List TableName) (h : Halt) → stands t → Moved s t → IsAbsentHalt names t.history h → IsAbsentAfter stands s names h
+pub absent_after : (stands : SourceState → Type 0) (s t : SourceState) (names : List TableName) (h : Halt) → stands t → Moved s t → WasAbsentHalt names t.history (length s.history.commits) h → IsAbsentAfter stands s names h
 absent_after stands s t names (halt.UnknownTable name) is moved absent = (t, is, moved, absent)
 absent_after stands s t names (halt.Model error) is moved absent = (t, is, moved, absent)
 absent_after stands s t names h is moved absent = tt
@@ -93,9 +93,9 @@ entry_halt raw (model.NoKey table) cause = inr (record { error = model.NoKey tab
 entry_halt raw (model.KeyType table column) cause = inr (record { error = model.KeyType table column; fault = fault_is raw (model.KeyType table column) (λ is. cc) cause; is = refl })
 entry_halt raw model.Memory cause = inl refl
 
-pub entry_absent : (history : History) (name : TableName) (place : ℕ) (raw : RawTable) (h : Halt) → place ≤ length history.commits → Some raw ≡ entry_at history place name → (h ≡ halt.Memory) ⊎ IsEntryHalt raw h → IsAbsentHalt (name ∷ []) history h
-entry_absent history name place raw h within is (inl memory) = subst (IsAbsentHalt (name ∷ []) history) (sym memory) tt
-entry_absent history name place raw h within is (inr e) = absent_here history name place (Some raw) h within is (e.error, e.fault, e.is)
+pub entry_absent : (history : History) (from : ℕ) (name : TableName) (place : ℕ) (raw : RawTable) (h : Halt) → from ≤ place → place ≤ length history.commits → Some raw ≡ entry_at history place name → (h ≡ halt.Memory) ⊎ IsEntryHalt raw h → WasAbsentHalt (name ∷ []) history from h
+entry_absent history from name place raw h since within is (inl memory) = subst (WasAbsentHalt (name ∷ []) history from) (sym memory) tt
+entry_absent history from name place raw h since within is (inr e) = absent_here history from name place (Some raw) h since within is (e.error, e.fault, e.is)
 
 -- ---- one that can be captured
 
@@ -103,8 +103,9 @@ pub described_as : (name : TableName) (raw : RawTable) (info : TableInfo) (versi
     → IsDescribedAs name info version s t
 described_as name raw info version s t said named is counted =
     let info_named : info.name ≡ name = ap (λ (r : RawTable). r.name) is ∙ named in
-    let entry : HadEntry t.history name raw = record { place = said.1.place; not_after = said.1.not_after; is = sym said.1.is } in
-    (said.0, info_named, record { raw = raw; entry = subst (λ (n : TableName). HadEntry t.history n raw) (sym info_named) entry; is = is; counted = counted })
+    let since : ℕ = length s.history.commits in
+    let entry : HadEntrySince t.history since name raw = record { place = said.1.place; not_before = said.1.not_before; not_after = said.1.not_after; is = sym said.1.is } in
+    (said.0, info_named, record { raw = raw; entry = subst (λ (n : TableName). HadEntrySince t.history since n raw) (sym info_named) entry; is = is; counted = counted })
 
 -- ---- as the history grows
 
@@ -118,21 +119,29 @@ no_shorter old new place grows within =
     let longer : length new.commits ≡ length old.commits + length grows.others = ap length grows.commits ∙ length-append old.commits grows.others in
     omega (arith, longer, within)
 
-pub had_on : (old new : History) (name : TableName) (raw : RawTable) → Grows old new → HadEntry old name raw → HadEntry new name raw
-had_on old new name raw grows had = record {
+no_later : (from low place : ℕ) → low ≤ from → from ≤ place → low ≤ place
+no_later from low place less since = omega (arith, less, since)
+
+-- what was had since a later point was had since an earlier one
+had_lower : (history : History) (from low : ℕ) (name : TableName) (raw : RawTable) → low ≤ from → HadEntrySince history from name raw → HadEntrySince history low name raw
+had_lower history from low name raw less had = record { place = had.place; not_before = no_later from low had.place less had.not_before; not_after = had.not_after; is = had.is }
+
+pub had_on : (old new : History) (from : ℕ) (name : TableName) (raw : RawTable) → Grows old new → HadEntrySince old from name raw → HadEntrySince new from name raw
+had_on old new from name raw grows had = record {
   place = had.place;
+  not_before = had.not_before;
   not_after = no_shorter old new had.place grows had.not_after;
   is = entry_stays old new had.place name grows had.not_after ∙ had.is;
 }
 
-pub info_on : (old new : History) (info : TableInfo) (version : ℕ) → Grows old new → IsInfoAt old info version → IsInfoAt new info version
-info_on old new info version grows at = record { raw = at.raw; entry = had_on old new info.name at.raw grows at.entry; is = at.is; counted = at.counted }
+pub info_on : (old new : History) (from : ℕ) (info : TableInfo) (version : ℕ) → Grows old new → IsInfoAt old from info version → IsInfoAt new from info version
+info_on old new from info version grows at = record { raw = at.raw; entry = had_on old new from info.name at.raw grows at.entry; is = at.is; counted = at.counted }
 
-pub infos_on : (old new : History) (infos : List TableInfo) (versions : List ℕ) → Grows old new → AreInfosAt old infos versions → AreInfosAt new infos versions
-infos_on old new [] [] grows are = tt
-infos_on old new [] (v ∷ versions) grows are = absurd are
-infos_on old new (info ∷ infos) [] grows are = absurd are
-infos_on old new (info ∷ infos) (v ∷ versions) grows are = (info_on old new info v grows are.0, infos_on old new infos versions grows are.1)
+pub infos_on : (old new : History) (from : ℕ) (infos : List TableInfo) (versions : List ℕ) → Grows old new → AreInfosAt old from infos versions → AreInfosAt new from infos versions
+infos_on old new from [] [] grows are = tt
+infos_on old new from [] (v ∷ versions) grows are = absurd are
+infos_on old new from (info ∷ infos) [] grows are = absurd are
+infos_on old new from (info ∷ infos) (v ∷ versions) grows are = (info_on old new from info v grows are.0, infos_on old new from infos versions grows are.1)
 
 -- before all commits the catalogue has the first entries
 pub first_entry : (history : History) (name : TableName) → entry_at history 0 name ≡ entry_of history name
@@ -188,11 +197,11 @@ counted_entry history place name raw first is = by (entry_of history name) refl 
         subst (λ (r : RawTable). 1 ≤ r.version) same (counted_through (take place history.commits) table (found_counted name history.tables table first here))
 
 -- a description and its version are then those of one entry, as it is
-pub described_at : (history : History) (infos : List TableInfo) (versions : List ℕ) → AllByRecursion (λ (r : RawTable). r.version ≡ 1) history.tables → AreInfosAt history infos versions → AllZip (IsDescribedAt history) infos versions
-described_at history [] [] first are = tt
-described_at history [] (v ∷ versions) first are = absurd are
-described_at history (info ∷ infos) [] first are = absurd are
-described_at history (info ∷ infos) (v ∷ versions) first are = (
+pub described_at : (history : History) (from : ℕ) (infos : List TableInfo) (versions : List ℕ) → AllByRecursion (λ (r : RawTable). r.version ≡ 1) history.tables → AreInfosAt history from infos versions → AllZip (IsDescribedAt history) infos versions
+described_at history from [] [] first are = tt
+described_at history from [] (v ∷ versions) first are = absurd are
+described_at history from (info ∷ infos) [] first are = absurd are
+described_at history from (info ∷ infos) (v ∷ versions) first are = (
   record {
     place = are.0.entry.place;
     entry = are.0.raw;
@@ -200,51 +209,52 @@ described_at history (info ∷ infos) (v ∷ versions) first are = (
     is = are.0.is;
     version_is = same_count are.0.raw.version v (counted_entry history are.0.entry.place info.name are.0.raw first are.0.entry.is) are.0.counted;
   },
-  described_at history infos versions first are.1,
+  described_at history from infos versions first are.1,
 )
 
 -- ---- if no table is altered
 
 -- an entry that the catalogue had is its first one
-pub had_first : (history : History) (name : TableName) (raw : RawTable) → KeepsColumns history → HadEntry history name raw → entry_of history name ≡ Some raw
-had_first history name raw kept had = sym (entry_kept history had.place name kept) ∙ had.is
+pub had_first : (history : History) (from : ℕ) (name : TableName) (raw : RawTable) → KeepsColumns history → HadEntrySince history from name raw → entry_of history name ≡ Some raw
+had_first history from name raw kept had = sym (entry_kept history had.place name kept) ∙ had.is
 
 -- and it has the first one also before all commits of a history with the same tables
-pub had_before : (old new : History) (name : TableName) (raw : RawTable) → new.tables ≡ old.tables → KeepsColumns new → HadEntry new name raw → HadEntry old name raw
-had_before old new name raw same kept had = record {
+pub had_before : (old new : History) (from : ℕ) (name : TableName) (raw : RawTable) → new.tables ≡ old.tables → KeepsColumns new → HadEntrySince new from name raw → HadEntry old name raw
+had_before old new from name raw same kept had = record {
   place = 0;
+  not_before = le_refl 0;
   not_after = omega arith;
-  is = first_entry old name ∙ sym (ap (find (λ (table : RawTable). same_name table.name name)) same) ∙ had_first new name raw kept had;
+  is = first_entry old name ∙ sym (ap (find (λ (table : RawTable). same_name table.name name)) same) ∙ had_first new from name raw kept had;
 }
 
 -- what is captured of it agrees with its catalogue
-pub infos_of : (history : History) (infos : List TableInfo) (versions : List ℕ) → KeepsColumns history → IsTrue (are_distinct same_name (map (λ (info : TableInfo). info.name) infos)) → AreInfosAt history infos versions → AreInfosOf history infos
-infos_of history infos versions kept distinct are = record { distinct = distinct; each = each_of infos versions are }
+pub infos_of : (history : History) (from : ℕ) (infos : List TableInfo) (versions : List ℕ) → KeepsColumns history → IsTrue (are_distinct same_name (map (λ (info : TableInfo). info.name) infos)) → AreInfosAt history from infos versions → AreInfosOf history infos
+infos_of history from infos versions kept distinct are = record { distinct = distinct; each = each_of infos versions are }
   where
-    each_of : (xs : List TableInfo) (vs : List ℕ) → AreInfosAt history xs vs → AllByRecursion (λ info. IsSomeAnd (entry_of history info.name) (λ raw. IsInfoOf raw info)) xs
+    each_of : (xs : List TableInfo) (vs : List ℕ) → AreInfosAt history from xs vs → AllByRecursion (λ info. IsSomeAnd (entry_of history info.name) (λ raw. IsInfoOf raw info)) xs
     each_of [] [] at = tt
     each_of [] (v ∷ vs) at = tt
     each_of (info ∷ xs) [] at = absurd at
     each_of (info ∷ xs) (v ∷ vs) at = (
-      subst (λ (o : Option RawTable). IsSomeAnd o (λ raw. IsInfoOf raw info)) (sym (had_first history info.name at.0.raw kept at.0.entry)) at.0.is,
+      subst (λ (o : Option RawTable). IsSomeAnd o (λ raw. IsInfoOf raw info)) (sym (had_first history from info.name at.0.raw kept at.0.entry)) at.0.is,
       each_of xs vs at.1,
     )
 
-can_before : (old new : History) (name : TableName) → new.tables ≡ old.tables → KeepsColumns new → CanBeCaptured new name → CanBeCaptured old name
-can_before old new name same kept c = record { raw = c.raw; entry = had_before old new name c.raw same kept c.entry; clean = c.clean }
+can_before : (old new : History) (from : ℕ) (name : TableName) → new.tables ≡ old.tables → KeepsColumns new → CouldBeCaptured new from name → CanBeCaptured old name
+can_before old new from name same kept c = record { raw = c.raw; entry = had_before old new from name c.raw same kept c.entry; clean = c.clean }
 
-pub all_before : (old new : History) (names : List TableName) → new.tables ≡ old.tables → KeepsColumns new → AllByRecursion (CanBeCaptured new) names → AllByRecursion (CanBeCaptured old) names
-all_before old new names same kept all = all_weaker (CanBeCaptured new) (CanBeCaptured old) names (λ name can. can_before old new name same kept can) all
+pub all_before : (old new : History) (from : ℕ) (names : List TableName) → new.tables ≡ old.tables → KeepsColumns new → AllByRecursion (CouldBeCaptured new from) names → AllByRecursion (CanBeCaptured old) names
+all_before old new from names same kept all = all_weaker (CouldBeCaptured new from) (CanBeCaptured old) names (λ name can. can_before old new from name same kept can) all
 
-first_before : (old new : History) (names : List TableName) (name : TableName) → new.tables ≡ old.tables → KeepsColumns new → IsFirstAtFault names new name → IsFirstAtFault names old name
-first_before old new names name same kept first = record { before = first.before; after = first.after; parted = first.parted; earlier = all_before old new first.before same kept first.earlier }
+first_before : (old new : History) (from : ℕ) (names : List TableName) (name : TableName) → new.tables ≡ old.tables → KeepsColumns new → WasFirstAtFault names new from name → IsFirstAtFault names old name
+first_before old new from names name same kept first = record { before = first.before; after = first.after; parted = first.parted; earlier = all_before old new from first.before same kept first.earlier }
 
 -- the catalogue at the call required the error
 pub absent_before : (stands : SourceState → Type 0) (s : SourceState) (names : List TableName) (h : Halt) → ((t : SourceState) → stands t → KeepsColumns t.history) → IsAbsentAfter stands s names h → IsAbsentHalt names s.history h
 absent_before stands s names (halt.UnknownTable name) kept absent =
     let t = absent.0 in
     let same = absent.2.grows.tables in (
-      first_before s.history t.history names name same (kept t absent.1) absent.3.0,
+      first_before s.history t.history (length s.history.commits) names name same (kept t absent.1) absent.3.0,
       sym (ap (find (λ (table : RawTable). same_name table.name name)) same) ∙ absent.3.1,
     )
 absent_before stands s names (halt.Model error) kept absent =
@@ -253,8 +263,8 @@ absent_before stands s names (halt.Model error) kept absent =
     let is = absent.3 in (
       is.0,
       is.1,
-      first_before s.history t.history names is.0 same (kept t absent.1) is.2,
-      had_before s.history t.history is.0 is.1 same (kept t absent.1) is.3,
+      first_before s.history t.history (length s.history.commits) names is.0 same (kept t absent.1) is.2,
+      had_before s.history t.history (length s.history.commits) is.0 is.1 same (kept t absent.1) is.3,
       is.4,
     )
 absent_before stands s names h kept absent = tt
@@ -262,12 +272,12 @@ absent_before stands s names h kept absent = tt
 -- ---- one of several
 
 -- what was described can be captured
-pub captured_named : (history : History) (infos : List TableInfo) (versions : List ℕ) → AreInfosAt history infos versions → AllByRecursion (CanBeCaptured history) (map (λ (info : TableInfo). info.name) infos)
-captured_named history [] versions described = tt
-captured_named history (info ∷ infos) [] described = absurd described
-captured_named history (info ∷ infos) (v ∷ versions) described = (
+pub captured_named : (history : History) (from : ℕ) (infos : List TableInfo) (versions : List ℕ) → AreInfosAt history from infos versions → AllByRecursion (CouldBeCaptured history from) (map (λ (info : TableInfo). info.name) infos)
+captured_named history from [] versions described = tt
+captured_named history from (info ∷ infos) [] described = absurd described
+captured_named history from (info ∷ infos) (v ∷ versions) described = (
   record { raw = described.0.raw; entry = described.0.entry; clean = clean_of described.0.raw info described.0.is },
-  captured_named history infos versions described.1,
+  captured_named history from infos versions described.1,
 )
 
 only_one : (before after : List TableName) (one other : TableName) → one ∷ [] ≡ before ++ other ∷ after → other ≡ one
@@ -276,22 +286,22 @@ only_one (x ∷ []) after one other is = cc
 only_one (x ∷ (y ∷ before)) after one other is = cc
 
 -- The names before it were captured, so that of all names it is the first.
-absent_of : (history : History) (names before after : List TableName) (name : TableName) (h : Halt) → names ≡ before ++ name ∷ after → AllByRecursion (CanBeCaptured history) before
-    → IsAbsentHalt (name ∷ []) history h → IsAbsentHalt names history h
-absent_of history names before after name (halt.UnknownTable other) parted earlier absent =
+absent_of : (history : History) (low from : ℕ) (names before after : List TableName) (name : TableName) (h : Halt) → low ≤ from → names ≡ before ++ name ∷ after → AllByRecursion (CouldBeCaptured history low) before
+    → WasAbsentHalt (name ∷ []) history from h → WasAbsentHalt names history low h
+absent_of history low from names before after name (halt.UnknownTable other) less parted earlier absent =
     let one : other ≡ name = only_one absent.0.before absent.0.after name other absent.0.parted in (
       record { before = before; after = after; parted = parted ∙ ap (λ (n : TableName). before ++ n ∷ after) (sym one); earlier = earlier },
       absent.1,
     )
-absent_of history names before after name (halt.Model error) parted earlier absent =
+absent_of history low from names before after name (halt.Model error) less parted earlier absent =
     let one : absent.0 ≡ name = only_one absent.2.before absent.2.after name absent.0 absent.2.parted in (
       absent.0,
       absent.1,
       record { before = before; after = after; parted = parted ∙ ap (λ (n : TableName). before ++ n ∷ after) (sym one); earlier = earlier },
-      absent.3,
+      had_lower history from low absent.0 absent.1 less absent.3,
       absent.4,
     )
-absent_of history names before after name h parted earlier absent = tt
+absent_of history low from names before after name h less parted earlier absent = tt
 
 -- ---- what may be left
 
@@ -402,26 +412,34 @@ moved_none s rising = record {
   reading = refl;
 }
 
--- one table more was described
-pub described_more : (mid t : SourceState) (infos : List TableInfo) (versions : List ℕ) (info : TableInfo) (version : ℕ) → Moved mid t → AreInfosAt mid.history infos versions → IsInfoAt t.history info version → AreInfosAt t.history (infos ++ info ∷ []) (versions ++ version ∷ [])
-described_more mid t infos versions info version moved described at =
-    zip_push (IsInfoAt t.history) infos versions info version (infos_on mid.history t.history infos versions moved.grows described) at
+-- no commit was taken back since
+none_fewer : (s mid : SourceState) → Moved s mid → length s.history.commits ≤ length mid.history.commits
+none_fewer s mid moved = no_shorter s.history mid.history (length s.history.commits) moved.grows (le_refl (length s.history.commits))
 
-next_of : (mid t : SourceState) (infos : List TableInfo) (versions : List ℕ) (names : List TableName) (i : ℕ) (name : TableName) (h : Halt) → i < length names → name ≡ get_or names i name → Moved mid t → AreInfosAt mid.history infos versions
-    → map (λ (x : TableInfo). x.name) infos ≡ take i names → IsAbsentHalt (name ∷ []) t.history h → IsAbsentHalt names t.history h
-next_of mid t infos versions names i name h within is moved described so_far absent =
-    absent_of t.history names (take i names) (drop (suc i) names) name h (names_parted names i name within is)
-    (subst (AllByRecursion (CanBeCaptured t.history)) so_far (captured_named t.history infos versions (infos_on mid.history t.history infos versions moved.grows described))) absent
+-- one table more was described
+pub described_more : (s mid t : SourceState) (infos : List TableInfo) (versions : List ℕ) (info : TableInfo) (version : ℕ) → Moved s mid → Moved mid t → AreInfosAt mid.history (length s.history.commits) infos versions
+    → IsInfoAt t.history (length mid.history.commits) info version → AreInfosAt t.history (length s.history.commits) (infos ++ info ∷ []) (versions ++ version ∷ [])
+described_more s mid t infos versions info version first moved described at =
+    let since : ℕ = length s.history.commits in
+    zip_push (IsInfoAt t.history since) infos versions info version (infos_on mid.history t.history since infos versions moved.grows described)
+    (record { raw = at.raw; entry = had_lower t.history (length mid.history.commits) since info.name at.raw (none_fewer s mid first) at.entry; is = at.is; counted = at.counted })
+
+next_of : (s mid t : SourceState) (infos : List TableInfo) (versions : List ℕ) (names : List TableName) (i : ℕ) (name : TableName) (h : Halt) → i < length names → name ≡ get_or names i name → Moved s mid → Moved mid t → AreInfosAt mid.history (length s.history.commits) infos versions
+    → map (λ (x : TableInfo). x.name) infos ≡ take i names → WasAbsentHalt (name ∷ []) t.history (length mid.history.commits) h → WasAbsentHalt names t.history (length s.history.commits) h
+next_of s mid t infos versions names i name h within is first moved described so_far absent =
+    let since : ℕ = length s.history.commits in
+    absent_of t.history since (length mid.history.commits) names (take i names) (drop (suc i) names) name h (none_fewer s mid first) (names_parted names i name within is)
+    (subst (AllByRecursion (CouldBeCaptured t.history since)) so_far (captured_named t.history since infos versions (infos_on mid.history t.history since infos versions moved.grows described))) absent
 
 -- the first invalid table after those that were described
-pub absent_next : (stands : SourceState → Type 0) (s mid : SourceState) (infos : List TableInfo) (versions : List ℕ) (names : List TableName) (i : ℕ) (name : TableName) (h : Halt) → i < length names → name ≡ get_or names i name → Moved s mid → AreInfosAt mid.history infos versions
+pub absent_next : (stands : SourceState → Type 0) (s mid : SourceState) (infos : List TableInfo) (versions : List ℕ) (names : List TableName) (i : ℕ) (name : TableName) (h : Halt) → i < length names → name ≡ get_or names i name → Moved s mid → AreInfosAt mid.history (length s.history.commits) infos versions
     → map (λ (x : TableInfo). x.name) infos ≡ take i names → IsAbsentAfter stands mid (name ∷ []) h → IsAbsentAfter stands s names h
 absent_next stands s mid infos versions names i name (halt.UnknownTable other) within is moved described so_far absent =
     absent_after stands s absent.0 names (halt.UnknownTable other) absent.1 (moved_on s mid absent.0 moved absent.2)
-    (next_of mid absent.0 infos versions names i name (halt.UnknownTable other) within is absent.2 described so_far absent.3)
+    (next_of s mid absent.0 infos versions names i name (halt.UnknownTable other) within is moved absent.2 described so_far absent.3)
 absent_next stands s mid infos versions names i name (halt.Model error) within is moved described so_far absent =
     absent_after stands s absent.0 names (halt.Model error) absent.1 (moved_on s mid absent.0 moved absent.2)
-    (next_of mid absent.0 infos versions names i name (halt.Model error) within is absent.2 described so_far absent.3)
+    (next_of s mid absent.0 infos versions names i name (halt.Model error) within is moved absent.2 described so_far absent.3)
 absent_next stands s mid infos versions names i name h within is moved described so_far absent = tt
 
 -- the head that stood at one place of a call after another stood there between both

@@ -25,30 +25,38 @@ use Rattle.dbl_capture_work.specs.declared.halt.Halt.TheVariants as halt
 
 -- ---- descriptions of tables
 
--- After some number of the history's commits the catalogue has this entry of the name, with the columns in force and the version there.
-pub record HadEntry (history : History) (name : TableName) (raw : RawTable) : Type 0 where
+-- After some number of the history's commits, `from` or more, the catalogue has this entry of the name, with the columns in force and the
+-- version there.
+pub record HadEntrySince (history : History) (from : ℕ) (name : TableName) (raw : RawTable) : Type 0 where
   pub place : ℕ
+  pub not_before : from ≤ place
   pub not_after : place ≤ length history.commits
   pub is : entry_at history place name ≡ Some raw
 
--- The description and the version are those of one entry that the catalogue had of the table. Versions are counted from 1: 0 counts as 1.
-pub record IsInfoAt (history : History) (info : TableInfo) (version : ℕ) : Type 0 where
+-- The catalogue has this entry of the name at some point of the history.
+abbrev pub HadEntry : History → TableName → RawTable → Type 0
+HadEntry history name raw = HadEntrySince history 0 name raw
+
+-- The description and the version are those of one entry that the catalogue had of the table after `from` or more commits. Versions are
+-- counted from 1: 0 counts as 1.
+pub record IsInfoAt (history : History) (from : ℕ) (info : TableInfo) (version : ℕ) : Type 0 where
   pub raw : RawTable
-  pub entry : HadEntry history info.name raw
+  pub entry : HadEntrySince history from info.name raw
   pub is : IsInfoOf raw info
   pub counted : version ≡ max 1 raw.version
 
--- Each description and its version are those of one entry that the catalogue had.
-abbrev pub AreInfosAt : History → List TableInfo → List ℕ → Type 0
-AreInfosAt history infos versions = AllZip (IsInfoAt history) infos versions
+-- Each description and its version are those of one entry that the catalogue had after `from` or more commits.
+abbrev pub AreInfosAt : History → ℕ → List TableInfo → List ℕ → Type 0
+AreInfosAt history from infos versions = AllZip (IsInfoAt history from) infos versions
 
 -- Each table has a version of 64 bits, counted from 1.
 abbrev pub AreCounted : List TableInfo → List ℕ → Type 0
 AreCounted infos versions = AllZip (λ info version. (1 ≤ version) × (version < 2 ^ 64)) infos versions
 
--- A call of the source returned this description and this version of the named table, and others may have committed.
+-- A call of the source returned this description and this version of the named table, as they were at one time during the call, and others
+-- may have committed.
 abbrev pub IsDescribedAs : TableName → TableInfo → ℕ → SourceState → SourceState → Type 0
-IsDescribedAs name info version s t = Moved s t × (info.name ≡ name) × IsInfoAt t.history info version
+IsDescribedAs name info version s t = Moved s t × (info.name ≡ name) × IsInfoAt t.history (length s.history.commits) info version
 
 -- The error for a table of which the catalogue has no entry, or this one, which can't be captured.
 abbrev pub IsFaultOf : TableName → Option RawTable → Halt → Type 0
@@ -61,33 +69,48 @@ pub record IsModelFault (name : TableName) (told : Option Trace) (h : Halt) : Ty
   pub is : IsFaultOf name entry h
   pub tells : (t : Trace) → told ≡ Some t → t.answer ≡ Described entry
 
--- The catalogue had an entry with this name that can be captured.
-pub record CanBeCaptured (history : History) (name : TableName) : Type 0 where
+-- After `from` or more of the history's commits the catalogue had an entry with this name that can be captured.
+pub record CouldBeCaptured (history : History) (from : ℕ) (name : TableName) : Type 0 where
   pub raw : RawTable
-  pub entry : HadEntry history name raw
+  pub entry : HadEntrySince history from name raw
   pub clean : table_fault raw ≡ None
 
--- The named table is one of the list, and every table before it could be captured.
-pub record IsFirstAtFault (names : List TableName) (history : History) (name : TableName) : Type 0 where
+-- The catalogue has an entry with this name that can be captured, at some point of the history.
+abbrev pub CanBeCaptured : History → TableName → Type 0
+CanBeCaptured history name = CouldBeCaptured history 0 name
+
+-- The named table is one of the list, and every table before it could be captured after `from` or more commits.
+pub record WasFirstAtFault (names : List TableName) (history : History) (from : ℕ) (name : TableName) : Type 0 where
   pub before : List TableName
   pub after : List TableName
   pub parted : names ≡ before ++ name ∷ after
-  pub earlier : AllByRecursion (CanBeCaptured history) before
+  pub earlier : AllByRecursion (CouldBeCaptured history from) before
 
--- The error names the first table of the list that the catalogue doesn't have, or of which it had an entry that can't be captured.
+-- The named table is one of the list, and every table before it can be captured, at some point of the history.
+abbrev pub IsFirstAtFault : List TableName → History → TableName → Type 0
+IsFirstAtFault names history name = WasFirstAtFault names history 0 name
+
+-- The error names the first table of the list that the catalogue doesn't have, or of which it had an entry that can't be captured after
+-- `from` or more commits.
+abbrev pub WasAbsentHalt : List TableName → History → ℕ → Halt → Type 0
+WasAbsentHalt names history from (halt.UnknownTable name) = WasFirstAtFault names history from name × (entry_of history name ≡ None)
+WasAbsentHalt names history from (halt.Model error) =
+    (name : TableName) × (raw : RawTable) × WasFirstAtFault names history from name × HadEntrySince history from name raw
+    × (table_fault raw ≡ Some error)
+WasAbsentHalt names history from h = Unit {0}
+
+-- The error names the first table of the list that the catalogue doesn't have, or of which it has an entry that can't be captured, at some
+-- point of the history.
 abbrev pub IsAbsentHalt : List TableName → History → Halt → Type 0
-IsAbsentHalt names history (halt.UnknownTable name) = IsFirstAtFault names history name × (entry_of history name ≡ None)
-IsAbsentHalt names history (halt.Model error) =
-    (name : TableName) × (raw : RawTable) × IsFirstAtFault names history name × HadEntry history name raw × (table_fault raw ≡ Some error)
-IsAbsentHalt names history h = Unit {0}
+IsAbsentHalt names history h = WasAbsentHalt names history 0 h
 
--- An error about a table leaves the source in a state that only others' commits may set apart from this one, and whose catalogue requires
--- the error.
+-- An error about a table leaves the source in a state that only others' commits may set apart from this one, and whose catalogue since then
+-- requires the error.
 abbrev pub IsAbsentAfter : (SourceState → Type 0) → SourceState → List TableName → Halt → Type 0
 IsAbsentAfter stands s names (halt.UnknownTable name) =
-    (t : SourceState) × stands t × Moved s t × IsAbsentHalt names t.history (halt.UnknownTable name)
+    (t : SourceState) × stands t × Moved s t × WasAbsentHalt names t.history (length s.history.commits) (halt.UnknownTable name)
 IsAbsentAfter stands s names (halt.Model error) =
-    (t : SourceState) × stands t × Moved s t × IsAbsentHalt names t.history (halt.Model error)
+    (t : SourceState) × stands t × Moved s t × WasAbsentHalt names t.history (length s.history.commits) (halt.Model error)
 IsAbsentAfter stands s names h = Unit {0}
 
 -- The table that the source described last, if known, can be captured.

@@ -37,7 +37,7 @@ struct Described {
     version: u64,
 }
 
-// Describes a table, as the catalogue has it at one time up to the return, with its version then.
+// Describes a table, as the catalogue has it at one time during the call, with its version then.
 // Versions are counted from 1: an answer of 0 counts as 1.
 fn describe_table<S: Source>(
     alloc: Global,
@@ -84,7 +84,8 @@ fn describe_tables<S: Source>(
 ) -> Result<Tables, Halt>
     requires { IsTrue (S.is_live src.old) }
     ensures described { MovesTo S.stands src.old src.new result (λ tables s t. Moved s t
-        × AreInfosAt t.history tables.infos.items tables.versions.items) }
+        × AreInfosAt t.history (length s.history.commits)
+        tables.infos.items tables.versions.items) }
     ensures named { IfOk result
         (λ tables. map (λ info. info.name) tables.infos.items ≡ names.now.items) }
     ensures counted { IfOk result
@@ -146,7 +147,7 @@ fn offset_at(
 }
 
 /// Makes the first offset of a connector: describes each table, and then requests the head of the
-/// log. Each table's description and version in the offset are those of one time.
+/// log. Each table's description and version in the offset are those of one time during the call.
 pub fn first_offset<S: Source>(alloc: Global, config: &Config, src: &mut S) -> Result<Offset, Halt>
     requires live { IsTrue (S.is_live src.old) }
     requires config { IsGoodConfig config.now }
@@ -154,7 +155,7 @@ pub fn first_offset<S: Source>(alloc: Global, config: &Config, src: &mut S) -> R
         × ((infos : _) × (head : _) × IsFirstOffsetAtHead config.now infos head offset
         × (map (λ info. info.name) infos ≡ config.now.tables) × IsHead head s t)) }
     ensures described { MovesTo S.stands src.old src.new result (λ offset s t.
-        AreInfosAt t.history offset.infos offset.versions) }
+        AreInfosAt t.history (length s.history.commits) offset.infos offset.versions) }
     ensures of { IfOk result (IsOffsetFor config.now None) }
     ensures asked { IfOk result IsOffset }
     ensures headed { IfOk result (λ offset. LastAnswerIs (S.told src.new) (Head offset.start)) }

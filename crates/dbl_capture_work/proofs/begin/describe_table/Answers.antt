@@ -1,4 +1,4 @@
-use Rattle.std.proofs.Common.{◌≡◌, ◌∙◌, Option, None, [], ◌∷◌, sym, ap, subst}
+use Rattle.std.proofs.Common.{◌≡◌, ◌∙◌, Option, None, [], ◌∷◌, length, sym, ap, subst}
 use Rattle.std.specs.Prelude.{IfSome}
 use Rattle.std.proofs.Math.Nat.{max_comm}
 use Rattle.std.proofs.lemmas.Result.{err_from_is_err_and}
@@ -33,7 +33,7 @@ returns-in_err-make-in-Some-clause-absent g c s stands =
     let stood = c.in_ok-raw.ensures.described s stands in
     let at = stood.holds.1 in
     rw (p.1, p.2) (absent_after (g.S.Source.stands c.describe.new.self) s stood.standing (c.args.name.now ∷ []) (model_halt error) stood.is stood.holds.0
-    (entry_absent stood.standing.history c.args.name.now at.place raw (model_halt error) at.not_after (sym c.in-Some.is ∙ at.is) (entry_halt raw error c.in_err-make-in-Some.ensures.fault)))
+    (entry_absent stood.standing.history (length s.history.commits) c.args.name.now at.place raw (model_halt error) at.not_before at.not_after (sym c.in-Some.is ∙ at.is) (entry_halt raw error c.in_err-make-in-Some.ensures.fault)))
 
 pub returns-in_ok-copy-in-None-clause-absent : goal.returns-in_ok-copy-in-None-clause-absent
 returns-in_ok-copy-in-None-clause-absent g c s stands =
@@ -41,4 +41,4 @@ returns-in_ok-copy-in-None-clause-absent g c s stands =
     let at = stood.holds.1 in
     let name = c.in_ok-copy-in-None.field-0 in
     absent_after (g.S.Source.stands c.describe.new.self) s stood.standing (c.args.name.now ∷ []) (halt.UnknownTable name) stood.is stood.holds.0
-    (absent_here stood.standing.history c.args.name.now at.place None (halt.UnknownTable name) at.not_after (sym c.in-None.is ∙ at.is) (ap (λ (n : TableName). halt.UnknownTable n) c.in_ok-copy-in-None.ensures))
+    (absent_here stood.standing.history (length s.history.commits) c.args.name.now at.place None (halt.UnknownTable name) at.not_before at.not_after (sym c.in-None.is ∙ at.is) (ap (λ (n : TableName). halt.UnknownTable n) c.in_ok-copy-in-None.ensures))

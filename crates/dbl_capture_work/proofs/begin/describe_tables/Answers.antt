@@ -164,7 +164,7 @@ tables-preserved g c =
             is = next.is;
             holds = (
               moved_on s stood.standing next.standing stood.holds.0 next.holds.0,
-              rw (pushed, numbered) (described_more stood.standing next.standing infos versions info version next.holds.0 stood.holds.1 next.holds.2),
+              rw (pushed, numbered) (described_more s stood.standing next.standing infos versions info version stood.holds.0 next.holds.0 stood.holds.1 next.holds.2),
             );
           });
       counted = rw (pushed, numbered) (zip_push (λ (x : TableInfo) (v : ℕ). (1 ≤ v) × (v < 2 ^ 64)) infos versions info version inv.counted c.in_ok-table.ensures.counted);

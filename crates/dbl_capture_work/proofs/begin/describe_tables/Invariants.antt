@@ -1,4 +1,4 @@
-use Rattle.std.proofs.Common.{◌≡◌, ◌≤◌, [], take, map, IsTrue}
+use Rattle.std.proofs.Common.{◌≡◌, ◌≤◌, [], length, take, map, IsTrue}
 use Rattle.dbl_model_table.specs.declared.table.TableInfo.{TableInfo}
 use Rattle.dbl_source_model.specs.Calls.{Moved}
 use Rattle.dbl_source_model.specs.Leaves.{Leaves, LeavesSome}
@@ -9,7 +9,7 @@ use Rattle.dbl_capture_work.proofs.begin.describe_tables.Given as goal
 
 abbrev pub invariant-tables : goal.invariant-tables
 invariant-tables g l = record {
-  described : (s : SourceState) → g.S.Source.stands l.fn.src s → HasState g.S.Source.stands l.src (λ t. Moved s t × AreInfosAt t.history l.infos.items l.versions.items);
+  described : (s : SourceState) → g.S.Source.stands l.fn.src s → HasState g.S.Source.stands l.src (λ t. Moved s t × AreInfosAt t.history (length s.history.commits) l.infos.items l.versions.items);
   counted : AreCounted l.infos.items l.versions.items;
   named : map (λ (info : TableInfo). info.name) l.infos.items ≡ take l.name-index l.names.items;
   left : Leaves g.S.Source.stands g.S.Source.may_leave l.fn.src l.src MayRest;

@@ -1,5 +1,5 @@
 use Rattle.std.proofs.Common.{◌≡◌, ◌∙◌, inl, inr, List, sym, ap, subst, rules}
-use Rattle.std.specs.Prelude.{Contains, Err, map}
+use Rattle.std.specs.Prelude.{Contains, Err, length, map}
 use Rattle.std.proofs.lemmas.Result.{err_from_is_err_and}
 use Rattle.dbl_base.specs.declared.lsn.Lsn.{Lsn}
 use Rattle.dbl_model_table.specs.declared.table.TableInfo.{TableInfo}
@@ -108,7 +108,7 @@ returns-clause-described g c s stands =
     record {
       standing = headed.standing;
       is = headed.is;
-      holds = rw (c.in_ok-offset_at.ensures.first.infos_are, c.in_ok-offset_at.ensures.versions) (infos_on stood.standing.history headed.standing.history infos versions headed.holds.0.grows stood.holds.1);
+      holds = rw (c.in_ok-offset_at.ensures.first.infos_are, c.in_ok-offset_at.ensures.versions) (infos_on stood.standing.history headed.standing.history (length s.history.commits) infos versions headed.holds.0.grows stood.holds.1);
     }
 
 pub returns-clause-headed : goal.returns-clause-headed

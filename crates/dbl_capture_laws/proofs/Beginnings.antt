@@ -131,7 +131,7 @@ first_offset config infos head first s t g rise is names at = record {
 }
 
 pub first_at_head : (config : Config) (infos : List TableInfo) (head : Lsn) (first : Offset) (s t : SourceState) → Moved s t → IsRising t.history → IsFirstOffsetAtHead config infos head first
-    → map (λ info. info.name) infos ≡ config.tables → AreInfosOf t.history infos → IsHead head s t → AreInfosAt t.history first.infos first.versions
+    → map (λ info. info.name) infos ≡ config.tables → AreInfosOf t.history infos → IsHead head s t → AreInfosAt t.history (length s.history.commits) first.infos first.versions
     → IsFirstAtHead config s.history first
 first_at_head config infos head first s t moved rise is names are at described = record {
   later = t.history;
@@ -150,16 +150,17 @@ pub record FirstFound (config : Config) (offset : Offset) (s t : SourceState) : 
   pub names : map (λ info. info.name) infos ≡ config.tables
   pub are : AreInfosOf t.history infos
   pub at : IsHead head s t
-  pub described : AreInfosAt t.history offset.infos offset.versions
+  pub described : AreInfosAt t.history (length s.history.commits) offset.infos offset.versions
 
 pub first_found : {S : Type 0} (stands : S → SourceState → Type 0) (src : S) (config : Config) (offset : Offset) (s : SourceState) → ((a b : SourceState) → stands src a → stands src b → a ≡ b) → ((t : SourceState) → stands src t → KeepsColumns t.history) → IsGoodConfig config
     → HasState stands src (λ t. Moved s t × ((infos : List TableInfo) × (head : Lsn) × IsFirstOffsetAtHead config infos head offset × (map (λ info. info.name) infos ≡ config.tables) × IsHead head s t))
-    → HasState stands src (λ t. AreInfosAt t.history offset.infos offset.versions) → HasState stands src (FirstFound config offset s)
+    → HasState stands src (λ t. AreInfosAt t.history (length s.history.commits) offset.infos offset.versions) → HasState stands src (FirstFound config offset s)
 first_found stands src config offset s one kept good first said =
     let t = first.standing in
     let infos = first.holds.1.0 in
     let names = first.holds.1.3 in
-    let described : AreInfosAt t.history offset.infos offset.versions = subst (λ (x : SourceState). AreInfosAt x.history offset.infos offset.versions) (one said.standing t said.is first.is) said.holds in
+    let since : ℕ = length s.history.commits in
+    let described : AreInfosAt t.history since offset.infos offset.versions = subst (λ (x : SourceState). AreInfosAt x.history since offset.infos offset.versions) (one said.standing t said.is first.is) said.holds in
     record {
       standing = t;
       is = first.is;
@@ -169,7 +170,7 @@ first_found stands src config offset s one kept good first said =
         head = first.holds.1.1;
         is = first.holds.1.2;
         names = names;
-        are = infos_of t.history infos offset.versions (kept t first.is) (subst (λ (l : List TableName). IsTrue (are_distinct same_name l)) (sym names) good.distinct) (subst (λ (l : List TableInfo). AreInfosAt t.history l offset.versions) first.holds.1.2.infos_are described);
+        are = infos_of t.history since infos offset.versions (kept t first.is) (subst (λ (l : List TableName). IsTrue (are_distinct same_name l)) (sym names) good.distinct) (subst (λ (l : List TableInfo). AreInfosAt t.history since l offset.versions) first.holds.1.2.infos_are described);
         at = first.holds.1.4;
         described = described;
       };
@@ -213,7 +214,7 @@ again_for config (Some stored) first is = is
 
 -- or with a first one
 pub begins_first : (entry : SessionStart) (config : Config) (first : Offset) (s t : SourceState) → entry.config ≡ config → entry.offset ≡ None → s.history ≡ entry.history → IsFitHistory t.history → Moved s t → (infos : List TableInfo) (head : Lsn) → IsFirstOffsetAtHead config infos head first
-    → map (λ info. info.name) infos ≡ config.tables → AreInfosOf t.history infos → IsHead head s t → AreInfosAt t.history first.infos first.versions → BeginsAt entry first s t
+    → map (λ info. info.name) infos ≡ config.tables → AreInfosOf t.history infos → IsHead head s t → AreInfosAt t.history (length s.history.commits) first.infos first.versions → BeginsAt entry first s t
 begins_first entry config first s t asked none history fit moved infos head is names are at described =
     let own : AreInfosOf t.history first.infos = subst (AreInfosOf t.history) (sym is.infos_are) are in
     record {
@@ -226,7 +227,7 @@ begins_first entry config first s t asked none history fit moved infos head is n
           at_start = is.lsn ∙ sym is.start;
           unread = unread_zip first.infos first.cursors (is.cursors.many ∙ ap length (sym is.infos_are)) is.cursors.each;
           distinct = own.distinct;
-          infos = described_at t.history first.infos first.versions fit.opening described;
+          infos = described_at t.history (length s.history.commits) first.infos first.versions fit.opening described;
         },
       );
     }

@@ -1,5 +1,5 @@
 -- Tables that can't be captured.
-use Rattle.std.proofs.Common.{◌≡◌, ◌∙◌, ◌⊎◌, inl, inr, Option, Some, None, List, Result, Ok, Err, map, refl, sym, ap, subst}
+use Rattle.std.proofs.Common.{◌≡◌, ◌∙◌, ◌⊎◌, inl, inr, ℕ, Option, Some, None, List, Result, Ok, Err, length, map, refl, sym, ap, subst}
 use Rattle.std.specs.Prelude.{Contains, IfErr, IfOk}
 use Rattle.std.specs.List.{AllByRecursion}
 use Rattle.std.proofs.lemmas.List.Elements.{All-contains, All-from_recursion}
@@ -16,10 +16,10 @@ use Rattle.dbl_capture_work.specs.SourceModel.Trace.{Trace}
 use Rattle.dbl_capture_work.specs.Offset.declared.offset.Offset.{Offset}
 use Rattle.dbl_capture_work.specs.declared.halt.Halt.{Halt}
 use Rattle.dbl_capture_work.specs.declared.halt.Halt.TheVariants as halt
-use Rattle.dbl_capture_work.specs.Begins.{AreInfosAt, CanBeCaptured, IsAbsentHalt, IsExhausted, IsFaultOf, IsFirstOffsetAtHead, IsModelFault}
+use Rattle.dbl_capture_work.specs.Begins.{AreInfosAt, CanBeCaptured, CouldBeCaptured, IsAbsentHalt, IsExhausted, IsFaultOf, IsFirstOffsetAtHead, IsModelFault}
 use Rattle.dbl_capture_work.proofs.Describing.{captured_named, moved_none}
 use Rattle.dbl_capture_laws.specs.Musts.{CapturesAll}
-use Rattle.dbl_capture_laws.specs.Captured.{CapturesOrHalts, IsTableHalt, MustHaltAbsent, PassesState}
+use Rattle.dbl_capture_laws.specs.Captured.{CapturedOrHalts, CapturesOrHalts, IsTableHalt, MustHaltAbsent, PassesState}
 use Rattle.dbl_capture_laws.specs.Found.{IsFirstIn}
 use Rattle.dbl_capture_laws.proofs.Beginnings.{first_offset}
 
@@ -40,6 +40,10 @@ again_table old h none (inr exhausted) = absurd (subst (λ (o : Option Offset). 
 
 -- ---- what is captured
 
+pub captured_all : {A : Type 0} (config : Config) (history : History) (from : ℕ) (r : Result A Halt) → AllByRecursion (CouldBeCaptured history from) config.tables → CapturedOrHalts config history from r
+captured_all config history from (Ok answer) all = all
+captured_all config history from (Err h) all = inl all
+
 module _ (config : Config) (history : History) where
   abbrev Captured : Type 0
   Captured = AllByRecursion (CanBeCaptured history) config.tables
@@ -47,10 +51,6 @@ module _ (config : Config) (history : History) where
   pub captures_ok : {A : Type 0} (r : Result A Halt) (P : A → Type 0) → IfOk r P → ((answer : A) → P answer → Captured) → IfErr r IsTableHalt → CapturesOrHalts config history r
   captures_ok (Ok answer) P is all halts = all answer is
   captures_ok (Err h) P is all halts = inr halts
-
-  pub captures_all : {A : Type 0} (r : Result A Halt) → Captured → CapturesOrHalts config history r
-  captures_all (Ok answer) all = all
-  captures_all (Err h) all = inl all
 
   pub captures_same : (old new : Option Offset) → new ≡ old → CapturesAll config old new history
   captures_same old new same none stored = let wrong : None ≡ Some stored.offset = sym (same ∙ none) ∙ stored.is in cc
@@ -104,13 +104,14 @@ passed_so source_model src new_src s P Q p so =
 pub found_in : {S : Type 0} (source_model : SourceModel S) (src new_src : S) (config : Config) (offset : Offset) (s : SourceState) → ((a b : SourceState) → source_model.stands new_src a → source_model.stands new_src b → a ≡ b) → ((t : SourceState) → source_model.stands new_src t → IsRising t.history)
     → source_model.comes_of src new_src → source_model.comes_of new_src new_src
     → HasState source_model.stands new_src (λ t. Moved s t × ((infos : List TableInfo) × (head : Lsn) × IsFirstOffsetAtHead config infos head offset × (map (λ info. info.name) infos ≡ config.tables) × IsHead head s t))
-    → HasState source_model.stands new_src (λ t. AreInfosAt t.history offset.infos offset.versions)
-    → PassesState source_model src new_src s (λ t. AllByRecursion (CanBeCaptured t.history) config.tables × IsFirstIn config s.history t.history offset)
+    → HasState source_model.stands new_src (λ t. AreInfosAt t.history (length s.history.commits) offset.infos offset.versions)
+    → PassesState source_model src new_src s (λ t. AllByRecursion (CouldBeCaptured t.history (length s.history.commits)) config.tables × IsFirstIn config s.history t.history offset)
 found_in source_model src new_src config offset s one rising comes self first said =
     let t = first.standing in
     let is = first.holds.1.2 in
     let names : map (λ (info : TableInfo). info.name) offset.infos ≡ config.tables = ap (map (λ (info : TableInfo). info.name)) is.infos_are ∙ first.holds.1.3 in
-    let described : AreInfosAt t.history offset.infos offset.versions = subst (λ (x : SourceState). AreInfosAt x.history offset.infos offset.versions) (one said.standing t said.is first.is) said.holds in
+    let since : ℕ = length s.history.commits in
+    let described : AreInfosAt t.history since offset.infos offset.versions = subst (λ (x : SourceState). AreInfosAt x.history since offset.infos offset.versions) (one said.standing t said.is first.is) said.holds in
     record {
       passed = new_src;
       standing = t;
@@ -120,7 +121,7 @@ found_in source_model src new_src config offset s one rising comes self first sa
       extended = self;
       honest = λ honest. honest;
       holds = (
-        subst (AllByRecursion (CanBeCaptured t.history)) names (captured_named t.history offset.infos offset.versions described),
+        subst (AllByRecursion (CouldBeCaptured t.history since)) names (captured_named t.history since offset.infos offset.versions described),
         record { infos = described; is = first_offset config first.holds.1.0 first.holds.1.1 offset s t first.holds.0.grows (rising t first.is) is first.holds.1.3 first.holds.1.4 },
       );
     }

@@ -169,8 +169,8 @@ later_at_head config history first later of f = record {
   later = f.later;
   grown = f.grown;
   infos = subst (AreInfosOf f.later) (sym of.infos) f.infos;
-  described = subst (λ (l : List TableInfo). AreInfosAt f.later l later.versions) (sym of.infos)
-      (subst (λ (l : List ℕ). AreInfosAt f.later first.infos l) (sym of.versions) f.described);
+  described = subst (λ (l : List TableInfo). AreInfosAt f.later (length history.commits) l later.versions) (sym of.infos)
+      (subst (λ (l : List ℕ). AreInfosAt f.later (length history.commits) first.infos l) (sym of.versions) f.described);
   is = record {
     identity = of.identity ∙ f.is.identity;
     tables = ap (map (λ (info : TableInfo). info.name)) of.infos ∙ f.is.tables;
@@ -185,8 +185,8 @@ first_in_stored config history later old new first was is own =
     let of = own.of in
     let f : IsFirstIn config history later first = subst (λ (o : Option Offset). IfSome o (IsFirstIn config history later)) was is in
     subst (λ (o : Option Offset). IfSome o (IsFirstIn config history later)) (sym own.is) (record {
-      infos = subst (λ (l : List TableInfo). AreInfosAt later l own.offset.versions) (sym of.infos)
-          (subst (λ (l : List ℕ). AreInfosAt later first.infos l) (sym of.versions) f.infos);
+      infos = subst (λ (l : List TableInfo). AreInfosAt later (length history.commits) l own.offset.versions) (sym of.infos)
+          (subst (λ (l : List ℕ). AreInfosAt later (length history.commits) first.infos l) (sym of.versions) f.infos);
       is = record {
         identity = of.identity ∙ f.is.identity;
         tables = ap (map (λ (info : TableInfo). info.name)) of.infos ∙ f.is.tables;

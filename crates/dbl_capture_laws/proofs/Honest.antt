@@ -39,7 +39,7 @@ each_captured : (history : History) (infos : List TableInfo) → AllByRecursion 
 each_captured history [] all = tt
 each_captured history (info ∷ infos) all =
     let at = some_and (entry_of history info.name) (λ (raw : RawTable). IsInfoOf raw info) all.0 in
-    (record { raw = at.0; entry = record { place = 0; not_after = omega arith; is = first_entry history info.name ∙ at.1 }; clean = subst (λ (r : RawTable). table_fault r ≡ None) at.2 (no_fault info) }, each_captured history infos all.1)
+    (record { raw = at.0; entry = record { place = 0; not_before = omega arith; not_after = omega arith; is = first_entry history info.name ∙ at.1 }; clean = subst (λ (r : RawTable). table_fault r ≡ None) at.2 (no_fault info) }, each_captured history infos all.1)
 
 pub captured_tables_can_be_captured : CapturedTablesCanBeCaptured
 captured_tables_can_be_captured history names infos are captured = subst (AllByRecursion (CanBeCaptured history)) are (each_captured history infos captured.each)

@@ -1,5 +1,5 @@
 -- What a session finds, and what it is configured for.
-use Rattle.std.specs.Prelude.{◌≡◌, ℕ, ℤ, ◌==◌, ◌+◌, if◌then◌else◌, Option, Some, None, Bool, IsTrue, List, [], map, ◌⊎◌, ◌≤◌}
+use Rattle.std.specs.Prelude.{◌≡◌, ℕ, ℤ, ◌==◌, ◌+◌, if◌then◌else◌, Option, Some, None, Bool, IsTrue, List, [], length, map, ◌⊎◌, ◌≤◌}
 use Rattle.dbl_record.specs.declared.record.Record.{Record}
 use Rattle.dbl_model_table.specs.declared.config.Config.{Config}
 use Rattle.dbl_topic.specs.Model.{SinkModel}
@@ -105,19 +105,19 @@ HasConfirmed found None t = Unit {0}
 HasConfirmed None (Some stored) t = (stored.lsn.0 ≤ t.confirmed.0) ⊎ (stored.lsn ≡ stored.start)
 HasConfirmed (Some old) (Some stored) t = (stored.lsn.0 ≤ t.confirmed.0) ⊎ (stored.lsn ≡ old.lsn)
 
--- A first offset of the configured tables, as the catalogue of some later state of the source has them, each with its version at one time,
--- that starts at a position of that state, not below any commit of the history.
+-- A first offset of the configured tables, as the catalogue of some later state of the source has them, each with its version at one time
+-- since this history, that starts at a position of that state, not below any commit of the history.
 pub record IsFirstAtHead (config : Config) (history : History) (offset : Offset) : Type 0 where
   pub later : History
   pub grown : Grows history later
   pub infos : AreInfosOf later offset.infos
-  pub described : AreInfosAt later offset.infos offset.versions
+  pub described : AreInfosAt later (length history.commits) offset.infos offset.versions
   pub is : IsFirstOffset config history later offset
 
--- A first offset of the configured tables, as the catalogue of a later history had them, each with its version at one time, that starts at
--- a position of that history, not below any commit of this one.
+-- A first offset of the configured tables, as the catalogue of a later history had them, each with its version at one time since this
+-- history, that starts at a position of that history, not below any commit of this one.
 pub record IsFirstIn (config : Config) (history later : History) (offset : Offset) : Type 0 where
-  pub infos : AreInfosAt later offset.infos offset.versions
+  pub infos : AreInfosAt later (length history.commits) offset.infos offset.versions
   pub is : IsFirstOffset config history later offset
 
 -- A first offset that is stored is one at the head of the log.

@@ -1,5 +1,6 @@
 -- What opening a session keeps, and with what it begins.
-use Rattle.std.specs.Prelude.{◌≡◌, ◌≢◌, ◌⊎◌, ℕ, ℤ, Option, Some, None, Result, Err, Bool, true, List, [], IfErr, IfOk, IsTrue, OnErr, OnOk}
+use Rattle.std.specs.Prelude.{◌≡◌, ◌≢◌, ◌⊎◌, ℕ, ℤ, Option, Some, None, Result, Err, Bool, true, List, [], length}
+use Rattle.std.specs.Prelude.{IfErr, IfOk, IsTrue, OnErr, OnOk}
 use Rattle.dbl_base.specs.declared.lsn.Lsn.{Lsn}
 use Rattle.dbl_disk.specs.Model.{DiskModel}
 use Rattle.dbl_record.specs.declared.record.Record.{Record}
@@ -23,7 +24,7 @@ use Rattle.dbl_capture_work.specs.declared.halt.Halt.TheVariants as halt
 use Rattle.dbl_capture_work.specs.declared.report.Report.{Report}
 use Rattle.dbl_capture_work.specs.declared.work.SessionState.{SessionState}
 use Rattle.dbl_capture_laws.specs.Awaited.{Awaits, HasPositionInLog, IsWithinLog}
-use Rattle.dbl_capture_laws.specs.Captured.{CapturesOrHalts, FindsTables, PassesState}
+use Rattle.dbl_capture_laws.specs.Captured.{CapturedOrHalts, CapturesOrHalts, FindsTables, PassesState}
 use Rattle.dbl_capture_laws.specs.Caused.{AsksUnread, Halts, IsNotGone}
 use Rattle.dbl_capture_laws.specs.Ends.{IsAtPosition, CacheMatchesDisk}
 use Rattle.dbl_capture_laws.specs.Found.{BeganAt, BeginsAt, HasStored, IsFirstAtHead, IsFirstIn, IsFirstStored, IsFound, position_of}
@@ -60,7 +61,7 @@ pub record FindsByState {S D : Type 0} (source_model : SourceModel S) (config : 
   pub absent : (s : SourceState) → source_model.stands src s
       → IfErr result (IsAbsentAfter (source_model.stands new_src) s config.tables)
   pub described : (s : SourceState) → source_model.stands src s → store.offset ≡ None → PassesState source_model src new_src s (λ t.
-      CapturesOrHalts config t.history result × IfOk result (IsFirstIn config s.history t.history))
+      CapturedOrHalts config t.history (length s.history.commits) result × IfOk result (IsFirstIn config s.history t.history))
   pub captures : (s : SourceState) → source_model.stands src s → source_model.honest new_src → store.offset ≡ None
       → CapturesOrHalts config s.history result
   pub within : (s : SourceState) → source_model.stands src s → IsWithinLog s.history store.offset

@@ -135,8 +135,8 @@ pub record HaltsByTrace {S D : Type 0} (source_model : SourceModel S) (config : 
   pub halt : IfErr result (IsHalt config now store.offset new_store.offset new_report (source_model.told new_src))
 
 -- The cause of each error, by the source's state and catalogue, and the errors that they require. A table's error, and the tables that a
--- first session finds, are by the catalogue at one time up to a state that the session passed; over a conforming source, which alters no
--- table, by that at the call.
+-- first session finds, are by the catalogue at one time between its call and a state that it passed; over a conforming source, which alters
+-- no table, by that at the call.
 pub record HaltsByState {S D : Type 0} (source_model : SourceModel S) (config : Config) (now : ℤ) (src new_src : S)
     (store new_store : StoreOn D) (new_report : Report) (result : Result Ending Halt) : Type 0 where
   pub halt_stood : (s : SourceState) → source_model.stands src s

@@ -1,4 +1,4 @@
-use Rattle.std.proofs.Common.{◌≡◌, ◌∙◌, arith, inl, inr, ℤ, true, false, Some, None, [], Result, Ok, Err, refl, sym, ap, subst, le_refl}
+use Rattle.std.proofs.Common.{◌≡◌, ◌∙◌, arith, inl, inr, ℤ, true, false, Some, None, [], Result, Ok, Err, length, refl, sym, ap, subst, le_refl}
 use Rattle.std.specs.Prelude.{IfErr, OnOk}
 use Rattle.std.proofs.Math.Facts.{to_z-of_z}
 use Rattle.dbl_model_history.specs.Ranges.{IsMomentInRange}
@@ -49,8 +49,8 @@ use Rattle.dbl_capture_laws.proofs.Asking.{ok_pair, quiet_asks}
 use Rattle.dbl_capture_laws.specs.Owned.{IsLongBy}
 use Rattle.dbl_capture_laws.specs.Nevers.{IsFaithfulHalt}
 use Rattle.dbl_capture_laws.proofs.Owning.{had_of, none_some}
-use Rattle.dbl_capture_laws.specs.Captured.{CapturesOrHalts}
-use Rattle.dbl_capture_laws.proofs.Captured.{captures_all, captures_by, must_absent, must_captured, passed_on, passed_so}
+use Rattle.dbl_capture_laws.specs.Captured.{CapturedOrHalts, CapturesOrHalts}
+use Rattle.dbl_capture_laws.proofs.Captured.{captured_all, captures_by, must_absent, must_captured, passed_on, passed_so}
 use Rattle.dbl_capture_laws.specs.HasState.{IsGoneBelow, IsHaltStanding}
 use Rattle.dbl_capture_laws.proofs.Going.{free_below}
 use Rattle.dbl_capture_laws.proofs.Advancing.{advances_by, advances_or_first, brought_rest, longer_left}
@@ -297,7 +297,7 @@ returns-in_err-work-clause-halt_by_state g c = record {
   halt_stood = λ s was. residual_of c.from_residual.result _ (IsHaltStanding c.args.config.now c.args.now_ms c.args.offsets.now.offset c.open_session.new.store.offset c.open_session.new.report (g.S.Source.stands c.open_session.new.src)) c.from_residual.ensures.1 ((subst (λ (n : ℤ). Halts g.S.Source (Some s) (g.S.Source.told c.args.src.now) c.args.config.now n c.args.offsets.now.offset c.open_session.new.store.offset c.open_session.new.report c.open_session.new.src c.in_err-work.field-0.0) (to_z-of_z c.ranges.now_ms) (c.in_err-work.ensures.report.halted (Some s) (at_some g.S.Source.stands c.args.src.now s was) (refl, refl, refl))).stood s refl);
   absent = λ s is. residual_of c.from_residual.result _ (IsAbsentAfter (g.S.Source.stands c.open_session.new.src) s c.args.config.now.tables) c.from_residual.ensures.1 (c.in_err-work.ensures.by_state.absent s is);
   described = λ s is none. passed_so g.S.Source c.args.src.now c.open_session.new.src s _ _ (c.in_err-work.ensures.by_state.described s is none) (λ t found. record {
-    captures = residual_as c.from_residual.result _ (CapturesOrHalts c.args.config.now t.history) c.from_residual.ensures.1 found.captures;
+    captures = residual_as c.from_residual.result _ (CapturedOrHalts c.args.config.now t.history (length s.history.commits)) c.from_residual.ensures.1 found.captures;
     first = found.first;
   });
   captures = λ s is honest. c.open_session.ensures.by_state.captured s is honest;
@@ -382,7 +382,7 @@ returns-clause-halt_by_state g c = record {
       let b = c.in_ok-work.ensures.state.begun in
       passed_on g.S.Source c.args.src.now c.open_session.new.src c.process_messages.new.src s _ _ g.met.S.Source.comes_on c.process_messages.ensures.source.comes c.process_messages.ensures.source.honest (c.in_ok-work.ensures.by_state.described s is none)
       (λ t found. record {
-        captures = captures_all c.args.config.now t.history c.process_messages.result found.captures;
+        captures = captured_all c.args.config.now t.history (length s.history.commits) c.process_messages.result found.captures;
         first = first_in_stored c.args.config.now s.history t.history c.open_session.new.store.offset c.process_messages.new.store.offset b.0 b.1 found.first
             (subst (λ (o : Offset). HasOwnStored o c.process_messages.new.store.offset) b.2.offset_is (c.process_messages.ensures.state.stored (subst (λ (o : Offset). HasOwnStored o c.open_session.new.store.offset) (sym b.2.offset_is) (own_first b.0 c.open_session.new.store.offset b.1))));
       });

@@ -1,4 +1,4 @@
-use Rattle.std.proofs.Common.{◌≡◌, ◌∙◌, ◌⊎◌, inl, inr, Option, Some, refl, sym, subst, le_refl, rules}
+use Rattle.std.proofs.Common.{◌≡◌, ◌∙◌, ◌⊎◌, inl, inr, Option, Some, length, refl, sym, subst, le_refl, rules}
 use Rattle.std.specs.Prelude.{IfSome}
 use Rattle.dbl_model_history.specs.Fit.{IsFitHistory}
 use Rattle.dbl_source.specs.SourceModel.Standings.{left_of}
@@ -23,7 +23,7 @@ use Rattle.dbl_capture_work.specs.Begins.{IsTooLong}
 use Rattle.dbl_capture_laws.specs.Owned.{IsFirstByCatalogue, IsLongBy}
 use Rattle.dbl_capture_laws.specs.Nevers.{IsFaithfulHalt}
 use Rattle.dbl_capture_laws.proofs.Owning.{first_long, first_own, free_long, free_own, had_of}
-use Rattle.dbl_capture_laws.specs.Captured.{CapturesOrHalts}
+use Rattle.dbl_capture_laws.specs.Captured.{CapturedOrHalts, CapturesOrHalts}
 use Rattle.dbl_capture_laws.proofs.Telling.{residual_as}
 use Rattle.dbl_capture_laws.proofs.Captured.{captures_by, captures_same, passed_so}
 use Rattle.dbl_capture_laws.specs.Found.{IsFirstIn}
@@ -190,7 +190,7 @@ returns-in_err-offset-clause-by_state g c = record {
   stood = search rules;
   absent = λ s is. residual_of c.from_residual.result _ (IsAbsentAfter (g.S.Source.stands c.offset_of.new.src) s c.args.config.now.tables) c.from_residual.ensures.1 (c.in_err-offset.ensures.by_state.absent s is);
   described = λ s is none. passed_so g.S.Source c.args.src.now c.offset_of.new.src s _ _ (c.in_err-offset.ensures.by_state.described s is none) (λ t found. record {
-    captures = residual_as c.from_residual.result _ (CapturesOrHalts c.args.config.now t.history) c.from_residual.ensures.1 found.0;
+    captures = residual_as c.from_residual.result _ (CapturedOrHalts c.args.config.now t.history (length s.history.commits)) c.from_residual.ensures.1 found.0;
     first = subst (λ (o : Option Offset). IfSome o (IsFirstIn c.args.config.now s.history t.history)) (sym none) tt;
   });
   captures = λ s is honest none. residual_as c.from_residual.result _ (CapturesOrHalts c.args.config.now s.history) c.from_residual.ensures.1 (c.in_err-offset.ensures.by_state.captures s is honest none);
@@ -211,7 +211,7 @@ returns-in_err-stored-clause-by_state g c = record {
   stood = search rules;
   absent = λ s is. residual_of c.from_residual-in_err-stored.result halt.Memory (IsAbsentAfter (g.S.Source.stands c.offset_of.new.src) s c.args.config.now.tables) c.from_residual-in_err-stored.ensures.1 (memory_absent (g.S.Source.stands c.offset_of.new.src) s c.args.config.now.tables halt.Memory refl);
   described = λ s is none. passed_so g.S.Source c.args.src.now c.offset_of.new.src s _ _ (c.in_ok-offset.ensures.by_state.described s is none) (λ t found. record {
-    captures = residual_as c.from_residual-in_err-stored.result halt.Memory (CapturesOrHalts c.args.config.now t.history) c.from_residual-in_err-stored.ensures.1 (inl found.0);
+    captures = residual_as c.from_residual-in_err-stored.result halt.Memory (CapturedOrHalts c.args.config.now t.history (length s.history.commits)) c.from_residual-in_err-stored.ensures.1 (inl found.0);
     first = subst (λ (o : Option Offset). IfSome o (IsFirstIn c.args.config.now s.history t.history)) (sym none) tt;
   });
   captures = λ s is honest none. residual_as c.from_residual-in_err-stored.result halt.Memory (CapturesOrHalts c.args.config.now s.history) c.from_residual-in_err-stored.ensures.1 (inr tt);
@@ -232,7 +232,7 @@ returns-in_err-put_offset-clause-by_state g c = record {
   stood = search rules;
   absent = λ s is. residual_of c.from_residual-in_err-put_offset.result _ (IsAbsentAfter (g.S.Source.stands c.offset_of.new.src) s c.args.config.now.tables) c.from_residual-in_err-put_offset.ensures.1 (store_absent (g.S.Source.stands c.offset_of.new.src) s c.args.config.now.tables _ _ c.in_err-put_offset.ensures.halt);
   described = λ s is none. passed_so g.S.Source c.args.src.now c.offset_of.new.src s _ _ (c.in_ok-offset.ensures.by_state.described s is none) (λ t found. record {
-    captures = residual_as c.from_residual-in_err-put_offset.result _ (CapturesOrHalts c.args.config.now t.history) c.from_residual-in_err-put_offset.ensures.1 (inl found.0);
+    captures = residual_as c.from_residual-in_err-put_offset.result _ (CapturedOrHalts c.args.config.now t.history (length s.history.commits)) c.from_residual-in_err-put_offset.ensures.1 (inl found.0);
     first = subst (λ (o : Option Offset). IfSome o (IsFirstIn c.args.config.now s.history t.history)) (sym (c.in_err-put_offset.ensures.keeps ∙ none)) tt;
   });
   captures = λ s is honest none.

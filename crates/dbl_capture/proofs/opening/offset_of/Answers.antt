@@ -1,4 +1,4 @@
-use Rattle.std.proofs.Common.{◌∙◌, inl, inr, Some, Option, refl, sym, ap, subst, arith, rules}
+use Rattle.std.proofs.Common.{◌∙◌, inl, inr, Some, Option, length, refl, sym, ap, subst, arith, rules}
 use Rattle.std.specs.Prelude.{IfOk}
 use Rattle.dbl_source.proofs.SourceModelGrowthLemmas.{grows_none}
 use Rattle.dbl_source.specs.SourceModel.Standings.{SourceState, left_of}
@@ -18,7 +18,7 @@ use Rattle.dbl_capture_laws.proofs.Asking.{again_asks, again_found, first_asks}
 use Rattle.dbl_capture_laws.specs.Owned.{IsContentFree}
 use Rattle.dbl_capture_laws.proofs.Owning.{again_free, first_by_catalogue, first_free}
 use Rattle.dbl_capture_work.proofs.WindowHonestLemmas.{captured_stays}
-use Rattle.dbl_capture_laws.specs.Captured.{CapturesOrHalts, IsTableHalt, PassesState}
+use Rattle.dbl_capture_laws.specs.Captured.{CapturedOrHalts, CapturesOrHalts, IsTableHalt, PassesState}
 use Rattle.dbl_capture_laws.specs.Found.{IsFirstIn}
 use Rattle.dbl_capture_laws.proofs.Telling.{residual_as}
 use Rattle.dbl_capture_laws.proofs.Honest.{captured_tables_can_be_captured}
@@ -170,7 +170,7 @@ returns-in-None-clause-by_state g c = record {
   absent = λ s is. c.first_offset.ensures.absent s is;
   described = λ s is none.
       result_as c.first_offset.result _ IsTableHalt
-      (λ r. PassesState g.S.Source c.args.src.now c.first_offset.new.src s (λ t. CapturesOrHalts c.args.config.now t.history r × IfOk r (IsFirstIn c.args.config.now s.history t.history)))
+      (λ r. PassesState g.S.Source c.args.src.now c.first_offset.new.src s (λ t. CapturedOrHalts c.args.config.now t.history (length s.history.commits) r × IfOk r (IsFirstIn c.args.config.now s.history t.history)))
       (answer_both c.first_offset.result _ _ (c.first_offset.ensures.first s is) (c.first_offset.ensures.described s is))
       (err_then c.first_offset.result _ IsTableHalt c.first_offset.ensures.fault (λ h fault. first_table _ _ h fault))
       (λ offset both. found_in g.S.Source c.args.src.now c.first_offset.new.src c.args.config.now offset s (g.met.S.Source.one _) (g.met.S.Source.rising _) c.first_offset.ensures.source.comes (g.met.S.Source.comes_self _) both.0 both.1)
@@ -206,7 +206,7 @@ returns-in_err-offset-clause-by_state g c = record {
   absent = λ s is. residual_of c.from_residual.result _ (IsAbsentAfter (g.S.Source.stands c.args.src.now) s c.args.config.now.tables) c.from_residual.ensures.1 (again_absent (g.S.Source.stands c.args.src.now) s c.args.config.now.tables c.args.store.now.offset _ c.in_err-offset.ensures.halt);
   described = λ s is none.
       passes_here g.S.Source c.args.src.now c.args.src.now s _ is (g.met.S.Source.rising _ s is) (g.met.S.Source.comes_self _) (g.met.S.Source.comes_self _) (λ honest. honest) (
-        residual_as c.from_residual.result _ (CapturesOrHalts c.args.config.now s.history) c.from_residual.ensures.1 (inr (again_table c.args.store.now.offset _ none c.in_err-offset.ensures.halt)),
+        residual_as c.from_residual.result _ (CapturedOrHalts c.args.config.now s.history (length s.history.commits)) c.from_residual.ensures.1 (inr (again_table c.args.store.now.offset _ none c.in_err-offset.ensures.halt)),
         no_answer c.from_residual.result _ _ c.from_residual.ensures.1,
       );
   captures = λ s is honest none.

@@ -1,4 +1,4 @@
-use Rattle.std.proofs.Common.{◌≡◌, ◌∙◌, ◌≤◌, ◌<◌, ◌^◌, inl, inr, ℕ, ℤ, Option, None, Some, Err, refl, sym, ap, subst, arith}
+use Rattle.std.proofs.Common.{◌≡◌, ◌∙◌, ◌≤◌, ◌<◌, ◌^◌, inl, inr, ℕ, ℤ, Option, None, Some, Err, length, refl, sym, ap, subst, arith}
 use Rattle.std.proofs.Math.Facts.{to_z-of_z}
 use Rattle.dbl_model_table.specs.declared.config.Config.{Config}
 use Rattle.dbl_model_history.specs.Fit.{IsFitHistory}
@@ -38,9 +38,9 @@ use Rattle.dbl_capture_laws.specs.Owned.{IsLongBy}
 use Rattle.dbl_capture_laws.specs.Nevers.{IsFaithfulHalt}
 use Rattle.dbl_capture_laws.proofs.Owning.{free_long, free_own, memory_free, start_free}
 use Rattle.dbl_capture_laws.proofs.HasState.{begin_stood, memory_stood, start_stood}
-use Rattle.dbl_capture_laws.specs.Captured.{CapturesOrHalts}
+use Rattle.dbl_capture_laws.specs.Captured.{CapturedOrHalts, CapturesOrHalts}
 use Rattle.dbl_capture_laws.proofs.Telling.{residual_as}
-use Rattle.dbl_capture_laws.proofs.Captured.{captures_all, passed_on, passed_so}
+use Rattle.dbl_capture_laws.proofs.Captured.{captured_all, passed_on, passed_so}
 use Rattle.dbl_capture_work.specs.Follow.Followed.{Following}
 use Rattle.dbl_capture_laws.proofs.Awaited.{awaits_first}
 use Rattle.dbl_capture_laws.proofs.Excluding.{no_answer, no_ok}
@@ -258,7 +258,7 @@ pub returns-in_err-offset-clause-by_state : goal.returns-in_err-offset-clause-by
 returns-in_err-offset-clause-by_state g c = record {
   absent = λ s is. residual_of c.from_residual.result _ (IsAbsentAfter (g.S.Source.stands c.begin_session.new.src) s c.args.config.now.tables) c.from_residual.ensures.1 (c.in_err-offset.ensures.by_state.absent s is);
   described = λ s is none. passed_so g.S.Source c.args.src.now c.begin_session.new.src s _ _ (c.in_err-offset.ensures.by_state.described s is none) (λ t found. record {
-    captures = residual_as c.from_residual.result _ (CapturesOrHalts c.args.config.now t.history) c.from_residual.ensures.1 found.captures;
+    captures = residual_as c.from_residual.result _ (CapturedOrHalts c.args.config.now t.history (length s.history.commits)) c.from_residual.ensures.1 found.captures;
     first = found.first;
   });
   captures = λ s is honest none. residual_as c.from_residual.result _ (CapturesOrHalts c.args.config.now s.history) c.from_residual.ensures.1 (c.in_err-offset.ensures.by_state.captures s is honest none);
@@ -276,7 +276,7 @@ pub returns-in_err-start_reading-clause-by_state : goal.returns-in_err-start_rea
 returns-in_err-start_reading-clause-by_state g c = record {
   absent = λ s is. residual_of c.from_residual-in_err-start_reading.result _ (IsAbsentAfter (g.S.Source.stands c.start_reading.new.src) s c.args.config.now.tables) c.from_residual-in_err-start_reading.ensures.1 (start_absent (g.S.Source.stands c.start_reading.new.src) s c.args.config.now.tables _ _ c.in_err-start_reading.ensures.halt);
   described = λ s is none. passed_on g.S.Source c.args.src.now c.begin_session.new.src c.start_reading.new.src s _ _ g.met.S.Source.comes_on c.start_reading.ensures.source.comes c.start_reading.ensures.source.honest (c.in_ok-offset.ensures.by_state.described s is none) (λ t found. record {
-    captures = residual_as c.from_residual-in_err-start_reading.result _ (CapturesOrHalts c.args.config.now t.history) c.from_residual-in_err-start_reading.ensures.1 (inl found.captures);
+    captures = residual_as c.from_residual-in_err-start_reading.result _ (CapturedOrHalts c.args.config.now t.history (length s.history.commits)) c.from_residual-in_err-start_reading.ensures.1 (inl found.captures);
     first = found.first;
   });
   captures = λ s is honest none.
@@ -304,10 +304,10 @@ pub returns-clause-by_state : goal.returns-clause-by_state
 returns-clause-by_state g c = record {
   absent = λ s is. err_then c.make.result _ (IsAbsentAfter (g.S.Source.stands c.start_reading.new.src) s c.args.config.now.tables) c.make.ensures.memory (λ h memory. memory_absent (g.S.Source.stands c.start_reading.new.src) s c.args.config.now.tables h memory);
   described = λ s is none. passed_on g.S.Source c.args.src.now c.begin_session.new.src c.start_reading.new.src s _ _ g.met.S.Source.comes_on c.start_reading.ensures.source.comes c.start_reading.ensures.source.honest (c.in_ok-offset.ensures.by_state.described s is none) (λ t found. record {
-    captures = captures_all c.args.config.now t.history c.make.result found.captures;
+    captures = captured_all c.args.config.now t.history (length s.history.commits) c.make.result found.captures;
     first = found.first;
   });
-  captures = λ s is honest none. captures_all c.args.config.now s.history c.make.result (c.in_ok-offset.ensures.by_state.captures s is (c.start_reading.ensures.source.honest honest) none);
+  captures = λ s is honest none. captured_all c.args.config.now s.history 0 c.make.result (c.in_ok-offset.ensures.by_state.captures s is (c.start_reading.ensures.source.honest honest) none);
   captured = λ s is honest. c.begin_session.ensures.by_state.captured s is (c.start_reading.ensures.source.honest honest);
   firsts = λ s is honest.
       first_stored c.args.config.now s.history c.args.store.now.offset c.begin_session.new.store.offset c.in_ok-offset.offset (λ none. c.in_ok-offset.ensures.by_state.first s is (c.start_reading.ensures.source.honest honest) none) (own_first c.in_ok-offset.offset c.begin_session.new.store.offset c.in_ok-offset.ensures.state.loads);

@@ -5,6 +5,7 @@ use Rattle.std.specs.List.{AllByRecursion, AllZip}
 use Rattle.dbl_record.specs.Places.{Place}
 use Rattle.dbl_base.specs.declared.lsn.Lsn.{Lsn}
 use Rattle.dbl_record.specs.declared.record.Record.{Record}
+use Rattle.dbl_model_table.specs.declared.identity.Identity.{Identity}
 use Rattle.dbl_model_table.specs.declared.row.Key.{Key}
 use Rattle.dbl_model_table.specs.declared.table.RawTable.{RawTable}
 use Rattle.dbl_model_table.specs.declared.table.TableInfo.{TableInfo}

@@ -1,6 +1,7 @@
 -- How far the closed windows of a session have advanced the stored cursors.
-use Rattle.std.proofs.Common.{◌≡◌, ◌∙◌, ◌⊎◌, inl, inr, ◌+◌, ◌*◌, ◌≤◌, ℕ, Bool, true, false, Option, Some, None, List, [], ◌++◌, length, refl, sym, ap, subst, arith, append-nil, append_assoc}
+use Rattle.std.proofs.Common.{◌≡◌, ◌∙◌, ◌⊎◌, inl, inr, ◌+◌, ◌*◌, ◌≤◌, ℕ, Bool, true, false, Option, Some, None, List, [], ◌∷◌, ◌++◌, length, refl, sym, ap, subst, arith, append-nil, append_assoc}
 use Rattle.std.specs.Prelude.{Result, Ok, Err, OnErr}
+use Rattle.std.specs.List.{AllZip}
 use Rattle.dbl_pgmsg.specs.declared.messages.Message.{Message}
 use Rattle.dbl_topic.specs.Model.{SinkModel}
 use Rattle.dbl_model_table.specs.declared.config.Config.{Config}
@@ -20,7 +21,7 @@ use Rattle.dbl_capture_work.specs.CaptureModel.Entries.{SessionStart}
 use Rattle.dbl_capture_work.specs.Follow.Followed.{Following}
 use Rattle.dbl_capture_work.proofs.CaptureModelArming.{long_on, rows_on}
 use Rattle.dbl_capture_work.proofs.CaptureModelCounts.{come_stays}
-use Rattle.dbl_capture_work.proofs.FaithfulOnward.{cursors_stay}
+use Rattle.dbl_capture_work.specs.Faithful.Onward.{IsLaterCursor}
 use Rattle.dbl_capture_work.specs.Begins.{IsOffsetFor}
 use Rattle.dbl_capture_work.specs.declared.halt.Halt.{Halt}
 use Rattle.dbl_capture_work.specs.declared.report.Report.{Report}
@@ -112,6 +113,10 @@ begun_with : (config : Config) (found : Option Offset) (offset : Offset) → IsO
 begun_with config None offset for = for.5.each
 begun_with config (Some old) offset for = ap (λ (o : Offset). o.cursors) for
 
+same_cursors : (cursors : List Cursor) → AllZip IsLaterCursor cursors cursors
+same_cursors [] = tt
+same_cursors (cursor ∷ cursors) = (record { last = λ key up_to. up_to; done = λ is. is }, same_cursors cursors)
+
 -- no window advanced the cursors of the first offset
 pub advances_first : (config : Config) (found : Option Offset) (offset : Offset) (stored : Option Offset) (chunks : ℕ) (history : History) → IsOffsetFor config found offset → stored ≡ Some offset
     → AdvancesAtMost config.chunk chunks history found stored
@@ -133,7 +138,7 @@ advances_first config found offset stored chunks history for is = inr (
       were = tt;
       unread = tt;
       apart = record { apart = λ i j pair one two. (let wrong : ⊥ = cc in absurd wrong) };
-      later = cursors_stay offset.cursors;
+      later = same_cursors offset.cursors;
     };
   },
 )

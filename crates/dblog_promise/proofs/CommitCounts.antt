@@ -1,5 +1,5 @@
 -- Messages that were read state the commits of the history after where reading began, up to the LSN of the last of them.
-use Rattle.std.proofs.Common.{◌≡◌, ◌∙◌, ◌⊎◌, inl, inr, ℕ, suc, ◌<◌, ◌≤◌, Bool, true, false, cond, Option, Some, None, List, [], ◌∷◌, ◌++◌, length, map, filter, refl, sym, ap, subst, arith, append_assoc}
+use Rattle.std.proofs.Common.{◌≡◌, ◌∙◌, ◌⊎◌, inl, inr, ℕ, suc, ◌<◌, ◌≤◌, Bool, true, false, cond, Option, Some, None, List, [], ◌∷◌, ◌++◌, length, map, filter, refl, sym, ap, subst, arith, append_assoc, le_refl}
 use Rattle.std.specs.Prelude.{◌&&◌, is_some, nat_lt, nat_le, option_map}
 use Rattle.std.specs.List.{AllByRecursion}
 use Rattle.std.proofs.lemmas.Bool.{cases_lt}
@@ -16,8 +16,36 @@ use Rattle.dbl_model_commit.specs.Blocks.{AreWithoutFault}
 use Rattle.dbl_model_commit.specs.Past.{Head, begin_of, last_lsn, open_mark}
 use Rattle.dbl_model_commit.specs.Stated.{commit_of, commits_of, ended_commit, first_of, list_of, mismatch, open_changes, place_fault}
 use Rattle.dbl_source.specs.SourceModel.Stated.{ReadsRight, to_state}
-use Rattle.dbl_capture_laws.proofs.FaithfulPositions.{all_above, all_under, rising_after}
+use Rattle.dbl_capture_laws.proofs.FaithfulItems.{all_weaker}
 use Rattle.dblog_promise.specs.Reports.{commits_between}
+
+-- ---- commits that rise
+
+chain : (a b c : ℕ) → a < b → b < c → a < c
+chain a b c one two = omega (arith, one, two)
+
+under : (a b : ℕ) → a < b → a ≤ b
+under a b lt = omega (arith, lt)
+
+all_above : (low : ℕ) (commits : List Commit) → AreRising low (lsns commits) → AllByRecursion (λ c. low < c.lsn.0) commits
+all_above low [] rise = tt
+all_above low (c ∷ commits) rise = (
+  rise.0,
+  all_weaker (λ (x : Commit). c.lsn.0 < x.lsn.0) (λ (x : Commit). low < x.lsn.0) commits (λ x lt. chain low c.lsn.0 x.lsn.0 rise.0 lt) (all_above c.lsn.0 commits rise.1),
+)
+
+rising_after : (low : ℕ) (before : List Commit) (c : Commit) (later : List Commit) → AreRising low (lsns (before ++ c ∷ later)) → AreRising c.lsn.0 (lsns later)
+rising_after low [] c later rise = rise.1
+rising_after low (b ∷ before) c later rise = rising_after b.lsn.0 before c later rise.1
+
+-- one that others are before is after where they begin
+rising_to : (low : ℕ) (before : List Commit) (c : Commit) (later : List Commit) → AreRising low (lsns (before ++ c ∷ later)) → low < c.lsn.0
+rising_to low [] c later rise = rise.0
+rising_to low (b ∷ before) c later rise = chain low b.lsn.0 c.lsn.0 rise.0 (rising_to b.lsn.0 before c later rise.1)
+
+all_under : (low : ℕ) (before : List Commit) (c : Commit) (later : List Commit) → AreRising low (lsns (before ++ c ∷ later)) → AllByRecursion (λ x. x.lsn.0 ≤ c.lsn.0) (before ++ c ∷ [])
+all_under low [] c later rise = (le_refl c.lsn.0, tt)
+all_under low (b ∷ before) c later rise = (under b.lsn.0 c.lsn.0 (rising_to b.lsn.0 before c later rise.1), all_under b.lsn.0 before c later rise.1)
 
 -- ---- the last commit
 

@@ -1,13 +1,17 @@
 -- What one more session, or others' commits, add to what any number of sessions came to.
-use Rattle.std.proofs.Common.{◌≡◌, ◌∙◌, ◌⊎◌, inl, inr, ◌+◌, ◌<◌, ◌≤◌, ℕ, suc, max, Option, Some, None, List, [], ◌∷◌, ◌++◌, length, map, refl, sym, ap, subst, arith, append_assoc, le_refl}
-use Rattle.std.specs.List.{AllByRecursion}
+use Rattle.std.proofs.Common.{◌≡◌, ◌∙◌, ◌⊎◌, inl, inr, ◌+◌, ◌<◌, ◌≤◌, ℕ, suc, max, Option, Some, None, List, [], ◌∷◌, ◌++◌, length, map, refl, sym, ap, ap₂, subst, arith, append_assoc, le_refl}
+use Rattle.std.specs.Prelude.{zip}
+use Rattle.std.specs.List.{AllByRecursion, AllZip}
 use Rattle.dbl_base.specs.declared.lsn.Lsn.{Lsn}
 use Rattle.dbl_record.specs.declared.record.Record.{Record}
 use Rattle.dbl_model_table.specs.declared.config.Config.{Config}
 use Rattle.dbl_model_table.specs.declared.table.TableInfo.{TableInfo}
+use Rattle.dbl_model_table.specs.declared.table.TableName.{TableName}
 use Rattle.dbl_model_history.specs.History.{RawBody, RawCommit, History, IsRising}
 use Rattle.dbl_model_history.specs.History.RawBody.{Changes, Mark, Alter}
+use Rattle.dbl_model_history.specs.declared.cursor.Cursor.{Cursor}
 use Rattle.dbl_model_history.specs.Fit.{IsFitHistory}
+use Rattle.dbl_model_history.specs.InForce.{IsAlike}
 use Rattle.dbl_capture_laws.proofs.ConsumeLawsConsumers.{all_left}
 use Rattle.dbl_capture_laws.proofs.ConsumeLawsNotices.{all_append}
 use Rattle.dbl_source.specs.SourceModel.Growth.{HasChanges, AreOthers, Grows}
@@ -16,10 +20,10 @@ use Rattle.dbl_capture_laws.proofs.FaithfulItems.{all_weaker}
 use Rattle.dbl_capture_laws.specs.Faithful.Stores.{IsPositionOf, lag}
 use Rattle.dbl_capture_laws.specs.Faithful.Faithful.{IsFaithful}
 use Rattle.dbl_capture_laws.specs.Faithful.Kept.{HasGrown, IsNewBody}
-use Rattle.dbl_capture_laws.specs.Faithful.Onward.{ExtendsList, OffsetGoesOn, Adds}
+use Rattle.dbl_capture_laws.specs.Faithful.Onward.{ExtendsList, IsLaterCursor, IsLaterProgress, OffsetGoesOn, Adds}
 use Rattle.dbl_capture_laws.proofs.FaithfulFaithful.{faithful_records_stand}
 use Rattle.dbl_capture_laws.proofs.FaithfulLists.{is_longer, after_top, still_position}
-use Rattle.dbl_capture_laws.proofs.FaithfulOnward.{cursors_stay, cursors_go_on}
+use Rattle.dbl_capture_laws.proofs.FaithfulOnward.{cursors_stay, infos_stay, versions_stay}
 use Rattle.dbl_capture_laws.specs.CaptureModel.Entries.{appends_after}
 use Rattle.dbl_capture_laws.proofs.CaptureModelEnding.{lag_far}
 use Rattle.dblog_promise.specs.Outcomes.{OffsetWentOn, AppendsAfter}
@@ -74,11 +78,71 @@ none_since : {A : Type 0} (xs ys : List A) → xs ++ ys ≡ [] → ys ≡ []
 none_since [] ys is = is
 none_since (x ∷ xs) ys is = cc
 
+-- ---- the captured tables
+
+infos_go_on : (a b c : List TableInfo) → AllZip IsAlike a b → AllZip IsAlike b c → AllZip IsAlike a c
+infos_go_on [] [] c one two = two
+infos_go_on [] (y ∷ b) c one two = absurd one
+infos_go_on (x ∷ a) [] c one two = absurd one
+infos_go_on (x ∷ a) (y ∷ b) [] one two = absurd two
+infos_go_on (x ∷ a) (y ∷ b) (z ∷ c) one two =
+    (record { name = one.0.name ∙ two.0.name; keys = one.0.keys ∙ two.0.keys; types = one.0.types ∙ two.0.types }, infos_go_on a b c one.1 two.1)
+
+-- their names
+names_alike : (a b : List TableInfo) → AllZip IsAlike a b → map (λ (info : TableInfo). info.name) a ≡ map (λ (info : TableInfo). info.name) b
+names_alike [] [] alike = refl
+names_alike [] (y ∷ b) alike = absurd alike
+names_alike (x ∷ a) [] alike = absurd alike
+names_alike (x ∷ a) (y ∷ b) alike = ap₂ (λ (n : TableName) (l : List TableName). n ∷ l) alike.0.name (names_alike a b alike.1)
+
+-- ---- versions and progress
+
+versions_go_on : (a b c : List ℕ) → AllZip (λ before after. before ≤ after) a b → AllZip (λ before after. before ≤ after) b c → AllZip (λ before after. before ≤ after) a c
+versions_go_on [] [] c one two = two
+versions_go_on [] (y ∷ b) c one two = absurd one
+versions_go_on (x ∷ a) [] c one two = absurd one
+versions_go_on (x ∷ a) (y ∷ b) [] one two = absurd two
+versions_go_on (x ∷ a) (y ∷ b) (z ∷ c) one two = (le_on x y z one.0 two.0, versions_go_on a b c one.1 two.1)
+
+-- a version that is the same in the end was the same all along
+first_same : (a b c : ℕ) → a ≤ b → b ≤ c → a ≡ c → a ≡ b
+first_same a b c one two same = omega (arith, one, two, same)
+
+last_same : (a b c : ℕ) → a ≤ b → b ≤ c → a ≡ c → b ≡ c
+last_same a b c one two same = omega (arith, one, two, same)
+
+cursor_goes_on : (a b c : Cursor) → IsLaterCursor a b → IsLaterCursor b c → IsLaterCursor a c
+cursor_goes_on a b c one two = record { last = λ key up. two.last key (one.last key up); done = λ is. two.done (one.done is) }
+
+progress_goes_on : (u v w : List ℕ) (a b c : List Cursor) → AllZip (λ before after. before ≤ after) u v → AllZip (λ before after. before ≤ after) v w
+    → AllZip IsLaterProgress (zip u a) (zip v b) → AllZip IsLaterProgress (zip v b) (zip w c) → AllZip IsLaterProgress (zip u a) (zip w c)
+progress_goes_on [] [] w a b c under over one two = two
+progress_goes_on [] (y ∷ v) w a b c under over one two = absurd under
+progress_goes_on (x ∷ u) [] w a b c under over one two = absurd under
+progress_goes_on (x ∷ u) (y ∷ v) [] a b c under over one two = absurd over
+progress_goes_on (x ∷ u) (y ∷ v) (z ∷ w) [] [] c under over one two = two
+progress_goes_on (x ∷ u) (y ∷ v) (z ∷ w) [] (e ∷ b) c under over one two = absurd one
+progress_goes_on (x ∷ u) (y ∷ v) (z ∷ w) (d ∷ a) [] c under over one two = absurd one
+progress_goes_on (x ∷ u) (y ∷ v) (z ∷ w) (d ∷ a) (e ∷ b) [] under over one two = absurd two
+progress_goes_on (x ∷ u) (y ∷ v) (z ∷ w) (d ∷ a) (e ∷ b) (f ∷ c) under over one two = (
+  λ same. cursor_goes_on d e f (one.0 (first_same x y z under.0 over.0 same)) (two.0 (last_same x y z under.0 over.0 same)),
+  progress_goes_on u v w a b c under.1 over.1 one.1 two.1,
+)
+
 -- ---- the offset
 
 pub stays_put : (history : History) (offset : Option Offset) → OffsetWentOn [] history history offset offset
 stays_put history None = tt
-stays_put history (Some offset) = record { identity = refl; infos = refl; versions = refl; start = refl; lsn = le_refl offset.lsn.0; cursors = cursors_stay offset.cursors; not_less = le_refl offset.incarnation; not_more = plus_none offset.incarnation }
+stays_put history (Some offset) = record {
+  identity = refl;
+  infos = infos_stay offset.infos;
+  versions = versions_stay offset.versions;
+  start = refl;
+  lsn = le_refl offset.lsn.0;
+  cursors = cursors_stay (zip offset.versions offset.cursors);
+  not_less = le_refl offset.incarnation;
+  not_more = plus_none offset.incarnation;
+}
 
 still_there : (old new : History) (more : List RawCommit) (position : ℕ) → HasGrown old new more → IsPositionOf old position → IsPositionOf new position
 still_there old new more position grown is = subst (λ (h : History). IsPositionOf h position) (sym (is_longer old new more grown)) (still_position old more position is)
@@ -119,7 +183,7 @@ offset_next sessions config first last history more None (Some b) (Some c) front
   config = went.config;
   asked = went.asked;
   identity = goes.identity ∙ went.identity;
-  tables = ap (map (λ (info : TableInfo). info.name)) goes.infos ∙ went.tables;
+  tables = sym (names_alike b.infos c.infos goes.infos) ∙ went.tables;
   start = subst (λ (s : Lsn). IsPositionOf history s.0) (sym goes.start) (still_there last history more b.start.0 grown went.start);
   not_before = subst (λ (s : Lsn). AllByRecursion (λ (x : RawCommit). x.lsn.0 ≤ s.0) first.commits) (sym goes.start) went.not_before;
   counted = not_fewer b.incarnation c.incarnation 1 went.counted goes.incarnation;
@@ -129,11 +193,11 @@ offset_next sessions config first last history more (Some a) None c front grown 
 offset_next sessions config first last history more (Some a) (Some b) None front grown went goes = absurd goes
 offset_next sessions config first last history more (Some a) (Some b) (Some c) front grown went goes = record {
   identity = goes.identity ∙ went.identity;
-  infos = goes.infos ∙ went.infos;
-  versions = goes.versions ∙ went.versions;
+  infos = infos_go_on a.infos b.infos c.infos went.infos goes.infos;
+  versions = versions_go_on a.versions b.versions c.versions went.versions goes.versions;
   start = goes.start ∙ went.start;
   lsn = le_on a.lsn.0 b.lsn.0 c.lsn.0 went.lsn goes.lsn;
-  cursors = cursors_go_on a.cursors b.cursors c.cursors went.cursors goes.cursors;
+  cursors = progress_goes_on a.versions b.versions c.versions a.cursors b.cursors c.cursors went.versions goes.versions went.cursors goes.cursors;
   not_less = not_fewer b.incarnation c.incarnation a.incarnation went.not_less goes.incarnation;
   not_more = one_farther a.incarnation b.incarnation c.incarnation (length sessions) went.not_more goes.incarnation;
 }

@@ -18,7 +18,7 @@ module _ (entry : SessionStart) (asked : IsAsked entry.config entry.now) (fit : 
   pub leaves : (left : CrashState) (groups : List (List Record)) (offset : Option Offset) → Stops entry left groups offset → FollowsSession entry left groups offset × IsFitHistory left.history
   leaves _ _ _ (before_the_first_store left grows fits same) = (unread_sessions_follow entry left faithful fit fits grows same, fits)
   leaves _ _ _ (with_the_first_offset history left first is grows fits same) = (
-    first_offsets_follow entry history left first faithful fit fits is.grows grows (described_so entry history first entry.offset is.grows is.began is.described faithful) is.began same,
+    first_offsets_follow entry history left first faithful fit fits is.grows grows (described_so entry history first entry.offset fit is.grows is.began is.described faithful) is.began same,
     fits,
   )
   leaves _ _ _ (at_the_source stage left run may) = (sources_may_end entry stage left faithful may (goes entry asked fit faithful stage run), may.fit)

@@ -26,16 +26,15 @@ use Rattle.dbl_demo_laws.specs.DemoWal.Sound.{logged_in}
 use Rattle.dbl_demo_laws.specs.DemoWal.Standings.{wal_reading, messages_sent, tables_of}
 use Rattle.dbl_demo_laws.specs.DemoWal.Wals.{Wal}
 use Rattle.dbl_demo_laws.proofs.DemoWalFitLaws.{wal_is_fair}
-use Rattle.dbl_capture_laws.specs.Faithful.Faithful.{IsFaithful}
 use Rattle.dbl_capture_laws.specs.CaptureWork.declared.report.Ending.{Ending}
 use Rattle.dbl_capture_laws.specs.CaptureWork.declared.report.Ending.TheVariants.{Budget, Complete}
 use Rattle.dbl_capture_laws.specs.Found.{IsStoredBy, position_of}
 use Rattle.dbl_capture_laws.specs.Reported.{AllCouldBeSent, BeginsAfter, began_after, end_after}
-use Rattle.dblog_promise.specs.Contents.{Contents, confirmed_at, history_at, records_of_contents}
+use Rattle.dblog_promise.specs.Contents.{history_at}
 use Rattle.dblog_promise.specs.PromiseLaws.{SettledReportsAreRight}
 use Rattle.dblog_promise.specs.Reports.{CountsMessages, IsSentUpto, HasNoOpenTransaction, commits_between, course, read_after}
 use Rattle.dblog_promise.proofs.CommitCounts.{commits_counted}
-use Rattle.dblog_promise.proofs.WholeLaws.{all_is_read}
+use Rattle.dblog_promise.proofs.WholeLaws.{all_is_read, infos_of}
 
 -- ---- the stored offset
 
@@ -51,11 +50,6 @@ position_is : (config : Config) (old new : Option Offset) (offset : Offset) → 
 position_is config None new offset is by = ap (position_of None) is
 position_is config (Some old) new offset is by =
     ap (position_of (Some old)) is ∙ ap (λ (b : Bool). if b then 0 else offset.lsn.0) (raised old.incarnation offset.incarnation by.3)
-
-infos_of : (held : Contents) (offset : Option Offset) (stored : Offset) → IsFaithful (history_at held) (confirmed_at held) (records_of_contents held) offset → offset ≡ Some stored → AreInfosOf (history_at held) stored.infos
-infos_of held None stored faithful is = absurd (let e : None ≡ Some stored = is in cc)
-infos_of held (Some offset) stored faithful is =
-    subst (λ (o : Offset). AreInfosOf (history_at held) o.infos) (let e : offset ≡ stored = cc in e) faithful.lags.offset_is.infos
 
 -- ---- whole commits
 
@@ -105,7 +99,7 @@ settled_reports_are_right model config now old new ending report bytes demo plac
     let told : told_at tables log place ≡ ms = ap (λ (r : Reading). r.messages) reading in
     let accepted : AreWithoutFault offset.infos after ms = subst (λ (l : Lsn). AreWithoutFault offset.infos l ms) after_is settled.accepted in
     let last : offset.lsn ≡ last_lsn after ms = settled.last ∙ ap (λ (l : Lsn). last_lsn l ms) after_is in
-    let infos : AreInfosOf (history_at new) offset.infos = infos_of new new.offset offset kept.faithful settled.stored.is in
+    let infos : AreInfosOf (history_at new) offset.infos = infos_of new new.offset offset kept.fit kept.faithful settled.stored.is in
     let right = read_plain tables log place (wal_is_fair bytes wal wal_is) offset.infos infos in
     let count : length (commits_of offset.infos ms) ≡ length (commits_between after.0 (last_lsn after ms).0 (history_at new)) =
     commits_counted offset.infos after (history_at new) ms kept.fit.rising

@@ -84,8 +84,12 @@ begun = record {
   fit = fit_one;
   began = (
     record { identity = refl; tables = refl; start = inr (0, refl); not_before = (omega arith, tt); incarnation = refl },
-    refl,
-    ((refl, refl), tt),
+    record {
+      at_start = refl;
+      unread = ((refl, refl), tt);
+      distinct = refl;
+      infos = (record { place = 0; entry = example_entry; stands = refl; is = refl; version_is = refl }, tt);
+    },
   );
   described = record { distinct = refl; each = (refl, tt) };
   incarnation_fits = omega arith;

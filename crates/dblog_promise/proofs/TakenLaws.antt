@@ -17,9 +17,10 @@ use Rattle.dbl_model_table.specs.declared.row.Row.{Row}
 use Rattle.dbl_model_table.specs.declared.table.TableInfo.{TableInfo}
 use Rattle.dbl_model_table.specs.Infos.{column_types}
 use Rattle.dbl_model_table.specs.Keys.{key_of}
-use Rattle.dbl_model_table.specs.Rows.{changes_of}
+use Rattle.dbl_model_table.specs.Rows.{changes_of, no_rows}
 use Rattle.dbl_model_history.specs.Fit.{IsKeyOf}
 use Rattle.dbl_model_history.specs.FitsInfos.{AreCellsOf}
+use Rattle.dbl_model_history.specs.InForce.{Versioned, plain_commit}
 use Rattle.dbl_model_history.specs.Ranges.{IsCommitInRange, IsMomentInRange}
 use Rattle.dbl_model_event.specs.Events.{Content, Created, Updated, Deleted, Tombstone, Truncated, Notice, notices}
 use Rattle.dbl_model_event.specs.SnapshotLists.{IsSnapshot}
@@ -32,16 +33,16 @@ use Rattle.dbl_capture_laws.proofs.ConsumeLawsConsumers.{all_left, all_right}
 use Rattle.dbl_capture_laws.proofs.ConsumeLawsNotices.{ContentFits, KeyFits, NoticeFits, commit_tells}
 use Rattle.dbl_capture_laws.proofs.ConsumeLawsPrints.{through_in_range}
 use Rattle.dbl_capture_laws.proofs.ConsumeLawsReadRows.{act_progress, act_read_record}
-use Rattle.dbl_capture_laws.proofs.ConsumeLawsCommits.{fit_commits}
 use Rattle.dbl_capture_laws.proofs.ConsumeLawsEvents.{numbered_notice}
 use Rattle.dbl_capture_laws.proofs.ConsumeLawsLists.{slice_get-seam}
 use Rattle.dbl_capture_laws.proofs.ConsumeLawsSnapshot.{cells_in_range}
 use Rattle.dbl_capture_laws.specs.Faithful.Kinds.{is_change_record}
-use Rattle.dbl_capture_laws.specs.Faithful.RightSnapshots.{IsWindowOfRecords}
+use Rattle.dbl_capture_laws.specs.Faithful.ConsumeCourses.VersionStores.{HasWindowAt}
 use Rattle.dbl_capture_laws.specs.Faithful.ToldEvents.{IsPrint, ToldEvent, commits_since, events_since, events_of_commits}
+use Rattle.dbl_capture_laws.proofs.FaithfulFaithful.{described_infos, fit_commits}
 use Rattle.dbl_capture_laws.proofs.FaithfulItems.{all_by_place, at_all, taken_at}
 use Rattle.dbl_capture_laws.proofs.FaithfulRightSnapshots.{at_test, filter_has}
-use Rattle.dbl_capture_laws.proofs.FaithfulTrace.{all_filter, told_at}
+use Rattle.dbl_capture_laws.proofs.FaithfulTrace.{all_filter, in_range, told_at}
 use Rattle.dbl_capture_laws.specs.Offset.declared.offset.Offset.{Offset}
 use Rattle.dbl_capture_laws.specs.OffsetStore.Stores.{IsStore}
 use Rattle.dbl_capture_laws.specs.Faithful.Faithful.{IsFaithful, IsFaithfulTo, captured_commits}
@@ -72,15 +73,17 @@ module _ (identity : Identity) where
   event_taken commit now range moment info None Tombstone item line k c keyed = absurd keyed
   event_taken commit now range moment info None Truncated item line k c keyed = by_line item _ _ line (act_truncated identity commit now range moment info)
 
-  print_taken : (infos : List TableInfo) (commits : List Commit) → AllByRecursion IsCommitInRange commits → (k : ℕ) (t : ToldEvent) (item : Record) → slice_get (events_of_commits infos commits) k ≡ Some t → IsPrint identity t item → IsTaken identity item
-  print_taken infos commits all k t item at is =
-      let found = told_at infos commits k t at in
-      let range : IsCommitInRange t.commit = at_all IsCommitInRange commits found.place t.commit all found.commit_at in
-      let ns : List Notice = flat_map (notices infos) (changes_of t.commit) in
-      let stands : slice_get ns found.number ≡ Some t.event.notice = numbered_notice t.commit.lsn.0 0 ns found.number t.event found.event_at in
-      let fits : NoticeFits t.event.notice = at_all NoticeFits ns found.number t.event.notice (commit_tells infos t.commit range).fit stands in
-      let keyed : IsKeyedNotice t.event.notice = at_all IsKeyedNotice ns found.number t.event.notice (all_keyed infos (changes_of t.commit)) stands in
-      event_taken t.commit is.now range is.in_range t.event.notice.info t.event.notice.key t.event.notice.content item (ap as_line is.printed) fits.key fits.content keyed
+  print_taken : (versions : List Versioned) → AllByRecursion (λ v. IsCommitInRange (plain_commit v)) versions → (k : ℕ) (t : ToldEvent) (item : Record) → slice_get (events_of_commits versions) k ≡ Some t → IsPrint identity t item → IsTaken identity item
+  print_taken versions all k t item at is =
+      let found = told_at versions k t at in
+      let infos : List TableInfo = found.version.infos in
+      let commit : Commit = plain_commit found.version in
+      let range : IsCommitInRange commit = at_all (λ (v : Versioned). IsCommitInRange (plain_commit v)) versions found.place found.version all found.commit_at in
+      let ns : List Notice = flat_map (notices infos) (changes_of commit) in
+      let stands : slice_get ns found.number ≡ Some t.event.notice = numbered_notice commit.lsn.0 0 ns found.number t.event found.event_at in
+      let fits : NoticeFits t.event.notice = at_all NoticeFits ns found.number t.event.notice (commit_tells infos commit range).fit stands in
+      let keyed : IsKeyedNotice t.event.notice = at_all IsKeyedNotice ns found.number t.event.notice (all_keyed infos (changes_of commit)) stands in
+      event_taken t.commit is.now (subst IsCommitInRange (sym found.commit_is) range) is.in_range t.event.notice.info t.event.notice.key t.event.notice.content item (ap as_line is.printed) fits.key fits.content keyed
 
   -- ---- the records of a window
 
@@ -102,35 +105,36 @@ module _ (identity : Identity) where
       listed.records_are ∙ ap (λ (o : Option TableInfo). unwrap_or (option_map (λ i. chunk_records identity i closed.rows closed.through closed.done mark now) o) []) listed.captured in
       subst (AllByRecursion (IsTaken identity)) (sym chunk) (chunk_taken mark now range moment listed.info 0 (length closed.rows) closed.rows closed.through closed.done listed.fits.rows listed.keys)
 
-  window_taken : (infos : List TableInfo) (commits : List Commit) (records : List Record) (place : ℕ) (item : Record) → AllByRecursion IsCommitInRange commits → slice_get records place ≡ Some item
-      → IsWindowOfRecords identity infos commits records item.position → IsTaken identity item
-  window_taken infos commits records place item all at window =
-      let marked : slice_get commits (length window.before) ≡ Some window.mark =
-      ap (λ (l : List Commit). slice_get l (length window.before)) window.spelled ∙ slice_get-seam window.before window.mark window.later in
-      let range : IsCommitInRange window.mark = at_all IsCommitInRange commits (length window.before) window.mark all marked in
+  window_taken : (versions : List Versioned) (records : List Record) (place : ℕ) (item : Record) → AllByRecursion (λ v. IsCommitInRange (plain_commit v)) versions → slice_get records place ≡ Some item
+      → HasWindowAt identity versions records item.position → IsTaken identity item
+  window_taken versions records place item all at window =
+      let marked : slice_get versions (length window.before) ≡ Some window.mark =
+      ap (λ (l : List Versioned). slice_get l (length window.before)) window.spelled ∙ slice_get-seam window.before window.mark window.later in
+      let range : IsCommitInRange (plain_commit window.mark) = at_all (λ (v : Versioned). IsCommitInRange (plain_commit v)) versions (length window.before) window.mark all marked in
       let among = filter_has (λ (r : Record). r.position == item.position) records place item at (at_test item.position item.position refl) in
-      let taken = taken_at window.count window.snapshot among.0 item (ap (λ (l : List Record). slice_get l among.0) (sym window.front) ∙ among.1) in
-      at_all (IsTaken identity) window.snapshot among.0 item (snapshot_taken infos window.closed window.mark window.now window.snapshot range window.in_range window.listed) taken.1
+      let taken = taken_at window.count window.snapshot among.0 item (ap (λ (l : List Record). slice_get l among.0) (sym window.shown) ∙ among.1) in
+      at_all (IsTaken identity) window.snapshot among.0 item (snapshot_taken window.mark.infos window.closed (plain_commit window.mark) window.now window.snapshot range window.in_range window.listed) taken.1
 
 -- ---- the records of a kept log
 
-record_taken : (held : Contents) (offset : Offset) → AllByRecursion IsCommitInRange (captured_commits (history_at held) offset) → IsFaithfulTo (history_at held) (confirmed_at held) (records_of_contents held) offset
+record_taken : (held : Contents) (offset : Offset) → AllByRecursion (λ v. IsCommitInRange (plain_commit v)) (captured_commits (history_at held) offset) → IsFaithfulTo (history_at held) (confirmed_at held) (records_of_contents held) offset
     → (place : ℕ) (item : Record) → slice_get (records_of_contents held) place ≡ Some item → IsTaken offset.identity item
 record_taken held offset all faithful place item at = by (is_change_record item) refl
   where
     by : (b : Bool) → is_change_record item ≡ b → IsTaken offset.identity item
     by true change =
         let among = faithful.exact.1.others place item at change in
-        let first = taken_at faithful.exact.0 (events_since offset.infos offset.start.0 (captured_commits (history_at held) offset)) among.number among.event among.stands in
-        print_taken offset.identity offset.infos (commits_since offset.start.0 (captured_commits (history_at held) offset))
-        (all_filter IsCommitInRange (λ (c : Commit). nat_lt offset.start.0 c.lsn.0) (captured_commits (history_at held) offset) all) among.number among.event item first.1 among.is
-    by false other = window_taken offset.identity offset.infos (captured_commits (history_at held) offset) (records_of_contents held) place item all at (faithful.snapshots.each place item at other).window
+        let first = taken_at faithful.exact.0 (events_since offset.start.0 (captured_commits (history_at held) offset)) among.number among.event among.stands in
+        print_taken offset.identity (commits_since offset.start.0 (captured_commits (history_at held) offset))
+        (all_filter (λ (v : Versioned). IsCommitInRange (plain_commit v)) (λ (v : Versioned). nat_lt offset.start.0 v.lsn.0) (captured_commits (history_at held) offset) all) among.number among.event item first.1 among.is
+    by false other = window_taken offset.identity (captured_commits (history_at held) offset) (records_of_contents held) place item all at (faithful.snapshots.each place item at other).window
 
 all_taken : (held : Contents) (stored : Option Offset) (offset : Offset) → IsKept held → IsFaithful (history_at held) (confirmed_at held) (records_of_contents held) stored → stored ≡ Some offset → AllByRecursion (IsTaken offset.identity) (records_of_contents held)
 all_taken held None offset kept faithful is = absurd (let e : None ≡ Some offset = is in cc)
 all_taken held (Some found) offset kept faithful is =
     let same : found ≡ offset = (let e : Some found ≡ Some offset = is in cc) in
-    let all = (fit_commits (history_at held) found.infos kept.fit faithful.lags.offset_is.infos).in_range in
+    let captured = described_infos (history_at held) (confirmed_at held) (records_of_contents held) found kept.fit faithful.lags.offset_is in
+    let all : AllByRecursion (λ v. IsCommitInRange (plain_commit v)) (captured_commits (history_at held) found) = in_range no_rows (captured_commits (history_at held) found) (fit_commits (history_at held) found kept.fit captured).fit in
     subst (λ (o : Offset). AllByRecursion (IsTaken o.identity) (records_of_contents held)) same
     (all_by_place (IsTaken found.identity) (records_of_contents held) (λ place item at. record_taken held found all faithful place item at))
 

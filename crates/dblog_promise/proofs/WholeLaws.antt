@@ -10,6 +10,7 @@ use Rattle.dbl_model_table.specs.declared.change.Change.{Change}
 use Rattle.dbl_model_table.specs.declared.change.Commit.{Commit}
 use Rattle.dbl_model_table.specs.declared.table.TableInfo.{TableInfo}
 use Rattle.dbl_model_table.specs.Rows.{Rows, all_changes, changes_of, moment_at, no_rows, rows, rows_from}
+use Rattle.dbl_model_history.specs.Fit.{AreInfosOf, IsFitHistory}
 use Rattle.dbl_model_history.specs.History.{RawCommit}
 use Rattle.dbl_model_history.specs.Typed.{typed, typed_commit}
 use Rattle.dbl_source.specs.SourceModel.Stated.{commits_after}
@@ -30,11 +31,15 @@ use Rattle.dbl_demo_laws.specs.DemoWal.Sound.{session_commits, logged_in}
 use Rattle.dbl_demo_laws.specs.DemoWal.Standings.{tables_of}
 use Rattle.dbl_demo_laws.specs.DemoWal.Workloads.{log_at, steps_of}
 use Rattle.dbl_capture_laws.specs.Faithful.Complete.{HoldsImage}
+use Rattle.dbl_capture_laws.specs.Faithful.Faithful.{IsFaithful}
+use Rattle.dbl_capture_laws.specs.Offset.declared.offset.Offset.{Offset}
+use Rattle.dbl_capture_laws.proofs.FaithfulFaithful.{described_infos}
+use Rattle.dbl_capture_laws.proofs.FaithfulInForce.{infos_plain, rows_plain}
 use Rattle.dbl_demo_laws.specs.Demo.{IsMark}
-use Rattle.dblog_promise.specs.Contents.{records_of_contents}
+use Rattle.dblog_promise.specs.Contents.{Contents, confirmed_at, history_at, records_of_contents}
 use Rattle.dblog_promise.specs.PromiseLaws.{CompleteRunsLeaveTablesEqual}
 use Rattle.dblog_promise.specs.Reports.{IsWatermark}
-use Rattle.dblog_promise.specs.Tables.{whole_log}
+use Rattle.dblog_promise.specs.Tables.{infos_at, source_rows_at, whole_log, whole_rows}
 
 -- ---- how far was read
 
@@ -167,6 +172,15 @@ moment_is infos tables log k p low marks =
     let counted = all_counted front more p (under infos tables no_text_rows 1 (take k log) p (omega (arith, low, few))) (none_in infos there (text_rows_through tables no_text_rows (take k log)) (1 + length (take k log)) (drop k log) marks) in
     subst (λ (cs : List Commit). moment_at cs p ≡ length (all_changes cs)) (sym whole) counted
 
+-- ---- the captured tables
+
+-- the stored offset has those of the catalogue
+pub infos_of : (held : Contents) (offset : Option Offset) (stored : Offset) → IsFitHistory (history_at held) → IsFaithful (history_at held) (confirmed_at held) (records_of_contents held) offset → offset ≡ Some stored → AreInfosOf (history_at held) stored.infos
+infos_of held None stored fit faithful is = absurd (let e : None ≡ Some stored = is in cc)
+infos_of held (Some offset) stored fit faithful is =
+    subst (λ (o : Offset). AreInfosOf (history_at held) o.infos) (let e : offset ≡ stored = cc in e)
+    (described_infos (history_at held) (confirmed_at held) (records_of_contents held) offset fit faithful.lags.offset_is)
+
 pub complete_runs_leave_tables_equal : {D : Type 0} (model : DiskModel D) → CompleteRunsLeaveTablesEqual model
 complete_runs_leave_tables_equal model config now old new offset demo place kept_old kept goes is ended at stored last complete =
     let wal = new.wal in
@@ -180,6 +194,9 @@ complete_runs_leave_tables_equal model config now old new offset demo place kept
     let committed : log_at wal.workload (length (steps_of wal.workload)) ≡ session_commits wal.entries = ap (log_at wal.workload) (sym done) ∙ is.running.silent.none_between in
     let changes = same_changes infos tables no_text_rows 1 1 wal.entries ∙ ap (λ (l : List (List Message)). all_changes (commits_in infos tables no_text_rows 1 (map Changes l))) (sym committed) in
     let same = rows_of_all infos (typed infos (history_of tables log)) (typed infos (history_of tables (whole_log wal))) (moment_at (typed infos (history_of tables log)) offset.lsn.0) moment changes in
+    let captured : AreInfosOf (history_at new) infos = infos_of new new.offset offset kept.fit kept.faithful stored in
+    let plain_infos : infos_at new offset offset.lsn.0 ≡ infos = infos_plain (history_at new) infos offset.lsn.0 kept.fit captured in
+    let final : source_rows_at new offset offset.lsn.0 ≡ whole_rows wal infos = rows_plain (history_at new) infos offset.lsn.0 kept.fit captured ∙ same in
     record {
       offset = offset;
       stored = stored;
@@ -187,5 +204,7 @@ complete_runs_leave_tables_equal model config now old new offset demo place kept
       not_before = complete.not_before;
       holds_source_rows = complete.images;
       ran_whole = sym committed;
-      holds_final_rows = λ topic text. subst (λ (r : Rows). HoldsImage offset.identity infos r (records_of_contents new) topic text) same (complete.images topic text);
+      holds_final_rows = λ topic text.
+          subst (λ (r : Rows). HoldsImage offset.identity infos r (records_of_contents new) topic text) final
+          (subst (λ (l : List TableInfo). HoldsImage offset.identity l (source_rows_at new offset offset.lsn.0) (records_of_contents new) topic text) plain_infos (complete.images topic text));
     }

@@ -3,10 +3,10 @@ use Rattle.std.specs.Prelude.{ℕ, Option, IfSome, List}
 use Rattle.dbl_base.specs.declared.lsn.Lsn.{Lsn}
 use Rattle.dbl_record.specs.declared.record.Record.{Record}
 use Rattle.dbl_record.specs.Cuts.{joined}
-use Rattle.dbl_model_table.specs.declared.change.Commit.{Commit}
+use Rattle.dbl_model_table.specs.declared.table.TableInfo.{TableInfo}
 use Rattle.dbl_model_history.specs.Fit.{AreInfosOf}
 use Rattle.dbl_model_history.specs.History.{History}
-use Rattle.dbl_model_history.specs.Typed.{typed}
+use Rattle.dbl_model_history.specs.InForce.{Versioned, opening_infos, versioned}
 use Rattle.dbl_topic.specs.Logs.{IsLog}
 use Rattle.dbl_capture_laws.specs.Offset.declared.offset.Offset.{Offset}
 use Rattle.dbl_capture_laws.specs.OffsetStore.Stores.{IsStore}
@@ -32,9 +32,13 @@ pub record ReadAs (wal topics offsets : List ℕ) (held : Contents) : Type 0 whe
 abbrev pub history_at : Contents → History
 history_at held = history_in held.wal
 
--- The commits of the history, as changes of the tables that an offset captures.
-abbrev pub captured_commits_at : Contents → Offset → List Commit
-captured_commits_at held offset = typed offset.infos (history_at held)
+-- The commits of the history, as changes of the tables that an offset captures, each with these tables in the columns in force from it on.
+abbrev pub captured_commits_at : Contents → Offset → List Versioned
+captured_commits_at held offset = versioned offset.infos (history_at held)
+
+-- The tables that an offset captures, in the columns that they have before all commits.
+abbrev pub first_infos_at : Contents → Offset → List TableInfo
+first_infos_at held offset = opening_infos (history_at held) offset.infos
 
 -- The records that a consumer of the topic log applies, in order.
 abbrev pub records_of_contents : Contents → List Record

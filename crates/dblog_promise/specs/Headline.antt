@@ -16,12 +16,13 @@ use Rattle.dbl_record.specs.declared.record.Record.{Record}
 use Rattle.dbl_record.specs.Places.{IsFresh}
 use Rattle.dbl_model_table.specs.declared.config.Config.{Config}
 use Rattle.dbl_model_table.specs.declared.row.Key.{Key}
-use Rattle.dbl_model_table.specs.Rows.{all_changes, moment_at}
 use Rattle.dbl_model_history.specs.Image.{Names, image_row}
 use Rattle.dbl_capture_laws.specs.ConsumeLaws.Laws.{HoldsJsonTexts}
 use Rattle.dbl_capture_laws.specs.ConsumeLaws.Ages.{held_row}
-use Rattle.dbl_capture_laws.specs.ConsumeLaws.KnownKeys.{IsKnown}
+use Rattle.dbl_capture_laws.specs.ConsumeLaws.Commits.{moment_after}
 use Rattle.dbl_capture_laws.specs.Faithful.CaughtUpLaws.{IsSourceRow, IsPutAhead}
+use Rattle.dbl_capture_laws.specs.Faithful.ConsumeCourses.AlteredTables.{IsKnownIn}
+use Rattle.dbl_capture_laws.specs.Faithful.ConsumeCourses.Courses.{Course, course}
 use Rattle.dbl_capture_laws.specs.Faithful.Kinds.{is_row}
 use Rattle.dbl_capture_laws.specs.Faithful.ToldEvents.{ToldEvent, events_since}
 use Rattle.dbl_capture_laws.specs.Offset.declared.offset.Offset.{Offset}
@@ -29,9 +30,9 @@ use Rattle.dbl_demo_laws.specs.DemoWal.Sound.{session_commits}
 use Rattle.dbl_demo_laws.specs.DemoWal.Workloads.{log_at, steps_of}
 use Rattle.dbl_capture_laws.specs.Faithful.Onward.{PlacesRise}
 use Rattle.dbl_capture_laws.specs.CaptureModel.Entries.{appends_after}
-use Rattle.dblog_promise.specs.Contents.{Contents, captured_commits_at, history_at, records_of_contents}
+use Rattle.dblog_promise.specs.Contents.{Contents, captured_commits_at, first_infos_at, history_at, records_of_contents}
 use Rattle.dblog_promise.specs.Goes.{IsLeft}
-use Rattle.dblog_promise.specs.Tables.{HoldsRows, source_rows_at, whole_rows}
+use Rattle.dblog_promise.specs.Tables.{HoldsRows, infos_at, source_rows_at, whole_rows}
 
 -- ---- at the first delivery of each position
 
@@ -42,22 +43,26 @@ pub record IsFirstDelivery (held : Contents) (number : ℕ) (item : Record) : Ty
   pub fresh : IsFresh (records_of_contents held) number
   pub last : item.last ≡ true
 
--- The records up to and including this one make the key of a captured table known: a progress record covers it, or a change above the
--- offset's start, up to this record's position, has every cell of its row, or deletes it.
+-- What is left of a captured table's history at a position: its course since its last alteration up to there.
+abbrev pub course_at : Contents → Offset → ℕ → ℕ → Course
+course_at held offset table position =
+    course (first_infos_at held offset) (captured_commits_at held offset) offset.start.0 table position
+
+-- The records up to and including this one make the key of a captured table known, since the table was last altered: a progress record
+-- covers it, or a change above the offset's start, up to this record's position, has every cell of its row, or deletes it.
 abbrev pub IsKnownAt : Contents → Offset → ℕ → Record → ℕ → Key → Type 0
 IsKnownAt held offset number item table key =
-    IsKnown offset.identity offset.infos (all_changes (captured_commits_at held offset))
-    (moment_at (captured_commits_at held offset) offset.start.0)
-    (take (number + 1) (records_of_contents held)) (moment_at (captured_commits_at held offset) item.position) table key
+    IsKnownIn offset.identity (course_at held offset table item.position) (take (number + 1) (records_of_contents held))
+    (moment_after (course_at held offset table item.position).commits) table key
 
 -- At each first delivery, a consumer has the source's row of every known key at that position, equal in each cell, or none if the source
--- has none.
+-- has none, in the columns in force there.
 abbrev pub HoldsSourceRows : Contents → Offset → Type 0
 HoldsSourceRows held offset = (number : ℕ) (item : Record) → IsFirstDelivery held number item
-    → (topic text : List ℕ) (table : ℕ) (key : Key) → Names offset.identity offset.infos topic text table key
+    → (topic text : List ℕ) (table : ℕ) (key : Key) → Names offset.identity (infos_at held offset item.position) topic text table key
     → IsKnownAt held offset number item table key
     → HoldsJsonTexts (held_row offset.identity (take (number + 1) (records_of_contents held)) topic text)
-    (image_row offset.infos (source_rows_at held offset item.position) table key)
+    (image_row (infos_at held offset item.position) (source_rows_at held offset item.position) table key)
 
 -- ---- no snapshot record overwrites a later change
 
@@ -65,9 +70,9 @@ HoldsSourceRows held offset = (number : ℕ) (item : Record) → IsFirstDelivery
 -- captured tables above the offset's start and below that position.
 pub record OverwritesNothing (held : Contents) (offset : Offset) (number : ℕ) (item : Record) : Type 0 where
   pub fresh : IsFresh (records_of_contents held) number
-  pub right : IsSourceRow offset.identity offset.infos (captured_commits_at held offset) item
+  pub right : IsSourceRow offset.identity (captured_commits_at held offset) item
   pub put_ahead : (place : ℕ) (event : ToldEvent)
-      → slice_get (events_since offset.infos offset.start.0 (captured_commits_at held offset)) place ≡ Some event
+      → slice_get (events_since offset.start.0 (captured_commits_at held offset)) place ≡ Some event
       → event.event.position < item.position → IsPutAhead offset.identity (records_of_contents held) number event
 
 -- No snapshot record of the topic log overwrites a later change.
@@ -96,9 +101,9 @@ pub record LeavesTablesEqual (old new : Contents) : Type 0 where
   pub stored : new.offset ≡ Some offset
   pub done : AllByRecursion (λ cursor. cursor.done ≡ true) offset.cursors
   pub not_before : AllByRecursion (λ commit. commit.lsn.0 ≤ offset.lsn.0) (history_at old).commits
-  pub holds_source_rows : HoldsRows new offset (source_rows_at new offset offset.lsn.0)
+  pub holds_source_rows : HoldsRows new offset (infos_at new offset offset.lsn.0) (source_rows_at new offset offset.lsn.0)
   pub ran_whole : session_commits new.wal.entries ≡ log_at new.wal.workload (length (steps_of new.wal.workload))
-  pub holds_final_rows : HoldsRows new offset (whole_rows new.wal offset.infos)
+  pub holds_final_rows : HoldsRows new offset offset.infos (whole_rows new.wal offset.infos)
 
 -- ---- the guarantees
 

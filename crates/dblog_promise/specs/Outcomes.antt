@@ -1,26 +1,28 @@
 -- The outcome of any number of sessions and crashes.
-use Rattle.std.specs.Prelude.{◌≡◌, ℕ, ◌+◌, ◌<◌, ◌≤◌, max, Option, Some, None, List, ◌++◌, length, map, slice_get}
+use Rattle.std.specs.Prelude.{◌≡◌, ℕ, ◌+◌, ◌<◌, ◌≤◌, max, Option, Some, None, List, ◌++◌, length, map, zip, slice_get}
 use Rattle.std.specs.List.{AllByRecursion, AllZip}
 use Rattle.dbl_record.specs.declared.record.Record.{Record}
 use Rattle.dbl_record.specs.Cuts.{joined}
 use Rattle.dbl_model_table.specs.declared.config.Config.{Config}
 use Rattle.dbl_model_history.specs.History.{History}
+use Rattle.dbl_model_history.specs.InForce.{IsAlike}
 use Rattle.dbl_capture_laws.specs.Offset.declared.offset.Offset.{Offset}
 use Rattle.dbl_capture_laws.specs.Faithful.Stores.{IsPositionOf, lag, repeated}
-use Rattle.dbl_capture_laws.specs.Faithful.Onward.{ExtendsList, IsLaterCursor}
+use Rattle.dbl_capture_laws.specs.Faithful.Onward.{ExtendsList, IsLaterProgress}
 use Rattle.dbl_capture_laws.specs.CaptureModel.Entries.{appends_after}
 use Rattle.dblog_promise.specs.Restarts.{FoundStores, most_every}
 
 -- ---- progress
 
--- A later offset of the same connector: its LSN and the progress of each table don't fall, and its incarnation is at most so many higher.
+-- A later offset of the same connector and tables: its LSN, its versions and the progress of each table whose version is the same don't
+-- fall, and its incarnation is at most so many higher.
 pub record IsFarther (sessions : ℕ) (old new : Offset) : Type 0 where
   pub identity : new.identity ≡ old.identity
-  pub infos : new.infos ≡ old.infos
-  pub versions : new.versions ≡ old.versions
+  pub infos : AllZip IsAlike old.infos new.infos
+  pub versions : AllZip (λ before after. before ≤ after) old.versions new.versions
   pub start : new.start ≡ old.start
   pub lsn : old.lsn.0 ≤ new.lsn.0
-  pub cursors : AllZip IsLaterCursor old.cursors new.cursors
+  pub cursors : AllZip IsLaterProgress (zip old.versions old.cursors) (zip new.versions new.cursors)
   pub not_less : old.incarnation ≤ new.incarnation
   pub not_more : new.incarnation ≤ old.incarnation + sessions
 

@@ -26,10 +26,11 @@ use Rattle.dblog_promise.specs.Outcomes.{IsCountedByLag, WentOn}
 
 -- ---- one session
 
--- If the stores were faithful, the session found what the guarantees on its answers require: the captured tables are those of the
--- catalogue, the offset is in the source's log, and the source has its log from there on.
+-- If the stores of a valid history were faithful, the session found what the guarantees on its answers require: the captured tables are
+-- those of the catalogue, the offset is in the source's log, and the source has its log from there on.
 abbrev pub FaithfulEntriesAreKnown : Type 0
-FaithfulEntriesAreKnown = (entry : SessionStart) → WasFaithful entry → HadOwnTables entry × StoodInLog entry × WasKept entry
+FaithfulEntriesAreKnown = (entry : SessionStart) → IsFitHistory entry.history → WasFaithful entry
+    → HadOwnTables entry × StoodInLog entry × WasKept entry
 
 -- A session may begin with each stored offset whose incarnation can still be raised, whether or not others have committed since.
 abbrev pub StoredOffsetsBeginAgain : Type 0

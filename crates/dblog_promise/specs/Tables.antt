@@ -1,9 +1,10 @@
 -- Equal tables: the state of a consumer of the topic log is the source's.
 use Rattle.std.specs.Prelude.{ℕ, List, length, map}
 use Rattle.dbl_model_table.specs.declared.table.TableInfo.{TableInfo}
-use Rattle.dbl_model_table.specs.Rows.{Rows, rows, moment_at}
+use Rattle.dbl_model_table.specs.Rows.{Rows}
 use Rattle.dbl_model_history.specs.History.{History}
 use Rattle.dbl_model_history.specs.Typed.{typed}
+use Rattle.dbl_model_history.specs.VersionRows.{version_rows, versions_to}
 use Rattle.dbl_capture_laws.specs.ConsumeLaws.Laws.{last_rows}
 use Rattle.dbl_source.specs.SourceLog.declared.logged.Logged.{Logged}
 use Rattle.dbl_source.specs.SourceLog.declared.logged.Logged.TheVariants.{Changes}
@@ -13,17 +14,21 @@ use Rattle.dbl_demo_laws.specs.DemoWal.Standings.{tables_of}
 use Rattle.dbl_demo_laws.specs.DemoWal.Wals.{Wal}
 use Rattle.dbl_demo_laws.specs.DemoWal.Workloads.{log_at, steps_of}
 use Rattle.dbl_capture_laws.specs.Faithful.Complete.{HoldsImage}
-use Rattle.dblog_promise.specs.Contents.{Contents, captured_commits_at, records_of_contents}
+use Rattle.dbl_capture_laws.specs.Faithful.ConsumeCourses.Courses.{infos_after}
+use Rattle.dblog_promise.specs.Contents.{Contents, captured_commits_at, first_infos_at, records_of_contents}
 
--- The source's rows at a position of its log, after the commit with that position.
+-- The captured tables in the columns in force at a position of the source's log.
+abbrev pub infos_at : Contents → Offset → ℕ → List TableInfo
+infos_at held offset position = infos_after (first_infos_at held offset) (versions_to position (captured_commits_at held offset))
+
+-- The source's rows at a position of its log, after the commit with that position, in the columns in force there.
 abbrev pub source_rows_at : Contents → Offset → ℕ → Rows
-source_rows_at held offset position =
-    rows offset.infos (captured_commits_at held offset) (moment_at (captured_commits_at held offset) position)
+source_rows_at held offset position = version_rows (versions_to position (captured_commits_at held offset))
 
--- The state of a consumer of the topic log is these rows: for each topic and key text the row with each of its cells, and nothing if there
--- is none.
-abbrev pub HoldsRows : Contents → Offset → Rows → Type 0
-HoldsRows held offset rows = (topic text : List ℕ) → HoldsImage offset.identity offset.infos rows (records_of_contents held) topic text
+-- The state of a consumer of the topic log is these rows of these tables: for each topic and key text the row with each of its cells, and
+-- nothing if there is none.
+abbrev pub HoldsRows : Contents → Offset → List TableInfo → Rows → Type 0
+HoldsRows held offset infos rows = (topic text : List ℕ) → HoldsImage offset.identity infos rows (records_of_contents held) topic text
 
 -- ---- the whole workload
 

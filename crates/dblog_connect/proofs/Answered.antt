@@ -460,7 +460,7 @@ module _ {W T F : Type 0} (wal_model : DiskModel W) (topics_model : DiskModel T)
   kept_each : (h : Halt) → result ≡ Err h → (kept : IsKept old) → (w1 t1 f1 : List ℕ) (left : Contents) → wal_model.may_leave sn.journal.disk w1 → topics_model.may_leave ln.disk t1 → offsets_model.may_leave (disk_of fn) f1
       → ReadAs w1 t1 f1 left → IsKeptHalt config now old fn.offset report left h
   kept_each h is kept w1 t1 f1 left mw mt mf read =
-      let known = faithful_entries_are_known entry kept.faithful in
+      let known = faithful_entries_are_known entry kept.fit kept.faithful in
       let rising : IsRising (history_at old) = is_rising (tables_of src.wal) (logged_in src.wal.entries) in
       kept_halt config now old fn.offset report (HasDemoState wal_model sn) left.wal sn.place (one_left w1 left.wal mw read.source) left (HoldsGroups topics_model ln) h refl
       (λ groups holds. sym (only_held topics_model ln groups left.groups holds (t1, mt, read.log)))

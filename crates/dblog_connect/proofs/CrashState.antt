@@ -85,7 +85,7 @@ module _ {W T F : Type 0} (wal_model : DiskModel W) (topics_model : DiskModel T)
     log_kept = ran.sink_comes.groups (kept_log topics_model t lo lg)
 
     pub own_of : IsKept old → HadOwnTables entry
-    own_of kept = (faithful_entries_are_known entry kept.faithful).0
+    own_of kept = (faithful_entries_are_known entry kept.fit kept.faithful).0
 
     pub left_of : IsKept old → LeavesGoing (SourceLeaves wal_model) (LogLeaves topics_model) offsets_model entry sn ln fn
     left_of kept = ran.faithful entry (record { config_is = refl; now_is = refl }) (found_of wal_model topics_model offsets_model w t f so lo fo src lg st config now) (own_of kept)

@@ -8,7 +8,7 @@ use Rattle.dbl_pgmsg.specs.declared.messages.Message.{Message}
 use Rattle.dbl_model_table.specs.declared.row.Key.{Key}
 use Rattle.dbl_model_table.specs.declared.table.TableInfo.{TableInfo}
 use Rattle.dbl_model_table.specs.declared.table.TableName.{TableName}
-use Rattle.dbl_model_history.specs.Fit.{AreInfosOf}
+use Rattle.dbl_model_history.specs.Fit.{AreInfosOf, IsFitHistory}
 use Rattle.dbl_model_history.specs.History.{History, RawCommit}
 use Rattle.dbl_record.specs.declared.record.Record.{Record}
 use Rattle.dbl_source_log.specs.Histories.{commits_from}
@@ -27,6 +27,7 @@ use Rattle.dbl_demo_wal.proofs.FitLaws.{wal_is_fair}
 use Rattle.dbl_demo_wal.proofs.WalLaws.{one_wal}
 use Rattle.dbl_faithful.specs.Faithful.{IsFaithful}
 use Rattle.dbl_faithful.specs.Onward.{ExtendsList}
+use Rattle.dbl_faithful.proofs.Faithful.{described_infos}
 use Rattle.dblog_run.specs.CaptureLaws.Sessions.{Captures}
 use Rattle.dblog_run.specs.Promise.Restarts.{stores_of}
 use Rattle.dblog_run.specs.Promise.Bounds.{GrowsByFewMarks}
@@ -56,9 +57,9 @@ use Rattle.dblog_laws.proofs.WholeRows.{whole_covers}
 
 -- ---- what was kept
 
-own_so : (history : History) (confirmed : Lsn) (records : List Record) (offset : Option Offset) → IsFaithful history confirmed records offset → IfSome offset (λ o. AreInfosOf history o.infos)
-own_so history confirmed records None faithful = tt
-own_so history confirmed records (Some offset) faithful = faithful.lags.offset_is.infos
+own_so : (history : History) (confirmed : Lsn) (records : List Record) (offset : Option Offset) → IsFitHistory history → IsFaithful history confirmed records offset → IfSome offset (λ o. AreInfosOf history o.infos)
+own_so history confirmed records None fit faithful = tt
+own_so history confirmed records (Some offset) fit faithful = described_infos history confirmed records offset fit faithful.lags.offset_is
 
 -- ---- what is sent of a wal that grew
 
@@ -117,7 +118,7 @@ module _ (options : ResumeOptions) (now : ℤ) (told_wal told_topics told_offset
       subst IsKept (disks_are_read_once w t f there.0 held there.1 read) there.2
 
   own_tables : HasOwnTables held
-  own_tables = own_so (stores_of (found_in held)).history (stores_of (found_in held)).confirmed (stores_of (found_in held)).records held.offset held_kept.faithful
+  own_tables = own_so (stores_of (found_in held)).history (stores_of (found_in held)).confirmed (stores_of (found_in held)).records held.offset held_kept.fit held_kept.faithful
 
   -- the history goes on from what the disks told
   extends : ExtendsList (history_at held).commits (history_at left).commits

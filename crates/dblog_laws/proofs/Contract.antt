@@ -16,6 +16,7 @@ use Rattle.dbl_offset.specs.Stores.{HoldsOffset, StoreOn, disk_of}
 use Rattle.dbl_offset.proofs.StoreLaws.{one_store, store_of}
 use Rattle.dbl_faithful.specs.Lag.{IsOffsetOf}
 use Rattle.dbl_faithful.specs.Faithful.{IsFaithful}
+use Rattle.dbl_faithful.proofs.Faithful.{described_infos}
 use Rattle.dbl_source.specs.Model.{SourceModel}
 use Rattle.dblog_run.specs.CaptureModel.Entries.{SessionStart, HadOwnTables, IsKeptAfter, WasFaithful}
 use Rattle.dblog_run.specs.CaptureWork.declared.halt.Halt.{Halt}
@@ -64,16 +65,16 @@ kept_so : (history : History) (confirmed : Lsn) (records : List Record) (offset 
 kept_so history confirmed records None faithful = faithful.unconfirmed
 kept_so history confirmed records (Some offset) faithful = faithful.lags.offset_is.confirmed_to
 
-own_so : (history : History) (confirmed : Lsn) (records : List Record) (offset : Option Offset) → IsFaithful history confirmed records offset → IfSome offset (λ o. AreInfosOf history o.infos)
-own_so history confirmed records None faithful = tt
-own_so history confirmed records (Some offset) faithful = faithful.lags.offset_is.infos
+own_so : (history : History) (confirmed : Lsn) (records : List Record) (offset : Option Offset) → IsFitHistory history → IsFaithful history confirmed records offset → IfSome offset (λ o. AreInfosOf history o.infos)
+own_so history confirmed records None fit faithful = tt
+own_so history confirmed records (Some offset) fit faithful = described_infos history confirmed records offset fit faithful.lags.offset_is
 
 module _ (entry : SessionStart) (config : Config) (now : ℤ) (s : SourceState) (old : Option Offset) (config_is : entry.config ≡ config) (now_is : entry.now ≡ now)
     (history : s.history ≡ entry.history) (confirmed : s.confirmed ≡ entry.confirmed) (offset_is : entry.offset ≡ old) where
-  own_at : WasFaithful entry → HadOwnTables (session_start_at config now s old)
-  own_at faithful =
+  own_at : IsFitHistory entry.history → WasFaithful entry → HadOwnTables (session_start_at config now s old)
+  own_at fit faithful =
       subst (λ (o : Option Offset). IfSome o (λ offset. AreInfosOf s.history offset.infos)) offset_is
-      (subst (λ (h : History). IfSome entry.offset (λ offset. AreInfosOf h offset.infos)) (sym history) (own_so entry.history entry.confirmed (joined entry.groups) entry.offset faithful))
+      (subst (λ (h : History). IfSome entry.offset (λ offset. AreInfosOf h offset.infos)) (sym history) (own_so entry.history entry.confirmed (joined entry.groups) entry.offset fit faithful))
 
   kept_at : WasFaithful entry → IsKeptAfter s.confirmed old
   kept_at faithful =
@@ -98,7 +99,7 @@ module _ (entry : SessionStart) (config : Config) (now : ℤ) (s : SourceState) 
               (subst (λ (n : ℤ). IsHalt config n entry.offset stored report told h) (sym now_is) (subst (λ (o : Option Offset). IsHalt config now o stored report told h) (sym offset_is) cause));
           fit = fit;
           absent = subst (λ (k : Config). IsAbsentHalt k.tables entry.history h) (sym config_is) (subst (λ (x : History). IsAbsentHalt config.tables x h) history absent);
-          own = honest_as (session_start_at config now s old) entry stands h captures_as (own (own_at faithful));
+          own = honest_as (session_start_at config now s old) entry stands h captures_as (own (own_at fit faithful));
           content = content;
           gone = gone (kept_at faithful);
           missing = missing;
@@ -167,7 +168,8 @@ module _ {S K D : Type 0} (source_model : SourceModel S) (sink_model : SinkModel
         let counted = counted_of sink_model.holds sink_model.may_leave entry.groups new_sink report h none (tells.counted entry.groups found.sink_is) in
         let before : HoldsOffset model store store.offset = subst (HoldsOffset model store) (sym found.store_is.offset_is) found.store_is in
         let held = tells.held before (not_offsets h none (Err h) refl) in
-        let leaves = tells.faithful entry asked found kept_honest (own_so entry.history entry.confirmed (joined entry.groups) entry.offset faithful) in
+        let valid : IsFitHistory entry.history = subst IsFitHistory found.history (fit src (left_of found.standing) (may src found.standing found.source_is) (tells.source.honest kept_honest)) in
+        let leaves = tells.faithful entry asked found kept_honest (own_so entry.history entry.confirmed (joined entry.groups) entry.offset valid faithful) in
         (entry.groups ++ counted.more, counted.held, stored_is entry new_src new_sink new_store leaves faithful held (entry.groups ++ counted.more) counted.held offset t stored there)
 
   pub faithful_sessions_end : FaithfulSessionsEnd source_model sink_model model

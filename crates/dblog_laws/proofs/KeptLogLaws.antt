@@ -9,7 +9,7 @@ use Rattle.dblog_laws.specs.KeptLogs.{IsTrueToSource, KeptLogsAreTrue}
 
 true_by : (held : Contents) (o : Option Offset) → IsFaithful (history_at held) (confirmed_at held) (records_of_contents held) o → MatchOption o (records_of_contents held ≡ []) (IsTrueToSource held)
 true_by held None untouched = untouched.empty
-true_by held (Some offset) faithful = record { changes = faithful.exact; cells = faithful.aged }
+true_by held (Some offset) faithful = record { changes = faithful.exact; late = faithful.late; cells = faithful.aged }
 
 pub kept_logs_are_true : {W T F : Type 0} (wal_model : DiskModel W) (topics_model : DiskModel T) (offsets_model : DiskModel F) → KeptLogsAreTrue wal_model topics_model offsets_model
 kept_logs_are_true wal_model topics_model offsets_model disks kept w t f wal topics offsets =

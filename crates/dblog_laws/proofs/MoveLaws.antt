@@ -16,6 +16,7 @@ use Rattle.dbl_source_model.specs.Standings.{Reading}
 use Rattle.dbl_offset_content.specs.declared.offset.Offset.{Offset}
 use Rattle.dbl_offset.proofs.StoreLaws.{one_store}
 use Rattle.dbl_faithful.specs.Faithful.{IsFaithful, IsFaithfulTo}
+use Rattle.dbl_faithful.proofs.Faithful.{described_infos}
 use Rattle.dbl_demo_wal.specs.Wals.{IsWal}
 use Rattle.dbl_demo_wal.specs.TablesLaws.Laws.{IsMovedAtMost}
 use Rattle.dbl_demo_wal_laws.specs.Moved.{HaveMovedAtMost}
@@ -57,7 +58,8 @@ pub read_moves : (config : Config) (found stored : Option Offset) (left : Conten
 read_moves config found stored left bytes wal kept left_is reading was =
     let faithful : IsFaithfulTo (history_at left) (confirmed_at left) (records_of_contents left) was.by.offset =
     subst (IsFaithful (history_at left) (confirmed_at left) (records_of_contents left)) (left_is ∙ was.by.is) kept.faithful in
-    transactions_move bytes left.wal was.by.offset.infos reading.after reading.messages was.rest wal faithful.lags.offset_is.infos was.front
+    let captured = described_infos (history_at left) (confirmed_at left) (records_of_contents left) was.by.offset kept.fit faithful.lags.offset_is in
+    transactions_move bytes left.wal was.by.offset.infos reading.after reading.messages was.rest wal captured was.front
 
 module _ {W T F : Type 0} (wal_model : DiskModel W) (topics_model : DiskModel T) (offsets_model : DiskModel F)
     (wal_left : (disk : W) (bytes : List ℕ) → wal_model.seen disk ≡ Some bytes → wal_model.may_leave disk bytes)

@@ -363,12 +363,13 @@ unreadable_cell infos history plan from upto answer name error fit captured star
 -- what was read of the rows that a conforming source answered is what was selected
 pub selected_chunk : (infos : List TableInfo) (history : History) (from upto : ℕ) (answer : SelectAnswer) (chunk : Chunk) → IsFitHistory history → IsCaptured infos history chunk.plan
     → IfSome chunk.plan.above (IsKeyOf chunk.plan.info) → AreAnswered history from upto chunk.plan.info.name chunk.plan.above chunk.plan.limit answer
-    → chunk_read chunk.plan answer.rows ≡ Ok chunk.rows → chunk.through ≡ last_key chunk.plan.above chunk.rows → chunk.done ≡ nat_lt (length chunk.rows) chunk.plan.limit
+    → chunk.plan.version ≡ answer.version → chunk_read chunk.plan answer.rows ≡ Ok chunk.rows → chunk.through ≡ last_key chunk.plan.above chunk.rows → chunk.done ≡ nat_lt (length chunk.rows) chunk.plan.limit
     → IsSelected infos history from upto chunk
-selected_chunk infos history from upto answer chunk fit captured starts are read through done = record {
+selected_chunk infos history from upto answer chunk fit captured starts are same read through done = record {
   place = are.place;
   not_before = are.not_before;
   not_after = are.not_after;
+  version = same ∙ are.version;
   first = subst (λ (rows : List (Key × Row)). AreFirst chunk.plan.info (rows_up_to infos history are.place chunk.plan.table) chunk.plan.above chunk.plan.limit rows)
       (sym (read_answered infos chunk.plan answer.rows chunk.rows captured.here read).same) (first_answered infos history chunk.plan from upto answer fit captured starts are);
   through_is = through;

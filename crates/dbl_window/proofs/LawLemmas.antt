@@ -1,6 +1,6 @@
 -- The laws of windows: what changes leave is one list, and what was selected stays so.
-use Rattle.std.proofs.Common.{◌≡◌, ◌∙◌, ◌<◌, ◌≤◌, inl, inr, ℕ, Bool, true, false, Option, Some, None, List, [], ◌∷◌, ◌++◌, length, map, take, refl, sym, ap, subst, arith, append_assoc}
-use Rattle.std.specs.Prelude.{◌==◌, nat_lt}
+use Rattle.std.proofs.Common.{◌≡◌, ◌∙◌, ◌<◌, ◌≤◌, inl, inr, ℕ, Bool, true, false, Option, Some, None, List, [], ◌∷◌, ◌++◌, fold, length, map, take, refl, sym, ap, ap₂, subst, arith, append_assoc}
+use Rattle.std.specs.Prelude.{◌==◌, nat_lt, option_map, unwrap_or}
 use Rattle.std.specs.List.{AllByRecursion}
 use Rattle.std.specs.List.Sorted.{IsStrictlySortedBy}
 use Rattle.std.specs.Map.{keys_of}
@@ -12,14 +12,17 @@ use Rattle.std.proofs.lemmas.Bool.Decides.{Decides-ltb, Decides-eqb}
 use Rattle.dbl_value_types.specs.declared.value.Val.{Val}
 use Rattle.dbl_model_table.specs.declared.row.Key.{Key}
 use Rattle.dbl_model_table.specs.declared.row.Row.{Row}
+use Rattle.dbl_model_table.specs.declared.table.RawTable.{RawTable}
 use Rattle.dbl_model_table.specs.declared.table.TableInfo.{TableInfo}
+use Rattle.dbl_model_table.specs.declared.table.TableName.{TableName}
 use Rattle.dbl_model_table.specs.declared.change.Commit.{Commit}
 use Rattle.dbl_model_table.specs.Keys.{key_cmp, same_key}
 use Rattle.dbl_model_table.specs.Rows.{Rows, at_key, no_rows, rows_from, all_changes}
 use Rattle.dbl_model_table.specs.Rows.Effect.{Ends}
 use Rattle.dbl_model_table.proofs.Lists.{bool_case}
 use Rattle.dbl_model_table.proofs.KeyLemmas.{key_total, same_key-is}
-use Rattle.dbl_model_history.specs.History.{RawCommit, History}
+use Rattle.dbl_model_history.specs.History.{RawCommit, History, entry_of}
+use Rattle.dbl_model_history.specs.InForce.{entry_after, version_at}
 use Rattle.dbl_model_history.specs.Typed.{typed, typed_commit}
 use Rattle.dbl_model_history.specs.KeyedRows.{row_in, row_left, AreAbove, last_key, AreFirst}
 use Rattle.dbl_model_history.proofs.BoundLemmas.{row_in-first}
@@ -28,7 +31,7 @@ use Rattle.dbl_source.specs.SourceModel.Selected.{rows_up_to}
 use Rattle.dbl_window.specs.Plans.{Plan, Chunk}
 use Rattle.dbl_window.specs.Changing.{AreLeft}
 use Rattle.dbl_window.specs.Selected.{IsSelected}
-use Rattle.dbl_window.specs.Promise.{rows_after_first}
+use Rattle.dbl_window.specs.Promise.{rows_after_first, WasGiven}
 use Rattle.dbl_window.specs.Laws.{LeftRowsAreOne, ClearsLeaveNothing, between, SelectedRowsStay, SelectedRowsWereGiven}
 use Rattle.dbl_window.specs.ClosingLaws.{RowsAboveAreInOrder}
 use Rattle.dbl_window.proofs.OrderLemmas.{row_past, lacks}
@@ -114,7 +117,7 @@ clears_leave infos table rows others = (
 
 -- ---- what was selected
 
-rows_stay : (infos : List TableInfo) (old new : History) (more : List RawCommit) (place : ℕ) → new.commits ≡ old.commits ++ more → place ≤ length old.commits
+pub rows_stay : (infos : List TableInfo) (old new : History) (more : List RawCommit) (place : ℕ) → new.commits ≡ old.commits ++ more → place ≤ length old.commits
     → rows_up_to infos new place ≡ rows_up_to infos old place
 rows_stay infos old new more place longer fits =
     ap (λ (cs : List RawCommit). rows_from infos no_rows (all_changes (take place (map (typed_commit infos) cs)))) longer
@@ -122,12 +125,20 @@ rows_stay infos old new more place longer fits =
     ∙ ap (λ (h : List Commit). rows_from infos no_rows (all_changes h))
     (take-append-le place (typed infos old) (map (typed_commit infos) more) (omega (arith, fits, length-map old.commits (typed_commit infos)))))
 
-pub stays_by : (infos : List TableInfo) (old new : History) (more : List RawCommit) (from upto : ℕ) (chunk : Chunk) → new.commits ≡ old.commits ++ more → upto ≤ length old.commits
+-- and so does the version
+version_stays : (old new : History) (more : List RawCommit) (place : ℕ) (name : TableName) → new.tables ≡ old.tables → new.commits ≡ old.commits ++ more → place ≤ length old.commits → version_at new place name ≡ version_at old place name
+version_stays old new more place name same longer fits =
+    ap₂ (λ (tables : List RawTable) (commits : List RawCommit). version_at (record { tables = tables; commits = commits }) place name) same longer
+    ∙ ap (λ (commits : List RawCommit). unwrap_or (option_map (λ (table : RawTable). table.version) (option_map (λ (table : RawTable). fold (λ (entry : RawTable) (commit : RawCommit). entry_after commit.body entry) table commits) (entry_of old name))) 1)
+    (take-append-le place old.commits more fits)
+
+stays_by : (infos : List TableInfo) (old new : History) (more : List RawCommit) (from upto : ℕ) (chunk : Chunk) → new.tables ≡ old.tables → new.commits ≡ old.commits ++ more → upto ≤ length old.commits
     → IsSelected infos old from upto chunk → IsSelected infos new from upto chunk
-stays_by infos old new more from upto chunk longer fits sel = record {
+stays_by infos old new more from upto chunk same longer fits sel = record {
   place = sel.place;
   not_before = sel.not_before;
   not_after = sel.not_after;
+  version = sel.version ∙ sym (version_stays old new more sel.place chunk.plan.info.name same longer (let le : sel.place ≤ upto = sel.not_after in omega (arith, le, fits)));
   first = subst (λ (at : Rows). AreFirst chunk.plan.info (at chunk.plan.table) chunk.plan.above chunk.plan.limit chunk.rows)
       (sym (rows_stay infos old new more sel.place longer (let le : sel.place ≤ upto = sel.not_after in omega (arith, le, fits)))) sel.first;
   through_is = sel.through_is;
@@ -135,21 +146,30 @@ stays_by infos old new more from upto chunk longer fits sel = record {
 }
 
 pub selected_stays : SelectedRowsStay
-selected_stays infos old new from upto value chunk fits (inl grows) sel = stays_by infos old new grows.others from upto chunk grows.commits fits sel
+selected_stays infos old new from upto value chunk fits (inl grows) sel = stays_by infos old new grows.others from upto chunk grows.tables grows.commits fits sel
 selected_stays infos old new from upto value chunk fits (inr marks) sel =
     stays_by infos old new (marks.before ++ marks.mark ∷ marks.after) from upto chunk
-    (marks.commits ∙ append_assoc old.commits marks.before (marks.mark ∷ marks.after)) fits sel
+    marks.tables (marks.commits ∙ append_assoc old.commits marks.before (marks.mark ∷ marks.after)) fits sel
 
-pub selected_given : SelectedRowsWereGiven
-selected_given infos history low high selected chunk sel plan_is through done left = record {
+-- what was selected at a place between the watermarks, and then saw the changes between them
+pub given_by : (infos : List TableInfo) (history : History) (low high place : ℕ) (selected chunk : Chunk) → low ≤ place → place ≤ high
+    → AreFirst selected.plan.info (rows_up_to infos history place selected.plan.table) selected.plan.above selected.plan.limit selected.rows
+    → selected.through ≡ last_key selected.plan.above selected.rows → selected.done ≡ nat_lt (length selected.rows) selected.plan.limit
+    → chunk.plan ≡ selected.plan → chunk.through ≡ selected.through → chunk.done ≡ selected.done
+    → AreLeft infos selected.plan.table selected.rows (between infos history low high) chunk.rows → WasGiven infos (typed infos history) low high chunk
+given_by infos history low high place selected chunk above below first through_is done_is plan_is through done left = record {
   selected = selected.rows;
-  place = sel.place;
-  not_before = sel.not_before;
-  not_after = sel.not_after;
-  first = subst (λ (p : Plan). AreFirst p.info (rows_after_first infos (typed infos history) sel.place p.table) p.above p.limit selected.rows) (sym plan_is) sel.first;
-  through_is = through ∙ (sel.through_is ∙ ap (λ (p : Plan). last_key p.above selected.rows) (sym plan_is));
+  place = place;
+  not_before = above;
+  not_after = below;
+  first = subst (λ (p : Plan). AreFirst p.info (rows_after_first infos (typed infos history) place p.table) p.above p.limit selected.rows) (sym plan_is) first;
+  through_is = through ∙ (through_is ∙ ap (λ (p : Plan). last_key p.above selected.rows) (sym plan_is));
   done_is = λ is_done.
-      (let test : nat_lt (length selected.rows) selected.plan.limit ≡ true = sym (done ∙ sel.done_is) ∙ is_done in
+      (let test : nat_lt (length selected.rows) selected.plan.limit ≡ true = sym (done ∙ done_is) ∙ is_done in
       subst (λ (p : Plan). length selected.rows < p.limit) (sym plan_is) ((Decides-ltb (length selected.rows) selected.plan.limit).0 test));
   left = subst (λ (p : Plan). AreLeft infos p.table selected.rows (between infos history low high) chunk.rows) (sym plan_is) left;
 }
+
+pub selected_given : SelectedRowsWereGiven
+selected_given infos history low high selected chunk sel plan_is through done left =
+    given_by infos history low high sel.place selected chunk sel.not_before sel.not_after sel.first sel.through_is sel.done_is plan_is through done left

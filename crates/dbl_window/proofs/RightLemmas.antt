@@ -2,16 +2,17 @@
 use Rattle.std.proofs.Common.{◌≡◌, ◌∙◌, ◌+◌, ◌≤◌, ℕ, suc, Some, List, ◌∷◌, ◌++◌, length, sym, ap, subst, arith, length-append, append_assoc}
 use Rattle.std.specs.Prelude.{slice_get}
 use Rattle.dbl_model_table.specs.declared.table.TableInfo.{TableInfo}
-use Rattle.dbl_model_table.specs.Rows.{all_changes}
+use Rattle.dbl_model_table.specs.Rows.{Rows, all_changes}
 use Rattle.dbl_model_history.specs.History.{RawCommit, History}
+use Rattle.dbl_model_history.specs.KeyedRows.{AreFirst}
 use Rattle.dbl_model_history.specs.Typed.{typed}
 use Rattle.dbl_consume_laws.specs.Windows.{IsRightWindow}
 use Rattle.dbl_source.specs.SourceModel.Growth.{Marks}
+use Rattle.dbl_source.specs.SourceModel.Selected.{rows_up_to}
 use Rattle.dbl_window.specs.Plans.{Plan, Chunk}
-use Rattle.dbl_window.specs.Selected.{IsSelected}
 use Rattle.dbl_window.specs.Promise.{moment_after_first}
 use Rattle.dbl_window.specs.RightLaws.{ExtendsHistory, upto_mark, WasSelected, WindowsAreRight}
-use Rattle.dbl_window.proofs.LawLemmas.{stays_by, selected_given}
+use Rattle.dbl_window.proofs.LawLemmas.{given_by, rows_stay}
 
 -- ---- how a history goes on
 
@@ -36,17 +37,6 @@ counted value old new marks =
 
 -- ---- what was selected between the watermarks
 
-widen : (infos : List TableInfo) (history : History) (from upto low high : ℕ) (chunk : Chunk) → low ≤ from → upto ≤ high
-    → IsSelected infos history from upto chunk → IsSelected infos history low high chunk
-widen infos history from upto low high chunk below above sel = record {
-  place = sel.place;
-  not_before = (let le : from ≤ sel.place = sel.not_before in omega (arith, le, below));
-  not_after = (let le : sel.place ≤ upto = sel.not_after in omega (arith, le, above));
-  first = sel.first;
-  through_is = sel.through_is;
-  done_is = sel.done_is;
-}
-
 module _ (infos : List TableInfo) (now : History) (held : Chunk) (was : WasSelected infos now held) where
   since : ExtendsHistory was.returned now
   since = goes_on_again was.returned was.asked now was.before_high (goes_on_again was.asked was.last now (marked_on _ was.asked was.last was.high) was.after_high)
@@ -62,17 +52,30 @@ module _ (infos : List TableInfo) (now : History) (held : Chunk) (was : WasSelec
       let le : length was.returned.commits ≤ length was.asked.commits = longer was.returned was.asked was.before_high in
       omega (arith, le)
 
-  pub selected_between : IsSelected infos now (upto_mark was.low) (upto_mark was.high) held
-  selected_between =
-      widen infos now (length was.called.commits) (length was.returned.commits) (upto_mark was.low) (upto_mark was.high) held below above
-      (stays_by infos was.returned now since.0 (length was.called.commits) (length was.returned.commits) held since.1 (omega arith) was.selected)
+  -- the rows are of a place between the watermarks
+  place_above : upto_mark was.low ≤ was.selected.place
+  place_above =
+      let le : length was.called.commits ≤ was.selected.place = was.selected.not_before in
+      omega (arith, le, below)
+
+  place_below : was.selected.place ≤ upto_mark was.high
+  place_below =
+      let le : was.selected.place ≤ length was.returned.commits = was.selected.not_after in
+      omega (arith, le, above)
+
+  -- and the history still has them there
+  first_still : AreFirst held.plan.info (rows_up_to infos now was.selected.place held.plan.table) held.plan.above held.plan.limit held.rows
+  first_still =
+      subst (λ (at : Rows). AreFirst held.plan.info (at held.plan.table) held.plan.above held.plan.limit held.rows)
+      (sym (rows_stay infos was.returned now since.0 was.selected.place since.1 was.selected.not_after)) was.selected.first
 
 pub windows_right : WindowsAreRight
 windows_right infos now held opened closed was captured same left keeps =
     subst (λ (p : Plan). IsRightWindow infos (all_changes (typed infos now)) (moment_after_first (typed infos now) (upto_mark was.low))
     (moment_after_first (typed infos now) (upto_mark was.high)) p.above closed) plan_is
     (keeps infos (typed infos now) (upto_mark was.low) (upto_mark was.high) (subst (λ (p : Plan). slice_get infos p.table ≡ Some p.info) (sym plan_is) captured)
-    (selected_given infos now (upto_mark was.low) (upto_mark was.high) held opened (selected_between infos now held was) plan_is
+    (given_by infos now (upto_mark was.low) (upto_mark was.high) was.selected.place held opened (place_above infos now held was) (place_below infos now held was) (first_still infos now held was)
+    was.selected.through_is was.selected.done_is plan_is
     (ap (λ (c : Chunk). c.through) same) (ap (λ (c : Chunk). c.done) same) left))
   where
     plan_is : opened.plan ≡ held.plan

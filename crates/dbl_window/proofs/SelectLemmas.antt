@@ -67,6 +67,14 @@ rows_of_answer plan answer rows read = by (answer.version == plan.version) read
     by true is = is
     by false is = cc
 
+-- and it has the window's version
+version_of_answer : (plan : Plan) (answer : SelectAnswer) (rows : List (Key × Row)) → answer_read plan answer ≡ Ok rows → plan.version ≡ answer.version
+version_of_answer plan answer rows read = by (answer.version == plan.version) refl read
+  where
+    by : (b : Bool) → (answer.version == plan.version) ≡ b → (if b then chunk_read plan answer.rows else Err (window.Moved answer.version)) ≡ Ok rows → plan.version ≡ answer.version
+    by true test is = sym ((Decides-eqb answer.version plan.version).0 test)
+    by false test is = cc
+
 -- another error than that the table was altered is its rows'
 fault_of_answer : (plan : Plan) (answer : SelectAnswer) (e : WindowError) → ((version : ℕ) → e ≡ window.Moved version → ⊥) → answer_read plan answer ≡ Err e → chunk_read plan answer.rows ≡ Err e
 fault_of_answer plan answer e never read = by (answer.version == plan.version) read
@@ -91,9 +99,9 @@ moved_answer plan answer version read = by (answer.version == plan.version) refl
 
 pub held_so : (plan : Plan) (answer : SelectAnswer) (Q : Chunk → Type 0) (result : Result Chunk WindowError) → IsReadAs plan answer result → IfOk result (λ held. held.plan ≡ plan)
     → IfOk result (λ held. held.through ≡ last_key plan.above held.rows) → IfOk result (λ held. held.done ≡ nat_lt (length held.rows) plan.limit)
-    → ((chunk : Chunk) → chunk.plan ≡ plan → chunk_read plan answer.rows ≡ Ok chunk.rows → chunk.through ≡ last_key plan.above chunk.rows → chunk.done ≡ nat_lt (length chunk.rows) plan.limit → Q chunk)
+    → ((chunk : Chunk) → chunk.plan ≡ plan → plan.version ≡ answer.version → chunk_read plan answer.rows ≡ Ok chunk.rows → chunk.through ≡ last_key plan.above chunk.rows → chunk.done ≡ nat_lt (length chunk.rows) plan.limit → Q chunk)
     → IfOk result Q
-held_so plan answer Q (Ok chunk) read same through done so = so chunk same (rows_of_answer plan answer chunk.rows read) through done
+held_so plan answer Q (Ok chunk) read same through done so = so chunk same (version_of_answer plan answer chunk.rows read) (rows_of_answer plan answer chunk.rows read) through done
 held_so plan answer Q (Err e) read same through done so = tt
 
 pub read_so : (plan : Plan) (told : Option Trace) (answer : SelectAnswer) (result : Result Chunk WindowError) → LastAnswerIs told (RowsSelected answer) → IsReadAs plan answer result → IsChunkReadFrom plan told result
@@ -113,14 +121,14 @@ moved_captured : (infos : List TableInfo) (plan : Plan) (s t : SourceState) → 
 moved_captured infos plan s t moved captured = record { are = captured_stays s.history t.history infos moved.grows.tables captured.are; here = captured.here }
 
 pub selects_so : (plan : Plan) (answer : SelectAnswer) (chunk : Chunk) (s t : SourceState) → Moved s t → IsFitHistory t.history → IfSome plan.above (IsKeyOf plan.info)
-    → Selects plan.info.name plan.above plan.limit s.history t.history answer → chunk.plan ≡ plan → chunk_read plan answer.rows ≡ Ok chunk.rows → chunk.through ≡ last_key plan.above chunk.rows
+    → Selects plan.info.name plan.above plan.limit s.history t.history answer → chunk.plan ≡ plan → plan.version ≡ answer.version → chunk_read plan answer.rows ≡ Ok chunk.rows → chunk.through ≡ last_key plan.above chunk.rows
     → chunk.done ≡ nat_lt (length chunk.rows) plan.limit → SelectsChunk plan chunk s t
-selects_so plan answer chunk s t moved fit starts selects plan_is read through done infos captured =
-    (subst (λ (p : Plan). IsCaptured infos t.history p → IfSome p.above (IsKeyOf p.info) → Selects p.info.name p.above p.limit s.history t.history answer → chunk_read p answer.rows ≡ Ok chunk.rows
+selects_so plan answer chunk s t moved fit starts selects plan_is same read through done infos captured =
+    (subst (λ (p : Plan). IsCaptured infos t.history p → IfSome p.above (IsKeyOf p.info) → Selects p.info.name p.above p.limit s.history t.history answer → p.version ≡ answer.version → chunk_read p answer.rows ≡ Ok chunk.rows
     → chunk.through ≡ last_key p.above chunk.rows → chunk.done ≡ nat_lt (length chunk.rows) p.limit
     → IsSelected infos t.history (length s.history.commits) (length t.history.commits) chunk)
     plan_is (selected_chunk infos t.history (length s.history.commits) (length t.history.commits) answer chunk fit))
-    (moved_captured infos plan s t moved captured) starts selects read through done
+    (moved_captured infos plan s t moved captured) starts selects same read through done
 
 -- an error of the reading but out of memory is the rows' fault
 fault_is : (plan : Plan) (answer : SelectAnswer) (result : Result Chunk WindowError) (e : WindowError) → IsReadAs plan answer result → result ≡ Err e → (e ≡ window.Failed → ⊥) → (e ≡ window.Memory → ⊥)

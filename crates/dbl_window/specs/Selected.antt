@@ -27,11 +27,12 @@ pub record IsCaptured (infos : List TableInfo) (history : History) (plan : Plan)
   pub here : slice_get infos plan.table ≡ Some plan.info
 
 -- Whether the chunk has the table's first rows after its key, as they were at one position of the history, not before the last of the first
--- `from` commits, nor after the first `upto`.
+-- `from` commits, nor after the first `upto`; and the table had the window's version there.
 pub record IsSelected (infos : List TableInfo) (history : History) (from upto : ℕ) (chunk : Chunk) : Type 0 where
   pub place : ℕ
   pub not_before : from ≤ place
   pub not_after : place ≤ upto
+  pub version : chunk.plan.version ≡ version_at history place chunk.plan.info.name
   pub first : AreFirst chunk.plan.info (rows_up_to infos history place chunk.plan.table) chunk.plan.above chunk.plan.limit chunk.rows
   -- The last key that was read, and whether fewer rows were read than requested.
   pub through_is : chunk.through ≡ last_key chunk.plan.above chunk.rows

@@ -7,13 +7,13 @@ returns-clause-held g c s stands =
     let stood = c.in_ok-answer.ensures.selected s stands in
     let plan = c.args.self in
     held_so plan c.in_ok-answer.answer _ c.holding.result c.holding.ensures.read c.holding.ensures.same c.holding.ensures.through c.holding.ensures.done
-    (λ chunk same read through done. record {
+    (λ chunk same version read through done. record {
       standing = stood.standing;
       is = stood.is;
       holds = (
         stood.holds.0,
         λ honest. selects_so plan c.in_ok-answer.answer chunk s stood.standing stood.holds.0
-            (g.met.S.Source.fit c.answered_rows.new.src (left_of stood.standing) (g.met.S.Source.may c.answered_rows.new.src stood.standing stood.is) honest) c.answered_rows.ensures.starts (stood.holds.1 honest) same read through done,
+            (g.met.S.Source.fit c.answered_rows.new.src (left_of stood.standing) (g.met.S.Source.may c.answered_rows.new.src stood.standing stood.is) honest) c.answered_rows.ensures.starts (stood.holds.1 honest) same version read through done,
       );
     })
 

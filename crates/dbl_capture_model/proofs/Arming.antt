@@ -106,6 +106,7 @@ wider infos history from upto low high chunk less more is = record {
   place = is.place;
   not_before = le_on low from is.place less is.not_before;
   not_after = le_on is.place upto high is.not_after more;
+  version = is.version;
   first = is.first;
   through_is = is.through_is;
   done_is = is.done_is;

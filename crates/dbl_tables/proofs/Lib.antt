@@ -12,3 +12,4 @@ pub mod SelectLemmas
 pub mod SelectStands
 pub mod GatherLemmas
 pub mod FirstLemmas
+pub mod AlterLemmas

@@ -3,3 +3,4 @@ pub mod FirstRows
 pub mod Places
 pub mod Truncates
 pub mod Shown
+pub mod Altering

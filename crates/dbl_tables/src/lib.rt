@@ -2,6 +2,7 @@
 //! compared with this source.
 #![tactic(auto)]
 
+mod altering;
 mod ends;
 mod first_rows;
 mod selecting;
@@ -9,6 +10,7 @@ mod steps;
 mod tables;
 mod truncating;
 
+pub use dbl_tables_altered::Alteration;
 pub use dbl_tables_rows::{DemoTable, StepError};
 pub use first_rows::FirstRows;
 pub use tables::Tables;

@@ -36,9 +36,11 @@ impl Tables {
     {
         let alloc = self.alloc;
         let Some(state) = self.sessions.get_mut(session) else {
+            drop(planned);
             return Err(StepError::NotOpen);
         };
         let Some(rows) = self.tables.get_mut(place) else {
+            drop(planned);
             return Err(StepError::UnknownTable);
         };
         take(alloc, place, rows, state, session, planned)?;

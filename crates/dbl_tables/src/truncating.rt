@@ -123,13 +123,23 @@ impl Tables {
         let places = places_of(alloc, &self.tables, tables)?;
         let message = truncate_message(alloc, places.items().as_slice())?;
         let Some(size) = grown_size(state.size, &message) else {
+            drop(message);
             return Err(StepError::BadRow);
         };
-        pass(
+        match pass(
             alloc,
             holder_of(&self.tables, places.items().as_slice(), session),
-        )?;
-        let names = copies(alloc, session, places.items().len())?;
+        ) {
+            Ok(()) => {}
+            Err(error) => {
+                drop(message);
+                return Err(error);
+            }
+        }
+        let Ok(names) = copies(alloc, session, places.items().len()) else {
+            drop(message);
+            return Err(StepError::Memory);
+        };
         Ok(Cut {
             message,
             size,
@@ -151,6 +161,7 @@ impl Tables {
         } = cut;
         let alloc = self.alloc;
         let Some(state) = self.sessions.get_mut(session) else {
+            drop(message);
             return Err(StepError::NotOpen);
         };
         state.messages.push(message)?;

@@ -32,9 +32,8 @@ returns-in_default-grown_size c all past st =
     (c.in_default-grown_size.ensures (messages_by c.args.session.now past) (utf8_cut all past c.args.session.now c.args.self.now st c.args.tables.now opened c.in_ok-places.places zip c.in_ok-message.message at) own.short own.size))
 
 -- somebody is in the way
-pub returns-in_err-pass : goal.returns-in_err-pass
-returns-in_err-pass c all past st =
-    let p = err_from_is_err_and c.from_residual-in_err-pass.result c.from_residual-in_err-pass.ensures.1 in
+pub returns-in-Err : goal.returns-in-Err
+returns-in-Err c all past st =
     let opened : is_open c.args.session.now past ≡ true = open_as all past c.args.session.now c.args.self.now st true (ap is_some (sym c.in-Some.ensures.value)) in
     let own = its_session all past c.args.session.now c.args.self.now st c.in-Some.state.now c.in-Some.ensures.value in
     let zip : AllZip (λ name place. place_in c.args.self.now.tables.items name ≡ Some place) c.args.tables.now c.in_ok-places.places = c.in_ok-places.ensures in
@@ -43,7 +42,7 @@ returns-in_err-pass c all past st =
     c.in-Some-grown_size.ensures (messages_by c.args.session.now past) (utf8_cut all past c.args.session.now c.args.self.now st c.args.tables.now opened c.in_ok-places.places zip c.in_ok-message.message at) own.short own.size in
     let finds : FindsFirst c.args.session.now c.args.self.now.tables.items c.in_ok-places.places (option_copied c.holder_of.result) =
     subst (λ (l : List ℕ). FindsFirst c.args.session.now c.args.self.now.tables.items l (option_copied c.holder_of.result)) (c.as_slice-2.ensures.value ∙ c.items-2.ensures) c.holder_of.ensures in
-    rw (p.1, p.2) (cut_locked all past c.args.session.now c.args.self.now st c.args.tables.now opened c.in_ok-places.places zip c.in_ok-message.message at c.in-Some-grown_size.size grown (option_copied c.holder_of.result) finds c.in_err-pass.field-0.0 c.in_err-pass.ensures)
+    cut_locked all past c.args.session.now c.args.self.now st c.args.tables.now opened c.in_ok-places.places zip c.in_ok-message.message at c.in-Some-grown_size.size grown (option_copied c.holder_of.result) finds c.in-Err.error c.in-Err.ensures
 
 pub returns : goal.returns
 returns c all past st =
@@ -56,5 +55,5 @@ returns c all past st =
     let finds : FindsFirst c.args.session.now c.args.self.now.tables.items c.in_ok-places.places (option_copied c.holder_of.result) =
     subst (λ (l : List ℕ). FindsFirst c.args.session.now c.args.self.now.tables.items l (option_copied c.holder_of.result)) (c.as_slice-2.ensures.value ∙ c.items-2.ensures) c.holder_of.ensures in
     let count : c.len.result ≡ length c.in_ok-places.places = c.len.ensures ∙ (c.items-3.result.now.ok.0 ∙ ap length c.items-3.ensures) in
-    cut_planned all past c.args.session.now c.args.self.now st c.args.tables.now opened c.in_ok-places.places zip c.in_ok-message.message at c.in-Some-grown_size.size grown (option_copied c.holder_of.result) finds tt c.in_ok-pass.ensures
-    (record { message = c.in_ok-message.message; size = c.in-Some-grown_size.size; places = c.in_ok-places.places; names = c.in_ok-names.names }) refl refl refl (c.in_ok-names.ensures ∙ ap (λ (n : ℕ). replicate n c.args.session.now) count)
+    cut_planned all past c.args.session.now c.args.self.now st c.args.tables.now opened c.in_ok-places.places zip c.in_ok-message.message at c.in-Some-grown_size.size grown (option_copied c.holder_of.result) finds tt c.in-Ok.ensures
+    (record { message = c.in_ok-message.message; size = c.in-Some-grown_size.size; places = c.in_ok-places.places; names = c.in-Ok-copies.names }) refl refl refl (c.in-Ok-copies.ensures ∙ ap (λ (n : ℕ). replicate n c.args.session.now) count)

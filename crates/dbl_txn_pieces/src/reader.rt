@@ -1,7 +1,7 @@
 ghost use Rattle.std.specs.Prelude.{◌≡◌, ◌||◌, ℕ, ℤ, List, [], ◌∷◌, ◌++◌, OnOk, OnErr, IfOk, IfErr};
 ghost use Rattle.std.specs.Prelude.{if◌then◌else◌, is_some, nat_eq, Some, false};
 ghost use Rattle.std.specs.Prelude.{slice_get, slice_set};
-ghost use Rattle.indexmap.specs.IndexMap.{get};
+ghost use Rattle.std.specs.HashMap.{get};
 ghost use Rattle.dbl_base.specs.declared.lsn.Lsn.{Lsn};
 ghost use Rattle.dbl_pgmsg.specs.declared.messages.Message.{Message};
 ghost use Rattle.dbl_pgmsg.specs.declared.messages.Message.TheVariants as says;
@@ -20,8 +20,8 @@ use dbl_model_commit::{Piece, RowChange, Target, TxnError};
 use dbl_model_table::{Change, Ended, Head, TableInfo};
 use dbl_pgmsg::{Message, RelationColumn};
 use dbl_txn_changes::{Known, read_relation, read_row, read_truncate};
-use indexmap::IndexMap;
 use std::alloc::Global;
+use std::collections::HashMap;
 
 // The open transaction.
 #[derive(Drop)]
@@ -39,14 +39,14 @@ struct Block {
 pub struct PieceReader {
     infos: Vec<TableInfo>,
     last: Lsn,
-    relations: IndexMap<u32, Known>,
+    relations: HashMap<u32, Known>,
     block: Option<Block>,
 }
 
 // The tables of a Truncate.
 fn targets_in(
     alloc: Global,
-    relations: &IndexMap<u32, Known>,
+    relations: &HashMap<u32, Known>,
     oids: &Vec<u32>,
 ) -> Result<Seq<Target>, TxnError>
     ensures { (infos : List TableInfo) (ms : List Message) →
@@ -65,7 +65,7 @@ fn targets_in(
 
 fn truncated_tables(
     alloc: Global,
-    relations: &IndexMap<u32, Known>,
+    relations: &HashMap<u32, Known>,
     marked: bool,
     oids: &Vec<u32>,
 ) -> Result<Seq<Change>, TxnError>
@@ -110,7 +110,7 @@ fn row_at(
 
 fn truncate_at(
     alloc: Global,
-    relations: &IndexMap<u32, Known>,
+    relations: &HashMap<u32, Known>,
     block: &mut Block,
     oids: &Vec<u32>,
 ) -> Result<Seq<Change>, TxnError>
@@ -145,7 +145,7 @@ impl PieceReader {
         PieceReader {
             infos,
             last: after,
-            relations: IndexMap::new(alloc),
+            relations: HashMap::new(alloc),
             block: None,
         }
     }

@@ -1,7 +1,7 @@
 use Rattle.std.proofs.Common.{◌≡◌, ◌∙◌, ◌+◌, ◌<◌, ◌≤◌, ℕ, List, length, drop, get_or, sym, ap, arith}
 use Rattle.std.proofs.lemmas.List.{at_drop_all, append-nil}
 use Rattle.std.specs.Prelude.{Ok, Some, nat_eq}
-use Rattle.indexmap.specs.IndexMap.{get}
+use Rattle.std.specs.HashMap.{get}
 use Rattle.dbl_model_commit.specs.declared.message_parts.Target.{Target}
 use Rattle.dbl_model_commit.specs.Stated.{targets_at}
 use Rattle.dbl_txn_changes.proofs.Loops.{with_front}

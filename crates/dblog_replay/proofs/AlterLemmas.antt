@@ -1,5 +1,5 @@
 -- A Relation of a table that was described before.
-use Rattle.std.proofs.Common.{◌≡◌, ◌⊎◌, inl, inr, ◌∙◌, ℕ, zero, suc, ◌+◌, arith, Bool, true, false, not, ◌||◌, ◌&&◌, Option, Some, None, List, [], ◌∷◌, length, map, refl, sym, ap, ap₂, subst}
+use Rattle.std.proofs.Common.{◌≡◌, inl, inr, ◌∙◌, ℕ, zero, suc, ◌+◌, arith, Bool, true, false, not, ◌||◌, ◌&&◌, Option, Some, None, List, [], ◌∷◌, length, map, refl, sym, ap, ap₂}
 use Rattle.std.specs.Prelude.{if◌then◌else◌, is_some, option_map, option_and_then, slice_get, slice_set}
 use Rattle.std.specs.List.{position_from}
 use Rattle.dbl_pgmsg.specs.declared.messages.Message.{Message}
@@ -30,10 +30,11 @@ use Rattle.dblog_replay.specs.declared.log_fault.LogFault.TheVariants as log
 use Rattle.dblog_replay.specs.declared.options.LogOptions.{LogOptions}
 use Rattle.dblog_replay.specs.Log.{HasTables}
 use Rattle.dblog_replay.specs.Captures.{column_fault, capture_fault, or_else, table_told, with_columns, altered_by, tables_in, AreCaptured, told_fault}
-use Rattle.dblog_replay.specs.Altered.{masking_fault, remasking_fault, altered_fault, table_fault_of, shape_cause}
-use Rattle.dblog_replay.specs.Following.{IsToldBefore, IsTableFault}
+use Rattle.dblog_replay.specs.Altered.{masking_fault, remasking_fault, altered_fault, table_fault_of}
+use Rattle.dblog_replay.specs.Following.{IsToldBefore}
 use Rattle.dblog_replay.proofs.CaptureLemmas.{among_infos, captured_still, captured_now, with_none}
-use Rattle.dblog_replay.proofs.OidLemmas.{numbered, not_numbered, set_itself}
+use Rattle.dblog_replay.proofs.IndexLemmas.{not_numbered}
+use Rattle.dbl_txn_shapes.proofs.OidLemmas.{set_itself}
 
 -- ---- the entries of tables of which one has other columns
 
@@ -71,6 +72,12 @@ with_set name columns infos place info new is there made = with_set_from name co
 
 -- ---- causes
 
+-- why a captured table can't be read in a Relation's columns, if other columns of it are refused for the messages before.
+abbrev pub shape_cause : Option Masking → ℕ → Bool → TableInfo → List RelationColumn → Option LogFault
+shape_cause mask number refused info columns =
+    or_else (option_map (log.Transaction number) (if not (same_columns info.columns columns) && (are_unfit info columns || refused)
+    then Some (errors.SchemaChanged info.name) else None)) (masking_fault mask columns (Some info))
+
 both_none : (a b : Option LogFault) → or_else a b ≡ None → (a ≡ None) × (b ≡ None)
 both_none None b none = (refl, none)
 both_none (Some fault) b none = cc
@@ -91,25 +98,12 @@ same_cause mask n refused info columns same =
     ap (λ (b : Bool). or_else (option_map (log.Transaction n) (if not b && (are_unfit info columns || refused) then Some (errors.SchemaChanged info.name) else None))
     (if b then None else column_fault mask (entry_in info columns))) same
 
-not_refused : (mask : Option Masking) (n : ℕ) (changes other : Bool) (info : TableInfo) (columns : List RelationColumn) → same_columns info.columns columns ≡ false
-    → shape_cause mask n (changes || other) info columns ≡ None → changes ≡ false
-not_refused mask n changes other info columns new none =
-    let f : Bool → Bool → Option TxnError = λ same unfit. if not same && (unfit || (changes || other)) then Some (errors.SchemaChanged info.name) else None in
-    let parts = both_none (option_map (log.Transaction n) (f (same_columns info.columns columns) (are_unfit info columns))) (masking_fault mask columns (Some info)) none in
-    by (are_unfit info columns) changes (sym (ap (λ (b : Bool). f b (are_unfit info columns)) new) ∙ unmapped n (f (same_columns info.columns columns) (are_unfit info columns)) parts.0)
-  where
-    by : (unfit c : Bool) → (if unfit || (c || other) then Some (errors.SchemaChanged info.name) else None) ≡ None → c ≡ false
-    by true c is = cc
-    by false true is = cc
-    by false false is = refl
-
 -- ---- a message that is no Relation
 
 pub record IsNoRelation (m : Message) : Type 0 where
   pub untold : (keys : List TableKey) (tables : List RawTable) → table_told keys tables m ≡ None
   pub same : (tables : List RawTable) → altered_by m tables ≡ tables
   pub unaltered : (mask : Option Masking) (infos : List TableInfo) (number : ℕ) (ms : List Message) → altered_fault mask infos number m ms ≡ None
-  pub oids : (oid : ℕ) (name : TableName) (ms : List Message) → has_other_oid oid name (m ∷ ms) ≡ has_other_oid oid name ms
 
 pub other_tables : (options : LogOptions) (ms : List Message) (m : Message) (infos : List TableInfo) → IsNoRelation m → AreCaptured options.keys ms infos → HasTables options ms m infos
 other_tables options ms m infos none captured =
@@ -129,15 +123,15 @@ IsPlain m = IsNoRelation m
 
 pub plain : (m : Message) → IsPlain m
 plain (says.Relation given ns nm identity columns) = tt
-plain (says.Begin l t x) = record { untold = λ keys tables. refl; same = λ tables. refl; unaltered = λ mask infos n ms. refl; oids = λ oid name ms. refl }
-plain (says.Commit f l e t) = record { untold = λ keys tables. refl; same = λ tables. refl; unaltered = λ mask infos n ms. refl; oids = λ oid name ms. refl }
-plain (says.Origin l n) = record { untold = λ keys tables. refl; same = λ tables. refl; unaltered = λ mask infos n ms. refl; oids = λ oid name ms. refl }
-plain (says.TypeName o n m) = record { untold = λ keys tables. refl; same = λ tables. refl; unaltered = λ mask infos n ms. refl; oids = λ oid name ms. refl }
-plain (says.Insert o r) = record { untold = λ keys tables. refl; same = λ tables. refl; unaltered = λ mask infos n ms. refl; oids = λ oid name ms. refl }
-plain (says.Update o b r) = record { untold = λ keys tables. refl; same = λ tables. refl; unaltered = λ mask infos n ms. refl; oids = λ oid name ms. refl }
-plain (says.Delete o b) = record { untold = λ keys tables. refl; same = λ tables. refl; unaltered = λ mask infos n ms. refl; oids = λ oid name ms. refl }
-plain (says.Truncate p o) = record { untold = λ keys tables. refl; same = λ tables. refl; unaltered = λ mask infos n ms. refl; oids = λ oid name ms. refl }
-plain (says.Logical f l p c) = record { untold = λ keys tables. refl; same = λ tables. refl; unaltered = λ mask infos n ms. refl; oids = λ oid name ms. refl }
+plain (says.Begin l t x) = record { untold = λ keys tables. refl; same = λ tables. refl; unaltered = λ mask infos n ms. refl }
+plain (says.Commit f l e t) = record { untold = λ keys tables. refl; same = λ tables. refl; unaltered = λ mask infos n ms. refl }
+plain (says.Origin l n) = record { untold = λ keys tables. refl; same = λ tables. refl; unaltered = λ mask infos n ms. refl }
+plain (says.TypeName o n m) = record { untold = λ keys tables. refl; same = λ tables. refl; unaltered = λ mask infos n ms. refl }
+plain (says.Insert o r) = record { untold = λ keys tables. refl; same = λ tables. refl; unaltered = λ mask infos n ms. refl }
+plain (says.Update o b r) = record { untold = λ keys tables. refl; same = λ tables. refl; unaltered = λ mask infos n ms. refl }
+plain (says.Delete o b) = record { untold = λ keys tables. refl; same = λ tables. refl; unaltered = λ mask infos n ms. refl }
+plain (says.Truncate p o) = record { untold = λ keys tables. refl; same = λ tables. refl; unaltered = λ mask infos n ms. refl }
+plain (says.Logical f l p c) = record { untold = λ keys tables. refl; same = λ tables. refl; unaltered = λ mask infos n ms. refl }
 
 -- ---- the tables after a Relation of a known table
 
@@ -158,7 +152,7 @@ module _ (options : LogOptions) (ms : List Message) (given identity : ℕ) (ns n
   untold : told_fault options tables m ≡ None
   untold = ap (λ (o : Option RawTable). option_and_then (capture_fault options.mask (length tables)) o) told
 
-  fault_is : (n : ℕ) (t : Target) → target infos here ≡ t → table_fault_of options infos n m ms ≡ cause_at n t
+  pub fault_is : (n : ℕ) (t : Target) → target infos here ≡ t → table_fault_of options infos n m ms ≡ cause_at n t
   fault_is n t is = ap (λ (o : Option LogFault). or_else o (altered_fault options.mask infos n m ms)) untold ∙ ap (cause_at n) is
 
   same_tables_by : ((n : ℕ) → table_fault_of options infos n m ms ≡ None) → altered_by m tables ≡ tables → HasTables options ms m infos
@@ -192,11 +186,6 @@ module _ (options : LogOptions) (ms : List Message) (given identity : ℕ) (ns n
     altered_is : altered_by m tables ≡ with_columns here columns (map catalogue_of infos)
     altered_is = ap (λ (b : Bool). if b then tables else with_columns here columns tables) no_mark ∙ ap (with_columns here columns) (sym captured)
 
-    -- it can't be read
-    pub shape_fails : (n : ℕ) (e : LogFault) → (e ≡ log.Memory) ⊎ (shape_cause options.mask n refused info columns ≡ Some e) → (e ≡ log.Memory) ⊎ IsTableFault options ms n m e
-    shape_fails n e (inl memory) = inl memory
-    shape_fails n e (inr cause) = inr (infos, captured, cause_is n ∙ cause)
-
     -- it has the columns
     pub same_tables : same_columns info.columns columns ≡ true → HasTables options ms m infos
     same_tables same =
@@ -204,12 +193,6 @@ module _ (options : LogOptions) (ms : List Message) (given identity : ℕ) (ns n
         ap (λ (l : List RawColumn). record (catalogue_of info) { columns = l }) (sym (same_columns_in info columns same)) in
         same_tables_by (λ n. cause_is n ∙ same_cause options.mask n refused info columns same)
         (altered_is ∙ sym (with_set here columns infos place info info at there made) ∙ ap (map catalogue_of) (set_itself infos place info there) ∙ captured)
-
-    -- its other columns change nothing of what the open transaction states
-    pub unchanged : (n : ℕ) → same_columns info.columns columns ≡ false → shape_cause options.mask n refused info columns ≡ None → changes_table place (changes_so_far infos ms) ≡ false
-    unchanged n new none =
-        not_refused options.mask n (changes_table place (changes_so_far infos ms)) (has_other_oid given info.name ms) info columns new
-        (ap (λ (b : Bool). shape_cause options.mask n b info columns) (sym refused_is) ∙ none)
 
     -- it has other columns from here on
     pub shaped_tables : (n : ℕ) (shape : TableInfo) → IsInfoOf (entry_in info columns) shape → shape_cause options.mask n refused info columns ≡ None
@@ -220,10 +203,6 @@ module _ (options : LogOptions) (ms : List Message) (given identity : ℕ) (ns n
       readable = λ k. cause_is k ∙ cause_none options.mask n k refused info columns none;
       captured = captured_now options.keys m ms (slice_set infos place shape) told (with_set here columns infos place info shape at there made ∙ sym altered_is);
     }
-
--- the name of a table in other columns
-pub shape_name : (info shape : TableInfo) (columns : List RelationColumn) → IsInfoOf (entry_in info columns) shape → shape.name ≡ info.name
-shape_name info shape columns made = ap (λ (t : RawTable). t.name) made
 
 -- other columns that aren't refused make a table
 pub fit_columns : (mask : Option Masking) (n : ℕ) (refused : Bool) (info : TableInfo) (columns : List RelationColumn) → same_columns info.columns columns ≡ false
@@ -236,78 +215,6 @@ fit_columns mask n refused info columns new none =
     by : (o : Option ModelError) → (if (is_some o || not (keep_key info columns)) || refused then Some (errors.SchemaChanged info.name) else None) ≡ None → o ≡ None
     by None is = refl
     by (Some e) is = cc
-
--- ---- the answer of a Relation with other columns, by its causes
-
-unfit_then : (t k r : Bool) → (r || not k) ≡ true → ((t || not k) || r) ≡ true
-unfit_then true k r is = refl
-unfit_then false true true is = refl
-unfit_then false true false is = cc
-unfit_then false false r is = refl
-
-fit_then : (t k r : Bool) → t ≡ false → (r || not k) ≡ false → ((t || not k) || r) ≡ false
-fit_then true k r none is = cc
-fit_then false true true none is = cc
-fit_then false true false none is = refl
-fit_then false false true none is = cc
-fit_then false false false none is = cc
-
-unmade_then : (t k r : Bool) → t ≡ true → ((t || not k) || r) ≡ true
-unmade_then true k r is = refl
-unmade_then false k r is = cc
-
-module _ (mask : Option Masking) (n : ℕ) (refused : Bool) (info : TableInfo) (columns : List RelationColumn) (new : same_columns info.columns columns ≡ false) where
-  abbrev change : LogFault
-  change = log.Transaction n (errors.SchemaChanged info.name)
-
-  abbrev cause : Bool → Bool → Option LogFault
-  cause same unfit = or_else (option_map (log.Transaction n) (if not same && unfit then Some (errors.SchemaChanged info.name) else None)) (if same then None else column_fault mask (entry_in info columns))
-
-  refused_cause : (are_unfit info columns || refused) ≡ true → shape_cause mask n refused info columns ≡ Some change
-  refused_cause unfit = ap₂ cause new unfit
-
-  fit_cause : (are_unfit info columns || refused) ≡ false → shape_cause mask n refused info columns ≡ column_fault mask (entry_in info columns)
-  fit_cause fit = ap₂ cause new fit
-
-  -- refused for the messages before, or for the key
-  pub key_judged : (e : LogFault) → (refused || not (keep_key info columns)) ≡ true → (e ≡ log.Memory) ⊎ (e ≡ change) → (e ≡ log.Memory) ⊎ (shape_cause mask n refused info columns ≡ Some e)
-  key_judged e lost (inl memory) = inl memory
-  key_judged e lost (inr is) =
-      inr (refused_cause (unfit_then (is_some (table_fault (entry_in info columns))) (keep_key info columns) refused lost) ∙ ap (λ (x : LogFault). Some x) (sym is))
-
-  made_none : (o : Option ModelError) → (if is_some o then Some change else None) ≡ None → is_some o ≡ false
-  made_none None is = refl
-  made_none (Some error) is = cc
-
-  unmade_is : (o : Option ModelError) (e : LogFault) → (if is_some o then Some change else None) ≡ Some e → (is_some o ≡ true) × (change ≡ e)
-  unmade_is None e is = cc
-  unmade_is (Some error) e is = let same : change ≡ e = cc in (refl, same)
-
-  -- the columns make no table
-  pub shape_judged : (raw : RawTable) (e : LogFault) → raw ≡ entry_in info columns → (e ≡ log.Memory) ⊎ ((if is_some (table_fault raw) then Some change else None) ≡ Some e)
-      → (e ≡ log.Memory) ⊎ (shape_cause mask n refused info columns ≡ Some e)
-  shape_judged raw e is (inl memory) = inl memory
-  shape_judged raw e is (inr unmade) =
-      let parts = unmade_is (table_fault raw) e unmade in
-      let none : is_some (table_fault (entry_in info columns)) ≡ true = ap (λ (r : RawTable). is_some (table_fault r)) (sym is) ∙ parts.0 in
-      inr (refused_cause (unmade_then (is_some (table_fault (entry_in info columns))) (keep_key info columns) refused none) ∙ ap (λ (x : LogFault). Some x) parts.1)
-
-  fit_is : (raw : RawTable) → raw ≡ entry_in info columns → (refused || not (keep_key info columns)) ≡ false → (if is_some (table_fault raw) then Some change else None) ≡ None
-      → shape_cause mask n refused info columns ≡ column_fault mask raw
-  fit_is raw is kept made =
-      let none : is_some (table_fault (entry_in info columns)) ≡ false = ap (λ (r : RawTable). is_some (table_fault r)) (sym is) ∙ made_none (table_fault raw) made in
-      fit_cause (fit_then (is_some (table_fault (entry_in info columns))) (keep_key info columns) refused none kept) ∙ ap (column_fault mask) (sym is)
-
-  -- the column to be masked can't be
-  pub mask_judged : (raw : RawTable) (e : LogFault) → raw ≡ entry_in info columns → (refused || not (keep_key info columns)) ≡ false → (if is_some (table_fault raw) then Some change else None) ≡ None
-      → (e ≡ log.Memory) ⊎ (column_fault mask raw ≡ Some e) → (e ≡ log.Memory) ⊎ (shape_cause mask n refused info columns ≡ Some e)
-  mask_judged raw e is kept made (inl memory) = inl memory
-  mask_judged raw e is kept made (inr fault) = inr (fit_is raw is kept made ∙ fault)
-
-  -- the table can be read in them
-  pub none_judged : (raw : RawTable) → raw ≡ entry_in info columns → (refused || not (keep_key info columns)) ≡ false → (if is_some (table_fault raw) then Some change else None) ≡ None
-      → column_fault mask raw ≡ None → shape_cause mask n refused info columns ≡ None
-  none_judged raw is kept made none = fit_is raw is kept made ∙ none
 
 -- what a message of one number has no error for it has none for at another
 pub readable_all : (options : LogOptions) (infos : List TableInfo) (n : ℕ) (m : Message) (ms : List Message) → table_fault_of options infos n m ms ≡ None → (k : ℕ) → table_fault_of options infos k m ms ≡ None

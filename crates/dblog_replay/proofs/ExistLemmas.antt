@@ -21,13 +21,13 @@ use Rattle.dblog_replay.specs.declared.log_fault.LogFault.{LogFault}
 use Rattle.dblog_replay.specs.declared.log_fault.LogFault.TheVariants as log
 use Rattle.dblog_replay.specs.declared.options.LogOptions.{LogOptions}
 use Rattle.dblog_replay.specs.Captures.{capture_fault, column_fault, entry_fault, or_else, table_told, tables_in, AreCaptured, told_fault}
-use Rattle.dblog_replay.specs.Altered.{table_fault_of, shape_cause}
+use Rattle.dblog_replay.specs.Altered.{table_fault_of}
 use Rattle.dblog_replay.specs.Following.{IsToldBefore}
 use Rattle.dblog_replay.specs.Pieces.{Piece, Carries, Stops}
 use Rattle.dblog_replay.specs.Log.{lines_in, log_start, HasTables, records_fault, IsLogFault, no_table, no_place, no_records, end_fault, LogWrites}
-use Rattle.dblog_replay.proofs.AlterLemmas.{other_tables, plain, mark_tables, passed_tables, cause_is, same_tables, shaped_tables, fit_columns, readable_all}
+use Rattle.dblog_replay.proofs.AlterLemmas.{shape_cause, other_tables, plain, mark_tables, passed_tables, cause_is, same_tables, shaped_tables, fit_columns, readable_all}
 use Rattle.dblog_replay.proofs.CaptureLemmas.{captured_more, told_first}
-use Rattle.dblog_replay.proofs.OidLemmas.{numbered}
+use Rattle.dbl_txn_shapes.proofs.OidLemmas.{numbered}
 
 abbrev Written : LogOptions → ℤ → List Message → List Piece → Type 0
 Written options now ms pieces = (lines : List (List ℕ)) × (end : Option LogFault) × LogWrites options now ms pieces lines end

@@ -1,6 +1,6 @@
 -- The messages that were taken, one by one, and what their bytes write.
-use Rattle.std.proofs.Common.{◌≡◌, ◌≢◌, ◌⊎◌, inl, inr, ◌∙◌, ℕ, zero, suc, ℤ, ◌+◌, Option, Some, None, Result, Ok, Err, OnOk, IfOk, IfErr, List, [], ◌∷◌, ◌++◌, length, refl, sym, ap, ap₂, subst, append_assoc, append-nil, arith}
-use Rattle.std.specs.Prelude.{option_map, is_some, Bool, true, false, not, ◌||◌, if◌then◌else◌, slice_get, slice_set, get_or}
+use Rattle.std.proofs.Common.{◌≡◌, ◌≢◌, ◌⊎◌, inl, inr, ◌∙◌, ℕ, ℤ, ◌+◌, Option, Some, None, Result, Ok, Err, OnOk, IfOk, IfErr, List, [], ◌∷◌, ◌++◌, length, refl, sym, ap, ap₂, subst, append_assoc, append-nil, arith}
+use Rattle.std.specs.Prelude.{option_map, is_some, Bool, true, false, not, ◌||◌, if◌then◌else◌, slice_get}
 use Rattle.std.specs.Option.{option_and_then}
 use Rattle.std.specs.List.{AllByRecursion, list_any}
 use Rattle.dbl_lines.specs.declared.error.PrintError.{PrintError}
@@ -17,34 +17,39 @@ use Rattle.dbl_model_table.specs.declared.table.TableInfo.{TableInfo}
 use Rattle.dbl_model_table.specs.declared.table.TableKey.{TableKey}
 use Rattle.dbl_model_table.specs.declared.table.TableName.{TableName}
 use Rattle.dbl_model_table.specs.Tables.{same_name, is_watermark}
-use Rattle.dbl_model_table.specs.Infos.{IsInfoOf, number_of}
+use Rattle.dbl_model_table.specs.Infos.{IsInfoOf, catalogue_of, number_of}
 use Rattle.dbl_model_table.specs.declared.change.Commit.{Commit}
 use Rattle.dbl_model_commit.specs.declared.txn_error.TxnError.{TxnError}
 use Rattle.dbl_model_commit.specs.Past.{begin_of, table_named, schema_of, HasNoRelation}
 use Rattle.dbl_model_commit.specs.declared.message_parts.Target.{Target}
 use Rattle.dbl_model_commit.specs.declared.message_parts.Target.TheVariants.{Watermark, Passed}
-use Rattle.dbl_model_commit.specs.Stated.{captured_at, target, same_columns, list_of, ended_commit, transaction_fault}
-use Rattle.dbl_model_commit.specs.Pieces.{changes_so_far}
-use Rattle.dbl_model_commit.specs.Shapes.{entry_in, has_other_oid, changes_table, target_refused}
+use Rattle.dbl_model_commit.specs.Stated.{captured_at, target, same_columns, list_of, first_of, ended_commit, transaction_fault}
+use Rattle.dbl_model_commit.specs.Shapes.{entry_in, target_refused, shape_fault}
 use Rattle.dblog_replay.specs.declared.log_fault.LogFault.{LogFault}
 use Rattle.dblog_replay.specs.declared.log_fault.LogFault.TheVariants as log
 use Rattle.dblog_replay.specs.declared.options.LogOptions.{LogOptions}
 use Rattle.dbl_hooks_masks.specs.declared.masking.Masking.{Masking}
 use Rattle.dblog_replay.specs.declared.masking.MaskingReplayer.{MaskingReplayer}
 use Rattle.dblog_replay.specs.declared.replay.Replayer.{Replayer}
-use Rattle.dblog_replay.specs.declared.altering.TableOids.{TableOids}
-use Rattle.dblog_replay.specs.Captures.{or_else, entry_of, capture_fault, tables_in, told_fault}
-use Rattle.dblog_replay.specs.Altered.{remasking_fault, altered_fault, shape_cause, other_at, with_oid_of, KnowsOids}
+use Rattle.dblog_replay.specs.Captures.{or_else, column_fault, entry_of, capture_fault, tables_in, told_fault}
+use Rattle.dblog_replay.specs.Altered.{masking_fault, remasking_fault, altered_fault, masking_in, set_from}
 use Rattle.dblog_replay.specs.Pieces.{Piece, Carries, Stops, IsPiece, AreRead}
 use Rattle.dblog_replay.specs.Log.{log_start, lines_in, commit_fault, HasTables, records_fault, IsLogFault, no_table, no_place, no_records, IsTaken, end_fault}
 use Rattle.dblog_replay.specs.Log.{LogWrites}
-use Rattle.dblog_replay.specs.Following.{HasReplayed, FollowsMessages, FollowsMasked, IsReplaying, IsToldBefore, IsTableFault, IsReplayerReady, Prepares, AppendsMessage, IsNextMessage, IsNextMasked}
+use Rattle.dblog_replay.specs.Following.{HasReplayed, FollowsMessages, FollowsMasked, IsReplaying, IsToldBefore, IsTableFault, IsReplayerReady, Prepares, HasRead, IsEnded, EndsRead, IsAppendFault, AppendsMessage, IsNextMessage, IsNextMasked}
 use Rattle.dblog_replay.specs.Following.{TakesMessage, TakesMasked}
 use Rattle.dblog_replay.specs.Masked.{masked_with, all_masked, masked_pieces, AreMapped}
 use Rattle.dblog_replay.specs.LogPrinting.{masked_lines, IsTakenMasked, starved, cut, PutsCommit, IsStepped, step_starved, step_cut, StopsAt, StepsPrinting, StepsReading, IsLogPut}
-use Rattle.dblog_replay.proofs.CaptureLemmas.{count_is, captured_still, captured_more, is_known, is_new, new_has_none, new_parts}
-use Rattle.dblog_replay.proofs.AlterLemmas.{IsNoRelation, other_tables, mark_tables, passed_tables, shape_fails, same_tables, unchanged, shaped_tables, shape_name}
-use Rattle.dblog_replay.proofs.OidLemmas.{IsNumbered, numbered, none_numbered, oids_passed, oids_learnt, oids_seen, oids_reshaped, Finds, finds}
+use Rattle.dblog_replay.proofs.CaptureLemmas.{count_is, captured_more, is_known, is_new, new_has_none, new_parts}
+use Rattle.dblog_replay.proofs.AlterLemmas.{IsNoRelation, plain, other_tables}
+use Rattle.dblog_replay.proofs.IndexLemmas.{none_numbered, numbered_last, get_last}
+use Rattle.dblog_replay.proofs.NextTables.{same_back, own_clean, own_masked, own_shapes, known_next, other_next, placed_or_masked, altered_set, unaltered, ended_unaltered}
+use Rattle.dbl_txn_shapes.specs.declared.reader.Read.{Read}
+use Rattle.dbl_txn_shapes.specs.declared.reader.Read.TheVariants.{Nothing, Shaped, Ended}
+use Rattle.dbl_txn_shapes.specs.Shaping.{StandsShaped, reading_fault}
+use Rattle.dbl_envelope.specs.Writers.{Captured as Written}
+use Rattle.dblog_replay.specs.Judged.{JudgesLog}
+use Rattle.dbl_model_commit.specs.Shaped.{shapes_after}
 use Rattle.dblog_replay.proofs.LogLemmas.{goes}
 use Rattle.dblog_replay.proofs.PieceLemmas.{next_piece}
 
@@ -88,7 +93,7 @@ module _ (options : LogOptions) (ms : List Message) (r : Replayer) (number oid i
   given_fault count entry = ap (λ (mask : Option Masking). capture_fault mask count entry) (sym follows.replayed.mask)
 
   -- the table was described before
-  pub told_before : test ≡ false → IsToldBefore options ms ns nm columns
+  told_before : test ≡ false → IsToldBefore options ms ns nm columns
   told_before known = is_known options.keys ms follows.infos here columns test follows.captured here_is known
 
   -- it can't be captured
@@ -110,145 +115,55 @@ module _ (options : LogOptions) (ms : List Message) (r : Replayer) (number oid i
 
   -- and it is captured now
   pub learn_more : (entry : RawTable) (count : ℕ) (info : TableInfo) (t : Replayer) → test ≡ true → entry ≡ entry_of options.keys (record { schema = s; name = n }) columns → count ≡ length items → IsInfoOf entry info
-      → capture_fault r.mask count entry ≡ None → HasReplayed options (follows.infos ++ info ∷ []) ms t
-      → t.oids.items ≡ r.oids.items ++ record { first = oid; several = false } ∷ [] → IsReplayerReady options ms told_now t
-  learn_more entry count info t new entry_told counted info_told clean replayed pushed =
+      → capture_fault r.mask count entry ≡ None → HasReplayed options (follows.infos ++ info ∷ []) ms t → IsReplayerReady options ms told_now t
+  learn_more entry count info t new entry_told counted info_told clean replayed =
       let told = is_new options.keys ms follows.infos here columns test follows.captured here_is new in
       let parts = new_parts follows.infos here test here_is new in
       let fresh = none_numbered follows.infos here parts.1 in
-      let none = new_has_none options.keys ms follows.infos here test follows.captured here_is new in
       let entry_same = entry_is options.keys s n ns nm columns entry schema name entry_told in
+      let made : record (entry_of options.keys here columns) { version = 1 } ≡ catalogue_of info =
+      sym (info_told ∙ ap (λ (r : RawTable). record r { version = 1 }) entry_same) in
       let count_told : count ≡ length (tables_in options.keys ms) = counted ∙ ap length same ∙ count_is options.keys ms follows.infos follows.captured in
       let capturable : told_fault options (tables_in options.keys ms) told_now ≡ None =
       ap (option_and_then (capture_fault options.mask (length (tables_in options.keys ms)))) told ∙ ap₂ (capture_fault options.mask) (sym count_told) (sym entry_same) ∙ given_fault count entry ∙ clean in
       let passed : target follows.infos here ≡ Passed = ap₂ (λ (b : Bool) (o : Option ℕ). if b then Watermark else captured_at o) parts.0 fresh in
+      let all : List TableInfo = follows.infos ++ info ∷ [] in
+      let number : number_of all here ≡ Some (length follows.infos) =
+      numbered_last follows.infos info here parts.1 (ap (λ (t : RawTable). t.name) (sym made)) in
+      let there : slice_get all (length follows.infos) ≡ Some info = get_last follows.infos info in
+      let own : same_columns info.columns columns ≡ true = same_back info columns (ap (λ (t : RawTable). t.columns) (sym made)) in
       record {
-        infos = follows.infos ++ info ∷ [];
+        infos = all;
         replayed = replayed;
-        tables = record {
-          before = follows.infos;
-          known = follows.captured;
-          readable = λ k. ap₂ or_else capturable
-              (ap (λ (x : Target). or_else (option_map (log.Transaction k) (target_refused follows.infos oid columns ms x)) (remasking_fault options.mask follows.infos columns x)) passed);
-          captured = captured_more options.keys told_now ms follows.infos info
-              (entry_of options.keys here columns) follows.captured told (info_told ∙ ap (λ (r : RawTable). record r { version = 1 }) entry_same);
-        };
-        oids = subst (λ (l : List TableOids). KnowsOids (follows.infos ++ info ∷ []) (told_now ∷ ms) l) (sym pushed)
-            (oids_learnt follows.infos ms r.oids.items oid ns nm identity columns follows.oids info
-            (ap (λ (t : RawTable). t.name) (info_told ∙ ap (λ (r : RawTable). record r { version = 1 }) entry_same)) none fresh);
+        next = other_next options ms told_now all
+            (record {
+              before = follows.infos;
+              known = follows.captured;
+              readable = λ k. ap₂ or_else capturable
+                  (ap (λ (x : Target). or_else (option_map (log.Transaction k) (target_refused follows.infos oid columns ms x))
+                  (remasking_fault options.mask follows.infos columns x)) passed);
+              captured = captured_more options.keys told_now ms follows.infos info
+                  (entry_of options.keys here columns) follows.captured told (info_told ∙ ap (λ (r : RawTable). record r { version = 1 }) entry_same);
+            })
+            (own_clean all ms oid identity ns nm columns (length follows.infos) parts.0 number info there own)
+            (own_masked all ms oid identity ns nm columns (length follows.infos) parts.0 number info there options.mask own)
+            (own_shapes all ms oid identity ns nm columns (length follows.infos) parts.0 number info there own);
       }
 
--- ---- the table of a Relation that was described before
+  -- it was captured before
+  pub learn_known : test ≡ false → IsReplayerReady options ms told_now r
+  learn_known known = record {
+    infos = follows.infos;
+    replayed = follows.replayed;
+    next = known_next options ms oid identity ns nm columns follows.infos follows.captured (told_before known);
+  }
 
-got : {X : Type 0} (xs : List X) (k : ℕ) (x y : X) → slice_get xs k ≡ Some x → y ≡ get_or xs k y → y ≡ x
-got [] k x y at is = cc
-got (z ∷ xs) zero x y at is = let e : z ≡ x = cc in is ∙ e
-got (z ∷ xs) (suc k) x y at is = got xs k x y at is
-
-module _ (options : LogOptions) (ms : List Message) (r : Replayer) (number given identity : ℕ) (ns nm s : List ℕ) (columns : List RelationColumn) (follows : FollowsMessages options ms r)
-    (schema : s ≡ schema_of ns) (told : IsToldBefore options ms ns nm columns) where
-  abbrev again : Message
-  again = says.Relation given ns nm identity columns
-
-  named_is : name_of s nm ≡ table_named ns nm
-  named_is = ap (λ (l : List ℕ). name_of l nm) schema
-
-  -- the table of the watermarks
-  pub altered_mark : (test : Bool) → test ≡ is_watermark (name_of s nm) → test ≡ true → IsReplayerReady options ms again r
-  altered_mark test is mark =
-      let marked : is_watermark (table_named ns nm) ≡ true = ap is_watermark (sym named_is) ∙ sym is ∙ mark in
-      record {
-        infos = follows.infos;
-        replayed = follows.replayed;
-        tables = mark_tables options ms given identity ns nm columns follows.infos follows.captured told marked;
-        oids = oids_passed follows.infos ms r.oids.items given ns nm identity columns follows.oids (inl marked);
-      }
-
-  module _ (test : Bool) (is : test ≡ is_watermark (name_of s nm)) (other_table : test ≡ false) (items : List TableInfo) (same : items ≡ follows.infos)
-      (found : Option ℕ) (found_is : found ≡ number_of items (name_of s nm)) where
-    no_mark : is_watermark (table_named ns nm) ≡ false
-    no_mark = ap is_watermark (sym named_is) ∙ sym is ∙ other_table
-
-    number_is : number_of follows.infos (table_named ns nm) ≡ found
-    number_is = sym (found_is ∙ ap₂ number_of same named_is)
-
-    -- a table that isn't captured
-    pub altered_passed : found ≡ None → IsReplayerReady options ms again r
-    altered_passed none = record {
-      infos = follows.infos;
-      replayed = follows.replayed;
-      tables = passed_tables options ms given identity ns nm columns follows.infos follows.captured told no_mark (number_is ∙ none);
-      oids = oids_passed follows.infos ms r.oids.items given ns nm identity columns follows.oids (inr (number_is ∙ none));
-    }
-
-    -- a captured table
-    module _ (place : ℕ) (at : found ≡ Some place) (list : List TableOids) (seen : list ≡ with_oid_of place given r.oids.items (slice_get r.oids.items place))
-        (other : Bool) (other_is : other ≡ other_at r.oids.items place given) (changed : Bool) (changed_is : changed ≡ changes_table place (changes_so_far follows.infos ms))
-        (info : TableInfo) (info_is : info ≡ get_or items place info) where
-      own : IsNumbered follows.infos (table_named ns nm) place
-      own = numbered follows.infos (table_named ns nm) place (number_is ∙ at)
-
-      there : slice_get follows.infos place ≡ Some info
-      there =
-          let is_own : info ≡ own.info = got follows.infos place own.info info own.at (info_is ∙ ap (λ (l : List TableInfo). get_or l place info) same) in
-          own.at ∙ ap (λ (x : TableInfo). Some x) (sym is_own)
-
-      info_name : info.name ≡ table_named ns nm
-      info_name =
-          let is_own : info ≡ own.info = got follows.infos place own.info info own.at (info_is ∙ ap (λ (l : List TableInfo). get_or l place info) same) in
-          ap (λ (x : TableInfo). x.name) is_own ∙ own.name_is
-
-      oids_found : Finds follows.infos ms r.oids.items (table_named ns nm) place given
-      oids_found = finds follows.infos ms r.oids.items (table_named ns nm) place given follows.oids no_mark (number_is ∙ at)
-
-      refused_is : (changed || other) ≡ (changes_table place (changes_so_far follows.infos ms) || has_other_oid given info.name ms)
-      refused_is = ap₂ (λ (a b : Bool). a || b) changed_is (other_is ∙ oids_found.other ∙ ap (λ (n : TableName). has_other_oid given n ms) (sym info_name))
-
-      knows_now : KnowsOids follows.infos (again ∷ ms) list
-      knows_now = subst (KnowsOids follows.infos (again ∷ ms)) (sym (seen ∙ oids_found.seen))
-          (oids_seen follows.infos ms r.oids.items given ns nm identity columns follows.oids place oids_found.oids (number_is ∙ at) oids_found.there oids_found.is)
-
-      cause_here : (n : ℕ) → shape_cause r.mask n (changed || other) info columns ≡ shape_cause options.mask n (changed || other) info columns
-      cause_here n = ap (λ (mask : Option Masking). shape_cause mask n (changed || other) info columns) follows.replayed.mask
-
-      pub altered_fails : (e : LogFault) → (e ≡ log.Memory) ⊎ (shape_cause r.mask number (changed || other) info columns ≡ Some e) → (e ≡ log.Memory) ⊎ IsTableFault options ms number again e
-      altered_fails e (inl memory) = inl memory
-      altered_fails e (inr cause) =
-          shape_fails options ms given identity ns nm columns follows.infos follows.captured told place no_mark (number_is ∙ at) info there (changed || other) refused_is number e
-          (inr (sym (cause_here number) ∙ cause))
-
-      pub altered_same : (t : Replayer) → same_columns info.columns columns ≡ true → HasReplayed options follows.infos ms t → t.oids.items ≡ list → IsReplayerReady options ms again t
-      altered_same t same_are replayed oids = record {
-        infos = follows.infos;
-        replayed = replayed;
-        tables = same_tables options ms given identity ns nm columns follows.infos follows.captured told place no_mark (number_is ∙ at) info there (changed || other) refused_is same_are;
-        oids = subst (KnowsOids follows.infos (again ∷ ms)) (sym oids) knows_now;
-      }
-
-      pub altered_there : slice_get follows.infos place ≡ Some info
-      altered_there = there
-
-      pub altered_unchanged : same_columns info.columns columns ≡ false → shape_cause r.mask number (changed || other) info columns ≡ None → changes_table place (changes_so_far follows.infos ms) ≡ false
-      altered_unchanged new none =
-          unchanged options ms given identity ns nm columns follows.infos follows.captured told place no_mark (number_is ∙ at) info there (changed || other) refused_is number new
-          (sym (cause_here number) ∙ none)
-
-      pub altered_shaped : (shape : TableInfo) (t : Replayer) → IsInfoOf (entry_in info columns) shape → shape_cause r.mask number (changed || other) info columns ≡ None
-          → HasReplayed options (slice_set follows.infos place shape) ms t → t.oids.items ≡ list → IsReplayerReady options ms again t
-      altered_shaped shape t made none replayed oids = record {
-        infos = slice_set follows.infos place shape;
-        replayed = replayed;
-        tables = shaped_tables options ms given identity ns nm columns follows.infos follows.captured told place no_mark (number_is ∙ at) info there (changed || other) refused_is number shape made
-            (sym (cause_here number) ∙ none);
-        oids = subst (KnowsOids (slice_set follows.infos place shape) (again ∷ ms)) (sym oids)
-            (oids_reshaped follows.infos (again ∷ ms) list place info shape there (shape_name info shape columns made) knows_now);
-      }
-
--- the answer once the table has other columns
-pub altered_answer : (options : LogOptions) (ms : List Message) (number : ℕ) (m : Message) (t : Replayer) (result : Result Unit LogFault) → OnOk result (IsReplayerReady options ms m t)
+-- the answer once the table is captured
+pub learn_answer : (options : LogOptions) (ms : List Message) (number : ℕ) (m : Message) (t : Replayer) (result : Result Unit LogFault)
+    → OnOk result (IsReplayerReady options ms m t)
     → IfErr result (λ e. e ≡ log.Memory) → Prepares options ms number m t result
-altered_answer options ms number m t (Ok x) ready err = ready
-altered_answer options ms number m t (Err e) ready err = inl err
+learn_answer options ms number m t (Ok x) ready err = ready
+learn_answer options ms number m t (Err e) ready err = inl err
 
 -- ---- one message
 
@@ -258,16 +173,40 @@ prepare_fails options ms number m fault (inl memory) = inl memory
 prepare_fails options ms number m fault (inr told) = inr (no_table told.0 told.1 told.2)
 
 -- a message that is no Relation
-pub other_ready : (options : LogOptions) (ms : List Message) (m : Message) (r : Replayer) → IsNoRelation m → FollowsMessages options ms r → IsReplayerReady options ms m r
-other_ready options ms m r none follows = record {
+other_ready : (options : LogOptions) (ms : List Message) (m : Message) (r : Replayer) → IsNoRelation m
+    → ((infos : List TableInfo) → shape_fault infos m ms ≡ None)
+    → ((infos : List TableInfo) → masking_in options.mask infos m ≡ None) → ((infos : List TableInfo) → shapes_after m infos ≡ infos)
+    → FollowsMessages options ms r → IsReplayerReady options ms m r
+other_ready options ms m r none clean masked shapes follows = record {
   infos = follows.infos;
   replayed = follows.replayed;
-  tables = other_tables options ms m follows.infos none follows.captured;
-  oids = record {
-    long = follows.oids.long;
-    each = λ name place no_mark at. let was = follows.oids.each name place no_mark at in (was.0, was.1, λ oid. none.oids oid name ms ∙ was.2 oid);
-  };
+  next = other_next options ms m follows.infos (other_tables options ms m follows.infos none follows.captured) (clean follows.infos) (masked follows.infos)
+      (shapes follows.infos);
 }
+
+-- the same by its kind
+pub default_ready : (options : LogOptions) (ms : List Message) (m : Message) (r : Replayer)
+    → ((given : ℕ) (ns nm : List ℕ) (identity : ℕ) (columns : List RelationColumn) → m ≡ says.Relation given ns nm identity columns → ⊥)
+    → FollowsMessages options ms r → IsReplayerReady options ms m r
+default_ready options ms (says.Relation given ns nm identity columns) r none follows = absurd (none given ns nm identity columns refl)
+default_ready options ms (says.Begin l t x) r none follows = other_ready options ms (says.Begin l t x) r (plain (says.Begin l t x)) (λ infos. refl)
+    (λ infos. refl) (λ infos. refl) follows
+default_ready options ms (says.Commit f l e t) r none follows = other_ready options ms (says.Commit f l e t) r (plain (says.Commit f l e t)) (λ infos. refl)
+    (λ infos. refl) (λ infos. refl) follows
+default_ready options ms (says.Origin l n) r none follows = other_ready options ms (says.Origin l n) r (plain (says.Origin l n)) (λ infos. refl)
+    (λ infos. refl) (λ infos. refl) follows
+default_ready options ms (says.TypeName o n t) r none follows = other_ready options ms (says.TypeName o n t) r (plain (says.TypeName o n t)) (λ infos. refl)
+    (λ infos. refl) (λ infos. refl) follows
+default_ready options ms (says.Insert o row) r none follows = other_ready options ms (says.Insert o row) r (plain (says.Insert o row)) (λ infos. refl)
+    (λ infos. refl) (λ infos. refl) follows
+default_ready options ms (says.Update o b row) r none follows = other_ready options ms (says.Update o b row) r (plain (says.Update o b row)) (λ infos. refl)
+    (λ infos. refl) (λ infos. refl) follows
+default_ready options ms (says.Delete o b) r none follows = other_ready options ms (says.Delete o b) r (plain (says.Delete o b)) (λ infos. refl)
+    (λ infos. refl) (λ infos. refl) follows
+default_ready options ms (says.Truncate p o) r none follows = other_ready options ms (says.Truncate p o) r (plain (says.Truncate p o)) (λ infos. refl)
+    (λ infos. refl) (λ infos. refl) follows
+default_ready options ms (says.Logical f l p c) r none follows = other_ready options ms (says.Logical f l p c) r (plain (says.Logical f l p c))
+    (λ infos. refl) (λ infos. refl) (λ infos. refl) follows
 
 no_fault_found : (number : ℕ) (fault : LogFault) → option_map (log.Transaction number) None ≡ Some fault → ⊥
 no_fault_found number fault told = cc
@@ -282,26 +221,148 @@ misplaced : (options : LogOptions) (ms : List Message) (number : ℕ) (m : Messa
 misplaced options ms number m infos fault tables None is told = absurd (no_fault_found number fault told)
 misplaced options ms number m infos fault tables (Some error) is told = no_place infos error tables is (fault_found number error fault told)
 
-put_fails : (options : LogOptions) (ms : List Message) (number : ℕ) (m : Message) (r : Replayer) (fault : LogFault) (ready : IsReplayerReady options ms m r)
-    → (fault ≡ log.Memory) ⊎ (option_map (log.Transaction number) (transaction_fault ready.infos log_start m ms) ≡ Some fault) → (fault ≡ log.Memory)
-    ⊎ IsLogFault options ms number m fault
-put_fails options ms number m r fault ready (inl memory) = inl memory
-put_fails options ms number m r fault ready (inr told) = inr (misplaced options ms number m ready.infos fault ready.tables _ refl told)
+read_split : (a b : Option TxnError) → first_of a b ≡ None → (a ≡ None) × (b ≡ None)
+read_split None b none = (refl, none)
+read_split (Some e) b none = cc
 
-pub put_takes : (options : LogOptions) (ms : List Message) (number : ℕ) (m : Message) (r s : Replayer) (result : Result (Option Commit) LogFault)
-    (ready : IsReplayerReady options ms m r)
-    → FitsFields m → AllByRecursion FitsFields ms → s.oids.items ≡ r.oids.items
-    → AppendsMessage options ready.infos ms number m s result → TakesMessage options ms number m s result
-put_takes options ms number m r s (Ok o) ready fits fields same put = record {
-  infos = ready.infos;
-  tables = ready.tables;
-  placed = put.placed;
-  commit = put.commit;
-  replayed = put.replayed;
-  oids = subst (KnowsOids ready.infos (m ∷ ms)) (sym same) ready.oids;
-  fields = (fits, fields);
+module _ (options : LogOptions) (ms : List Message) (number : ℕ) (m : Message) (r : Replayer) (ready : IsReplayerReady options ms m r) where
+  abbrev captured_tables : List TableInfo
+  captured_tables = ready.infos
+
+  abbrev place : Option TxnError
+  place = transaction_fault (shapes_after m captured_tables) log_start m ms
+
+  unread : (e : LogFault) (o : Option TxnError) → shape_fault captured_tables m ms ≡ o → option_map (log.Transaction number) (first_of o place) ≡ Some e
+      → IsLogFault options ms number m e
+  unread e (Some error) at is =
+      let same : e ≡ log.Transaction number error = fault_found number error e is in
+      let t = ready.next.refused number error at in
+      no_table t.0 t.1 (t.2 ∙ ap (λ (x : LogFault). Some x) (sym same))
+  unread e None at is = elim (placed_or_masked options.mask captured_tables m ms at log_start) [
+    | inl none ↦ absurd (no_fault_found number e (sym (ap (option_map (log.Transaction number)) none) ∙ is))
+    | inr masked ↦ misplaced options ms number m (shapes_after m captured_tables) e (ready.next.tables at masked) place refl is
+  ]
+
+  put_fails : (e : LogFault) → (e ≡ log.Memory) ⊎ IsAppendFault options captured_tables ms number m e → (e ≡ log.Memory) ⊎ IsLogFault options ms number m e
+  put_fails e (inl memory) = inl memory
+  put_fails e (inr (inl is)) = inr (unread e (shape_fault captured_tables m ms) refl is)
+  put_fails e (inr (inr unmasked)) =
+      let clean = read_split (shape_fault captured_tables m ms) place unmasked.0 in
+      let t = ready.next.unmasked number e clean.0 unmasked.1 in
+      inr (no_table t.0 t.1 t.2)
+
+  pub put_takes : (s : Replayer) (result : Result (Option Commit) LogFault) → FitsFields m → AllByRecursion FitsFields ms
+      → AppendsMessage options captured_tables ms number m s result
+      → TakesMessage options ms number m s result
+  put_takes s (Ok o) fits fields put =
+      let clean = read_split (shape_fault captured_tables m ms) place put.ended.clean in
+      record {
+        infos = shapes_after m captured_tables;
+        tables = ready.next.tables clean.0 put.masked;
+        placed = clean.1;
+        commit = put.ended.commit;
+        replayed = put.ended.replayed;
+        fields = (fits, fields);
+      }
+  put_takes s (Err fault) fits fields put = put_fails fault put
+
+-- ---- what a message adds
+
+-- a message that gives no table other columns
+read_same : (options : LogOptions) (infos : List TableInfo) (ms : List Message) (m : Message) (r : Replayer) (read : Read) (o : Option Commit)
+    → HasRead options infos ms m r read
+    → o ≡ ended_commit (shapes_after m infos) m ms → shapes_after m infos ≡ infos → IsEnded options infos ms m r o
+read_same options infos ms m r read o has ends same = record {
+  clean = has.taken.clean;
+  commit = ends;
+  replayed = record { stands = has.taken.stands; identity = has.identity; keys = has.keys; mask = has.mask; writes = has.writes ∙ sym same };
 }
-put_takes options ms number m r s (Err fault) ready fits fields same put = put_fails options ms number m r fault ready put
+
+-- it gives none
+pub ended_nothing : (options : LogOptions) (infos : List TableInfo) (ms : List Message) (m : Message) (r : Replayer) (read : Read) → read ≡ Nothing
+    → HasRead options infos ms m r read
+    → IsEnded options infos ms m r None
+ended_nothing options infos ms m r read is has =
+    let here : HasRead options infos ms m r Nothing = subst (HasRead options infos ms m r) is has in
+    read_same options infos ms m r Nothing None here (sym here.taken.is.1) (unaltered infos m here.taken.is.0)
+
+-- it ends a commit
+pub ended_with_commit : (options : LogOptions) (infos : List TableInfo) (ms : List Message) (m : Message) (r : Replayer) (read : Read) (commit : Commit)
+    → read ≡ Ended commit
+    → HasRead options infos ms m r read → IsEnded options infos ms m r (Some commit)
+ended_with_commit options infos ms m r read commit is has =
+    let here : HasRead options infos ms m r (Ended commit) = subst (HasRead options infos ms m r) is has in
+    read_same options infos ms m r (Ended commit) (Some commit) here (sym here.taken.is)
+    (ended_unaltered infos (shapes_after m infos) m ms commit here.taken.is)
+
+-- it gives one
+pub ended_shaped : (options : LogOptions) (infos : List TableInfo) (ms : List Message) (m : Message) (r t : Replayer) (read : Read) (table : ℕ)
+    (items : List TableInfo) → read ≡ Shaped table
+    → HasRead options infos ms m r read → items ≡ shapes_after m infos → StandsShaped (shapes_after m infos) log_start (m ∷ ms) t.assembler → t.keys ≡ r.keys
+    → t.mask ≡ r.mask
+    → t.writer ≡ record r.writer { infos = set_from table r.writer.infos (slice_get items table) } → IsEnded options infos ms m t None
+ended_shaped options infos ms m r t read table items is has same stands keys mask writer =
+    let here : HasRead options infos ms m r (Shaped table) = subst (HasRead options infos ms m r) is has in
+    record {
+      clean = here.taken.clean;
+      commit = sym here.taken.is.1;
+      replayed = record {
+        stands = stands;
+        identity = ap (λ (w : Written). w.identity) writer ∙ here.identity;
+        keys = keys ∙ here.keys;
+        mask = mask ∙ here.mask;
+        writes = ap (λ (w : Written). w.infos) writer
+            ∙ (ap₂ (λ (olds news : List TableInfo). set_from table olds (slice_get news table)) here.writes same
+            ∙ altered_set infos m table here.taken.is.0);
+      };
+    }
+
+-- whether the column to be masked can be
+pub checked : {A : Type 0} (given mask : Option Masking) (items infos : List TableInfo) (oid identity : ℕ) (ns nm : List ℕ)
+    (columns listed : List RelationColumn) (m : Message) (result : Result A LogFault)
+    → given ≡ mask → items ≡ infos → listed ≡ columns → m ≡ says.Relation oid ns nm identity columns
+    → JudgesLog (remasking_fault given items listed (target items (table_named ns nm))) result → JudgesLog (masking_in mask infos m) result
+checked {A} given mask items infos oid identity ns nm columns listed m result masks tables lists is judged =
+    subst (λ (fault : Option LogFault). JudgesLog fault result)
+    (ap (λ (k : Option Masking). remasking_fault k items listed (target items (table_named ns nm))) masks
+    ∙ (ap (λ (l : List TableInfo). remasking_fault mask l listed (target l (table_named ns nm))) tables
+    ∙ (ap (λ (l : List RelationColumn). remasking_fault mask infos l (target infos (table_named ns nm))) lists ∙ ap (masking_in mask infos) (sym is)))) judged
+
+-- the same in the table's columns that a Relation gives it
+pub table_checked : {A : Type 0} (mask : Option Masking) (info : TableInfo) (columns : List RelationColumn) (entry : RawTable) (result : Result A LogFault)
+    → same_columns info.columns columns ≡ false
+    → entry ≡ entry_in info columns → JudgesLog (column_fault mask entry) result → JudgesLog (masking_fault mask columns (Some info)) result
+table_checked {A} mask info columns entry result new made judged =
+    subst (λ (fault : Option LogFault). JudgesLog fault result)
+    (ap (column_fault mask) made ∙ sym (ap (λ (b : Bool). if b then None else column_fault mask (entry_in info columns)) new)) judged
+
+-- a message that is no Relation has no column to be masked
+pub other_checked : (mask : Option Masking) (infos : List TableInfo) (m : Message)
+    → ((given : ℕ) (ns nm : List ℕ) (identity : ℕ) (columns : List RelationColumn) → m ≡ says.Relation given ns nm identity columns → ⊥)
+    → masking_in mask infos m ≡ None
+other_checked mask infos (says.Relation given ns nm identity columns) none = absurd (none given ns nm identity columns refl)
+other_checked mask infos (says.Begin l t x) none = refl
+other_checked mask infos (says.Commit f l e t) none = refl
+other_checked mask infos (says.Origin l n) none = refl
+other_checked mask infos (says.TypeName o n t) none = refl
+other_checked mask infos (says.Insert o row) none = refl
+other_checked mask infos (says.Update o b row) none = refl
+other_checked mask infos (says.Delete o b) none = refl
+other_checked mask infos (says.Truncate p o) none = refl
+other_checked mask infos (says.Logical f l p c) none = refl
+
+-- what becomes of a message that was read, by whether its column can be masked
+pub append_ended : (options : LogOptions) (infos : List TableInfo) (ms : List Message) (number : ℕ) (m : Message) (r : Replayer)
+    (result : Result (Option Commit) LogFault)
+    → masking_in options.mask infos m ≡ None → EndsRead options infos ms m r result → AppendsMessage options infos ms number m r result
+append_ended options infos ms number m r (Ok o) masked is = record { ended = is; masked = masked }
+append_ended options infos ms number m r (Err e) masked memory = inl memory
+
+pub append_unmasked : (options : LogOptions) (infos : List TableInfo) (ms : List Message) (number : ℕ) (m : Message) (fault : LogFault)
+    → reading_fault infos log_start m ms ≡ None
+    → (fault ≡ log.Memory) ⊎ (masking_in options.mask infos m ≡ Some fault) → (fault ≡ log.Memory) ⊎ IsAppendFault options infos ms number m fault
+append_unmasked options infos ms number m fault clean (inl memory) = inl memory
+append_unmasked options infos ms number m fault clean (inr is) = inr (inr (clean, is))
 
 -- and so does a masked message
 pub masked_takes : (options : LogOptions) (ms : List Message) (number : ℕ) (m shown : Message) (r : MaskingReplayer)
@@ -338,7 +399,7 @@ next_taken options ms m r o is none = record { tables = is.tables; placed = is.p
 
 next_follows : (options : LogOptions) (ms : List Message) (m : Message) (r : Replayer) (o : Option Commit) (is : IsNextMessage options ms m r o)
     → FollowsMessages options (m ∷ ms) r
-next_follows options ms m r o is = record { infos = is.infos; replayed = is.replayed; captured = is.tables.captured; oids = is.oids; fields = is.fields }
+next_follows options ms m r o is = record { infos = is.infos; replayed = is.replayed; captured = is.tables.captured; fields = is.fields }
 
 -- what became of the commit is what became of the message
 pub steps : (options : LogOptions) (now : ℤ) (ms : List Message) (number : ℕ) (m : Message) (gathered later : List ℕ) (r : MaskingReplayer) (o : Option Commit)

@@ -6,10 +6,11 @@ pub mod CommitLemmas
 pub mod DigitLemmas
 pub mod ExistLemmas
 pub mod FollowLemmas
+pub mod IndexLemmas
 pub mod LineLemmas
 pub mod LogLemmas
 pub mod MaskedLemmas
-pub mod OidLemmas
+pub mod NextTables
 pub mod PieceLemmas
 pub mod PrintLemmas
 pub mod SuitLemmas

@@ -1,6 +1,6 @@
 -- The pieces of a log of protocol version 2.
 use Rattle.std.proofs.Common.{◌≡◌, ◌⊎◌, ℕ, suc, ◌+◌, Bool, true, false, List, [], ◌∷◌, ◌++◌, length}
-use Rattle.std.proofs.Common.{map, refl, sym, ap, subst, ◌∙◌, append_assoc, arith, inl, inr}
+use Rattle.std.proofs.Common.{refl, sym, ap, subst, ◌∙◌, append_assoc, arith, inl, inr}
 use Rattle.std.specs.Prelude.{Option, Some, None}
 use Rattle.std.specs.List.{AllByRecursion}
 use Rattle.std.proofs.lemmas.List.{append-nil}
@@ -17,8 +17,7 @@ use Rattle.dbl_stream2.specs.State.{in_bytes, in_stream}
 use Rattle.dbl_stream2.proofs.ReadingLaws.{either, one_message}
 use Rattle.dbl_stream2.proofs.Refusals.{none_refused, one_refusal}
 use Rattle.dbl_stream2.proofs.FitLemmas.{part_fits}
-use Rattle.dblog_replay.specs.declared.log_fault.LogFault.{LogFault}
-use Rattle.dblog_replay.specs.Pieces.{Piece, Carries, Stops, CarryMessages, AllFitFields}
+use Rattle.dblog_replay.specs.Pieces.{Piece, Stops, CarryMessages, AllFitFields}
 use Rattle.dblog_replay.specs.Streams.{refusal_fault, block_end, pieces_at, IsStringRefused, IsReceived}
 use Rattle.dblog_replay.specs.Streams.{AreReceived, AreStreamed, EndsStream, IsFlattened, ReadsPieces}
 use Rattle.dblog_replay.proofs.PieceLemmas.{pieces_one, pieces_exist, pieces_fit}

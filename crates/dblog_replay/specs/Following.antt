@@ -8,14 +8,17 @@ use Rattle.dbl_model_table.specs.declared.table.TableInfo.{TableInfo}
 use Rattle.dbl_model_table.specs.declared.change.Commit.{Commit}
 use Rattle.dbl_model_commit.specs.Past.{table_named}
 use Rattle.dbl_model_commit.specs.Stated.{ended_commit, transaction_fault}
-use Rattle.dbl_model_commit.specs.Shapes.{IsOpenStated}
-use Rattle.dbl_txn.specs.Stands.{StandsWhole}
+use Rattle.dbl_model_commit.specs.declared.txn_error.TxnError.{TxnError}
+use Rattle.dbl_model_commit.specs.Shapes.{shape_fault}
+use Rattle.dbl_txn_shapes.specs.declared.reader.Read.{Read}
+use Rattle.dbl_model_commit.specs.Shaped.{shapes_after}
+use Rattle.dbl_txn_shapes.specs.Shaping.{StandsShaped, TakenShaped, reading_fault}
 use Rattle.dblog_replay.specs.declared.log_fault.LogFault.{LogFault}
 use Rattle.dblog_replay.specs.declared.log_fault.LogFault.TheVariants as log
 use Rattle.dblog_replay.specs.declared.options.LogOptions.{LogOptions}
 use Rattle.dblog_replay.specs.declared.masking.MaskingReplayer.{MaskingReplayer}
 use Rattle.dblog_replay.specs.declared.replay.Replayer.{Replayer}
-use Rattle.dblog_replay.specs.Altered.{table_fault_of, KnowsOids}
+use Rattle.dblog_replay.specs.Altered.{table_fault_of, masking_in}
 use Rattle.dblog_replay.specs.Captures.{entry_of, new_table, tables_in, AreCaptured}
 use Rattle.dblog_replay.specs.Masked.{masked_with, all_masked, AreMapped}
 use Rattle.dblog_replay.specs.Pieces.{IsPiece, Stops}
@@ -23,19 +26,17 @@ use Rattle.dblog_replay.specs.Log.{log_start, HasTables, IsLogFault}
 
 -- The state after these messages, with these tables captured, each in the columns of its last Relation.
 pub record HasReplayed (options : LogOptions) (infos : List TableInfo) (ms : List Message) (r : Replayer) : Type 0 where
-  pub stands : StandsWhole infos log_start ms r.assembler
+  pub stands : StandsShaped infos log_start ms r.assembler
   pub identity : r.writer.identity ≡ options.identity
   pub keys : r.keys ≡ options.keys
   pub mask : r.mask ≡ options.mask
   pub writes : r.writer.infos ≡ infos
-  pub stated : IsOpenStated infos ms
 
 -- The state after these messages, with the tables captured that they describe.
 pub record FollowsMessages (options : LogOptions) (ms : List Message) (r : Replayer) : Type 0 where
   pub infos : List TableInfo
   pub replayed : HasReplayed options infos ms r
   pub captured : AreCaptured options.keys ms infos
-  pub oids : KnowsOids infos ms r.oids.items
   pub fields : AllByRecursion FitsFields ms
 
 -- The state after these messages, each masked as the options request.
@@ -54,13 +55,6 @@ abbrev pub ReadsBytes : ℕ → List ℕ → Result Message LogFault → Type 0
 ReadsBytes number bytes (Ok m) = Spells bytes m
 ReadsBytes number bytes (Err e) = (e ≡ log.Memory) ⊎ IsPiece number bytes (Stops e)
 
--- The table of the next message is captured, in its columns.
-pub record IsReplayerReady (options : LogOptions) (ms : List Message) (m : Message) (r : Replayer) : Type 0 where
-  pub infos : List TableInfo
-  pub replayed : HasReplayed options infos ms r
-  pub tables : HasTables options ms m infos
-  pub oids : KnowsOids infos (m ∷ ms) r.oids.items
-
 -- The table of a Relation isn't described for the first time, or is that of the watermarks.
 abbrev pub IsToldBefore : LogOptions → List Message → List ℕ → List ℕ → List RelationColumn → Type 0
 IsToldBefore options ms namespace name columns =
@@ -71,23 +65,62 @@ abbrev pub IsTableFault : LogOptions → List Message → ℕ → Message → Lo
 IsTableFault options ms number m e =
     (before : List TableInfo) × AreCaptured options.keys ms before × (table_fault_of options before number m ms ≡ Some e)
 
--- The result of capturing the table of the next message, which has this number, or of reading it in other columns from there on.
+-- What follows for the captured tables once the table that a message is the first to describe is among them: the tables after the message,
+-- if its columns aren't refused and its column can be masked; or else its error.
+pub record AreNextTables (options : LogOptions) (ms : List Message) (m : Message) (infos : List TableInfo) : Type 0 where
+  pub tables : shape_fault infos m ms ≡ None → masking_in options.mask infos m ≡ None → HasTables options ms m (shapes_after m infos)
+  pub refused : (number : ℕ) (error : TxnError) → shape_fault infos m ms ≡ Some error
+      → IsTableFault options ms number m (log.Transaction number error)
+  pub unmasked : (number : ℕ) (fault : LogFault) → shape_fault infos m ms ≡ None → masking_in options.mask infos m ≡ Some fault
+      → IsTableFault options ms number m fault
+
+-- The table that the next message is the first to describe is captured.
+pub record IsReplayerReady (options : LogOptions) (ms : List Message) (m : Message) (r : Replayer) : Type 0 where
+  pub infos : List TableInfo
+  pub replayed : HasReplayed options infos ms r
+  pub next : AreNextTables options ms m infos
+
+-- The result of capturing the table that the next message, which has this number, is the first to describe.
 abbrev pub Prepares : {A : Type 0} → LogOptions → List Message → ℕ → Message → Replayer → Result A LogFault → Type 0
 Prepares options ms number m r (Ok x) = IsReplayerReady options ms m r
 Prepares options ms number m r (Err e) = (e ≡ log.Memory) ⊎ IsTableFault options ms number m e
 
--- The next message was processed, and ends this commit.
+-- The assembler has read the next message, and the records are still those of the tables before it.
+pub record HasRead (options : LogOptions) (infos : List TableInfo) (ms : List Message) (m : Message) (r : Replayer) (read : Read)
+    : Type 0 where
+  pub taken : TakenShaped infos log_start m ms r.assembler read
+  pub identity : r.writer.identity ≡ options.identity
+  pub keys : r.keys ≡ options.keys
+  pub mask : r.mask ≡ options.mask
+  pub writes : r.writer.infos ≡ infos
+
+-- The next message was read, and ends this commit.
+pub record IsEnded (options : LogOptions) (infos : List TableInfo) (ms : List Message) (m : Message) (r : Replayer) (o : Option Commit)
+    : Type 0 where
+  pub clean : reading_fault infos log_start m ms ≡ None
+  pub commit : o ≡ ended_commit (shapes_after m infos) m ms
+  pub replayed : HasReplayed options (shapes_after m infos) (m ∷ ms) r
+
+-- The result of ending the processing of the next message.
+abbrev pub EndsRead : LogOptions → List TableInfo → List Message → Message → Replayer → Result (Option Commit) LogFault → Type 0
+EndsRead options infos ms m r (Ok o) = IsEnded options infos ms m r o
+EndsRead options infos ms m r (Err e) = e ≡ log.Memory
+
+-- The next message was processed, and its column can be masked.
 pub record IsAppended (options : LogOptions) (infos : List TableInfo) (ms : List Message) (m : Message) (r : Replayer) (o : Option Commit)
     : Type 0 where
-  pub placed : transaction_fault infos log_start m ms ≡ None
-  pub commit : o ≡ ended_commit infos m ms
-  pub replayed : HasReplayed options infos (m ∷ ms) r
+  pub ended : IsEnded options infos ms m r o
+  pub masked : masking_in options.mask infos m ≡ None
+
+-- Why the next message, which has this number, isn't processed: it can't be read, or its column can't be masked.
+abbrev pub IsAppendFault : LogOptions → List TableInfo → List Message → ℕ → Message → LogFault → Type 0
+IsAppendFault options infos ms number m e = (option_map (log.Transaction number) (reading_fault infos log_start m ms) ≡ Some e)
+    ⊎ ((reading_fault infos log_start m ms ≡ None) × (masking_in options.mask infos m ≡ Some e))
 
 -- The result of processing the next message, which has this number, after its table was captured.
 abbrev pub AppendsMessage : LogOptions → List TableInfo → List Message → ℕ → Message → Replayer → Result (Option Commit) LogFault → Type 0
 AppendsMessage options infos ms number m r (Ok o) = IsAppended options infos ms m r o
-AppendsMessage options infos ms number m r (Err e) =
-    (e ≡ log.Memory) ⊎ (option_map (log.Transaction number) (transaction_fault infos log_start m ms) ≡ Some e)
+AppendsMessage options infos ms number m r (Err e) = (e ≡ log.Memory) ⊎ IsAppendFault options infos ms number m e
 
 -- A message that may follow was processed, and ends this commit.
 pub record IsNextMessage (options : LogOptions) (ms : List Message) (m : Message) (r : Replayer) (o : Option Commit) : Type 0 where
@@ -96,7 +129,6 @@ pub record IsNextMessage (options : LogOptions) (ms : List Message) (m : Message
   pub placed : transaction_fault infos log_start m ms ≡ None
   pub commit : o ≡ ended_commit infos m ms
   pub replayed : HasReplayed options infos (m ∷ ms) r
-  pub oids : KnowsOids infos (m ∷ ms) r.oids.items
   pub fields : AllByRecursion FitsFields (m ∷ ms)
 
 -- The result of processing the next message, which has this number.

@@ -4,10 +4,8 @@ ghost use Rattle.std.specs.Prelude.{◌≡◌, ◌||◌, not, IfOk, option_map};
 ghost use Rattle.std.specs.List.{list_any};
 ghost use Rattle.dbl_model_table.specs.declared.table.TableName.{TableName};
 ghost use Rattle.dbl_model_table.specs.Tables.{same_name, is_watermark};
-ghost use Rattle.dbl_model_table.specs.Infos.{IsInfoOf, number_of};
+ghost use Rattle.dbl_model_table.specs.Infos.{IsInfoOf};
 ghost use Rattle.dbl_model_table.specs.Made.{table_fault};
-ghost use Rattle.dbl_model_commit.specs.Past.{schema_of};
-ghost use Rattle.dbl_model_commit.specs.Shapes.{columns_in};
 ghost use Rattle.dblog_replay.specs.Captures.{flagged_names, key_names_of, entry_of};
 ghost use Rattle.dblog_replay.specs.Captures.{column_fault, capture_fault};
 ghost use Rattle.dblog_replay.specs.Judged.{JudgesLog};
@@ -15,53 +13,19 @@ ghost use Rattle.dblog_replay.specs.Judged.{JudgesLog};
 use crate::log_fault::LogFault;
 use dbl_base::{Seq, Text, copy_items};
 use dbl_hooks_masks::{Masking, mask_fault};
-use dbl_model_table::{ModelError, RawColumn, RawTable, TableInfo, TableKey, TableName};
+use dbl_model_table::{ModelError, RawTable, TableInfo, TableKey, TableName};
 use dbl_pgmsg::RelationColumn;
+use dbl_txn_shapes::{is_named, is_watermark, raw_columns};
 use std::alloc::{AllocError, Global};
 
 /// The largest number of captured tables.
 pub const TABLE_LIMIT: usize = 64;
-
-/// The schema that a Relation names: an empty namespace is `pg_catalog`.
-pub fn schema_of(namespace: &Text) -> &str
-    ensures { result.now ≡ schema_of namespace.now }
-{
-    let schema = namespace.as_str();
-    if schema.is_empty() {
-        "pg_catalog"
-    } else {
-        schema
-    }
-}
-
-fn is_named(table: &TableName, schema: &str, name: &str) -> bool
-    ensures { result ≡ same_name table.now (record { schema = schema.now; name = name.now }) }
-{
-    table.schema.as_str() == schema && table.name.as_str() == name
-}
 
 fn is_captured(infos: &Vec<TableInfo>, schema: &str, name: &str) -> bool
     ensures { result ≡ list_any (λ info. same_name info.name
         (record { schema = schema.now; name = name.now })) infos.now.items }
 {
     infos.iter().any(|info| is_named(&info.name, schema, name))
-}
-
-/// Whether the table of the watermarks has this name.
-pub fn is_watermark(schema: &str, name: &str) -> bool
-    ensures { result ≡ is_watermark (record { schema = schema.now; name = name.now }) }
-{
-    schema == "public" && name == "dblog_watermark"
-}
-
-/// The index of the captured table of this name. Takes no memory.
-pub fn place_of(infos: &Vec<TableInfo>, schema: &str, name: &str) -> Option<usize>
-    ensures { result ≡ number_of infos.now.items
-        (record { schema = schema.now; name = name.now }) }
-{
-    infos
-        .iter()
-        .position(|info| is_named(&info.name, schema, name))
 }
 
 /// Whether a table of this name isn't captured yet. Takes no memory.
@@ -101,23 +65,6 @@ fn key_names_of(
         }
     }
     flagged_names(alloc, columns)
-}
-
-/// A Relation's columns as the catalogue has them.
-pub fn raw_columns(
-    alloc: Global,
-    columns: &Vec<RelationColumn>,
-) -> Result<Vec<RawColumn>, AllocError>
-    ensures { IfOk result (λ raw. raw.items ≡ columns_in columns.now.items) }
-{
-    let mut raw_columns = Vec::with_capacity(alloc, columns.len())?;
-    for column in columns {
-        raw_columns.push(RawColumn {
-            name: column.name.copy(alloc)?,
-            oid: column.oid,
-        })?;
-    }
-    Ok(raw_columns)
 }
 
 /// The catalogue's entry that a Relation describes, with the keys of the options.

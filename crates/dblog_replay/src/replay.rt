@@ -1,21 +1,20 @@
 //! The messages of a log, one after another: their commits, and the first error.
 
 ghost use Rattle.std.specs.Prelude.{◌≡◌, ◌∷◌, ℕ, List, [], ◌++◌, IfOk, IfErr, OnOk, is_some};
-ghost use Rattle.std.specs.Prelude.{Some, false, slice_get, slice_set};
+ghost use Rattle.std.specs.Prelude.{slice_get, slice_set};
 ghost use Rattle.dbl_pgmsg.specs.declared.messages.Message.{Message};
 ghost use Rattle.dbl_pgmsg.specs.declared.messages.Message.TheVariants as says;
 ghost use Rattle.dbl_pgmsg.specs.Grammar.{FitsFields};
 ghost use Rattle.dbl_model_table.specs.declared.table.TableInfo.{TableInfo};
-ghost use Rattle.dbl_model_commit.specs.Past.{begin_of, schema_of, HasNoRelation};
-ghost use Rattle.dbl_model_commit.specs.Pieces.{changes_so_far};
-ghost use Rattle.dbl_model_commit.specs.Shapes.{changes_table};
+ghost use Rattle.dbl_model_commit.specs.Past.{begin_of, HasNoRelation};
 ghost use Rattle.dblog_replay.specs.declared.options.LogOptions.{LogOptions};
+ghost use Rattle.dblog_replay.specs.Altered.{masking_in, set_from};
 ghost use Rattle.dblog_replay.specs.Following.{HasReplayed, FollowsMessages, Prepares};
-ghost use Rattle.dblog_replay.specs.Following.{IsToldBefore};
-ghost use Rattle.dblog_replay.specs.Following.{AppendsMessage, TakesMessage};
+ghost use Rattle.dblog_replay.specs.Following.{HasRead, EndsRead, AppendsMessage, TakesMessage};
+ghost use Rattle.dblog_replay.specs.Judged.{JudgesLog};
 
-use crate::altering::{TableOids, learn_oid, refuses_columns, see_oid, shape_of};
-use crate::capture::{capture_table, entry_of, is_new, is_watermark, place_of, schema_of};
+use crate::altering::check_columns;
+use crate::capture::{capture_table, entry_of, is_new};
 use crate::log_fault::LogFault;
 use crate::options::LogOptions;
 use dbl_base::{Lsn, Seq, Text};
@@ -24,17 +23,16 @@ use dbl_hooks_masks::Masking;
 use dbl_model_commit::TxnError;
 use dbl_model_table::{Commit, TableInfo, TableKey};
 use dbl_pgmsg::{Message, RelationColumn};
-use dbl_txn::Assembler;
+use dbl_txn_shapes::{Read, ShapingAssembler, schema_of};
 use std::alloc::{AllocError, Global};
 
 /// The state after the processed messages: the captured tables in their last columns, and the open
 /// transaction.
 #[derive(Drop)]
 pub struct Replayer {
-    assembler: Assembler,
+    assembler: ShapingAssembler,
     keys: Seq<TableKey>,
     mask: Option<Masking>,
-    oids: Vec<TableOids>,
     pub writer: EventWriter,
 }
 
@@ -65,6 +63,26 @@ fn reshape_in(
     }
 }
 
+// Writes the records of a captured table in its columns among these tables from here on.
+fn reshape_from(
+    writer: &mut EventWriter,
+    alloc: Global,
+    infos: &Vec<TableInfo>,
+    table: u32,
+) -> Result<(), LogFault>
+    ensures reshaped { OnOk result (writer.new ≡ record writer.old
+        { infos = set_from table writer.old.infos (slice_get infos.now.items table) }) }
+    ensures err { IfErr result (λ e. e ≡ LogFault.Memory) }
+{
+    match infos.get(table as usize) {
+        Some(info) => {
+            let copied = info.copy(alloc)?;
+            reshape_in(writer, alloc, table, copied)
+        }
+        None => Ok(()),
+    }
+}
+
 impl Replayer {
     /// The state before any message.
     pub fn make(alloc: Global, options: LogOptions) -> Result<Replayer, AllocError>
@@ -80,10 +98,9 @@ impl Replayer {
             Err(_) => return Err(AllocError),
         };
         Ok(Replayer {
-            assembler: Assembler::make(alloc, Vec::new(alloc), Lsn(0)),
+            assembler: ShapingAssembler::make(alloc, Lsn(0)),
             keys,
             mask,
-            oids: Vec::new(alloc),
             writer,
         })
     }
@@ -101,7 +118,6 @@ impl Replayer {
             HasReplayed options infos ms self.old → HasNoRelation info.name ms →
             OnOk result (HasReplayed options (infos ++ info ∷ []) ms self.new) }
         ensures err { IfErr result (λ e. e ≡ LogFault.Memory) }
-        ensures oids { self.new.oids.items ≡ self.old.oids.items }
     {
         let copied = info.copy(alloc)?;
         match self.assembler.learn(info) {
@@ -113,70 +129,15 @@ impl Replayer {
         }
     }
 
-    fn reshape(&mut self, alloc: Global, table: u32, info: TableInfo) -> Result<(), LogFault>
-        ensures reshaped { (options : LogOptions) (infos : List TableInfo) (ms : List Message)
-            (old : TableInfo) → HasReplayed options infos ms self.old →
-            slice_get infos table ≡ Some old → info.name ≡ old.name →
-            changes_table table (changes_so_far infos ms) ≡ false →
-            OnOk result (HasReplayed options (slice_set infos table info) ms self.new) }
-        ensures err { IfErr result (λ e. e ≡ LogFault.Memory) }
-        ensures oids { self.new.oids.items ≡ self.old.oids.items }
-    {
-        let copied = info.copy(alloc)?;
-        self.assembler.reshape(table, info);
-        reshape_in(&mut self.writer, alloc, table, copied)
-    }
-
-    // Reads the table of a Relation in its columns from here on, if it is captured and has others.
-    fn alter(
-        &mut self,
-        alloc: Global,
-        number: u64,
-        oid: u32,
-        schema: &str,
-        name: &str,
-        columns: &Vec<RelationColumn>,
-    ) -> Result<(), LogFault>
-        ensures { (options : LogOptions) (ms : List Message) (namespace : List ℕ) (identity : ℕ) →
-            FollowsMessages options ms self.old → schema.now ≡ schema_of namespace →
-            IsToldBefore options ms namespace name.now columns.now.items →
-            Prepares options ms number
-            (says.Relation oid namespace name.now identity columns.now.items) self.new result }
-    {
-        if is_watermark(schema, name) {
-            return Ok(());
-        }
-        let infos = self.assembler.infos();
-        match place_of(infos, schema, name) {
-            None => Ok(()),
-            Some(place) => {
-                let table = match u32::try_from(place) {
-                    Ok(table) => table,
-                    Err(_) => return Err(LogFault::Memory),
-                };
-                let other = see_oid(&mut self.oids, place, oid);
-                let changed = self.assembler.has_changed(table);
-                let refused = refuses_columns(changed, other);
-                match shape_of(alloc, &self.mask, number, refused, &infos[place], columns)? {
-                    Some(shape) => self.reshape(alloc, table, shape),
-                    None => Ok(()),
-                }
-            }
-        }
-    }
-
-    // Captures the table of a Relation, if it is the first one of the table, and otherwise reads it
-    // in the Relation's columns from here on.
+    // Captures the table of a Relation, if it is the first one of the table.
     fn learn(
         &mut self,
         alloc: Global,
-        number: u64,
-        oid: u32,
         namespace: &Text,
         name: &Text,
         columns: &Vec<RelationColumn>,
     ) -> Result<(), LogFault>
-        ensures { (options : LogOptions) (ms : List Message) (identity : ℕ) →
+        ensures { (options : LogOptions) (ms : List Message) (number oid identity : ℕ) →
             FollowsMessages options ms self.old → Prepares options ms number
             (says.Relation oid namespace.now name.now identity columns.now.items) self.new result }
     {
@@ -184,28 +145,90 @@ impl Replayer {
         let name = name.as_str();
         let infos = self.assembler.infos();
         if !is_new(infos, schema, name) {
-            return self.alter(alloc, number, oid, schema, name, columns);
+            return Ok(());
         }
         let entry = entry_of(alloc, self.keys.items(), schema, name, columns)?;
         let info = capture_table(alloc, &self.mask, infos.len(), &entry)?;
-        self.add(alloc, info)?;
-        learn_oid(&mut self.oids, oid)?;
-        Ok(())
+        self.add(alloc, info)
     }
 
-    fn prepare(&mut self, alloc: Global, number: u64, message: &Message) -> Result<(), LogFault>
-        ensures { (options : LogOptions) (ms : List Message) → FollowsMessages options ms self.old →
+    fn prepare(&mut self, alloc: Global, message: &Message) -> Result<(), LogFault>
+        ensures { (options : LogOptions) (ms : List Message) (number : ℕ) →
+            FollowsMessages options ms self.old →
             Prepares options ms number message.now self.new result }
     {
         match message {
             Message::Relation {
-                oid,
+                oid: _,
                 namespace,
                 name,
                 identity: _,
                 columns,
-            } => self.learn(alloc, number, *oid, namespace, name, columns.items()),
+            } => self.learn(alloc, namespace, name, columns.items()),
             _ => Ok(()),
+        }
+    }
+
+    // Whether the column to be masked can be masked after a message.
+    fn check(&self, alloc: Global, message: &Message) -> Result<(), LogFault>
+        ensures { (options : LogOptions) (infos : List TableInfo) (ms : List Message) →
+            HasReplayed options infos ms self.now →
+            JudgesLog (masking_in options.mask infos message.now) result }
+    {
+        match message {
+            Message::Relation {
+                oid: _,
+                namespace,
+                name,
+                identity: _,
+                columns,
+            } => check_columns(
+                alloc,
+                &self.mask,
+                self.assembler.infos(),
+                namespace,
+                name,
+                columns.items(),
+            ),
+            _ => Ok(()),
+        }
+    }
+
+    // Ends the processing of a message that was read: a table's records have the columns that it
+    // gives the table from here on.
+    fn end(&mut self, alloc: Global, read: Read) -> Result<Option<Commit>, LogFault>
+        ensures { (options : LogOptions) (infos : List TableInfo) (ms : List Message)
+            (m : Message) → HasRead options infos ms m self.old read →
+            EndsRead options infos ms m self.new result }
+    {
+        match read {
+            Read::Nothing => Ok(None),
+            Read::Ended(commit) => Ok(Some(commit)),
+            Read::Shaped { table } => {
+                reshape_from(&mut self.writer, alloc, self.assembler.infos(), table)?;
+                Ok(None)
+            }
+        }
+    }
+
+    // Ends the processing of a message that was read, if the column to be masked can be masked.
+    fn finish(
+        &mut self,
+        alloc: Global,
+        checked: Result<(), LogFault>,
+        read: Read,
+    ) -> Result<Option<Commit>, LogFault>
+        ensures { (options : LogOptions) (infos : List TableInfo) (ms : List Message)
+            (number : ℕ) (m : Message) → HasRead options infos ms m self.old read →
+            JudgesLog (masking_in options.mask infos m) checked →
+            AppendsMessage options infos ms number m self.new result }
+    {
+        match checked {
+            Ok(()) => self.end(alloc, read),
+            Err(fault) => {
+                drop(read);
+                Err(fault)
+            }
         }
     }
 
@@ -216,13 +239,13 @@ impl Replayer {
         number: u64,
         message: Message,
     ) -> Result<Option<Commit>, LogFault>
-        ensures appends { (options : LogOptions) (infos : List TableInfo) (ms : List Message) →
+        ensures { (options : LogOptions) (infos : List TableInfo) (ms : List Message) →
             HasReplayed options infos ms self.old →
             AppendsMessage options infos ms number message self.new result }
-        ensures oids { self.new.oids.items ≡ self.old.oids.items }
     {
+        let checked = self.check(alloc, &message);
         match self.assembler.take(alloc, message) {
-            Ok(ended) => Ok(ended),
+            Ok(read) => self.finish(alloc, checked, read),
             Err(TxnError::Memory) => Err(LogFault::Memory),
             Err(error) => Err(LogFault::Transaction { number, error }),
         }
@@ -239,7 +262,7 @@ impl Replayer {
         ensures { (options : LogOptions) (ms : List Message) → FollowsMessages options ms self.old →
             TakesMessage options ms number message self.new result }
     {
-        match self.prepare(alloc, number, &message) {
+        match self.prepare(alloc, &message) {
             Ok(()) => self.append(alloc, number, message),
             Err(fault) => {
                 drop(message);

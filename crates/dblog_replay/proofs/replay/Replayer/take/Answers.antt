@@ -3,10 +3,10 @@ use Rattle.dblog_replay.proofs.replay.Replayer.take.Goals as goal
 
 pub returns-in-Err : goal.returns-in-Err
 returns-in-Err c = λ options ms follows.
-    prepare_fails options ms c.args.number c.args.message c.in-Err.fault (c.in-Err.ensures options ms follows)
+    prepare_fails options ms c.args.number c.args.message c.in-Err.fault (c.in-Err.ensures options ms c.args.number follows)
 
 pub returns-in-Ok : goal.returns-in-Ok
 returns-in-Ok c = λ options ms follows.
-    let ready = c.in-Ok.ensures options ms follows in
-    put_takes options ms c.args.number c.args.message c.prepare.new.self c.append.new.self c.append.result ready c.requires follows.fields c.append.ensures.oids
-    (c.append.ensures.appends options ready.infos ms ready.replayed)
+    let ready = c.in-Ok.ensures options ms c.args.number follows in
+    put_takes options ms c.args.number c.args.message c.prepare.new.self ready c.append.new.self c.append.result c.requires follows.fields
+    (c.append.ensures options ready.infos ms ready.replayed)

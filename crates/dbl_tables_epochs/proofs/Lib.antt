@@ -1,0 +1,10 @@
+pub mod KeptLemmas
+pub mod ActsLemmas
+pub mod ListLemmas
+pub mod OpeningLemmas
+pub mod SwapLemmas
+pub mod TablesLemmas
+pub mod ReopenLemmas
+pub mod AlikeLemmas
+pub mod FitLemmas
+pub mod ExplicitLemmas

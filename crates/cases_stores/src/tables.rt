@@ -1,15 +1,18 @@
 //! Cases of a store of rows: the lines of a workload, with `; ` between them. A `tick` shows the
-//! committed rows.
+//! committed rows. After each ` | ` come an alteration by a session, as `x/public.t/add/n:23/7` or
+//! `x/public.t/drop/n`, and the lines after it, with the tables as they are then.
 
 ghost use Rattle.std.specs.Prelude.{◌≡◌, ◌≤◌, IsTrue, IfOk, length, map};
 ghost use Rattle.dbl_model_table.specs.Tables.{same_name, are_distinct};
 
 use crate::shown;
 use anyhow::{Result, bail};
+use cases_items::words::Spelled;
+use cases_items::{items, words};
 use dbl_base::{Seq, Text};
-use dbl_model_table::{TableInfo, TableName};
+use dbl_model_table::{RawColumn, TableInfo, TableName};
 use dbl_script::{Script, ScriptRow, ScriptTable, Step, parse};
-use dbl_tables::{DemoTable, StepError, Tables};
+use dbl_tables::{Alteration, DemoTable, StepError, Tables};
 use std::alloc::Global;
 use std::fmt::Write;
 
@@ -169,28 +172,88 @@ fn first_rows(
     insert_rows(shown, store, &Text::of(alloc, "")?, rows)
 }
 
-fn play(alloc: Global, shown: &mut String, store: &mut Tables, script: &Script) -> Result<()> {
-    first_rows(alloc, shown, store, script.rows.items())?;
+fn steps(shown: &mut String, store: &mut Tables, script: &Script) -> Result<()> {
     for each in script.steps.items() {
         step(shown, store, script.tables.items(), each)?;
     }
     Ok(())
 }
 
-fn run(alloc: Global, shown: &mut String, script: &Script) -> Result<()> {
+fn read_text(alloc: Global, text: &str) -> Result<Script> {
+    Ok(parse(alloc, text.as_bytes())?)
+}
+
+fn read(alloc: Global, lines: &str) -> Result<Script> {
+    read_text(alloc, lines.replace(alloc, "; ", "\n")?.as_str())
+}
+
+fn added(alloc: Global, column: &str, cell: &str) -> Result<Alteration> {
+    let column: RawColumn = Spelled::read(alloc, column)?;
+    let text: Option<Text> = Spelled::read(alloc, cell)?;
+    Ok(Alteration::Add { column, text })
+}
+
+fn alteration(alloc: Global, fields: &str) -> Result<Alteration> {
+    let name = items::field(fields, 3);
+    match items::field(fields, 2) {
+        "add" => added(alloc, name, items::field(fields, 4)),
+        _ => Ok(Alteration::Remove {
+            column: Text::of(alloc, name)?,
+        }),
+    }
+}
+
+fn alter(alloc: Global, shown: &mut String, store: &mut Tables, fields: &str) -> Result<()> {
+    let session = Text::of(alloc, items::field(fields, 0))?;
+    let table = items::table_name(alloc, items::field(fields, 1))?;
+    let alteration = alteration(alloc, fields)?;
+    done(shown, store.alter(&session, &table, &alteration))
+}
+
+// An alteration and the steps after it.
+fn alter_and_play(alloc: Global, shown: &mut String, store: &mut Tables, part: &str) -> Result<()> {
+    let (fields, lines) = words::split(part, "; ");
+    alter(alloc, shown, store, fields)?;
+    if lines.is_empty() {
+        return Ok(());
+    }
+    steps(shown, store, &read(alloc, lines)?)
+}
+
+fn alterations(alloc: Global, shown: &mut String, store: &mut Tables, parts: &str) -> Result<()> {
+    if parts.is_empty() {
+        return Ok(());
+    }
+    for part in parts.split(" | ") {
+        alter_and_play(alloc, shown, store, part)?;
+    }
+    Ok(())
+}
+
+fn play(
+    alloc: Global,
+    shown: &mut String,
+    store: &mut Tables,
+    script: &Script,
+    parts: &str,
+) -> Result<()> {
+    first_rows(alloc, shown, store, script.rows.items())?;
+    steps(shown, store, script)?;
+    alterations(alloc, shown, store, parts)
+}
+
+fn run(alloc: Global, shown: &mut String, script: &Script, parts: &str) -> Result<()> {
     play(
         alloc,
         shown,
         &mut store_of(alloc, script.tables.items())?,
         script,
+        parts,
     )
 }
 
 /// Adds what the lines answer, a step after the other.
-pub fn answer(alloc: Global, shown: &mut String, lines: &str) -> Result<()> {
-    run_text(alloc, shown, lines.replace(alloc, "; ", "\n")?.as_str())
-}
-
-fn run_text(alloc: Global, shown: &mut String, text: &str) -> Result<()> {
-    run(alloc, shown, &parse(alloc, text.as_bytes())?)
+pub fn answer(alloc: Global, shown: &mut String, arguments: &str) -> Result<()> {
+    let (lines, parts) = words::split(arguments, " | ");
+    run(alloc, shown, &read(alloc, lines)?, parts)
 }

@@ -69,10 +69,14 @@ pub fn halt_line(alloc: Global, halt: Halt) -> Result<String, AllocError>
     }
 }
 
-fn fault_line(alloc: Global, fault: LogFault) -> Result<String, AllocError>
+// The line of a fault, which is dropped by name: that is one call, whereas a drop at the end of a
+// scope is proved variant by variant.
+pub(crate) fn fault_line(alloc: Global, fault: LogFault) -> Result<String, AllocError>
     ensures { IfOk result (λ line. string_bytes line ≡ log_line fault) }
 {
-    fault.line(alloc)
+    let line = fault.line(alloc);
+    drop(fault);
+    line
 }
 
 // The line of a cell that was selected, which is like that of a message's cell.

@@ -6,6 +6,7 @@ ghost use Rattle.dbl_base.specs.Lines.{lines_text};
 ghost use Rattle.dbl_base.specs.Streams.{FaultCounted};
 ghost use Rattle.dblog_capture_text.specs.InitErrors.{SaysInit, init_line, init_status};
 
+use crate::halt::fault_line;
 use dbl_base::Output;
 use dbl_lines::{OUT_OF_MEMORY, Status, write_text};
 use dbl_script::ScriptError;
@@ -67,7 +68,7 @@ fn error_line(alloc: Global, error: InitError) -> Result<String, AllocError>
             return format!(in alloc; "dblog: line {number}: bad line");
         }
         InitError::Script(ScriptError::TooManyLines) => "dblog: too many lines",
-        InitError::Model(error) => return LogFault::Table { error }.line(alloc),
+        InitError::Model(error) => return fault_line(alloc, LogFault::Table { error }),
         InitError::Script(ScriptError::Memory) | InitError::Memory => "dblog: out of memory",
     };
     String::from_str(alloc, line)

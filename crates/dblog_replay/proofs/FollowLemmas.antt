@@ -358,6 +358,12 @@ pub append_ended : (options : LogOptions) (infos : List TableInfo) (ms : List Me
 append_ended options infos ms number m r (Ok o) masked is = record { ended = is; masked = masked }
 append_ended options infos ms number m r (Err e) masked memory = inl memory
 
+pub append_unread : (options : LogOptions) (infos : List TableInfo) (ms : List Message) (number : ℕ) (m : Message) (fault : LogFault)
+    → (fault ≡ log.Memory) ⊎ (option_map (log.Transaction number) (reading_fault infos log_start m ms) ≡ Some fault)
+    → (fault ≡ log.Memory) ⊎ IsAppendFault options infos ms number m fault
+append_unread options infos ms number m fault (inl memory) = inl memory
+append_unread options infos ms number m fault (inr is) = inr (inl is)
+
 pub append_unmasked : (options : LogOptions) (infos : List TableInfo) (ms : List Message) (number : ℕ) (m : Message) (fault : LogFault)
     → reading_fault infos log_start m ms ≡ None
     → (fault ≡ log.Memory) ⊎ (masking_in options.mask infos m ≡ Some fault) → (fault ≡ log.Memory) ⊎ IsAppendFault options infos ms number m fault

@@ -94,6 +94,12 @@ pub record HasRead (options : LogOptions) (infos : List TableInfo) (ms : List Me
   pub mask : r.mask ≡ options.mask
   pub writes : r.writer.infos ≡ infos
 
+-- The result of reading the next message, which has this number.
+abbrev pub ReadsMessage : LogOptions → List TableInfo → List Message → ℕ → Message → Replayer → Result Read LogFault → Type 0
+ReadsMessage options infos ms number m r (Ok read) = HasRead options infos ms m r read
+ReadsMessage options infos ms number m r (Err e) = (e ≡ log.Memory)
+    ⊎ (option_map (log.Transaction number) (reading_fault infos log_start m ms) ≡ Some e)
+
 -- The next message was read, and ends this commit.
 pub record IsEnded (options : LogOptions) (infos : List TableInfo) (ms : List Message) (m : Message) (r : Replayer) (o : Option Commit)
     : Type 0 where

@@ -10,7 +10,8 @@ ghost use Rattle.dbl_model_commit.specs.Past.{begin_of, HasNoRelation};
 ghost use Rattle.dblog_replay.specs.declared.options.LogOptions.{LogOptions};
 ghost use Rattle.dblog_replay.specs.Altered.{masking_in, set_from};
 ghost use Rattle.dblog_replay.specs.Following.{HasReplayed, FollowsMessages, Prepares};
-ghost use Rattle.dblog_replay.specs.Following.{HasRead, EndsRead, AppendsMessage, TakesMessage};
+ghost use Rattle.dblog_replay.specs.Following.{HasRead, ReadsMessage, EndsRead};
+ghost use Rattle.dblog_replay.specs.Following.{AppendsMessage, TakesMessage};
 ghost use Rattle.dblog_replay.specs.Judged.{JudgesLog};
 
 use crate::altering::check_columns;
@@ -232,6 +233,19 @@ impl Replayer {
         }
     }
 
+    // Reads a message after its table was captured.
+    fn read(&mut self, alloc: Global, number: u64, message: Message) -> Result<Read, LogFault>
+        ensures { (options : LogOptions) (infos : List TableInfo) (ms : List Message) →
+            HasReplayed options infos ms self.old →
+            ReadsMessage options infos ms number message self.new result }
+    {
+        match self.assembler.take(alloc, message) {
+            Ok(read) => Ok(read),
+            Err(TxnError::Memory) => Err(LogFault::Memory),
+            Err(error) => Err(LogFault::Transaction { number, error }),
+        }
+    }
+
     // Appends a message after its table was captured, and returns the commit that it ends.
     fn append(
         &mut self,
@@ -244,10 +258,12 @@ impl Replayer {
             AppendsMessage options infos ms number message self.new result }
     {
         let checked = self.check(alloc, &message);
-        match self.assembler.take(alloc, message) {
+        match self.read(alloc, number, message) {
             Ok(read) => self.finish(alloc, checked, read),
-            Err(TxnError::Memory) => Err(LogFault::Memory),
-            Err(error) => Err(LogFault::Transaction { number, error }),
+            Err(fault) => {
+                drop(checked);
+                Err(fault)
+            }
         }
     }
 

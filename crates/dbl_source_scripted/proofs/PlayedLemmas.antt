@@ -1,5 +1,6 @@
--- How a call of a played source ends that began: memory runs out, or it answers. The other ends are found by the search.
+-- How a call of a played source ends: it doesn't begin, or memory runs out, or it answers.
 use Rattle.std.proofs.Common.{◌≡◌, ◌∙◌, ◌≤◌, inl, inr, ℕ, List, refl, sym, ap, subst}
+use Rattle.std.specs.Prelude.{Err}
 use Rattle.dbl_source_log.specs.declared.logged.Logged.{Logged}
 use Rattle.dbl_source_log.specs.declared.error.SourceError.{SourceError}
 use Rattle.dbl_source_log.specs.declared.error.SourceError.TheVariants.{Failed, Memory}
@@ -8,6 +9,26 @@ use Rattle.dbl_source_scripted.specs.Steps.{KeepsPlayed, AddedFirst, IsUnfit, Fa
 use Rattle.dbl_source_scripted.specs.Exits.{Plays}
 use Rattle.dbl_source_scripted.proofs.MemoryLemmas.{added_all}
 use Rattle.dbl_source_scripted.proofs.PlannedLemmas.{no_err, answer_is, error_is, no_listed, two_errs}
+
+same_err : {T U : Type 0} (e x : SourceError) → error_is U e ≡ Err x → error_is T e ≡ Err x
+same_err {T = T} e x is = (let same : e ≡ x = cc in ap (error_is T) same)
+
+-- it didn't begin
+pub stopped : {T U : Type 0} (own : ℕ) (more : Type 0) (commits : List Logged) (done : T → Played → Type 0) (old new : Played) (e : SourceError) → KeepsPlayed old → old.plan.faults ≤ new.plan.faults
+    → FailsAsPlanned own ⊥ old new (error_is U e) → (error_is U e ≡ Err Memory → AddedFirst commits (past_move old) new) → Plays own more commits done old new (error_is T e)
+stopped own more commits done old new e kept later planned memory = record {
+  kept = kept;
+  later = later;
+  planned = record {
+    full = λ full. same_err e Failed (planned.full full);
+    listed = λ listed. refl;
+    failing = λ listed none. same_err e Failed (planned.failing listed none);
+    also = λ it. refl;
+    failed = λ told. elim (planned.failed (same_err e Failed told)) [ inl full ↦ inl full | inr (inl listed) ↦ inr (inl listed) | inr (inr never) ↦ absurd never.0 ];
+  };
+  memory = λ told. memory (same_err e Memory told);
+  played = tt;
+}
 
 -- it began, and then memory ran out
 pub wanted : {T U : Type 0} (own : ℕ) (more : Type 0) (commits : List Logged) (done : T → Played → Type 0) (old mid new : Played) (e : SourceError) (u : U) → e ≡ Memory → KeepsPlayed old → old.plan.faults ≤ new.plan.faults
